@@ -1,0 +1,12 @@
+pub mod ByPlaces
+pub mod Calls
+pub mod DemandLaws
+pub mod Dossiers
+pub mod FallsLaw
+pub mod LeastFirst
+pub mod Remaining
+pub mod Rows
+pub mod SlotFacts
+pub mod SmallDossier
+pub mod Tests
+pub mod WorkedFaultRows

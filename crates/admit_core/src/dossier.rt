@@ -1,0 +1,99 @@
+//! The rows that a campaign works on, with places for ids.
+
+use crate::ranking::RankGroup;
+use crate::sequence::Sequence;
+use crate::state::Status;
+use std::marker::Model;
+
+/// The most rows of a list; the rankings of all groups count together.
+pub const MAX_ROWS: u32 = 16_000_000;
+
+/// The greatest id, rank, preference, limit and number of seats or beds.
+pub const MAX_NUMBER: u32 = 2_000_000_000;
+
+/// The last day that a campaign may have; the first is 1.
+pub const MAX_DAY: u32 = 366;
+
+/// A programme.
+///
+/// `group` is the place of its ranking group, and `limit` the position in the call order up to
+/// which all are called (*rang limite*), counted from 1; 0 is none.
+#[derive(Clone, Copy, Debug, PartialEq, Eq)]
+pub struct Programme {
+    pub id: u32,
+    pub group: u32,
+    pub seats: u32,
+    pub limit: u32,
+}
+
+/// A boarding school (*internat*), with the greatest rank that its bar may reach.
+#[derive(Clone, Copy, Debug, PartialEq, Eq)]
+pub struct School {
+    pub id: u32,
+    pub beds: u32,
+    pub ceiling: u32,
+}
+
+/// A wish (*vœu*).
+///
+/// `programme` and `school` are places, and `board_rank`, the candidate's rank in the school, is 0
+/// without a school. A `preference` of 0 says that the candidate answers himself; else 1 is the
+/// best.
+#[derive(Clone, Copy, Debug, PartialEq, Eq)]
+pub struct Wish {
+    pub id: u32,
+    pub candidate: u32,
+    pub programme: u32,
+    pub school: Option<u32>,
+    pub board_rank: u32,
+    pub preference: u32,
+}
+
+/// What a candidate answers to an offer, of a waiting wish, or of all his wishes.
+#[derive(Clone, Copy, Debug, PartialEq, Eq)]
+pub enum AnswerKind {
+    Accept,
+    Refuse,
+    Withdraw,
+    Quit,
+}
+
+/// A candidate's answer of a day; the target is a wish's place, or a candidate's id for `Quit`.
+#[derive(Clone, Copy, Debug, PartialEq, Eq)]
+pub struct Answer {
+    pub day: u32,
+    pub kind: AnswerKind,
+    pub target: u32,
+}
+
+/// From its day on, a school's ceiling is this one.
+#[derive(Clone, Copy, Debug, PartialEq, Eq)]
+pub struct CeilingChange {
+    pub day: u32,
+    pub school: u32,
+    pub ceiling: u32,
+}
+
+/// All rows of a campaign, by place. Each dossier is a valid one: contracts see its rows, and may
+/// rest on all that `specs/Validity.antt` says of them.
+#[derive(Debug, Drop)]
+pub struct Dossier {
+    pub groups: Sequence<RankGroup>,
+    pub programmes: Sequence<Programme>,
+    pub schools: Sequence<School>,
+    pub wishes: Sequence<Wish>,
+    pub statuses: Sequence<Status>,
+    pub ceilings: Sequence<CeilingChange>,
+    pub answers: Sequence<Answer>,
+}
+
+impl Model for Dossier {
+    ghost use Rattle.admit_core.specs.DossierRows.{DossierRows};
+    ghost use Rattle.admit_core.specs.Validity.{IsValid};
+
+    ghost Value = { DossierRows };
+
+    ghost view = { λ d. record { groups = d.groups; programmes = d.programmes; schools = d.schools; wishes = d.wishes; statuses = d.statuses; ceilings = d.ceilings; answers = d.answers } };
+
+    ghost invariant = { λ d. IsValid (record { groups = d.groups; programmes = d.programmes; schools = d.schools; wishes = d.wishes; statuses = d.statuses; ceilings = d.ceilings; answers = d.answers }) };
+}

@@ -1,0 +1,104 @@
+//! The rows of the slots, with ids as read.
+
+use crate::dossier::AnswerKind;
+use crate::sequence::Sequence;
+use crate::state::Status;
+
+/// A ranking group with its two minimum rates, from 0 to 100.
+#[derive(Clone, Copy, Debug, PartialEq, Eq)]
+pub struct GroupRow {
+    pub id: u32,
+    pub scholar_pct: u32,
+    pub resident_pct: u32,
+}
+
+/// A programme; a `limit` of 0 is none.
+#[derive(Clone, Copy, Debug, PartialEq, Eq)]
+pub struct ProgrammeRow {
+    pub id: u32,
+    pub group: u32,
+    pub seats: u32,
+    pub limit: u32,
+}
+
+/// A boarding school with the highest rank that its bar may reach.
+#[derive(Clone, Copy, Debug, PartialEq, Eq)]
+pub struct SchoolRow {
+    pub id: u32,
+    pub beds: u32,
+    pub ceiling: u32,
+}
+
+/// A candidate's rank in a group.
+#[derive(Clone, Copy, Debug, PartialEq, Eq)]
+pub struct RankRow {
+    pub group: u32,
+    pub candidate: u32,
+    pub rank: u32,
+    pub scholar: bool,
+    pub resident: bool,
+}
+
+/// A candidate's rank in a boarding school.
+#[derive(Clone, Copy, Debug, PartialEq, Eq)]
+pub struct BoardRow {
+    pub school: u32,
+    pub candidate: u32,
+    pub rank: u32,
+}
+
+/// A wish; a `preference` of 0 says that the candidate answers himself.
+#[derive(Clone, Copy, Debug, PartialEq, Eq)]
+pub struct WishRow {
+    pub id: u32,
+    pub candidate: u32,
+    pub programme: u32,
+    pub school: Option<u32>,
+    pub preference: u32,
+}
+
+/// A civil date as read, of a year from 1900 to 2299.
+#[derive(Clone, Copy, Debug, PartialEq, Eq)]
+pub struct Since {
+    pub year: u32,
+    pub month: u32,
+    pub day: u32,
+}
+
+/// The status that a wish comes in with, and since when.
+#[derive(Clone, Copy, Debug, PartialEq, Eq)]
+pub struct StateRow {
+    pub wish: u32,
+    pub status: Status,
+    pub since: Option<Since>,
+}
+
+/// A school's ceiling from a day on.
+#[derive(Clone, Copy, Debug, PartialEq, Eq)]
+pub struct CeilingRow {
+    pub day: u32,
+    pub school: u32,
+    pub ceiling: u32,
+}
+
+/// An answer; the target is a wish's id, or a candidate's id for `Quit`.
+#[derive(Clone, Copy, Debug, PartialEq, Eq)]
+pub struct AnswerRow {
+    pub day: u32,
+    pub kind: AnswerKind,
+    pub target: u32,
+}
+
+/// The rows of the nine slots, in file order.
+#[derive(Debug, Drop)]
+pub struct Tables {
+    pub groups: Sequence<GroupRow>,
+    pub programmes: Sequence<ProgrammeRow>,
+    pub schools: Sequence<SchoolRow>,
+    pub rankings: Sequence<RankRow>,
+    pub boarding: Sequence<BoardRow>,
+    pub wishes: Sequence<WishRow>,
+    pub state: Sequence<StateRow>,
+    pub ceilings: Sequence<CeilingRow>,
+    pub answers: Sequence<AnswerRow>,
+}
