@@ -1,6 +1,7 @@
 //! Fields that contracts see as lists.
-ghost use Rattle.std.specs.Prelude.{◌≡◌, ◌==◌, length};
+ghost use Rattle.std.specs.Prelude.{◌≡◌, ◌==◌, [], length};
 
+use std::alloc::Global;
 use std::marker::Model;
 
 /// Items in their order, which no call changes. A contract sees the list of them.
@@ -18,6 +19,15 @@ impl<T> Model for Sequence<T> {
 }
 
 impl<T> Sequence<T> {
+    /// A sequence of no items.
+    pub fn new(alloc: Global) -> Self
+        ensures { result ≡ [] }
+    {
+        Sequence {
+            items: Vec::new(alloc),
+        }
+    }
+
     /// Makes a sequence of a vector's items.
     pub fn from_vec(items: Vec<T>) -> Self
         ensures { result ≡ items.items }
