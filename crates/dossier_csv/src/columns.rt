@@ -1,9 +1,10 @@
 //! The columns of a row.
 ghost use Rattle.std.specs.Prelude.{◌≡◌, ◌≤◌, IfOk, map};
+ghost use Rattle.std.specs.Option.{ForSome};
 ghost use Rattle.csv.specs.Records.{fields_of};
 ghost use Rattle.dossier_csv.specs.Columns as Columns;
 
-use admit_core::{MAX_NUMBER, Reason};
+use admit_core::{MAX_DAY, MAX_NUMBER, Reason};
 use csv::ByteRecord;
 
 /// The least and the greatest number of a column.
@@ -17,6 +18,18 @@ pub(crate) struct Limits {
 pub(crate) const ID: Limits = Limits {
     least: 1,
     most: MAX_NUMBER,
+};
+
+/// Seats, beds, ceilings, preferences and call limits.
+pub(crate) const AMOUNT: Limits = Limits {
+    least: 0,
+    most: MAX_NUMBER,
+};
+
+/// Days of a campaign.
+pub(crate) const DAY: Limits = Limits {
+    least: 1,
+    most: MAX_DAY,
 };
 
 /// Percentages.
@@ -69,6 +82,34 @@ pub(crate) fn number(row: &ByteRecord, position: u32, limits: Limits) -> Result<
     }
 }
 
+/// The number of a column that only a longer header has; 0 where the row has no such field.
+#[tactic(auto, unfolding(crate::specs::Columns::added_number))]
+pub(crate) fn added_number(row: &ByteRecord, position: u32, limits: Limits) -> Result<u32, Reason>
+    ensures value { result ≡ Columns.added_number limits (fields_of row.now) position }
+    ensures range { IfOk result (λ n. n ≤ limits.most) }
+{
+    if row.len() < position as usize {
+        return Ok(0);
+    }
+    number(row, position, limits)
+}
+
+/// The number of a column that may be empty.
+#[tactic(auto, unfolding(crate::specs::Columns::number, crate::specs::Columns::optional_number))]
+pub(crate) fn optional_number(
+    row: &ByteRecord,
+    position: u32,
+    limits: Limits,
+) -> Result<Option<u32>, Reason>
+    ensures value { result ≡ Columns.optional_number limits (fields_of row.now) position }
+    ensures range { IfOk result (λ found. ForSome found (λ n. (limits.least ≤ n) × (n ≤ limits.most))) }
+{
+    if text_at(row, position).is_empty() {
+        return Ok(None);
+    }
+    Ok(Some(number(row, position, limits)?))
+}
+
 /// The value that stands beside a word in a table.
 fn choice<T: Copy>(table: &[(&str, T)], text: &[u8]) -> Option<T>
     ensures { result ≡ Columns.choice (map (λ entry. (entry.0.now, entry.1)) table.now) text.now }
@@ -87,4 +128,16 @@ pub(crate) fn flag(row: &ByteRecord, position: u32) -> Result<bool, Reason>
     ensures { result ≡ Columns.flag (fields_of row.now) position }
 {
     choice(&[("0", false), ("1", true)], text_at(row, position)).ok_or(Reason::NotFlag(position))
+}
+
+/// The value of a column's word.
+#[tactic(auto, unfolding(crate::specs::Columns::word))]
+pub(crate) fn word<T: Copy>(
+    row: &ByteRecord,
+    position: u32,
+    table: &[(&str, T)],
+) -> Result<T, Reason>
+    ensures { result ≡ Columns.word (map (λ entry. (entry.0.now, entry.1)) table.now) (fields_of row.now) position }
+{
+    choice(table, text_at(row, position)).ok_or(Reason::NotWord(position))
 }
