@@ -1,0 +1,143 @@
+-- The layouts of the slots, and what a row of each says.
+use Rattle.std.specs.Prelude.{ℕ, List, [], ◌∷◌, Result, Ok, codes}
+use Rattle.admit_core.specs.declared.dossier.AnswerKind.{AnswerKind}
+use Rattle.admit_core.specs.declared.dossier.AnswerKind.TheVariants.{Accept, Refuse, Withdraw, Quit}
+use Rattle.admit_core.specs.declared.slot.Slot.TheVariants as slots
+use Rattle.admit_core.specs.declared.refusal.Reason.{Reason}
+use Rattle.admit_core.specs.declared.tables.AnswerRow.{AnswerRow}
+use Rattle.admit_core.specs.declared.tables.BoardRow.{BoardRow}
+use Rattle.admit_core.specs.declared.tables.CeilingRow.{CeilingRow}
+use Rattle.admit_core.specs.declared.tables.GroupRow.{GroupRow}
+use Rattle.admit_core.specs.declared.tables.ProgrammeRow.{ProgrammeRow}
+use Rattle.admit_core.specs.declared.tables.RankRow.{RankRow}
+use Rattle.admit_core.specs.declared.tables.SchoolRow.{SchoolRow}
+use Rattle.admit_core.specs.declared.tables.WishRow.{WishRow}
+use Rattle.dossier_csv.specs.Columns.{◌>>=◌, added_number, amounts, days, flag, ids, number, optional_number, percents, word, words}
+use Rattle.dossier_csv.specs.Layout.{Layout}
+
+unfoldable pub group_row : List (List ℕ) → Result GroupRow Reason
+group_row fields = do
+  id ← number ids fields 1
+  scholar_pct ← number percents fields 2
+  resident_pct ← number percents fields 3
+  Ok (record { id = id; scholar_pct = scholar_pct; resident_pct = resident_pct })
+
+abbrev pub groups : Layout GroupRow
+groups = record {
+  slot = slots.Groups;
+  headers = (codes "group" ∷ codes "scholar_pct" ∷ codes "resident_pct" ∷ []) ∷ [];
+  row = group_row;
+}
+
+unfoldable pub programme_row : List (List ℕ) → Result ProgrammeRow Reason
+programme_row fields = do
+  id ← number ids fields 1
+  group ← number ids fields 2
+  seats ← number amounts fields 3
+  limit ← added_number amounts fields 4
+  Ok (record { id = id; group = group; seats = seats; limit = limit })
+
+abbrev pub programmes : Layout ProgrammeRow
+programmes = record {
+  slot = slots.Programmes;
+  headers = (codes "programme" ∷ codes "group" ∷ codes "seats" ∷ [])
+      ∷ (codes "programme" ∷ codes "group" ∷ codes "seats" ∷ codes "limit" ∷ []) ∷ [];
+  row = programme_row;
+}
+
+unfoldable pub school_row : List (List ℕ) → Result SchoolRow Reason
+school_row fields = do
+  id ← number ids fields 1
+  beds ← number amounts fields 2
+  ceiling ← number amounts fields 3
+  Ok (record { id = id; beds = beds; ceiling = ceiling })
+
+abbrev pub schools : Layout SchoolRow
+schools = record {
+  slot = slots.Schools;
+  headers = (codes "school" ∷ codes "beds" ∷ codes "ceiling" ∷ []) ∷ [];
+  row = school_row;
+}
+
+unfoldable pub rank_row : List (List ℕ) → Result RankRow Reason
+rank_row fields = do
+  group ← number ids fields 1
+  candidate ← number ids fields 2
+  rank ← number ids fields 3
+  scholar ← flag fields 4
+  resident ← flag fields 5
+  Ok (record { group = group; candidate = candidate; rank = rank; scholar = scholar; resident = resident })
+
+abbrev pub rankings : Layout RankRow
+rankings = record {
+  slot = slots.Rankings;
+  headers = (codes "group" ∷ codes "candidate" ∷ codes "rank" ∷ codes "scholar" ∷ codes "resident" ∷ []) ∷ [];
+  row = rank_row;
+}
+
+unfoldable pub board_row : List (List ℕ) → Result BoardRow Reason
+board_row fields = do
+  school ← number ids fields 1
+  candidate ← number ids fields 2
+  rank ← number ids fields 3
+  Ok (record { school = school; candidate = candidate; rank = rank })
+
+abbrev pub boarding : Layout BoardRow
+boarding = record {
+  slot = slots.Boarding;
+  headers = (codes "school" ∷ codes "candidate" ∷ codes "rank" ∷ []) ∷ [];
+  row = board_row;
+}
+
+unfoldable pub wish_row : List (List ℕ) → Result WishRow Reason
+wish_row fields = do
+  id ← number ids fields 1
+  candidate ← number ids fields 2
+  programme ← number ids fields 3
+  school ← optional_number ids fields 4
+  preference ← number amounts fields 5
+  Ok (record { id = id; candidate = candidate; programme = programme; school = school; preference = preference })
+
+abbrev pub wishes : Layout WishRow
+wishes = record {
+  slot = slots.Wishes;
+  headers = (codes "wish" ∷ codes "candidate" ∷ codes "programme" ∷ codes "school" ∷ codes "preference" ∷ []) ∷ [];
+  row = wish_row;
+}
+
+unfoldable pub ceiling_row : List (List ℕ) → Result CeilingRow Reason
+ceiling_row fields = do
+  day ← number days fields 1
+  school ← number ids fields 2
+  ceiling ← number amounts fields 3
+  Ok (record { day = day; school = school; ceiling = ceiling })
+
+abbrev pub ceilings : Layout CeilingRow
+ceilings = record {
+  slot = slots.Ceilings;
+  headers = (codes "day" ∷ codes "school" ∷ codes "ceiling" ∷ []) ∷ [];
+  row = ceiling_row;
+}
+
+abbrev pub kind_word : AnswerKind → List ℕ
+kind_word Accept = codes "accept"
+kind_word Refuse = codes "refuse"
+kind_word Withdraw = codes "withdraw"
+kind_word Quit = codes "quit"
+
+abbrev pub kinds : List (List ℕ × AnswerKind)
+kinds = words kind_word (Accept ∷ Refuse ∷ Withdraw ∷ Quit ∷ [])
+
+unfoldable pub answer_row : List (List ℕ) → Result AnswerRow Reason
+answer_row fields = do
+  day ← number days fields 1
+  kind ← word kinds fields 2
+  target ← number ids fields 3
+  Ok (record { day = day; kind = kind; target = target })
+
+abbrev pub answers : Layout AnswerRow
+answers = record {
+  slot = slots.Answers;
+  headers = (codes "day" ∷ codes "kind" ∷ codes "target" ∷ []) ∷ [];
+  row = answer_row;
+}

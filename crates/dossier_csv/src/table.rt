@@ -1,0 +1,146 @@
+//! Any slot's rows, by the layout of its row type.
+ghost use Rattle.std.specs.Prelude.{◌≡◌, ◌+◌, ◌<◌, List, ℕ, Some, IfErr, IfOk, OnOk, map};
+ghost use Rattle.std.specs.List.{list_any};
+ghost use Rattle.csv.specs.Records.{fields_of};
+ghost use Rattle.admit_core.specs.Ranges.{AreRows};
+ghost use Rattle.dossier_csv.specs.Layout.{Layout};
+ghost use Rattle.dossier_csv.specs.Rest.{GivesNext, HasLeft};
+ghost use Rattle.dossier_csv.specs.Shape.{Answers, at_row, records_of, row_of, rows_from, same_texts, shape};
+
+use admit_core::{InFault, MAX_ROWS, Reason, Refusal, Slot};
+use csv::{ByteRecord, Reader, ReaderBuilder};
+use std::alloc::Global;
+
+/// A row of a slot.
+pub(crate) trait TableRow: Drop {
+    /// How the slot is laid out.
+    ghost layout: { Layout Self };
+
+    /// That the numbers of a row are in the ranges of their columns.
+    ghost in_range: { Self → Type 0 };
+
+    fn slot() -> Slot
+        ensures { result ≡ layout.slot };
+
+    /// The headers that the slot may have: for each, the names of its columns.
+    fn headers() -> &'static [&'static [&'static str]]
+        ensures { map (λ names. map (λ name. name.now) names.now) result.now ≡ layout.headers };
+
+    /// What the fields of a row say.
+    fn of_fields(row: &ByteRecord) -> Result<Self, Reason>
+        ensures value { result ≡ layout.row (fields_of row.now) }
+        ensures ranges { IfOk result in_range };
+}
+
+/// The row that is one too many.
+const ROW_PAST_THE_LAST: u64 = MAX_ROWS as u64 + 2;
+
+/// A reader of a slot's records.
+fn reader_of(alloc: Global, bytes: &[u8]) -> Reader<&[u8]>
+    ensures { HasLeft (λ text. Some text.now) result (records_of bytes.now) }
+{
+    ReaderBuilder::new()
+        .has_headers(false)
+        .flexible(true)
+        .from_reader(alloc, bytes)
+}
+
+/// The next row, and whether there was one.
+fn next_row(reader: &mut Reader<&[u8]>, row: &mut ByteRecord) -> Result<bool, InFault>
+    ensures next { IfOk result (λ found. (left : List (List (List ℕ))) → HasLeft (λ text. Some text.now) reader.old left
+        → GivesNext (λ text. Some text.now) reader.new found (fields_of row.new) left) }
+    ensures memory { IfErr result (λ fault. fault ≡ InFault.OutOfMemory) }
+{
+    match reader.read_byte_record(row) {
+        Ok(found) => Ok(found),
+        Err(_) => Err(InFault::OutOfMemory),
+    }
+}
+
+/// Whether the fields are these names.
+fn has_names(row: &ByteRecord, names: &[&str]) -> bool
+    ensures { result ≡ same_texts (fields_of row.now) (map (λ name. name.now) names.now) }
+{
+    if row.len() != names.len() {
+        return false;
+    }
+    for (index, name) in names.iter().enumerate() {
+        if row.get(index) != Some(name.as_bytes()) {
+            return false;
+        }
+    }
+    true
+}
+
+/// Whether the fields are one of the slot's headers.
+fn is_header<T: TableRow>(row: &ByteRecord) -> bool
+    ensures { result ≡ list_any (same_texts (fields_of row.now)) T.layout.headers }
+{
+    for names in T::headers() {
+        if has_names(row, names) {
+            return true;
+        }
+    }
+    false
+}
+
+/// The row with this number, under a header of so many columns.
+fn typed_row<T: TableRow>(row: &ByteRecord, width: usize, number: u64) -> Result<T, Refusal>
+    ensures value { result ≡ at_row T.layout.slot number (row_of T.layout width number (fields_of row.now)) }
+    ensures ranges { IfOk result T.in_range }
+    ensures bounded { OnOk result (number < MAX_ROWS + 2) }
+{
+    let value = if number >= ROW_PAST_THE_LAST {
+        Err(Reason::TooManyRows)
+    } else if row.len() == width {
+        T::of_fields(row)
+    } else {
+        Err(Reason::FieldCount(row.len() as u64))
+    };
+    match value {
+        Ok(value) => Ok(value),
+        Err(reason) => Err(Refusal {
+            slot: T::slot(),
+            row: number,
+            reason,
+        }),
+    }
+}
+
+/// The rows under a header of so many columns.
+fn read_rows<T: TableRow>(
+    alloc: Global,
+    reader: &mut Reader<&[u8]>,
+    row: &mut ByteRecord,
+    width: usize,
+) -> Result<Vec<T>, InFault>
+    ensures value { (left : List (List (List ℕ))) → HasLeft (λ text. Some text.now) reader.old left
+        → Answers (λ rows. rows.items) result (rows_from T.layout width 2 left) }
+    ensures ranges { IfOk result (λ rows. AreRows T.in_range rows.items) }
+{
+    let mut rows = Vec::new(alloc);
+    'rows: while next_row(reader, row)? {
+        let number = rows.len() as u64 + 2;
+        rows.push(typed_row(row, width, number)?)?;
+    }
+    Ok(rows)
+}
+
+/// The rows of a slot, or its first refusal.
+pub(crate) fn read_table<T: TableRow>(alloc: Global, bytes: &[u8]) -> Result<Vec<T>, InFault>
+    ensures value { Answers (λ rows. rows.items) result (shape T.layout bytes.now) }
+    ensures ranges { IfOk result (λ rows. AreRows T.in_range rows.items) }
+{
+    let mut reader = reader_of(alloc, bytes);
+    let mut row = ByteRecord::new(alloc);
+    if next_row(&mut reader, &mut row)? && is_header::<T>(&row) {
+        let width = row.len();
+        read_rows(alloc, &mut reader, &mut row, width)
+    } else {
+        Err(InFault::Refused(Refusal {
+            slot: T::slot(),
+            row: 1,
+            reason: Reason::Header,
+        }))
+    }
+}
