@@ -1,6 +1,5 @@
 -- Rankings without a fault have a call order.
 use Rattle.std.proofs.Common.{◌≡◌, ℕ, ◌≤◌, ◌<◌, suc, Bool, true, false, ◌&&◌, nat_eq, List, [], ◌∷◌, length, map, filter, get_or, None, refl, sym, subst, arith, All, AllPairs}
-use Prim.Native.Nat.{zero}
 use Rattle.std.specs.List.{IsDistinct, AllByRecursion}
 use Rattle.std.proofs.lemmas.Bool.Decides.{nat_tests}
 use Rattle.std.proofs.lemmas.Map.Keys.{IsDistinct-cons, IsDistinct-from_apart}
@@ -11,7 +10,6 @@ use Rattle.admit_core.specs.declared.tables.GroupRow.{GroupRow}
 use Rattle.admit_core.specs.declared.tables.RankRow.{RankRow}
 use Rattle.admit_core.specs.declared.tables.Tables.{Tables}
 use Rattle.admit_core.specs.declared.ranking.Ranked.{Ranked}
-use Rattle.admit_core.specs.declared.dossier.TheConstants.{MAX_ROWS}
 use Rattle.admit_core.specs.Lists.{is_among}
 use Rattle.admit_core.specs.Faults.{Test, first_in, first_reason, repeats, takes_rank, names_unknown}
 use Rattle.admit_core.specs.Ranges.{AreRows, IsGroupRow, IsRankRow}

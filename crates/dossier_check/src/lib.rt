@@ -11,3 +11,6 @@ mod scan;
 mod slots;
 
 pub use check::check_rankings;
+
+#[cfg(test)]
+mod tests;

@@ -1,4 +1,4 @@
-use Rattle.std.proofs.Common.{sym, ◌∙◌, ap, not}
+use Rattle.std.proofs.Common.{sym, ◌∙◌}
 use Rattle.dossier_check.proofs.NotedKeys.{noted-new, noted-old}
 use Rattle.dossier_check.proofs.noted.note.Goals as goal
 
