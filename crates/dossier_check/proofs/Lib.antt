@@ -1,0 +1,10 @@
+pub mod Buckets
+pub mod BuiltGroups
+pub mod FaultFree
+pub mod Firsts
+pub mod Found
+pub mod NotedKeys
+pub mod Scans
+pub mod SortedBy
+pub mod SortedLists
+pub mod ValidRankings

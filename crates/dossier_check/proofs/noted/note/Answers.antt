@@ -1,0 +1,13 @@
+use Rattle.std.proofs.Common.{sym, ◌∙◌}
+use Rattle.dossier_check.proofs.NotedKeys.{noted-new, noted-old}
+use Rattle.dossier_check.proofs.noted.note.Goals as goal
+
+pub returns-then-is_new-clause-first : goal.returns-then-is_new-clause-first
+returns-then-is_new-clause-first g c before same =
+    noted-new g.K.PartialEq.eq g.Q.Key.key before c.args.row.now c.args.keys.now.keys same
+    (rw (← c.key_of.ensures) (sym c.in_ok-place.ensures.added ∙ c.if-is_new.true))
+
+pub returns-clause-first : goal.returns-clause-first
+returns-clause-first g c before same =
+    noted-old g.K.PartialEq.eq g.Q.Key.key before c.args.row.now c.args.keys.now.keys same c.in_ok-place.place
+    (rw (← c.key_of.ensures) (sym c.in_ok-place.ensures.added ∙ c.if-is_new.false)) (rw (← c.key_of.ensures) c.in_ok-place.ensures.index)

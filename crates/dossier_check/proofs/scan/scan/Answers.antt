@@ -1,0 +1,35 @@
+use Rattle.std.proofs.Common.{◌≡◌, ◌+◌, take, get_or, sym, ap, ◌∙◌, arith, Some, None}
+use Rattle.std.proofs.lemmas.List.{take_more, length-take-le}
+use Rattle.admit_core.specs.Faults.{first_reason}
+use Rattle.dossier_check.proofs.Scans.{found, passed, ended}
+use Rattle.dossier_check.proofs.scan.scan.Goals as goal
+
+pub returns-in-Some-clause-fault : goal.returns-in-Some-clause-fault
+returns-in-Some-clause-fault g c =
+    let tests = g.C.RowChecks.tests c.args.checks.now in
+    let rows = c.args.rows.now in
+    let i = c.loop-place.place in
+    let row = c.index-rows-place.result in
+    let e : c.in_ok-reason.field-0 ≡ first_reason (g.C.RowChecks.tests c.loop-place.checks) (take i rows) row = c.in_ok-reason.ensures.reason (take i rows) c.loop-place.invariant.seen in
+    let stands : first_reason tests (take i rows) (get_or rows i row) ≡ Some c.in-Some.reason =
+    rw (← c.index-rows-place.is, ← c.loop-place.invariant.same_tests) (sym e ∙ c.in-Some.is) in
+    c.loop-place.invariant.fault ∙ found c.args.slot tests rows i row c.in-Some.reason c.loop-place-test.true stands
+
+pub loop-place-preserved : goal.loop-place-preserved
+loop-place-preserved g c =
+    let tests = g.C.RowChecks.tests c.args.checks.now in
+    let rows = c.args.rows.now in
+    let i = c.loop-place.place in
+    let row = c.index-rows-place.result in
+    let e : c.in_ok-reason.field-0 ≡ first_reason (g.C.RowChecks.tests c.loop-place.checks) (take i rows) row = c.in_ok-reason.ensures.reason (take i rows) c.loop-place.invariant.seen in
+    let fine : first_reason tests (take i rows) (get_or rows i row) ≡ None =
+    rw (← c.index-rows-place.is, ← c.loop-place.invariant.same_tests) (sym e ∙ c.in_default.is) in
+    record {
+      same_tests = c.in_ok-reason.ensures.same_tests ∙ c.loop-place.invariant.same_tests;
+      seen = rw (take_more rows i row c.loop-place-test.true, ← c.index-rows-place.is) (c.in_ok-reason.ensures.seen (take i rows) c.loop-place.invariant.seen (ap (λ n. n + 2) (sym (length-take-le i rows (omega arith)))) c.in_default.is);
+      fault = c.loop-place.invariant.fault ∙ passed c.args.slot tests rows i row c.loop-place-test.true fine;
+    }
+
+pub returns-clause-fault : goal.returns-clause-fault
+returns-clause-fault g c =
+    c.loop-place.invariant.fault ∙ ended c.args.slot (g.C.RowChecks.tests c.args.checks.now) c.args.rows.now c.loop-place.place c.loop-place-test.false

@@ -1,0 +1,134 @@
+//! Tests of rows, each on its own, and lists of them.
+ghost use Rattle.std.specs.Prelude.{◌≡◌, ℕ, List, [], ◌∷◌, ◌++◌, option_map, length, IfOk, map};
+ghost use Rattle.admit_core.specs.declared.refusal.Reason.TheVariants as reasons;
+ghost use Rattle.admit_core.specs.Faults.{Test, row_number, first_reason, repeats, takes_rank, names_unknown};
+ghost use Rattle.admit_core.specs.Lists.{is_among};
+
+use crate::noted::{Key, note};
+use crate::scan::RowChecks;
+use admit_core::{OutOfMemory, Reason};
+use indexmap::IndexSet;
+use std::hash::Hash;
+
+/// One test, with what it needs to know of the rows before.
+pub(crate) trait RowTest<R> {
+    ghost test: { Self → Test R };
+
+    ghost has_seen: { Self → List R → Type 0 };
+
+    /// The reason, where the test stands at the next row.
+    fn stands(&mut self, row: &R, number: u64) -> Result<Option<Reason>, OutOfMemory>
+        ensures reason { (before : List R) → has_seen self.old before →
+            IfOk result (λ reason. reason ≡ test self.old before row.now) }
+        ensures seen { (before : List R) → has_seen self.old before → number ≡ row_number (length before) →
+            IfOk result (λ reason. reason ≡ None → has_seen self.new (before ++ row.now ∷ [])) }
+        ensures same_test { test self.new ≡ test self.old };
+}
+
+/// No test.
+#[derive(Drop)]
+pub(crate) struct NoTest;
+
+impl<R> RowChecks<R> for NoTest {
+    ghost tests = { λ c. [] };
+
+    ghost has_seen = { λ c before. Unit {0} };
+
+    fn next(&mut self, _row: &R, _number: u64) -> Result<Option<Reason>, OutOfMemory> {
+        Ok(None)
+    }
+}
+
+/// A test, and then others.
+#[derive(Drop)]
+pub(crate) struct Then<A, B> {
+    pub(crate) first: A,
+    pub(crate) rest: B,
+}
+
+impl<R, A: RowTest<R>, B: RowChecks<R>> RowChecks<R> for Then<A, B> {
+    ghost tests = { λ c. A.test c.first ∷ B.tests c.rest };
+
+    ghost has_seen = { λ c before. A.has_seen c.first before × B.has_seen c.rest before };
+
+    fn next(&mut self, row: &R, number: u64) -> Result<Option<Reason>, OutOfMemory> {
+        if let Some(reason) = self.first.stands(row, number)? {
+            return Ok(Some(reason));
+        }
+        self.rest.next(row, number)
+    }
+}
+
+/// An earlier row has the same key.
+#[derive(Drop)]
+pub(crate) struct Repeats<K: Eq + Hash, Q> {
+    pub(crate) keys: IndexSet<K>,
+    pub(crate) rule: Q,
+}
+
+impl<R, K: Hash + Eq + Copy + Drop, Q: Key<R, K>> RowTest<R> for Repeats<K, Q> {
+    ghost test = { λ c. repeats (λ row r. K.eq (Q.key row) (Q.key r)) };
+
+    ghost has_seen = { λ c before. c.keys.keys ≡ map Q.key before };
+
+    fn stands(&mut self, row: &R, _number: u64) -> Result<Option<Reason>, OutOfMemory> {
+        match note(&mut self.keys, &self.rule, row)? {
+            Some(first) => Ok(Some(Reason::Repeat(first))),
+            None => Ok(None),
+        }
+    }
+}
+
+/// An earlier row has the same rank in the same list: the key.
+#[derive(Drop)]
+pub(crate) struct TakesRank<K: Eq + Hash, Q> {
+    pub(crate) keys: IndexSet<K>,
+    pub(crate) rule: Q,
+}
+
+impl<R, K: Hash + Eq + Copy + Drop, Q: Key<R, K>> RowTest<R> for TakesRank<K, Q> {
+    ghost test = { λ c. takes_rank (λ row r. K.eq (Q.key row) (Q.key r)) };
+
+    ghost has_seen = { λ c before. c.keys.keys ≡ map Q.key before };
+
+    fn stands(&mut self, row: &R, _number: u64) -> Result<Option<Reason>, OutOfMemory> {
+        match note(&mut self.keys, &self.rule, row)? {
+            Some(first) => Ok(Some(Reason::RankTaken(first))),
+            None => Ok(None),
+        }
+    }
+}
+
+/// What a row names in a field.
+pub(crate) trait Names<R> {
+    ghost field: { ℕ };
+
+    ghost named: { R → ℕ };
+
+    fn field_of(&self) -> u32
+        ensures { result ≡ field };
+
+    fn named_by(&self, row: &R) -> u32
+        ensures { result ≡ named row.now };
+}
+
+/// What the row names is not among known ids.
+#[derive(Drop)]
+pub(crate) struct NamesUnknown<'a, Q> {
+    pub(crate) ids: &'a IndexSet<u32>,
+    pub(crate) rule: Q,
+}
+
+impl<'a, R, Q: Names<R>> RowTest<R> for NamesUnknown<'a, Q> {
+    ghost test = { λ c. names_unknown Q.field (λ row. is_among (Q.named row) c.ids.now.keys) };
+
+    ghost has_seen = { λ c before. Unit {0} };
+
+    fn stands(&mut self, row: &R, _number: u64) -> Result<Option<Reason>, OutOfMemory> {
+        let id = self.rule.named_by(row);
+        if self.ids.contains(&id) {
+            return Ok(None);
+        }
+        Ok(Some(Reason::Unknown(self.rule.field_of())))
+    }
+}

@@ -1,0 +1,47 @@
+//! The rows of a slot, tested in turn.
+ghost use Rattle.std.specs.Prelude.{◌≡◌, List, [], ◌∷◌, ◌++◌, ◌<◌, ◌^◌, length, IfOk, OnOk};
+ghost use Rattle.admit_core.specs.Faults.{Test, row_number, first_reason, first_in};
+ghost use Rattle.dossier_check.specs.Outcome.{AnswersFault};
+
+use admit_core::{InFault, OutOfMemory, Reason, Refusal, Slot};
+
+/// The tests of a slot's rows, with what they need to know of the rows before.
+pub(crate) trait RowChecks<R> {
+    /// The tests, and the rows that went before.
+    ghost tests: { Self → List (Test R) };
+
+    ghost has_seen: { Self → List R → Type 0 };
+
+    /// Tests the next row, which has this number, and answers the reason of the first test that
+    /// stands.
+    fn next(&mut self, row: &R, number: u64) -> Result<Option<Reason>, OutOfMemory>
+        ensures reason { (before : List R) → has_seen self.old before →
+            IfOk result (λ reason. reason ≡ first_reason (tests self.old) before row.now) }
+        ensures seen { (before : List R) → has_seen self.old before → number ≡ row_number (length before) →
+            IfOk result (λ reason. reason ≡ None → has_seen self.new (before ++ row.now ∷ [])) }
+        ensures same_tests { tests self.new ≡ tests self.old };
+}
+
+/// Tests rows in turn, and refuses the first at which a test stands.
+pub(crate) fn scan<R, C: RowChecks<R>>(
+    slot: Slot,
+    checks: &mut C,
+    rows: &[R],
+) -> Result<(), InFault>
+    requires small { length rows.now < 2 ^ 32 }
+    requires fresh { C.has_seen checks.old [] }
+    ensures fault { AnswersFault result (first_in slot (C.tests checks.old) rows.now) }
+    ensures seen { OnOk result (C.has_seen checks.new rows.now) }
+{
+    for (place, row) in rows.iter().enumerate() {
+        let number = place as u64 + 2;
+        if let Some(reason) = checks.next(row, number)? {
+            return Err(InFault::Refused(Refusal {
+                slot,
+                row: number,
+                reason,
+            }));
+        }
+    }
+    Ok(())
+}
