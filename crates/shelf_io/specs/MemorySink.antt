@@ -1,5 +1,5 @@
 -- What the sinks in memory tell.
-use Rattle.std.specs.Prelude.{ℕ, ◌-◌, List, Option, None, Some, min}
+use Rattle.std.specs.Prelude.{ℕ, List, Option}
 use Rattle.shelf_io.specs.declared.memory_sink.MemSink.{MemSink}
 use Rattle.shelf_io.specs.declared.memory_sink.PlainSink.{PlainSink}
 

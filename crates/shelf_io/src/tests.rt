@@ -15,15 +15,28 @@ fn comes_whole(alloc: Global, bytes: &[u8], limit: u64) -> Result<bool, Fail> {
     }
 }
 
+/// Whether so many bytes come whole out of a slot.
+fn length_comes_whole(alloc: Global, length: usize, limit: u64) -> Result<bool, Fail> {
+    let bytes = vec![in alloc; 7u8; length]?;
+    comes_whole(alloc, bytes.as_slice(), limit)
+}
+
 #[test]
 fn slots_come_whole_within_the_limit(rt: HostRuntime) -> Result<(), Fail> {
-    let alloc = rt.alloc();
-    let two_buffers = vec![in alloc; 7u8; 100_000]?;
-    assert!(rt; comes_whole(alloc, b"12345678", 8)?);
-    assert!(rt; !comes_whole(alloc, b"123456789", 8)?);
-    assert!(rt; comes_whole(alloc, b"", 0)?);
-    assert!(rt; comes_whole(alloc, two_buffers.as_slice(), 100_000)?);
-    assert!(rt; !comes_whole(alloc, two_buffers.as_slice(), 99_999)?);
+    let cases = [
+        (8, 8, true),
+        (9, 8, false),
+        (0, 0, true),
+        (100_000, 100_000, true),
+        (100_000, 99_999, false),
+    ];
+    for (length, limit, whole) in cases {
+        assert_eq!(rt;
+            length_comes_whole(rt.alloc(), length, limit)?,
+            whole,
+            "{length} bytes"
+        );
+    }
     Ok(())
 }
 
