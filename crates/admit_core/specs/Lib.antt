@@ -14,6 +14,7 @@ pub mod OwnWishes
 pub mod Proposals
 pub mod Ranges
 pub mod Relations
+pub mod SlotLoans
 pub mod Slots
 pub mod Standing
 pub mod State

@@ -1,0 +1,22 @@
+//! Where slots are read from and reports are written to, and whole reads and writes over them.
+//!
+//! A count of faults rose in a call where it is greater after it than before, or stands at the last
+//! value of its counter.
+#![tactic(auto)]
+
+mod devices;
+mod memory_shelf;
+mod memory_sink;
+mod plan;
+mod refusal;
+mod shelf;
+mod sink;
+#[cfg(test)]
+mod tests;
+
+pub use devices::{DirShelf, StdSink};
+pub use memory_shelf::{MemShelf, PlainShelf};
+pub use memory_sink::{MemSink, PlainSink};
+pub use refusal::{IoRefusal, SlotRefusal};
+pub use shelf::{Shelf, read_slot};
+pub use sink::{Sink, write_all};

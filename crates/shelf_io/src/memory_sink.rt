@@ -1,0 +1,164 @@
+//! Sinks in memory.
+ghost use Rattle.std.specs.Prelude.{◌≡◌, ◌+◌, ◌-◌, ◌^◌, ◌↔◌, ◌∷◌, ◌++◌, ◌≤◌, ◌<◌, ◌⊎◌, [], Some, IfOk, OnOk, OnErr, IsErrOf, length, min};
+ghost use Rattle.shelf_io.specs.Faults.{IsToFail};
+ghost use Rattle.shelf_io.specs.Rooms.{fitting};
+
+use crate::plan::Plan;
+use crate::refusal::IoRefusal;
+use crate::sink::Sink;
+use admit_core::OutOfMemory;
+use std::alloc::Global;
+
+/// A sink in memory that never fails.
+#[derive(Drop)]
+pub struct PlainSink {
+    bytes: Vec<u8>,
+}
+
+impl PlainSink {
+    ghost use Rattle.shelf_io.specs.MemorySink.{plain_held};
+
+    /// A sink that holds nothing.
+    pub fn new(alloc: Global) -> PlainSink
+        ensures { plain_held result ≡ [] }
+    {
+        PlainSink {
+            bytes: Vec::new(alloc),
+        }
+    }
+
+    /// The bytes held.
+    pub fn bytes(&self) -> &[u8]
+        ensures { result.now ≡ plain_held self.now }
+    {
+        self.bytes.as_slice()
+    }
+}
+
+impl Sink for PlainSink {
+    ghost use Rattle.std.specs.Io.{WritesAtMost};
+    ghost use Rattle.std.specs.Io.KnownBytes.{WriteAppends};
+    ghost use Rattle.shelf_io.specs.MemorySink.{plain_held};
+
+    ghost held = { λ sink. Some (plain_held sink) };
+
+    ghost faults = { λ _. 0 };
+
+    /// Takes the whole piece, or there was no memory for it.
+    fn write(&mut self, piece: &[u8]) -> Result<usize, IoRefusal>
+        requires { 0 < length piece.now }
+        ensures bound { WritesAtMost result piece.now }
+        ensures some { IfOk result (λ count. 0 < count) }
+        ensures bytes { WriteAppends (Some (plain_held self.old)) (Some (plain_held self.new)) result piece.now }
+
+        ensures never_failed { ¬ IsErrOf result IoRefusal.Failed }
+        ensures moves { IfOk result (λ count. count ≡ length piece.now) }
+    {
+        self.bytes.extend_from_slice(piece)?;
+        Ok(piece.len())
+    }
+}
+
+/// A sink in memory, some of whose calls fail, and whose room may be used up.
+#[derive(Drop)]
+pub struct MemSink {
+    bytes: Vec<u8>,
+    room: Option<u64>,
+    plan: Plan,
+    faults: u64,
+}
+
+impl MemSink {
+    ghost use Rattle.shelf_io.specs.MemorySink.{sink_calls, sink_failing, sink_faults, sink_held, sink_room};
+
+    /// A sink that holds nothing, and takes `room` bytes in all, or any number.
+    pub fn new(alloc: Global, room: Option<u64>) -> MemSink
+        ensures held { sink_held result ≡ [] }
+        ensures room { sink_room result ≡ room }
+        ensures faults { sink_faults result ≡ 0 }
+        ensures failing { sink_failing result ≡ [] }
+        ensures calls { sink_calls result ≡ 0 }
+    {
+        MemSink {
+            bytes: Vec::new(alloc),
+            room,
+            plan: Plan::new(alloc),
+            faults: 0,
+        }
+    }
+
+    /// Adds a call to those that are to fail. Calls of `write` are counted from 1.
+    pub fn fail_at(&mut self, call: u64) -> Result<(), OutOfMemory>
+        ensures ok { OnOk result (sink_failing self.new ≡ sink_failing self.old ++ call ∷ []) }
+        ensures err { OnErr result (sink_failing self.new ≡ sink_failing self.old) }
+        ensures calls { sink_calls self.new ≡ sink_calls self.old }
+        ensures held { sink_held self.new ≡ sink_held self.old }
+        ensures room { sink_room self.new ≡ sink_room self.old }
+        ensures faults { sink_faults self.new ≡ sink_faults self.old }
+    {
+        self.plan.fail_at(call)
+    }
+
+    /// The bytes held.
+    pub fn bytes(&self) -> &[u8]
+        ensures { result.now ≡ sink_held self.now }
+    {
+        self.bytes.as_slice()
+    }
+
+    /// How many bytes of a piece fit.
+    fn fitting(&self, piece: &[u8]) -> usize
+        ensures { result ≡ fitting (sink_room self.now) (length (sink_held self.now)) (length piece.now) }
+    {
+        match self.room {
+            None => piece.len(),
+            Some(room) => {
+                let left = room.saturating_sub(self.bytes.len() as u64);
+                if left < piece.len() as u64 {
+                    left as usize
+                } else {
+                    piece.len()
+                }
+            }
+        }
+    }
+}
+
+impl Sink for MemSink {
+    ghost use Rattle.std.specs.Io.{WritesAtMost};
+    ghost use Rattle.std.specs.Io.KnownBytes.{WriteAppends};
+    ghost use Rattle.shelf_io.specs.Refusals.{faults_after};
+    ghost use Rattle.shelf_io.specs.MemorySink.{sink_calls, sink_failing, sink_faults, sink_held, sink_room};
+    ghost use Rattle.shelf_io.specs.Faults.{Rose};
+
+    ghost held = { λ sink. Some (sink_held sink) };
+
+    ghost faults = { sink_faults };
+
+    /// Takes the part of the piece that fits, or there was no memory for it.
+    fn write(&mut self, piece: &[u8]) -> Result<usize, IoRefusal>
+        requires { 0 < length piece.now }
+        ensures bound { WritesAtMost result piece.now }
+        ensures some { IfOk result (λ count. 0 < count) }
+        ensures bytes { WriteAppends (Some (sink_held self.old)) (Some (sink_held self.new)) result piece.now }
+        ensures counts { sink_faults self.old ≤ sink_faults self.new }
+        ensures failed { IsErrOf result IoRefusal.Failed → Rose (sink_faults self.old) (sink_faults self.new) }
+
+        ensures planned { IsErrOf result IoRefusal.Failed
+            ↔ (IsToFail (sink_failing self.old) (sink_calls self.old) ⊎ (fitting (sink_room self.old) (length (sink_held self.old)) (length piece.now) ≡ 0)) }
+        ensures moves { IfOk result (λ count. count ≡ fitting (sink_room self.old) (length (sink_held self.old)) (length piece.now)) }
+        ensures faults { sink_faults self.new ≡ faults_after result (sink_faults self.old) }
+        ensures calls { sink_calls self.new ≡ min (sink_calls self.old + 1) (2 ^ 64 - 1) }
+        ensures failing { sink_failing self.new ≡ sink_failing self.old }
+        ensures room { sink_room self.new ≡ sink_room self.old }
+    {
+        let planned = self.plan.next_fails();
+        let count = self.fitting(piece);
+        if planned || count == 0 {
+            self.faults = self.faults.saturating_add(1);
+            return Err(IoRefusal::Failed);
+        }
+        self.bytes.extend_from_slice(&piece[..count])?;
+        Ok(count)
+    }
+}

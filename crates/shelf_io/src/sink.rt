@@ -1,0 +1,41 @@
+//! Writing reports.
+ghost use Rattle.std.specs.Prelude.{◌≡◌, ℕ, ◌<◌, ◌≤◌, List, [], Option, length, IfOk, OnOk, OnErr, IsErrOf};
+ghost use Rattle.std.specs.Io.{WritesAtMost};
+ghost use Rattle.std.specs.Io.KnownBytes.{Appends, WriteAppends};
+ghost use Rattle.shelf_io.specs.Bytes.{AppendsPrefix};
+ghost use Rattle.shelf_io.specs.Faults.{Rose};
+
+use crate::refusal::IoRefusal;
+
+/// Where the report is written to.
+pub trait Sink {
+    /// The bytes held, where the sink tells them.
+    ghost held: { Self → Option (List ℕ) };
+    /// How often the writes have failed, up to the last value of a 64-bit counter.
+    ghost faults: { Self → ℕ };
+
+    /// Appends the first bytes of the piece, and answers how many: at least one. A device that takes
+    /// none has failed. A refused write appends nothing.
+    fn write(&mut self, piece: &[u8]) -> Result<usize, IoRefusal>
+        requires { 0 < length piece.now }
+        ensures bound { WritesAtMost result piece.now }
+        ensures some { IfOk result (λ count. 0 < count) }
+        ensures bytes { WriteAppends (held self.old) (held self.new) result piece.now }
+        ensures counts { faults self.old ≤ faults self.new }
+        ensures failed { IsErrOf result IoRefusal.Failed → Rose (faults self.old) (faults self.new) };
+}
+
+/// Appends all the bytes in order. Where there are none, it makes no call.
+pub fn write_all<K: Sink>(sink: &mut K, bytes: &[u8]) -> Result<(), IoRefusal>
+    ensures whole { OnOk result (Appends (K.held sink.old) (K.held sink.new) bytes.now) }
+    ensures prefix { OnErr result (AppendsPrefix (K.held sink.old) (K.held sink.new) bytes.now) }
+    ensures nothing { bytes.now ≡ [] → (sink.new ≡ sink.old) }
+    ensures counts { K.faults sink.old ≤ K.faults sink.new }
+    ensures failed { IsErrOf result IoRefusal.Failed → Rose (K.faults sink.old) (K.faults sink.new) }
+{
+    let mut written = 0;
+    while written < bytes.len() {
+        written += sink.write(&bytes[written..])?;
+    }
+    Ok(())
+}
