@@ -108,6 +108,7 @@ pub struct StdSink<R: Print + Drop> {
 impl<R: Print + Drop> StdSink<R> {
     ghost use Rattle.shelf_io.specs.Devices.{std_faults};
 
+    /// The standard output of this runtime, with no failure counted.
     pub fn new(rt: R) -> StdSink<R>
         ensures { std_faults result ≡ 0 }
     {
