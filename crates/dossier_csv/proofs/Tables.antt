@@ -28,12 +28,12 @@ put-with : {A : Type 0} (done : List A) (v : A) (others : Result (List A) Refusa
 put-with done v (Ok rows) = ap Ok (sym (append_assoc done (v ∷ []) rows))
 put-with done v (Err refusal) = refl
 
-pub rows-step : {A : Type 0} (layout : Layout A) (width : ℕ) (done : List A) (k : ℕ) (fields : List (List ℕ)) (others : List (List (List ℕ))) (v : A)
+rows-step : {A : Type 0} (layout : Layout A) (width : ℕ) (done : List A) (k : ℕ) (fields : List (List ℕ)) (others : List (List (List ℕ))) (v : A)
     → at_row layout.slot k (row_of layout width k fields) ≡ Ok v → put_before done (rows_from layout width k (fields ∷ others)) ≡ put_before (done ++ (v ∷ [])) (rows_from layout width (k + 1) others)
 unfolding rows_from
 rows-step layout width done k fields others v e = ap (λ x. put_before done (with_row x (rows_from layout width (k + 1) others))) e ∙ put-with done v (rows_from layout width (k + 1) others)
 
-pub rows-fault : {A : Type 0} (layout : Layout A) (width : ℕ) (done : List A) (k : ℕ) (fields : List (List ℕ)) (others : List (List (List ℕ))) (refusal : Refusal)
+rows-fault : {A : Type 0} (layout : Layout A) (width : ℕ) (done : List A) (k : ℕ) (fields : List (List ℕ)) (others : List (List (List ℕ))) (refusal : Refusal)
     → at_row layout.slot k (row_of layout width k fields) ≡ Err refusal → put_before done (rows_from layout width k (fields ∷ others)) ≡ Err refusal
 unfolding rows_from
 rows-fault layout width done k fields others refusal e = ap (λ x. put_before done (with_row x (rows_from layout width (k + 1) others))) e
@@ -47,6 +47,13 @@ pub some-left : {R : Type 0} (rem : R → Option (List ℕ)) (b : Reader R) (fie
     → (others : List (List (List ℕ))) × (left ≡ fields ∷ others) × HasLeft rem b others
 some-left rem b fields [] next = cc next
 some-left rem b fields (first ∷ others) next = (others, ap (λ f. f ∷ others) (sym next.1), next.2)
+
+-- a row that is refused
+pub rows-refused : {A R : Type 0} (layout : Layout A) (width : ℕ) (rem : R → Option (List ℕ)) (b : Reader R) (done : List A) (k : ℕ) (fields : List (List ℕ)) (left : List (List (List ℕ))) (refusal : Refusal) (whole : Result (List A) Refusal)
+    → GivesNext rem b true fields left → Err refusal ≡ at_row layout.slot k (row_of layout width k fields) → whole ≡ put_before done (rows_from layout width k left) → whole ≡ Err refusal
+rows-refused layout width rem b done k fields left refusal whole next fault e =
+    let (others, first, has) = some-left rem b fields left next in
+    e ∙ rw first (rows-fault layout width done k fields others refusal (sym fault))
 
 -- a row more
 more-rows : {A : Type 0} (layout : Layout A) (width : ℕ) (done items : List A) (count len : ℕ) (fields : List (List ℕ)) (left others : List (List (List ℕ))) (v : A) → left ≡ fields ∷ others

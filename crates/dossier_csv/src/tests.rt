@@ -1,124 +1,413 @@
-use super::{read_groups, read_rankings};
-use admit_core::{GroupRow, InFault, RankRow, Reason, Refusal, Slot};
-use std::alloc::Global;
+use super::*;
+use admit_core::{AnswerKind, Reason, Refusal, Slot};
 use std::test::Fail;
 
-/// Why a reader gave no rows; none where it gave some, or memory ran out.
-fn refusal_of<T: Drop>(rows: Result<Vec<T>, InFault>) -> Option<Refusal> {
+/// What a reader answers, without its rows.
+#[derive(Drop)]
+enum Outcome {
+    Rows(usize),
+    Refused(Refusal),
+    NoMemory,
+}
+
+fn outcome_of<T: Drop>(rows: Result<Vec<T>, InFault>) -> Outcome {
     match rows {
-        Err(InFault::Refused(refusal)) => Some(refusal),
-        _ => None,
+        Ok(rows) => Outcome::Rows(rows.len()),
+        Err(InFault::Refused(refusal)) => Outcome::Refused(refusal),
+        Err(InFault::OutOfMemory) => Outcome::NoMemory,
     }
 }
 
-fn groups_are(alloc: Global, text: &[u8], expected: &[GroupRow]) -> Result<bool, Fail> {
-    Ok(read_groups(alloc, text)?.as_slice() == expected)
+fn read(alloc: Global, slot: Slot, bytes: &[u8]) -> Outcome {
+    match slot {
+        Slot::Groups => outcome_of(read_groups(alloc, bytes)),
+        Slot::Programmes => outcome_of(read_programmes(alloc, bytes)),
+        Slot::Schools => outcome_of(read_schools(alloc, bytes)),
+        Slot::Rankings => outcome_of(read_rankings(alloc, bytes)),
+        Slot::Boarding => outcome_of(read_boarding(alloc, bytes)),
+        Slot::Wishes => outcome_of(read_wishes(alloc, bytes)),
+        Slot::Ceilings => outcome_of(read_ceilings(alloc, bytes)),
+        Slot::Answers => outcome_of(read_answers(alloc, bytes)),
+        _ => Outcome::NoMemory,
+    }
 }
 
-fn groups_refused(alloc: Global, text: &[u8], row: u64, reason: Reason) -> bool {
+fn has_rows(alloc: Global, slot: Slot, bytes: &[u8], count: usize) -> bool {
+    matches!(read(alloc, slot, bytes), Outcome::Rows(found) if found == count)
+}
+
+fn is_refused(alloc: Global, slot: Slot, bytes: &[u8], row: u64, reason: Reason) -> bool {
+    matches!(read(alloc, slot, bytes), Outcome::Refused(found) if found == Refusal { slot, row, reason })
+}
+
+fn are<T: PartialEq + Drop>(rows: Result<Vec<T>, InFault>, expected: &[T]) -> Result<bool, Fail> {
+    Ok(rows?.as_slice() == expected)
+}
+
+/// Whether each beginning of the bytes gives rows or a refusal of the slot.
+fn is_safe_to_cut(alloc: Global, slot: Slot, bytes: &[u8]) -> bool {
+    for end in 0..=bytes.len() {
+        match read(alloc, slot, &bytes[..end]) {
+            Outcome::Rows(_) => {}
+            Outcome::Refused(refusal) if refusal.slot == slot => {}
+            _ => return false,
+        }
+    }
+    true
+}
+
+#[test]
+fn refusals(rt: HostRuntime) {
+    let alloc = rt.alloc();
+    for (slot, text, row, reason) in [
+        (Slot::Groups, "", 1, Reason::Header),
+        (
+            Slot::Groups,
+            "group,scholar_pct,resident_pc",
+            1,
+            Reason::Header,
+        ),
+        (
+            Slot::Groups,
+            "group,scholar_pct,resident_pct\n12345678901,0,0\n",
+            2,
+            Reason::NotNumber(1),
+        ),
+        (
+            Slot::Groups,
+            "group,scholar_pct,resident_pct\n1,101,x\n",
+            2,
+            Reason::OutOfRange(2),
+        ),
+        (
+            Slot::Programmes,
+            "programme,group,seats,limit\n10,1,1\n",
+            2,
+            Reason::FieldCount(3),
+        ),
+        (
+            Slot::Programmes,
+            "programme,group,seats\n10,1,1,2\n",
+            2,
+            Reason::FieldCount(4),
+        ),
+        (
+            Slot::Programmes,
+            "programme,group,seats,limit\n10,1,1,2000000001\n",
+            2,
+            Reason::OutOfRange(4),
+        ),
+        (
+            Slot::Programmes,
+            "programme,group\n10,1\n",
+            1,
+            Reason::Header,
+        ),
+        (
+            Slot::Rankings,
+            "group,candidate,rank,scholar,resident\n1,11,1,2,0\n",
+            2,
+            Reason::NotFlag(4),
+        ),
+        (
+            Slot::Wishes,
+            "wish,candidate,programme,school,preference\n1,11,10\n",
+            2,
+            Reason::FieldCount(3),
+        ),
+        (
+            Slot::Wishes,
+            "wish,candidate,programme,school,preference\n1,11,10,x,\n",
+            2,
+            Reason::NotNumber(4),
+        ),
+        (
+            Slot::Wishes,
+            "wish,candidate,programme,school,preference\n1,11,10,0,0\n",
+            2,
+            Reason::OutOfRange(4),
+        ),
+        (
+            Slot::Wishes,
+            "wish,candidate,programme,school,preference\n1,11,10,,\n",
+            2,
+            Reason::NotNumber(5),
+        ),
+        (
+            Slot::Ceilings,
+            "day,school,ceiling\n1,5,0\n367,5,0\n",
+            3,
+            Reason::OutOfRange(1),
+        ),
+        (
+            Slot::Answers,
+            "day,kind,target\n2,accept,1\n2,refuse\n",
+            3,
+            Reason::FieldCount(2),
+        ),
+        (
+            Slot::Answers,
+            "day,kind,target\n2,accept,1\n2,ref\n",
+            3,
+            Reason::FieldCount(2),
+        ),
+        (
+            Slot::Answers,
+            "day,kind,target\n2,accept,1\n2,refuse,\n",
+            3,
+            Reason::NotNumber(3),
+        ),
+        (
+            Slot::Answers,
+            "day,kind,target\n2,Accept,1\n",
+            2,
+            Reason::NotWord(2),
+        ),
+    ] {
+        assert!(rt;
+            is_refused(alloc, slot, text.as_bytes(), row, reason),
+            "at {text}"
+        );
+    }
+}
+
+#[test]
+fn odd_bytes(rt: HostRuntime) {
+    let alloc = rt.alloc();
     let slot = Slot::Groups;
-    refusal_of(read_groups(alloc, text)) == Some(Refusal { slot, row, reason })
+    for (bytes, count) in [
+        (
+            b"\xEF\xBB\xBFgroup,scholar_pct,resident_pct\n1,0,0\n".as_slice(),
+            1,
+        ),
+        (
+            b"\n\r\ngroup,\"scholar_pct\",resident_pct\r\n\r\n\"1\",\"020\",0\r\n\n2,100,5".as_slice(),
+            2,
+        ),
+        (
+            b"group,scholar_pct,resident_pct\r1,0,0\r2,0,0\r".as_slice(),
+            2,
+        ),
+        (
+            b"group,scholar_pct,resident_pct\n0000000001,0000000100,0\n".as_slice(),
+            1,
+        ),
+    ] {
+        assert!(rt; has_rows(alloc, slot, bytes, count), "{count} rows");
+    }
+    for (bytes, row, reason) in [
+        (
+            b"\xEF\xBB\xBF\xEF\xBB\xBFgroup,scholar_pct,resident_pct\n".as_slice(),
+            1,
+            Reason::Header,
+        ),
+        (
+            b" group,scholar_pct,resident_pct\n".as_slice(),
+            1,
+            Reason::Header,
+        ),
+        (
+            b"group,scholar_pct,resident_pct\n\"1\"\"2\",0,0\n".as_slice(),
+            2,
+            Reason::NotNumber(1),
+        ),
+        (
+            b"group,scholar_pct,resident_pct\n1\"2\",0,0\n".as_slice(),
+            2,
+            Reason::NotNumber(1),
+        ),
+        (
+            b"group,scholar_pct,resident_pct\n1,0 ,0\n".as_slice(),
+            2,
+            Reason::NotNumber(2),
+        ),
+        (
+            b"group,scholar_pct,resident_pct\n1,0,\0\n".as_slice(),
+            2,
+            Reason::NotNumber(3),
+        ),
+        (
+            b"group,scholar_pct,resident_pct\n1,0,\xB2\n".as_slice(),
+            2,
+            Reason::NotNumber(3),
+        ),
+        (
+            b"group,scholar_pct,resident_pct\n1,-0,0\n".as_slice(),
+            2,
+            Reason::NotNumber(2),
+        ),
+        (
+            b"group,scholar_pct,resident_pct\n4294967297,0,0\n".as_slice(),
+            2,
+            Reason::OutOfRange(1),
+        ),
+        (
+            b"group,scholar_pct,resident_pct\n00000000001,0,0\n".as_slice(),
+            2,
+            Reason::NotNumber(1),
+        ),
+        (
+            b"group,scholar_pct,resident_pct\n\"1,0,0\n2,0,0\n".as_slice(),
+            2,
+            Reason::FieldCount(1),
+        ),
+    ] {
+        assert!(rt;
+            is_refused(alloc, slot, bytes, row, reason),
+            "row {row}: {reason}"
+        );
+    }
 }
 
-fn rankings_are(alloc: Global, text: &[u8], expected: &[RankRow]) -> Result<bool, Fail> {
-    Ok(read_rankings(alloc, text)?.as_slice() == expected)
-}
-
-fn rankings_refused(alloc: Global, text: &[u8], row: u64, reason: Reason) -> bool {
-    let slot = Slot::Rankings;
-    refusal_of(read_rankings(alloc, text)) == Some(Refusal { slot, row, reason })
+#[test]
+fn cuts(rt: HostRuntime) {
+    let alloc = rt.alloc();
+    for (slot, text) in [
+        (Slot::Groups, "group,scholar_pct,resident_pct\n1,20,50\n"),
+        (Slot::Programmes, "programme,group,seats\n10,1,2\n20,1,1\n"),
+        (
+            Slot::Programmes,
+            "programme,group,seats,limit\n10,1,2,3\n20,1,1,0\n",
+        ),
+        (Slot::Schools, "school,beds,ceiling\n5,1,10\n"),
+        (
+            Slot::Rankings,
+            "group,candidate,rank,scholar,resident\n1,101,1,0,0\n1,102,2,1,1\n1,103,3,0,1\n1,104,4,0,0\n",
+        ),
+        (Slot::Boarding, "school,candidate,rank\n5,103,1\n5,101,2\n"),
+        (
+            Slot::Wishes,
+            "wish,candidate,programme,school,preference\n1,101,10,,0\n2,101,10,5,0\n3,102,10,,2\n4,102,20,,1\n5,103,10,5,0\n6,103,20,5,0\n7,104,10,,0\n8,104,20,,0\n",
+        ),
+        (Slot::Ceilings, "day,school,ceiling\n1,5,9\n"),
+        (Slot::Answers, "day,kind,target\n2,accept,1\n2,refuse,7\n"),
+    ] {
+        assert!(rt; is_safe_to_cut(alloc, slot, text.as_bytes()), "at {slot}");
+    }
 }
 
 #[test]
 fn rows(rt: HostRuntime) -> Result<(), Fail> {
     let alloc = rt.alloc();
-    assert!(rt; groups_are(alloc, b"group,scholar_pct,resident_pct\n", &[])?);
+    let groups = read_groups(alloc, b"group,scholar_pct,resident_pct\n2,020,0\n1,100,5");
+    let row = |id, scholar_pct, resident_pct| GroupRow {
+        id,
+        scholar_pct,
+        resident_pct,
+    };
+    assert!(rt; are(groups, &[row(2, 20, 0), row(1, 100, 5)])?);
+
+    let plain = read_programmes(alloc, b"programme,group,seats\n10,1,2\n");
     assert!(rt;
-        groups_are(
-            alloc,
-            b"group,scholar_pct,resident_pct\n1,020,0\n2,100,5",
-            &[
-                GroupRow {
-                    id: 1,
-                    scholar_pct: 20,
-                    resident_pct: 0
-                },
-                GroupRow {
-                    id: 2,
-                    scholar_pct: 100,
-                    resident_pct: 5
-                },
-            ],
+        are(
+            plain,
+            &[ProgrammeRow {
+                id: 10,
+                group: 1,
+                seats: 2,
+                limit: 0
+            }]
         )?
     );
+    let limited = read_programmes(alloc, b"programme,group,seats,limit\n10,1,2,3\n");
     assert!(rt;
-        rankings_are(
-            alloc,
-            b"group,candidate,rank,scholar,resident\n1,11,3,0,1\n",
+        are(
+            limited,
+            &[ProgrammeRow {
+                id: 10,
+                group: 1,
+                seats: 2,
+                limit: 3
+            }]
+        )?
+    );
+
+    let schools = read_schools(alloc, b"school,beds,ceiling\n5,0,2000000000\n");
+    assert!(rt;
+        are(
+            schools,
+            &[SchoolRow {
+                id: 5,
+                beds: 0,
+                ceiling: 2_000_000_000
+            }]
+        )?
+    );
+
+    let rankings = read_rankings(
+        alloc,
+        b"group,candidate,rank,scholar,resident\n1,11,3,0,1\n",
+    );
+    assert!(rt;
+        are(
+            rankings,
             &[RankRow {
                 group: 1,
                 candidate: 11,
                 rank: 3,
                 scholar: false,
                 resident: true
-            }],
+            }]
+        )?
+    );
+
+    let boarding = read_boarding(alloc, b"school,candidate,rank\n5,11,2\n");
+    assert!(rt;
+        are(
+            boarding,
+            &[BoardRow {
+                school: 5,
+                candidate: 11,
+                rank: 2
+            }]
         )?
     );
     Ok(())
 }
 
 #[test]
-fn refusals(rt: HostRuntime) {
+fn rows_of_the_campaign(rt: HostRuntime) -> Result<(), Fail> {
     let alloc = rt.alloc();
-    for (text, row, reason) in [
-        ("", 1, Reason::Header),
-        ("group,scholar_pct", 1, Reason::Header),
-        (
-            "group,scholar_pct,resident_pct\n1,2\n",
-            2,
-            Reason::FieldCount(2),
-        ),
-        (
-            "group,scholar_pct,resident_pct\n0,2\n",
-            2,
-            Reason::FieldCount(2),
-        ),
-        (
-            "group,scholar_pct,resident_pct\n,0,0\n",
-            2,
-            Reason::NotNumber(1),
-        ),
-        (
-            "group,scholar_pct,resident_pct\n0,0,0\n",
-            2,
-            Reason::OutOfRange(1),
-        ),
-        (
-            "group,scholar_pct,resident_pct\n1,0,0\n1,101,x\n",
-            3,
-            Reason::OutOfRange(2),
-        ),
-    ] {
-        assert!(rt;
-            groups_refused(alloc, text.as_bytes(), row, reason),
-            "at {text}"
-        );
-    }
-    for (text, row, reason) in [
-        (
-            "group,candidate,rank,scholar,resident\n1,1,1,0,1\n1,2,2,2,3\n",
-            3,
-            Reason::NotFlag(4),
-        ),
-        (
-            "group,candidate,rank,scholar,resident\n1,1,1,0,\n",
-            2,
-            Reason::NotFlag(5),
-        ),
-    ] {
-        assert!(rt;
-            rankings_refused(alloc, text.as_bytes(), row, reason),
-            "at {text}"
-        );
-    }
+    let wishes = read_wishes(
+        alloc,
+        b"wish,candidate,programme,school,preference\n1,11,10,,0\n2,11,10,5,7\n",
+    );
+    let row = |id, school, preference| WishRow {
+        id,
+        candidate: 11,
+        programme: 10,
+        school,
+        preference,
+    };
+    assert!(rt; are(wishes, &[row(1, None, 0), row(2, Some(5), 7)])?);
+
+    let ceilings = read_ceilings(alloc, b"day,school,ceiling\n366,5,0\n");
+    assert!(rt;
+        are(
+            ceilings,
+            &[CeilingRow {
+                day: 366,
+                school: 5,
+                ceiling: 0
+            }]
+        )?
+    );
+
+    let answers = read_answers(
+        alloc,
+        b"day,kind,target\n1,accept,2\n1,refuse,3\n2,withdraw,4\n2,quit,5\n",
+    );
+    let row = |day, kind, target| AnswerRow { day, kind, target };
+    assert!(rt;
+        are(
+            answers,
+            &[
+                row(1, AnswerKind::Accept, 2),
+                row(1, AnswerKind::Refuse, 3),
+                row(2, AnswerKind::Withdraw, 4),
+                row(2, AnswerKind::Quit, 5),
+            ]
+        )?
+    );
+    Ok(())
 }

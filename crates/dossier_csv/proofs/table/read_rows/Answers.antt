@@ -1,15 +1,14 @@
-use Rattle.std.proofs.Common.{◌≡◌, ◌∙◌, true, rules, arith, sym}
+use Rattle.std.proofs.Common.{◌≡◌, ◌∙◌, true, rules, arith}
 use Rattle.std.specs.Result.{is_ok}
 use Rattle.std.proofs.lemmas.Result.{err_from_is_err_and}
-use Rattle.dossier_csv.proofs.Tables.{more-in-range, one-more, rows-end, rows-fault, none-left, some-left}
+use Rattle.dossier_csv.proofs.Tables.{more-in-range, one-more, rows-end, rows-refused, none-left}
 use Rattle.dossier_csv.proofs.table.read_rows.Goals as goal
 
 pub returns-in_err-typed_row-clause-value : goal.returns-in_err-typed_row-clause-value
 returns-in_err-typed_row-clause-value g c = λ all has.
     let (left, here, whole) = c.rows.invariant.whole all has in
-    let next = some-left _ _ _ left (rw c.if-branch.true at (c.in_ok-next_row.ensures.next left here)) in
     let told = err_from_is_err_and c.from_residual-in_err-typed_row.result c.from_residual-in_err-typed_row.ensures.1 in
-    rw (told.1, told.2) (whole ∙ rw next.1 (rows-fault _ _ _ _ _ _ _ (sym (rw c.len.ensures at c.in_err-typed_row.ensures.value))))
+    rw (told.1, told.2) (rows-refused _ _ _ _ _ _ _ left _ _ (rw c.if-branch.true at (c.in_ok-next_row.ensures.next left here)) (rw c.len.ensures at c.in_err-typed_row.ensures.value) whole)
 
 pub rows-preserved : goal.rows-preserved
 rows-preserved g c =
