@@ -132,13 +132,13 @@ module _ (sys : FallingSystem) (lawful : IsLawful sys) where
             ];
       }
 
-  all_under : (bars : List ℕ) (falls : List Fall) → IsAtMost bars sys.ceilings → AreFalls sys bars falls → IsAtMost (bars_after bars falls) sys.ceilings
+  pub all_under : (bars : List ℕ) (falls : List Fall) → IsAtMost bars sys.ceilings → AreFalls sys bars falls → IsAtMost (bars_after bars falls) sys.ceilings
   all_under bars [] under are = under
   all_under bars (f ∷ fs) under are =
       let step = falls_under bars f.school under are.0 in
       all_under (fallen bars f) fs (subst (λ (g : Fall). IsAtMost (fallen bars g) sys.ceilings) (sym are.1) step) are.2
 
-  all_above : (others : List ℕ) → Fits sys others → (bars : List ℕ) (falls : List Fall) → IsAtMost bars sys.ceilings → IsAtMost others bars
+  pub all_above : (others : List ℕ) → Fits sys others → (bars : List ℕ) (falls : List Fall) → IsAtMost bars sys.ceilings → IsAtMost others bars
       → AreFalls sys bars falls → IsAtMost others (bars_after bars falls)
   all_above others fits bars [] under at_most are = at_most
   all_above others fits bars (f ∷ fs) under at_most are =
