@@ -1,5 +1,5 @@
 -- What the fields of a row say, from left to right, with the first fault that is met.
-use Rattle.std.specs.Prelude.{ℕ, ◌-◌, ◌&&◌, Bool, true, false, List, [], ◌∷◌, length, map, Option, Some, None, Result, Ok, Err, nat_lt, nat_le, unwrap_or, if◌then◌else◌}
+use Rattle.std.specs.Prelude.{ℕ, ◌-◌, ◌&&◌, Bool, true, false, List, [], ◌∷◌, length, map, Option, Some, None, Result, Ok, Err, nat_lt, nat_le, unwrap_or, if◌then◌else◌, IsSome, ℤ}
 use Rattle.std.specs.Prelude.{codes, nat_eq}
 use Rattle.std.specs.Cmp.Lexicographic.{pointwise}
 use Rattle.std.specs.Char.{is_ascii_digit}
@@ -8,7 +8,10 @@ use Rattle.std.specs.Str.Parse.{digits_value}
 use Rattle.csv.specs.Records.{field_at}
 use Rattle.admit_core.specs.declared.dossier.TheConstants.{MAX_DAY, MAX_NUMBER}
 use Rattle.admit_core.specs.declared.refusal.Reason.{Reason}
-use Rattle.admit_core.specs.declared.refusal.Reason.TheVariants.{NotNumber, OutOfRange, NotFlag, NotWord}
+use Rattle.admit_core.specs.declared.refusal.Reason.TheVariants.{NotDate, NotFlag, NotNumber, NotWord, OutOfRange}
+use Rattle.admit_core.specs.declared.tables.Since.{Since}
+use Rattle.calendar.specs.Dates.{civil, date_of}
+use Rattle.calendar.specs.Texts.{date_in}
 use Rattle.dossier_csv.specs.declared.columns.Limits.{Limits}
 
 infixl 10 ◌>>=◌
@@ -60,6 +63,25 @@ optional_from limits position text = within limits position (number_of text) >>=
 
 unfoldable pub optional_number : Limits → List (List ℕ) → ℕ → Result (Option ℕ) Reason
 optional_number limits fields position = optional_from limits position (text_at fields position)
+
+-- a date column that may be empty; it is empty too where only a longer header has it
+abbrev pub since_of : ℕ × ℕ × ℕ → Since
+since_of date = record { year = date.0; month = date.1; day = date.2 }
+
+abbrev pub dated : ℕ → Option ℤ → Result (Option Since) Reason
+dated position None = Err (NotDate position)
+dated position (Some number) = Ok (Some (since_of (date_of number)))
+
+abbrev pub optional_date_from : ℕ → List ℕ → Result (Option Since) Reason
+optional_date_from position [] = Ok None
+optional_date_from position text = dated position (date_in text)
+
+unfoldable pub optional_date : List (List ℕ) → ℕ → Result (Option Since) Reason
+optional_date fields position = optional_date_from position (text_at fields position)
+
+-- a date that `calendar` makes again
+abbrev pub IsSince : Since → Type 0
+IsSince since = IsSome (civil since.year since.month since.day)
 
 -- the value that stands beside a word in a table
 abbrev pub choice : {A : Type 0} → List (List ℕ × A) → List ℕ → Option A

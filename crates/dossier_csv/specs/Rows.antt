@@ -2,7 +2,11 @@
 use Rattle.std.specs.Prelude.{ℕ, List, [], ◌∷◌, Result, Ok, codes}
 use Rattle.admit_core.specs.declared.dossier.AnswerKind.{AnswerKind}
 use Rattle.admit_core.specs.declared.dossier.AnswerKind.TheVariants.{Accept, Refuse, Withdraw, Quit}
+use Rattle.std.specs.Option.{ForSome}
+use Rattle.admit_core.specs.Lines.{status_word}
 use Rattle.admit_core.specs.declared.slot.Slot.TheVariants as slots
+use Rattle.admit_core.specs.declared.state.Status.{Status}
+use Rattle.admit_core.specs.declared.state.Status.TheVariants as status
 use Rattle.admit_core.specs.declared.refusal.Reason.{Reason}
 use Rattle.admit_core.specs.declared.tables.AnswerRow.{AnswerRow}
 use Rattle.admit_core.specs.declared.tables.BoardRow.{BoardRow}
@@ -11,8 +15,9 @@ use Rattle.admit_core.specs.declared.tables.GroupRow.{GroupRow}
 use Rattle.admit_core.specs.declared.tables.ProgrammeRow.{ProgrammeRow}
 use Rattle.admit_core.specs.declared.tables.RankRow.{RankRow}
 use Rattle.admit_core.specs.declared.tables.SchoolRow.{SchoolRow}
+use Rattle.admit_core.specs.declared.tables.StateRow.{StateRow}
 use Rattle.admit_core.specs.declared.tables.WishRow.{WishRow}
-use Rattle.dossier_csv.specs.Columns.{◌>>=◌, added_number, amounts, days, flag, ids, number, optional_number, percents, word, words}
+use Rattle.dossier_csv.specs.Columns.{◌>>=◌, IsSince, added_number, amounts, days, flag, ids, number, optional_date, optional_number, percents, word, words}
 use Rattle.dossier_csv.specs.Layout.{Layout}
 
 unfoldable pub group_row : List (List ℕ) → Result GroupRow Reason
@@ -104,6 +109,28 @@ wishes = record {
   headers = (codes "wish" ∷ codes "candidate" ∷ codes "programme" ∷ codes "school" ∷ codes "preference" ∷ []) ∷ [];
   row = wish_row;
 }
+
+-- the statuses, each beside the word that it is printed by
+abbrev pub statuses : List (List ℕ × Status)
+statuses = words status_word (status.Waiting ∷ status.Offered ∷ status.Accepted ∷ status.Refused ∷ status.Withdrawn ∷ status.Quit ∷ status.AutoRefused ∷ status.AutoWithdrawn ∷ status.Lapsed ∷ [])
+
+unfoldable pub state_row : List (List ℕ) → Result StateRow Reason
+state_row fields = do
+  wish ← number ids fields 1
+  what ← word statuses fields 2
+  since ← optional_date fields 3
+  Ok (record { wish = wish; status = what; since = since })
+
+abbrev pub state : Layout StateRow
+state = record {
+  slot = slots.State;
+  headers = (codes "wish" ∷ codes "status" ∷ []) ∷ (codes "wish" ∷ codes "status" ∷ codes "since" ∷ []) ∷ [];
+  row = state_row;
+}
+
+-- a row whose date, if it has one, is a date
+abbrev pub IsDatedRow : StateRow → Type 0
+IsDatedRow row = ForSome row.since IsSince
 
 unfoldable pub ceiling_row : List (List ℕ) → Result CeilingRow Reason
 ceiling_row fields = do

@@ -4,7 +4,8 @@ ghost use Rattle.std.specs.Option.{ForSome};
 ghost use Rattle.csv.specs.Records.{fields_of};
 ghost use Rattle.dossier_csv.specs.Columns as Columns;
 
-use admit_core::{MAX_DAY, MAX_NUMBER, Reason};
+use admit_core::{MAX_DAY, MAX_NUMBER, Reason, Since};
+use calendar::{parts, read_date};
 use csv::ByteRecord;
 
 /// The least and the greatest number of a column.
@@ -108,6 +109,23 @@ pub(crate) fn optional_number(
         return Ok(None);
     }
     Ok(Some(number(row, position, limits)?))
+}
+
+/// The date of a column that may be empty; none where the row has no such field.
+#[tactic(auto, unfolding(crate::specs::Columns::optional_date))]
+pub(crate) fn optional_date(row: &ByteRecord, position: u32) -> Result<Option<Since>, Reason>
+    ensures value { result ≡ Columns.optional_date (fields_of row.now) position }
+    ensures date { IfOk result (λ found. ForSome found Columns.IsSince) }
+{
+    let text = text_at(row, position);
+    if text.is_empty() {
+        return Ok(None);
+    }
+    let Some(date) = read_date(text) else {
+        return Err(Reason::NotDate(position));
+    };
+    let (year, month, day) = parts(date);
+    Ok(Some(Since { year, month, day }))
 }
 
 /// The value that stands beside a word in a table.

@@ -5,8 +5,8 @@
 //! from left to right.
 #![tactic(auto)]
 
-ghost use Rattle.std.specs.Prelude.{IfOk};
-ghost use Rattle.admit_core.specs.Ranges.{AreRows, IsAnswerRow, IsBoardRow, IsCeilingRow, IsGroupRow, IsProgrammeRow, IsRankRow, IsSchoolRow, IsWishRow};
+ghost use Rattle.std.specs.Prelude.{All, IfOk};
+ghost use Rattle.admit_core.specs.Ranges.{AreRows, IsAnswerRow, IsBoardRow, IsCeilingRow, IsGroupRow, IsProgrammeRow, IsRankRow, IsSchoolRow, IsStateRow, IsWishRow};
 ghost use Rattle.dossier_csv.specs.Rows as Rows;
 ghost use Rattle.dossier_csv.specs.Shape.{Answers, shape};
 
@@ -15,7 +15,8 @@ mod rows;
 mod table;
 
 use admit_core::{
-    AnswerRow, BoardRow, CeilingRow, GroupRow, InFault, ProgrammeRow, RankRow, SchoolRow, WishRow,
+    AnswerRow, BoardRow, CeilingRow, GroupRow, InFault, ProgrammeRow, RankRow, SchoolRow, StateRow,
+    WishRow,
 };
 use std::alloc::Global;
 
@@ -63,6 +64,15 @@ pub fn read_boarding(alloc: Global, bytes: &[u8]) -> Result<Vec<BoardRow>, InFau
 pub fn read_wishes(alloc: Global, bytes: &[u8]) -> Result<Vec<WishRow>, InFault>
     ensures value { Answers (λ rows. rows.items) result (shape Rows.wishes bytes.now) }
     ensures ranges { IfOk result (λ rows. AreRows IsWishRow rows.items) }
+{
+    table::read_table(alloc, bytes)
+}
+
+/// The rows of the state slot. Under the header without dates no row has a date.
+pub fn read_state(alloc: Global, bytes: &[u8]) -> Result<Vec<StateRow>, InFault>
+    ensures value { Answers (λ rows. rows.items) result (shape Rows.state bytes.now) }
+    ensures ranges { IfOk result (λ rows. AreRows IsStateRow rows.items) }
+    ensures dates { IfOk result (λ rows. All Rows.IsDatedRow rows.items) }
 {
     table::read_table(alloc, bytes)
 }

@@ -1,15 +1,17 @@
 //! The rows of each slot, column by column.
 ghost use Rattle.std.specs.Prelude.{◌≡◌};
 ghost use Rattle.csv.specs.Records.{fields_of};
-ghost use Rattle.admit_core.specs.Ranges.{IsAnswerRow, IsBoardRow, IsCeilingRow, IsGroupRow, IsProgrammeRow, IsRankRow, IsSchoolRow, IsWishRow};
+ghost use Rattle.admit_core.specs.Ranges.{IsAnswerRow, IsBoardRow, IsCeilingRow, IsGroupRow, IsProgrammeRow, IsRankRow, IsSchoolRow, IsStateRow, IsWishRow};
 ghost use Rattle.dossier_csv.specs.Columns as Columns;
 ghost use Rattle.dossier_csv.specs.Rows as Rows;
 
-use crate::columns::{AMOUNT, DAY, ID, PERCENT, added_number, flag, number, optional_number, word};
+use crate::columns::{
+    AMOUNT, DAY, ID, PERCENT, added_number, flag, number, optional_date, optional_number, word,
+};
 use crate::table::TableRow;
 use admit_core::{
     AnswerKind, AnswerRow, BoardRow, CeilingRow, GroupRow, ProgrammeRow, RankRow, Reason,
-    SchoolRow, Slot, WishRow,
+    SchoolRow, Slot, StateRow, Status, WishRow,
 };
 use csv::ByteRecord;
 
@@ -155,6 +157,47 @@ impl TableRow for WishRow {
             programme: number(row, 3, ID)?,
             school: optional_number(row, 4, ID)?,
             preference: number(row, 5, AMOUNT)?,
+        })
+    }
+}
+
+/// What became of a wish, by its word.
+fn status(row: &ByteRecord, position: u32) -> Result<Status, Reason>
+    ensures { result ≡ Columns.word Rows.statuses (fields_of row.now) position }
+{
+    let words = [
+        ("waiting", Status::Waiting),
+        ("offered", Status::Offered),
+        ("accepted", Status::Accepted),
+        ("refused", Status::Refused),
+        ("withdrawn", Status::Withdrawn),
+        ("quit", Status::Quit),
+        ("auto_refused", Status::AutoRefused),
+        ("auto_withdrawn", Status::AutoWithdrawn),
+        ("lapsed", Status::Lapsed),
+    ];
+    word(row, position, &words)
+}
+
+impl TableRow for StateRow {
+    ghost layout = { Rows.state };
+
+    ghost in_range = { λ row. IsStateRow row × Rows.IsDatedRow row };
+
+    fn slot() -> Slot {
+        Slot::State
+    }
+
+    fn headers() -> &'static [&'static [&'static str]] {
+        &[&["wish", "status"], &["wish", "status", "since"]]
+    }
+
+    #[tactic(auto, unfolding(crate::specs::Rows::state_row))]
+    fn of_fields(row: &ByteRecord) -> Result<StateRow, Reason> {
+        Ok(StateRow {
+            wish: number(row, 1, ID)?,
+            status: status(row, 2)?,
+            since: optional_date(row, 3)?,
         })
     }
 }

@@ -1,5 +1,5 @@
 use super::*;
-use admit_core::{AnswerKind, Reason, Refusal, Slot};
+use admit_core::{AnswerKind, Reason, Refusal, Since, Slot, Status};
 use std::test::Fail;
 
 /// What a reader answers, without its rows.
@@ -26,9 +26,10 @@ fn read(alloc: Global, slot: Slot, bytes: &[u8]) -> Outcome {
         Slot::Rankings => outcome_of(read_rankings(alloc, bytes)),
         Slot::Boarding => outcome_of(read_boarding(alloc, bytes)),
         Slot::Wishes => outcome_of(read_wishes(alloc, bytes)),
+        Slot::State => outcome_of(read_state(alloc, bytes)),
         Slot::Ceilings => outcome_of(read_ceilings(alloc, bytes)),
         Slot::Answers => outcome_of(read_answers(alloc, bytes)),
-        _ => Outcome::NoMemory,
+        Slot::Chain => Outcome::NoMemory,
     }
 }
 
@@ -126,6 +127,32 @@ fn refusals(rt: HostRuntime) {
             "wish,candidate,programme,school,preference\n1,11,10,0,0\n",
             2,
             Reason::OutOfRange(4),
+        ),
+        (Slot::State, "wish,status\n1,gone\n", 2, Reason::NotWord(2)),
+        (Slot::State, "wish,since\n1,offered\n", 1, Reason::Header),
+        (
+            Slot::State,
+            "wish,status\n1,offered,\n",
+            2,
+            Reason::FieldCount(3),
+        ),
+        (
+            Slot::State,
+            "wish,status,since\n1,offered\n",
+            2,
+            Reason::FieldCount(2),
+        ),
+        (
+            Slot::State,
+            "wish,status,since\n1,offered,2023-02-29\n",
+            2,
+            Reason::NotDate(3),
+        ),
+        (
+            Slot::State,
+            "wish,status,since\n1,offered,2024-02-29\n2,gone,x\n",
+            3,
+            Reason::NotWord(2),
         ),
         (
             Slot::Wishes,
@@ -279,6 +306,11 @@ fn cuts(rt: HostRuntime) {
             Slot::Wishes,
             "wish,candidate,programme,school,preference\n1,101,10,,0\n2,101,10,5,0\n3,102,10,,2\n4,102,20,,1\n5,103,10,5,0\n6,103,20,5,0\n7,104,10,,0\n8,104,20,,0\n",
         ),
+        (Slot::State, "wish,status\n1,accepted\n2,auto_refused\n"),
+        (
+            Slot::State,
+            "wish,status,since\n1,offered,2024-02-29\n2,lapsed,\n",
+        ),
         (Slot::Ceilings, "day,school,ceiling\n1,5,9\n"),
         (Slot::Answers, "day,kind,target\n2,accept,1\n2,refuse,7\n"),
     ] {
@@ -406,6 +438,60 @@ fn rows_of_the_campaign(rt: HostRuntime) -> Result<(), Fail> {
                 row(1, AnswerKind::Refuse, 3),
                 row(2, AnswerKind::Withdraw, 4),
                 row(2, AnswerKind::Quit, 5),
+            ]
+        )?
+    );
+    Ok(())
+}
+
+#[test]
+fn rows_of_the_state(rt: HostRuntime) -> Result<(), Fail> {
+    let alloc = rt.alloc();
+    let row = |wish, status| StateRow {
+        wish,
+        status,
+        since: None,
+    };
+    let plain = read_state(
+        alloc,
+        b"wish,status\n1,waiting\n2,offered\n3,accepted\n4,refused\n5,withdrawn\n6,quit\n7,auto_refused\n8,auto_withdrawn\n9,lapsed\n",
+    );
+    assert!(rt;
+        are(
+            plain,
+            &[
+                row(1, Status::Waiting),
+                row(2, Status::Offered),
+                row(3, Status::Accepted),
+                row(4, Status::Refused),
+                row(5, Status::Withdrawn),
+                row(6, Status::Quit),
+                row(7, Status::AutoRefused),
+                row(8, Status::AutoWithdrawn),
+                row(9, Status::Lapsed),
+            ]
+        )?
+    );
+
+    let since = Since {
+        year: 2024,
+        month: 2,
+        day: 29,
+    };
+    let dated = read_state(
+        alloc,
+        b"wish,status,since\n1,lapsed,\n2,offered,2024-02-29\n",
+    );
+    assert!(rt;
+        are(
+            dated,
+            &[
+                row(1, Status::Lapsed),
+                StateRow {
+                    wish: 2,
+                    status: Status::Offered,
+                    since: Some(since)
+                }
             ]
         )?
     );

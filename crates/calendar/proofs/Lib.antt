@@ -1,0 +1,4 @@
+pub mod CalendarLaws
+pub mod DateLaws
+pub mod JiffDates
+pub mod TextLaws
