@@ -63,12 +63,13 @@ settled_from_none sys bars places all none =
     none_pass (is_overfilled sys bars) (range_with_len 0 (length sys.ceilings)) (sym all ∙ none)
 
 -- a listed place is overfilled
-pub overfilled_from_list : (sys : FallingSystem) (bars places : List ℕ) (i : ℕ) → places ≡ all_overfilled sys bars → Contains places i → is_overfilled sys bars i ≡ true
-overfilled_from_list sys bars places i all listed =
+pub overfilled_from_list : (sys : FallingSystem) (bars shown places : List ℕ) (i : ℕ) → shown ≡ places → places ≡ all_overfilled sys bars → Contains shown i
+    → is_overfilled sys bars i ≡ true
+overfilled_from_list sys bars shown places i are all listed =
     let P : List ℕ → Type 0 = λ xs. Contains xs i in
     All-contains (λ j. is_overfilled sys bars j ≡ true) (all_overfilled sys bars) i
     (filter_passes (is_overfilled sys bars) (range_with_len 0 (length sys.ceilings)))
-    (subst P all listed)
+    (subst P (are ∙ all) listed)
 
 module _ (sys : FallingSystem) (lawful : IsLawful sys) (bars : List ℕ) (i : ℕ) (under : IsAtMost bars sys.ceilings) (over : is_overfilled sys bars i ≡ true) where
   -- an overfilled place has a rank that finds no bed
@@ -107,17 +108,17 @@ module _ (sys : FallingSystem) (lawful : IsLawful sys) (bars : List ℕ) (i : �
       ap (λ a. F a r wishes) is_from ∙ ap (λ b. F (slice_index bars i) b wishes) is_rank ∙ ap (F (slice_index bars i) top) named
 
 -- the picked place fell
-pub falls_once : (sys : FallingSystem) (choice : List ℕ → List ℕ → ℕ) (told bars places : List ℕ) (i : ℕ) (f : Fall) (told_after after : List ℕ)
-    → places ≡ all_overfilled sys bars → is_overfilled sys bars i ≡ true → f ≡ fall_of sys bars i → after ≡ fallen bars f → told_after ≡ told ++ i ∷ []
-    → i ≡ choice told places → Falls sys choice told bars f told_after after
-falls_once sys choice told bars places i f told_after after all over is_fall fell told_of chosen =
+pub falls_once : (sys : FallingSystem) (choice : List ℕ → List ℕ → ℕ) (told bars shown places : List ℕ) (i : ℕ) (f : Fall) (told_after after : List ℕ)
+    → shown ≡ places → places ≡ all_overfilled sys bars → is_overfilled sys bars i ≡ true → f ≡ fall_of sys bars i → after ≡ fallen bars f → told_after ≡ told ++ i ∷ []
+    → i ≡ choice told shown → Falls sys choice told bars f told_after after
+falls_once sys choice told bars shown places i f told_after after are all over is_fall fell told_of chosen =
     let is : f.school ≡ i = ap (λ (g : Fall). g.school) is_fall in
     let P : ℕ → Type 0 = λ j. is_overfilled sys bars j ≡ true in
     record {
       overfilled = subst P (sym is) over;
       is_fall = is_fall ∙ ap (fall_of sys bars) (sym is);
       bars_fell = fell;
-      chosen = is ∙ chosen ∙ ap (choice told) all;
+      chosen = is ∙ chosen ∙ ap (choice told) (are ∙ all);
       told_of = told_of ∙ ap (λ j. told ++ j ∷ []) (sym is);
     }
 

@@ -24,3 +24,12 @@ pub trait Picker: Drop {
     fn told_list(&self) -> &[u32]
         ensures { result.now ≡ told self.now };
 }
+
+/// Keeps an answer with those told before.
+pub(crate) fn tell(told: &mut Vec<u32>, place: u32) -> Result<u32, OutOfMemory>
+    ensures ok { IfOk result (λ i. (i ≡ place) × (told.new.items ≡ told.old.items ++ place ∷ [])) }
+    ensures err { OnErr result (told.new.items ≡ told.old.items) }
+{
+    told.push(place)?;
+    Ok(place)
+}

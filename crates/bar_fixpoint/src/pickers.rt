@@ -2,7 +2,7 @@
 ghost use Rattle.std.specs.Prelude.{◌≡◌, ◌<◌, length, [], Contains, IfSome, find, nat_lt};
 ghost use Rattle.bar_fixpoint.specs.Choices.{first_of, last_of, turn_of};
 
-use crate::picker::Picker;
+use crate::picker::{Picker, tell};
 use admit_core::OutOfMemory;
 use std::alloc::Global;
 
@@ -30,9 +30,7 @@ impl Picker for FirstPicker {
     ghost choice = { λ _ _ places. first_of places };
 
     fn pick(&mut self, places: &[u32]) -> Result<u32, OutOfMemory> {
-        let place = places[0];
-        self.told.push(place)?;
-        Ok(place)
+        tell(&mut self.told, places[0])
     }
 
     fn told_list(&self) -> &[u32] {
@@ -64,9 +62,7 @@ impl Picker for LastPicker {
     ghost choice = { λ _ _ places. last_of places };
 
     fn pick(&mut self, places: &[u32]) -> Result<u32, OutOfMemory> {
-        let place = places[places.len() - 1];
-        self.told.push(place)?;
-        Ok(place)
+        tell(&mut self.told, places[places.len() - 1])
     }
 
     fn told_list(&self) -> &[u32] {
@@ -99,8 +95,7 @@ impl Picker for TurnPicker {
 
     fn pick(&mut self, places: &[u32]) -> Result<u32, OutOfMemory> {
         let place = turn(self.told.as_slice(), places);
-        self.told.push(place)?;
-        Ok(place)
+        tell(&mut self.told, place)
     }
 
     fn told_list(&self) -> &[u32] {

@@ -2,7 +2,7 @@
 ghost use Rattle.std.specs.Prelude.{◌≡◌, ◌==◌, ◌+◌, ◌-◌, ◌^◌, ◌<◌, ◌≤◌, List, length, [], ◌++◌, ◌∷◌, Contains, IfOk, OnErr, IsErr, min};
 ghost use Rattle.bar_fixpoint.specs.Choices.{first_of};
 
-use crate::picker::Picker;
+use crate::picker::{Picker, tell};
 use admit_core::OutOfMemory;
 use std::alloc::Global;
 
@@ -52,9 +52,7 @@ impl Picker for TiredPicker {
         if self.is_tired() {
             return Err(OutOfMemory);
         }
-        let place = places[0];
-        self.told.push(place)?;
-        Ok(place)
+        tell(&mut self.told, places[0])
     }
 
     fn told_list(&self) -> &[u32] {
