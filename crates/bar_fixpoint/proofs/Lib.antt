@@ -1,0 +1,2 @@
+pub mod OneFall
+pub mod SoFar

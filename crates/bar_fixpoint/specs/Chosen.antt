@@ -1,0 +1,32 @@
+-- Falls whose places a picker chose.
+use Rattle.std.specs.Prelude.{◌≡◌, ℕ, List, [], ◌∷◌, ◌++◌, ◌⊎◌, IsTrue, ⊤}
+use Rattle.admit_core.specs.declared.records.Fall.{Fall}
+use Rattle.admit_core.specs.Falls.{FallingSystem, is_overfilled, fall_of, fallen, bars_after, AreFalls}
+use Rattle.bar_law.specs.Overfilled.{all_overfilled}
+use Rattle.bar_law.specs.Runs.{schools_of}
+
+-- from these bars on, each place that fell was chosen from all that were overfilled
+abbrev pub AreChosen : FallingSystem → (List ℕ → List ℕ → ℕ) → List ℕ → List ℕ → List Fall → Type 0
+AreChosen sys choice told bars [] = ⊤
+AreChosen sys choice told bars (f ∷ fs) =
+    (f.school ≡ choice told (all_overfilled sys bars)) × AreChosen sys choice (told ++ f.school ∷ []) (fallen bars f) fs
+
+-- one fall: the place that the picker chose and told of
+pub record Falls (sys : FallingSystem) (choice : List ℕ → List ℕ → ℕ) (told bars : List ℕ) (f : Fall) (told_after after : List ℕ) : Type 0 where
+  pub overfilled : IsTrue (is_overfilled sys bars f.school)
+  pub is_fall : f ≡ fall_of sys bars f.school
+  pub bars_fell : after ≡ fallen bars f
+  pub chosen : f.school ≡ choice told (all_overfilled sys bars)
+  pub told_of : told_after ≡ told ++ f.school ∷ []
+
+-- a picker told of an overfilled place more, or of none
+abbrev pub TellsAtMostOne : FallingSystem → List ℕ → List ℕ → List ℕ → Type 0
+TellsAtMostOne sys bars told told_after = (told_after ≡ told) ⊎ ((i : ℕ) × IsTrue (is_overfilled sys bars i) × (told_after ≡ told ++ i ∷ []))
+
+-- falls from the ceilings led to these bars, and the picker told of each, and perhaps of one that was yet to fall
+pub record EndsEarly (sys : FallingSystem) (choice : List ℕ → List ℕ → ℕ) (told told_after after : List ℕ) : Type 0 where
+  pub falls : List Fall
+  pub are_falls : AreFalls sys sys.ceilings falls
+  pub chosen : AreChosen sys choice told sys.ceilings falls
+  pub bars_fell : after ≡ bars_after sys.ceilings falls
+  pub told_of : TellsAtMostOne sys after (told ++ schools_of falls) told_after

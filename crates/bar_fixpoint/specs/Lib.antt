@@ -1,0 +1,3 @@
+pub mod Choices
+pub mod Chosen
+pub mod FixedSystems

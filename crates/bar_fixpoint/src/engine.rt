@@ -1,0 +1,100 @@
+//! The engine.
+ghost use Rattle.std.specs.Prelude.{◌≡◌, ℕ, ◌+◌, ◌<◌, ◌≤◌, List, length, ◌++◌, IfOk, OnOk, OnErr, IfSome, IfNone, IsTrue, sum};
+ghost use Rattle.admit_core.specs.Falls.{IsAtMost, IsGreatest, IsRun, is_overfilled, is_settled, fall_of, fallen, bars_after};
+ghost use Rattle.bar_law.specs.Runs.{AreAboveAllThatFit, schools_of};
+ghost use Rattle.bar_fixpoint.specs.Chosen.{AreChosen, Falls, TellsAtMostOne, EndsEarly};
+
+use crate::picker::Picker;
+use admit_core::{Fall, OutOfMemory, Sequence, Steps};
+use bar_law::Falling;
+use std::alloc::Global;
+use std::sync::ledger::Ledger;
+
+/// Lowers bars from the ceilings until no place is overfilled, each time that of the place that the
+/// picker chooses from all overfilled ones, and answers the falls in order.
+///
+/// Which picker is asked decides nothing but the order of the falls.
+pub fn greatest<F: Falling, L: Ledger>(
+    alloc: Global,
+    system: &mut F,
+    picker: &mut dyn Picker,
+    steps: &mut Steps<L>,
+) -> Result<Vec<Fall>, OutOfMemory>
+    requires { F.bars system.old ≡ (F.system system.old).ceilings }
+
+    ensures greatest { OnOk result (IsGreatest (F.system system.old) (F.bars system.new)) }
+    ensures run { IfOk result (λ falls. IsRun (F.system system.old) falls.items) }
+    ensures bars { IfOk result (λ falls. F.bars system.new ≡ bars_after (F.system system.old).ceilings falls.items) }
+    ensures few { IfOk result (λ falls. length falls.items + sum (F.bars system.new) ≤ sum (F.system system.old).ceilings) }
+
+    ensures told { IfOk result (λ falls. told picker.new ≡ told picker.old ++ schools_of falls.items) }
+    ensures chosen { IfOk result (λ falls. AreChosen (F.system system.old) (choice picker.old) (told picker.old) (F.system system.old).ceilings falls.items) }
+
+    ensures above { OnErr result (AreAboveAllThatFit (F.system system.old) (F.bars system.new)) }
+    ensures early { OnErr result (EndsEarly (F.system system.old) (choice picker.old) (told picker.old) (told picker.new) (F.bars system.new)) }
+
+    ensures same { F.system system.new ≡ F.system system.old }
+    ensures choice { choice picker.new ≡ choice picker.old }
+{
+    let mut falls = Vec::new(alloc);
+    while let Some(fall) = fall_once(alloc, system, picker, steps)? {
+        falls.push(fall)?;
+    }
+    Ok(falls)
+}
+
+/// The bar of the picked place falls; none where no place is overfilled.
+fn fall_once<F: Falling, L: Ledger>(
+    alloc: Global,
+    system: &mut F,
+    picker: &mut dyn Picker,
+    steps: &mut Steps<L>,
+) -> Result<Option<Fall>, OutOfMemory>
+    requires { IsAtMost (F.bars system.old) (F.system system.old).ceilings }
+    ensures fall { IfOk result (λ fall. IfSome fall (λ f. Falls (F.system system.old) (choice picker.old) (told picker.old) (F.bars system.old) f (told picker.new) (F.bars system.new))) }
+    ensures settled { IfOk result (λ fall. IfNone fall (IsTrue (is_settled (F.system system.old) (F.bars system.old)))) }
+    ensures rest { IfOk result (λ fall. IfNone fall ((F.bars system.new ≡ F.bars system.old) × (told picker.new ≡ told picker.old))) }
+    ensures err { OnErr result (F.bars system.new ≡ F.bars system.old) }
+    ensures told { OnErr result (TellsAtMostOne (F.system system.old) (F.bars system.old) (told picker.old) (told picker.new)) }
+    ensures same { F.system system.new ≡ F.system system.old }
+    ensures choice { choice picker.new ≡ choice picker.old }
+{
+    let places = system.overfilled(alloc)?;
+    if places.is_empty() {
+        return Ok(None);
+    }
+    let school = picker.pick(places.as_slice())?;
+    let fall = make_fall(alloc, system, school, steps)?;
+    Ok(Some(fall))
+}
+
+/// The bar of an overfilled place falls below its first rank that has no bed.
+fn make_fall<F: Falling, L: Ledger>(
+    alloc: Global,
+    system: &mut F,
+    school: u32,
+    steps: &mut Steps<L>,
+) -> Result<Fall, OutOfMemory>
+    requires under { IsAtMost (F.bars system.old) (F.system system.old).ceilings }
+    requires over { IsTrue (is_overfilled (F.system system.old) (F.bars system.old) school) }
+    ensures fall { IfOk result (λ f. f ≡ fall_of (F.system system.old) (F.bars system.old) school) }
+    ensures bars { IfOk result (λ f. F.bars system.new ≡ fallen (F.bars system.old) f) }
+    ensures err { OnErr result (F.bars system.new ≡ F.bars system.old) }
+    ensures same { F.system system.new ≡ F.system system.old }
+{
+    match system.over(alloc, school)? {
+        None => unreachable!(),
+        Some(rank) => {
+            let names = system.names(alloc, school, rank)?;
+            let from = system.bar(school);
+            let to = rank - 1;
+            system.lower(school, to, steps);
+            Ok(Fall {
+                school,
+                from,
+                to,
+                wishes: Sequence::from_vec(names),
+            })
+        }
+    }
+}

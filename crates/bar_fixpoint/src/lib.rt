@@ -1,0 +1,18 @@
+//! Finds the greatest bars of a system: bars fall from the ceilings, each one picked from all that
+//! are overfilled, until none is.
+#![tactic(auto)]
+
+mod engine;
+mod picker;
+mod pickers;
+mod tired;
+
+pub use engine::greatest;
+pub use picker::Picker;
+pub use pickers::{FirstPicker, LastPicker, TurnPicker};
+pub use tired::TiredPicker;
+
+#[cfg(test)]
+mod fixed_lists;
+#[cfg(test)]
+mod tests;

@@ -1,0 +1,2 @@
+pub mod Overfilled
+pub mod Runs
