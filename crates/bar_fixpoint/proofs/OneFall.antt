@@ -1,6 +1,6 @@
 -- One fall: the list that the picker is asked with, the rank, and the names.
-use Rattle.std.proofs.Common.{◌≡◌, ℕ, zero, suc, ◌+◌, ◌-◌, ◌<◌, ◌≤◌, Bool, true, false, not, cond, ◌&&◌, List, [], ◌∷◌, ◌++◌, length, take, map, slice_index, slice_set, refl, sym, ap, ◌∙◌, subst, inl, inr, arith, None, Some}
-use Rattle.std.specs.Prelude.{Option, filter, nat_le, unwrap_or, is_some, Contains, Result, Ok, Err, OnErr, sum}
+use Rattle.std.proofs.Common.{◌≡◌, ℕ, zero, suc, ◌+◌, ◌-◌, ◌<◌, ◌≤◌, Bool, true, not, cond, ◌&&◌, List, [], ◌∷◌, ◌++◌, length, take, map, slice_index, slice_set, refl, sym, ap, ◌∙◌, subst, inl, inr, arith, Some}
+use Rattle.std.specs.Prelude.{Option, filter, nat_le, unwrap_or, Contains, Result, Ok, Err, OnErr, sum}
 use Rattle.std.specs.List.{list_all, range_with_len}
 use Rattle.std.specs.List.Sorted.{IsStrictlyIncreasing}
 use Rattle.std.proofs.lemmas.Bool.{cases_order, le-leb, lt-leb, cases_Bool}
@@ -12,7 +12,7 @@ use Rattle.admit_core.specs.declared.records.Fall.{Fall}
 use Rattle.admit_core.specs.Falls.{FallingSystem, IsAtMost, IsLawful, is_overfilled, is_settled, fall_of, fallen}
 use Rattle.admit_core.proofs.FallsLaw.{over_in, over_rank}
 use Rattle.bar_law.specs.Overfilled.{rank_over, all_overfilled}
-use Rattle.bar_fixpoint.specs.Chosen.{Falls, TellsAtMostOne}
+use Rattle.bar_fixpoint.specs.Chosen.{PickedFall, TellsAtMostOne}
 
 -- a filter that the first n pass and no other is the front of n
 filter_front : (most : ℕ) (xs : List ℕ) (n : ℕ) → ((j : ℕ) → j < n → j < length xs → slice_index xs j ≤ most) → ((j : ℕ) → n ≤ j → j < length xs → most < slice_index xs j)
@@ -110,7 +110,7 @@ module _ (sys : FallingSystem) (lawful : IsLawful sys) (bars : List ℕ) (i : �
 -- the picked place fell
 pub falls_once : (sys : FallingSystem) (choice : List ℕ → List ℕ → ℕ) (told bars shown places : List ℕ) (i : ℕ) (f : Fall) (told_after after : List ℕ)
     → shown ≡ places → places ≡ all_overfilled sys bars → is_overfilled sys bars i ≡ true → f ≡ fall_of sys bars i → after ≡ fallen bars f → told_after ≡ told ++ i ∷ []
-    → i ≡ choice told shown → Falls sys choice told bars f told_after after
+    → i ≡ choice told shown → PickedFall sys choice told bars f told_after after
 falls_once sys choice told bars shown places i f told_after after are all over is_fall fell told_of chosen =
     let is : f.school ≡ i = ap (λ (g : Fall). g.school) is_fall in
     let P : ℕ → Type 0 = λ j. is_overfilled sys bars j ≡ true in
@@ -135,7 +135,7 @@ sum-slice_set : (xs : List ℕ) (i v : ℕ) → i < length xs → sum (slice_set
 sum-slice_set xs i v lt = grind (arith, common_steps)
 
 pub sum_falls : (sys : FallingSystem) → IsLawful sys → (choice : List ℕ → List ℕ → ℕ) (told bars : List ℕ) (f : Fall) (told_after after : List ℕ)
-    → IsAtMost bars sys.ceilings → Falls sys choice told bars f told_after after → sum after < sum bars
+    → IsAtMost bars sys.ceilings → PickedFall sys choice told bars f told_after after → sum after < sum bars
 sum_falls sys lawful choice told bars f told_after after under fell =
     let i = f.school in
     let in_range : i < length sys.ceilings = (over_in sys lawful bars i fell.overfilled).0 in

@@ -1,13 +1,13 @@
 -- What the loop over falls keeps.
-use Rattle.std.proofs.Common.{◌≡◌, ℕ, ◌+◌, ◌<◌, ◌≤◌, List, [], ◌∷◌, ◌++◌, length, true, refl, sym, ap, ◌∙◌, subst, inl, inr, arith, append_assoc}
+use Rattle.std.proofs.Common.{◌≡◌, ℕ, ◌+◌, ◌<◌, ◌≤◌, List, [], ◌∷◌, ◌++◌, length, true, refl, sym, ap, ◌∙◌, subst, arith, append_assoc}
 use Rattle.std.specs.Prelude.{sum}
-use Rattle.std.proofs.lemmas.List.{length_push, append-nil, map-append}
+use Rattle.std.proofs.lemmas.List.{length_push, append-nil}
 use Rattle.admit_core.specs.declared.records.Fall.{Fall}
-use Rattle.admit_core.specs.Falls.{FallingSystem, IsAtMost, IsLawful, Fits, IsGreatest, is_overfilled, is_settled, fall_of, fallen, bars_after, AreFalls, IsRun}
+use Rattle.admit_core.specs.Falls.{FallingSystem, IsAtMost, IsLawful, IsGreatest, is_overfilled, is_settled, fall_of, fallen, bars_after, AreFalls, IsRun}
 use Rattle.admit_core.proofs.FallsLaw.{all_under, all_above, run_is_greatest}
 use Rattle.bar_law.specs.Overfilled.{all_overfilled}
 use Rattle.bar_law.specs.Runs.{AreAboveAllThatFit, schools_of}
-use Rattle.bar_fixpoint.specs.Chosen.{AreChosen, Falls, TellsAtMostOne, EndsEarly}
+use Rattle.bar_fixpoint.specs.Chosen.{AreChosen, PickedFall, TellsAtMostOne, EndsEarly}
 use Rattle.bar_fixpoint.proofs.OneFall.{sum_falls}
 
 -- the falls so far led from the ceilings to the bars
@@ -30,9 +30,11 @@ bars_after-push bars (e ∷ fs) f = bars_after-push (fallen bars e) fs f
 AreChosen-push : (sys : FallingSystem) (choice : List ℕ → List ℕ → ℕ) (told bars : List ℕ) (fs : List Fall) (f : Fall) → AreChosen sys choice told bars fs
     → f.school ≡ choice (told ++ schools_of fs) (all_overfilled sys (bars_after bars fs)) → AreChosen sys choice told bars (fs ++ f ∷ [])
 AreChosen-push sys choice told bars [] f chosen is = (is ∙ ap (λ x. choice x (all_overfilled sys bars)) (append-nil told), tt)
-AreChosen-push sys choice told bars (e ∷ fs) f chosen is =
-    (chosen.0, AreChosen-push sys choice (told ++ e.school ∷ []) (fallen bars e) fs f chosen.1
-    (is ∙ ap (λ x. choice x (all_overfilled sys (bars_after (fallen bars e) fs))) (sym (append_assoc told (e.school ∷ []) (schools_of fs)))))
+AreChosen-push sys choice told bars (e ∷ fs) f chosen is = (
+  chosen.0,
+  AreChosen-push sys choice (told ++ e.school ∷ []) (fallen bars e) fs f chosen.1
+      (is ∙ ap (λ x. choice x (all_overfilled sys (bars_after (fallen bars e) fs))) (sym (append_assoc told (e.school ∷ []) (schools_of fs)))),
+)
 
 schools-push : (fs : List Fall) (f : Fall) → schools_of (fs ++ f ∷ []) ≡ schools_of fs ++ f.school ∷ []
 schools-push [] f = refl
@@ -61,7 +63,7 @@ module _ (sys : FallingSystem) (lawful : IsLawful sys) (choice : List ℕ → Li
 
   -- one fall more
   pub one_more : (falls : List Fall) (bars told_now : List ℕ) (f : Fall) (told_after after : List ℕ) → SoFar sys choice told falls bars told_now
-      → Falls sys choice told_now bars f told_after after → SoFar sys choice told (falls ++ f ∷ []) after told_after
+      → PickedFall sys choice told_now bars f told_after after → SoFar sys choice told (falls ++ f ∷ []) after told_after
   one_more falls bars told_now f told_after after so_far fell =
       let P : List ℕ → Type 0 = λ x. is_overfilled sys x f.school ≡ true in
       let less : sum after < sum bars = sum_falls sys lawful choice told_now bars f told_after after (under_so_far falls bars told_now so_far) fell in
@@ -121,14 +123,14 @@ module _ (sys : FallingSystem) (lawful : IsLawful sys) (choice : List ℕ → Li
       subst (IsGreatest sys) (sym stayed) (greatest_so_far sys lawful choice told falls bars told_now so_far (subst P same settled))
 
   falls_now : (choice_now : List ℕ → List ℕ → ℕ) (bars told_now : List ℕ) (f : Fall) (told_after after : List ℕ) → choice_now ≡ choice
-      → Falls sys_now choice_now told_now bars f told_after after → Falls sys choice told_now bars f told_after after
+      → PickedFall sys_now choice_now told_now bars f told_after after → PickedFall sys choice told_now bars f told_after after
   falls_now choice_now bars told_now f told_after after same_choice fell =
-      let P : FallingSystem → Type 0 = λ s. Falls s choice_now told_now bars f told_after after in
-      let Q : (List ℕ → List ℕ → ℕ) → Type 0 = λ c. Falls sys c told_now bars f told_after after in
+      let P : FallingSystem → Type 0 = λ s. PickedFall s choice_now told_now bars f told_after after in
+      let Q : (List ℕ → List ℕ → ℕ) → Type 0 = λ c. PickedFall sys c told_now bars f told_after after in
       subst Q same_choice (subst P same fell)
 
   pub more_now : (choice_now : List ℕ → List ℕ → ℕ) (falls longer : List Fall) (bars told_now : List ℕ) (f : Fall) (told_after after : List ℕ) → choice_now ≡ choice
-      → SoFar sys choice told falls bars told_now → longer ≡ falls ++ f ∷ [] → Falls sys_now choice_now told_now bars f told_after after
+      → SoFar sys choice told falls bars told_now → longer ≡ falls ++ f ∷ [] → PickedFall sys_now choice_now told_now bars f told_after after
       → SoFar sys choice told longer after told_after
   more_now choice_now falls longer bars told_now f told_after after same_choice so_far pushed fell =
       let P : List Fall → Type 0 = λ fs. SoFar sys choice told fs after told_after in
@@ -136,7 +138,7 @@ module _ (sys : FallingSystem) (lawful : IsLawful sys) (choice : List ℕ → Li
       subst P (sym pushed) (one_more sys lawful choice told falls bars told_now f told_after after so_far fell_here)
 
   pub smaller_now : (choice_now : List ℕ → List ℕ → ℕ) (falls : List Fall) (bars told_now : List ℕ) (f : Fall) (told_after after : List ℕ) → choice_now ≡ choice
-      → SoFar sys choice told falls bars told_now → Falls sys_now choice_now told_now bars f told_after after → sum after < sum bars
+      → SoFar sys choice told falls bars told_now → PickedFall sys_now choice_now told_now bars f told_after after → sum after < sum bars
   smaller_now choice_now falls bars told_now f told_after after same_choice so_far fell =
       let fell_here = falls_now choice_now bars told_now f told_after after same_choice fell in
       sum_falls sys lawful choice told_now bars f told_after after (under_so_far sys lawful choice told falls bars told_now so_far) fell_here

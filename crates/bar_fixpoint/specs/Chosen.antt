@@ -12,7 +12,7 @@ AreChosen sys choice told bars (f ∷ fs) =
     (f.school ≡ choice told (all_overfilled sys bars)) × AreChosen sys choice (told ++ f.school ∷ []) (fallen bars f) fs
 
 -- one fall: the place that the picker chose and told of
-pub record Falls (sys : FallingSystem) (choice : List ℕ → List ℕ → ℕ) (told bars : List ℕ) (f : Fall) (told_after after : List ℕ) : Type 0 where
+pub record PickedFall (sys : FallingSystem) (choice : List ℕ → List ℕ → ℕ) (told bars : List ℕ) (f : Fall) (told_after after : List ℕ) : Type 0 where
   pub overfilled : IsTrue (is_overfilled sys bars f.school)
   pub is_fall : f ≡ fall_of sys bars f.school
   pub bars_fell : after ≡ fallen bars f

@@ -2,7 +2,7 @@
 ghost use Rattle.std.specs.Prelude.{◌≡◌, ℕ, ◌+◌, ◌<◌, ◌≤◌, List, length, ◌++◌, IfOk, OnOk, OnErr, IfSome, IfNone, IsTrue, sum};
 ghost use Rattle.admit_core.specs.Falls.{IsAtMost, IsGreatest, IsRun, is_overfilled, is_settled, fall_of, fallen, bars_after};
 ghost use Rattle.bar_law.specs.Runs.{AreAboveAllThatFit, schools_of};
-ghost use Rattle.bar_fixpoint.specs.Chosen.{AreChosen, Falls, TellsAtMostOne, EndsEarly};
+ghost use Rattle.bar_fixpoint.specs.Chosen.{AreChosen, PickedFall, TellsAtMostOne, EndsEarly};
 
 use crate::picker::Picker;
 use admit_core::{Fall, OutOfMemory, Sequence, Steps};
@@ -51,7 +51,7 @@ fn fall_once<F: Falling, L: Ledger>(
     steps: &mut Steps<L>,
 ) -> Result<Option<Fall>, OutOfMemory>
     requires { IsAtMost (F.bars system.old) (F.system system.old).ceilings }
-    ensures fall { IfOk result (λ fall. IfSome fall (λ f. Falls (F.system system.old) (choice picker.old) (told picker.old) (F.bars system.old) f (told picker.new) (F.bars system.new))) }
+    ensures fall { IfOk result (λ fall. IfSome fall (λ f. PickedFall (F.system system.old) (choice picker.old) (told picker.old) (F.bars system.old) f (told picker.new) (F.bars system.new))) }
     ensures settled { IfOk result (λ fall. IfNone fall (IsTrue (is_settled (F.system system.old) (F.bars system.old)))) }
     ensures rest { IfOk result (λ fall. IfNone fall ((F.bars system.new ≡ F.bars system.old) × (told picker.new ≡ told picker.old))) }
     ensures err { OnErr result (F.bars system.new ≡ F.bars system.old) }

@@ -67,20 +67,17 @@ fn is_fall(fall: &Fall, to: u32, wishes: &[u32]) -> bool {
 }
 
 /// Whether both bars fall as they must, in this order.
-fn fall_in_order(
-    alloc: Global,
-    picker: &mut dyn Picker,
-    schools: &[u32],
-) -> Result<bool, Fail> {
+fn fall_in_order(alloc: Global, picker: &mut dyn Picker, schools: &[u32]) -> Result<bool, Fail> {
     let mut system = two_places(alloc)?;
-    let falls = run(alloc, &mut system, picker)
-        .ok()
-        .ok_or("memory")?;
+    let falls = run(alloc, &mut system, picker).ok().ok_or("memory")?;
     let each = falls.iter().all(|fall| match fall.school {
         0 => is_fall(fall, 4, &[2, 5]),
         _ => is_fall(fall, 3, &[4]),
     });
-    let in_order = falls.iter().map(|fall| fall.school).eq(schools.iter().copied());
+    let in_order = falls
+        .iter()
+        .map(|fall| fall.school)
+        .eq(schools.iter().copied());
     Ok(each && in_order && system.bars.as_slice() == [4, 3].as_slice())
 }
 
@@ -124,9 +121,7 @@ fn a_tired_picker_refuses_one_pick(rt: HostRuntime) -> Result<(), Fail> {
 /// Whether a system without places has no fall.
 fn nothing_falls(alloc: Global, picker: &mut dyn Picker) -> Result<bool, Fail> {
     let mut system = no_places(alloc);
-    let falls = run(alloc, &mut system, picker)
-        .ok()
-        .ok_or("memory")?;
+    let falls = run(alloc, &mut system, picker).ok().ok_or("memory")?;
     Ok(falls.is_empty() && system.count() == 0)
 }
 

@@ -1,8 +1,8 @@
 -- Runs of falls and the picks that make them.
-use Rattle.std.proofs.Common.{◌≡◌, ℕ, ◌<◌, List, [], ◌∷◌, map, refl, sym, ap, ◌∙◌, subst, arith}
+use Rattle.std.proofs.Common.{◌≡◌, ℕ, List, [], ◌∷◌, refl, sym, ap, ◌∙◌, subst, arith}
 use Rattle.std.proofs.lemmas.List.{ext_get_or}
 use Rattle.admit_core.specs.declared.records.Fall.{Fall}
-use Rattle.admit_core.specs.Falls.{FallingSystem, IsGreatest, is_settled, fall_of, fallen, bars_after, AreFalls, IsRun, falls_by, Leads}
+use Rattle.admit_core.specs.Falls.{FallingSystem, IsGreatest, fall_of, fallen, AreFalls, IsRun, falls_by, Leads}
 use Rattle.bar_law.specs.Runs.{schools_of}
 
 -- bars that are at most each other are the same

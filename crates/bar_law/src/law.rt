@@ -7,5 +7,4 @@ pub fn law_of_runs()
     ensures above { FallsStayAboveAllThatFit }
     ensures unique { TheGreatestIsUnique }
     ensures picks { PicksFixTheFalls }
-{
-}
+{}
