@@ -1,6 +1,8 @@
+pub mod AcceptedRows
 pub mod Buckets
 pub mod BuiltGroups
 pub mod FaultFree
+pub mod FirstRows
 pub mod Firsts
 pub mod Found
 pub mod LastRow

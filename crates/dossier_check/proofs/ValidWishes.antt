@@ -58,8 +58,7 @@ module _ (t : Tables) (ranges : AreTables t) (fine : HasNoFault t) where
       let known : is_among programme (programme_ids t) ≡ true = list_any-map (nat_eq programme) (λ p. p.id) t.programmes ∙ any in
       let lt : i < length t.programmes = rw (← at, ← length-map-here (λ p. p.id) t.programmes) (place_within (programme_ids t) programme known) in
       let value : get_or (map (λ q. q.group) (dossier_of t).programmes) i 0 ≡ place_of (group_ids t) (get_or t.programmes i p).group =
-      ap (λ gs. get_or gs i 0) (map_map (λ q. q.group) (programme_of_row t) t.programmes) ∙ get_or-map (λ q. place_of (group_ids t) q.group) t.programmes i p 0 lt in
-      (
+      ap (λ gs. get_or gs i 0) (map_map (λ q. q.group) (programme_of_row t) t.programmes) ∙ get_or-map (λ q. place_of (group_ids t) q.group) t.programmes i p 0 lt in (
         rw at value ∙ ap (λ q. place_of (group_ids t) q.group) here,
         ap (λ q. is_among q.group (group_ids t)) (sym here) ∙ groups_known t fine i p lt,
       )

@@ -132,8 +132,7 @@ module _ (t : Tables) (fine : HasNoFault t) where
   ranks_differ (Some h) None c e has_c has_e same some = cc
   ranks_differ (Some h) (Some k) c e has_c has_e same some =
       let school : k ≡ h = sym (same_Some h k same) in
-      let other : is_boarded t h e ≡ true = rw school at has_e in
-      (
+      let other : is_boarded t h e ≡ true = rw school at has_e in (
         λ ranks. one_candidate h c e has_c other (ranks ∙ ap (λ s. board_rank_of t e (Some s)) school),
         λ candidates. ap (λ x. board_rank_of t x (Some h)) candidates ∙ ap (λ s. board_rank_of t e (Some s)) (sym school),
       )

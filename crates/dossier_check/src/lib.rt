@@ -2,13 +2,17 @@
 //! stand for.
 #![tactic(auto)]
 
+mod answers;
 mod check;
+mod day_falls;
 mod groups;
 mod noted;
 mod row_tests;
 mod rules;
 mod scan;
 mod slots;
+mod state;
+mod wishes;
 
 pub use check::check_rankings;
 
