@@ -1,5 +1,5 @@
 -- Where the first that passes a test stands, and which one it is.
-use Rattle.std.proofs.Common.{◌≡◌, ℕ, ◌<◌, suc, Bool, true, false, nat_eq, nat_lt, List, [], ◌∷◌, length, get_or, find, position, Option, Some, None, refl, sym, ap, ◌∙◌, subst, arith, true≢false}
+use Rattle.std.proofs.Common.{◌≡◌, ℕ, ◌<◌, suc, Bool, true, false, nat_eq, nat_lt, List, [], ◌∷◌, length, get_or, find, position, Option, Some, None, unwrap_or, refl, sym, ap, ◌∙◌, subst, arith, true≢false}
 use Prim.Native.Nat.{zero}
 use Rattle.std.specs.List.{list_any, position_or_len}
 use Rattle.std.proofs.lemmas.Bool.Decides.{nat_tests}
@@ -8,7 +8,7 @@ use Rattle.std.proofs.lemmas.List.Quantifiers.{position-Some}
 use Rattle.std.proofs.lemmas.Option.{slice_get-get_or}
 use Rattle.admit_core.specs.Lists.{is_among}
 use Rattle.admit_core.specs.Standing.{place_of}
-use Rattle.dossier_check.proofs.Firsts.{one_passes}
+use Rattle.dossier_check.proofs.Firsts.{one_passes, none_passes, position-none}
 
 pub nat_eq_sound : (m n : ℕ) → nat_eq m n ≡ true → m ≡ n
 nat_eq_sound m n e = grind (arith, nat_tests)
@@ -28,6 +28,14 @@ module _ {X : Type 0} (p : X → Bool) where
       let lt : position_or_len p xs < length xs = one_passes p xs any in
       let within : nat_lt (position_or_len p xs) (length xs) ≡ true = grind arith in
       rw within refl
+
+  -- the place, or the number of places where none passes
+  pub unwrap_or-position : (xs : List X) → unwrap_or (position p xs) (length xs) ≡ position_or_len p xs
+  unwrap_or-position xs = by (list_any p xs) refl
+    where
+      by : (b : Bool) → list_any p xs ≡ b → unwrap_or (position p xs) (length xs) ≡ position_or_len p xs
+      by true any = rw (position-any xs any) refl
+      by false none = rw (position-none p xs none, none_passes p xs none) refl
 
   pub find-any : (xs : List X) (d : X) → list_any p xs ≡ true → find p xs ≡ Some (get_or xs (position_or_len p xs) d)
   find-any xs d any = find_at p xs ∙ slice_get-get_or xs (position_or_len p xs) d (one_passes p xs any)

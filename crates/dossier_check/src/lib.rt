@@ -6,6 +6,8 @@ mod answers;
 mod check;
 mod day_falls;
 mod groups;
+mod index;
+mod items;
 mod noted;
 mod row_tests;
 mod rules;
@@ -15,6 +17,7 @@ mod state;
 mod wishes;
 
 pub use check::check_rankings;
+pub use index::{Index, school_place, wish_place};
 
 #[cfg(test)]
 mod tests;
