@@ -5,10 +5,12 @@ pub mod FaultFree
 pub mod FirstRows
 pub mod Firsts
 pub mod Found
+pub mod KeyPlaces
 pub mod LastRow
 pub mod NoFault
 pub mod NotedKeys
 pub mod OneAccepted
+pub mod Outcomes
 pub mod Pairs
 pub mod Places
 pub mod RowFacts

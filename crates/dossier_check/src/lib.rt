@@ -3,12 +3,12 @@
 #![tactic(auto)]
 
 mod answers;
-mod check;
 mod day_falls;
 mod groups;
 mod index;
 mod items;
 mod noted;
+mod relations;
 mod row_tests;
 mod rules;
 mod scan;
@@ -16,8 +16,8 @@ mod slots;
 mod state;
 mod wishes;
 
-pub use check::check_rankings;
 pub use index::{Index, school_place, wish_place};
+pub use relations::{Checked, check, check_rankings};
 
 #[cfg(test)]
 mod tests;

@@ -4,7 +4,7 @@ use Rattle.admit_core.specs.declared.slot.Slot.TheVariants as slots
 use Rattle.admit_core.specs.Relations.{ranking_tests}
 use Rattle.dossier_check.proofs.FaultFree.{pass_all}
 use Rattle.dossier_check.proofs.ValidRankings.{rankings_of}
-use Rattle.dossier_check.proofs.check.check_rankings.Goals as goal
+use Rattle.dossier_check.proofs.relations.check_rankings.Goals as goal
 
 pub returns-clause-rankings : goal.returns-clause-rankings
 returns-clause-rankings c =
