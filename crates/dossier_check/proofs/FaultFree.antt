@@ -1,5 +1,5 @@
 -- What holds of rows at which no test stands.
-use Rattle.std.proofs.Common.{◌≡◌, ℕ, ◌<◌, suc, Bool, true, false, List, ◌∷◌, [], ◌++◌, length, get_or, take, option_map, Option, Some, None, refl, sym, ◌∙◌, arith, true≢false, append_assoc, AllPairs}
+use Rattle.std.proofs.Common.{◌≡◌, ℕ, ◌<◌, suc, Bool, true, false, List, ◌∷◌, [], ◌++◌, if◌then◌else◌, length, get_or, take, option_map, Option, Some, None, refl, sym, ◌∙◌, arith, true≢false, append_assoc, All, AllPairs}
 use Prim.Native.Nat.{zero}
 use Rattle.std.proofs.lemmas.List.{append-nil, length-take-le, get_or-take}
 use Rattle.std.proofs.lemmas.List.Folds.{list_any_at}
@@ -7,7 +7,7 @@ use Rattle.std.specs.List.{list_any}
 use Rattle.std.specs.Option.{option_or}
 use Rattle.admit_core.specs.declared.slot.Slot.{Slot}
 use Rattle.admit_core.specs.declared.refusal.Reason.{Reason}
-use Rattle.admit_core.specs.Faults.{Test, first_row, first_reason, first_after, first_in}
+use Rattle.admit_core.specs.Faults.{Test, first_row, first_reason, first_after, first_in, names_unknown}
 use Rattle.dossier_check.proofs.Firsts.{position-some}
 
 pub none_or : {X : Type 0} (a b : Option X) → option_or a b ≡ None → (a ≡ None) × (b ≡ None)
@@ -19,32 +19,37 @@ none_map f None e = refl
 none_map f (Some x) e = cc
 
 -- a test stands at no row
-abbrev pub Passes : {R : Type 0} → Test R → List R → Type 0
-Passes {R} test rows = (k : ℕ) (d : R) → k < length rows → test (take k rows) (get_or rows k d) ≡ None
+pub record Passes {R : Type 0} (test : Test R) (rows : List R) : Type 0 where
+  pub at : (k : ℕ) (d : R) → k < length rows → test (take k rows) (get_or rows k d) ≡ None
+
+-- none of the tests stands at a row
+pub record PassesAll {R : Type 0} (tests : List (Test R)) (rows : List R) : Type 0 where
+  pub at : (k : ℕ) (d : R) → k < length rows → first_reason tests (take k rows) (get_or rows k d) ≡ None
+
+pub first_passes : {R : Type 0} {test : Test R} {tests : List (Test R)} {rows : List R} → PassesAll (test ∷ tests) rows → Passes test rows
+first_passes {R} {test} {tests} {rows} all =
+    record { at = λ k d lt. (none_or (test (take k rows) (get_or rows k d)) (first_reason tests (take k rows) (get_or rows k d)) (all.at k d lt)).0 }
+
+pub rest_pass : {R : Type 0} {test : Test R} {tests : List (Test R)} {rows : List R} → PassesAll (test ∷ tests) rows → PassesAll tests rows
+rest_pass {R} {test} {tests} {rows} all =
+    record { at = λ k d lt. (none_or (test (take k rows) (get_or rows k d)) (first_reason tests (take k rows) (get_or rows k d)) (all.at k d lt)).1 }
 
 module _ {R : Type 0} (slot : Slot) (tests : List (Test R)) where
   less : (k : ℕ) (rows : List R) → suc k < suc (length rows) → k < length rows
   less k rows lt = omega arith
 
-  passes_after : (before rows : List R) → first_after slot tests before rows ≡ None
+  pass_after : (before rows : List R) → first_after slot tests before rows ≡ None
       → (k : ℕ) (d : R) → k < length rows → first_reason tests (before ++ take k rows) (get_or rows k d) ≡ None
   unfolding first_after
-  passes_after before [] e k d lt = absurd (omega arith)
-  passes_after before (row ∷ rows) e zero d lt =
+  pass_after before [] e k d lt = absurd (omega arith)
+  pass_after before (row ∷ rows) e zero d lt =
       let p = none_or _ _ e in rw (append-nil before) (none_map _ _ p.0)
-  passes_after before (row ∷ rows) e (suc k) d lt =
-      rw (sym (append_assoc before (row ∷ []) (take k rows))) (passes_after (before ++ row ∷ []) rows (none_or _ _ e).1 k d (less k rows lt))
+  pass_after before (row ∷ rows) e (suc k) d lt =
+      rw (sym (append_assoc before (row ∷ []) (take k rows))) (pass_after (before ++ row ∷ []) rows (none_or _ _ e).1 k d (less k rows lt))
 
-  -- where there is no fault, none of the tests stands at a row
-  pub passes : (rows : List R) → first_in slot tests rows ≡ None → Passes (first_reason tests) rows
-  passes rows e k d lt = passes_after [] rows e k d lt
-
-module _ {R : Type 0} (test : Test R) (tests : List (Test R)) (rows : List R) (fine : Passes (first_reason (test ∷ tests)) rows) where
-  pub passes-first : Passes test rows
-  passes-first k d lt = (none_or (test (take k rows) (get_or rows k d)) (first_reason tests (take k rows) (get_or rows k d)) (fine k d lt)).0
-
-  pub passes-rest : Passes (first_reason tests) rows
-  passes-rest k d lt = (none_or (test (take k rows) (get_or rows k d)) (first_reason tests (take k rows) (get_or rows k d)) (fine k d lt)).1
+  -- where a slot has no fault
+  pub pass_all : (rows : List R) → first_in slot tests rows ≡ None → PassesAll tests rows
+  pass_all rows e = record { at = λ k d lt. pass_after [] rows e k d lt }
 
 none_passes : {X : Type 0} (p : X → Bool) (xs : List X) → first_row p xs ≡ None → list_any p xs ≡ false
 none_passes p xs e = by (list_any p xs) refl
@@ -60,10 +65,28 @@ any_at p xs j d e lt = by (p (get_or xs j d)) refl
     by true f = absurd (true≢false (sym (list_any_at p xs j d lt f) ∙ e))
     by false f = f
 
--- where no row is the same as an earlier one, two rows differ
-pub apart : {R : Type 0} (same : R → R → Bool) (reason : ℕ → Reason) (rows : List R)
-    → Passes (λ before row. option_map reason (first_row (same row) before)) rows → AllPairs (λ r row. same row r ≡ false) rows
-apart same reason rows fine j k d lt within =
-    let e : list_any (same (get_or rows k d)) (take k rows) ≡ false = none_passes (same (get_or rows k d)) (take k rows) (none_map reason _ (fine k d within)) in
-    let f : same (get_or rows k d) (get_or (take k rows) j d) ≡ false = any_at (same (get_or rows k d)) (take k rows) j d e (omega (arith, length-take-le k rows (omega arith))) in
-    rw (← get_or-take k rows j d lt) f
+module _ {R : Type 0} (same : R → R → Bool) (reason : ℕ → Reason) (rows : List R) where
+  apart_at : (j k : ℕ) (d : R) → j < k → k < length rows → option_map reason (first_row (same (get_or rows k d)) (take k rows)) ≡ None
+      → same (get_or rows k d) (get_or rows j d) ≡ false
+  apart_at j k d lt within fine =
+      let e : list_any (same (get_or rows k d)) (take k rows) ≡ false = none_passes (same (get_or rows k d)) (take k rows) (none_map reason _ fine) in
+      let f : same (get_or rows k d) (get_or (take k rows) j d) ≡ false = any_at (same (get_or rows k d)) (take k rows) j d e (omega (arith, length-take-le k rows (omega arith))) in
+      rw (← get_or-take k rows j d lt) f
+
+  -- where no row is the same as an earlier one, two rows differ
+  pub apart : Passes (λ before row. option_map reason (first_row (same row) before)) rows → AllPairs (λ r row. same row r ≡ false) rows
+  apart fine j k d lt within = apart_at j k d lt within (fine.at k d within)
+
+  -- the same where only some rows are compared
+  pub apart_when : (when : R → Bool) → Passes (λ before row. if when row then option_map reason (first_row (same row) before) else None) rows
+      → AllPairs (λ r row. when row ≡ true → same row r ≡ false) rows
+  apart_when when fine j k d lt within is = apart_at j k d lt within (rw is at (fine.at k d within))
+
+if_known : (b : Bool) (reason : Reason) → (if b then None else Some reason) ≡ None → b ≡ true
+if_known true reason e = refl
+if_known false reason e = cc
+
+-- what rows need is there
+pub all_known : {R : Type 0} (known : R → Bool) (reason : Reason) (rows : List R) → Passes (λ before row. if known row then None else Some reason) rows
+    → All (λ row. known row ≡ true) rows
+all_known known reason rows fine k row lt = if_known (known (get_or rows k row)) reason (fine.at k row lt)

@@ -4,21 +4,18 @@ use Rattle.std.specs.List.{IsDistinct, AllByRecursion}
 use Rattle.std.proofs.lemmas.Bool.Decides.{nat_tests}
 use Rattle.std.proofs.lemmas.Map.Keys.{IsDistinct-cons, IsDistinct-from_apart}
 use Rattle.std.proofs.lemmas.List.Elements.{All-map}
-use Rattle.admit_core.specs.declared.slot.Slot.TheVariants as slots
 use Rattle.admit_core.specs.declared.refusal.Reason.TheVariants.{Repeat, RankTaken}
 use Rattle.admit_core.specs.declared.tables.GroupRow.{GroupRow}
 use Rattle.admit_core.specs.declared.tables.RankRow.{RankRow}
 use Rattle.admit_core.specs.declared.tables.Tables.{Tables}
 use Rattle.admit_core.specs.declared.ranking.Ranked.{Ranked}
-use Rattle.admit_core.specs.Lists.{is_among}
-use Rattle.admit_core.specs.Faults.{Test, first_in, first_reason, repeats, takes_rank, names_unknown}
 use Rattle.admit_core.specs.Ranges.{AreRows, IsGroupRow, IsRankRow}
-use Rattle.admit_core.specs.Relations.{ranking_tests, group_ids}
+use Rattle.admit_core.specs.Relations.{ranking_tests}
 use Rattle.admit_core.specs.Standing.{ranked_row, ranked_in, group_of_row}
 use Rattle.admit_core.specs.Validity.{IsRanking}
 use Rattle.dossier_check.proofs.BuiltGroups.{map_map}
 use Rattle.dossier_check.proofs.Firsts.{length-map-here}
-use Rattle.dossier_check.proofs.FaultFree.{Passes, passes, passes-first, passes-rest, apart}
+use Rattle.dossier_check.proofs.FaultFree.{PassesAll, first_passes, rest_pass, apart}
 use Rattle.dossier_check.proofs.SortedLists.{length-sorted_by, IsDistinct-sorted_by, IsStrictlyIncreasing-sorted_by}
 
 module _ {R : Type 0} (p : R → Bool) (key : R → ℕ) where
@@ -70,30 +67,12 @@ length-ranked_in-le : (rankings : List RankRow) (group : ℕ) → length (ranked
 length-ranked_in-le rankings group =
     rw (length-map-here ranked_row (filter (λ r. nat_eq group r.group) rankings)) (length-filter-le (λ r. nat_eq group r.group) (λ r. r.rank) rankings)
 
-module _ (t : Tables) (ranges : AreRows IsRankRow t.rankings) (fine : first_in slots.Rankings (ranking_tests t) t.rankings ≡ None) where
-  no_pair_twice : Test RankRow
-  no_pair_twice = repeats (λ row r. nat_eq row.group r.group && nat_eq row.candidate r.candidate)
+module _ (t : Tables) (ranges : AreRows IsRankRow t.rankings) (fine : PassesAll (ranking_tests t) t.rankings) where
+  candidates_apart : AllPairs (λ r row. (nat_eq row.group r.group && nat_eq row.candidate r.candidate) ≡ false) t.rankings
+  candidates_apart = apart (λ row r. nat_eq row.group r.group && nat_eq row.candidate r.candidate) Repeat t.rankings (first_passes fine)
 
-  known : Test RankRow
-  known = names_unknown 1 (λ row. is_among row.group (group_ids t))
-
-  no_rank_twice : Test RankRow
-  no_rank_twice = takes_rank (λ row r. nat_eq row.group r.group && nat_eq row.rank r.rank)
-
-  all_pass : Passes (first_reason (ranking_tests t)) t.rankings
-  all_pass = passes slots.Rankings (ranking_tests t) t.rankings fine
-
-  pub candidates_apart : AllPairs (λ r row. (nat_eq row.group r.group && nat_eq row.candidate r.candidate) ≡ false) t.rankings
-  unfolding no_pair_twice known no_rank_twice
-  candidates_apart =
-      apart (λ row r. nat_eq row.group r.group && nat_eq row.candidate r.candidate) Repeat t.rankings
-      (passes-first no_pair_twice (known ∷ no_rank_twice ∷ []) t.rankings all_pass)
-
-  pub ranks_apart : AllPairs (λ r row. (nat_eq row.group r.group && nat_eq row.rank r.rank) ≡ false) t.rankings
-  unfolding no_pair_twice known no_rank_twice
-  ranks_apart =
-      apart (λ row r. nat_eq row.group r.group && nat_eq row.rank r.rank) RankTaken t.rankings
-      (passes-first no_rank_twice [] t.rankings (passes-rest known (no_rank_twice ∷ []) t.rankings (passes-rest no_pair_twice (known ∷ no_rank_twice ∷ []) t.rankings all_pass)))
+  ranks_apart : AllPairs (λ r row. (nat_eq row.group r.group && nat_eq row.rank r.rank) ≡ false) t.rankings
+  ranks_apart = apart (λ row r. nat_eq row.group r.group && nat_eq row.rank r.rank) RankTaken t.rankings (first_passes (rest_pass (rest_pass fine)))
 
   pub ranking_of : (g : GroupRow) → IsGroupRow g → IsRanking (group_of_row t g)
   ranking_of g row =

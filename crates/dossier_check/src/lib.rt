@@ -2,15 +2,22 @@
 //! stand for.
 #![tactic(auto)]
 
-mod check;
+mod answers;
+mod day_falls;
 mod groups;
+mod index;
+mod items;
 mod noted;
+mod relations;
 mod row_tests;
 mod rules;
 mod scan;
 mod slots;
+mod state;
+mod wishes;
 
-pub use check::check_rankings;
+pub use index::{Index, school_place, wish_place};
+pub use relations::{Checked, check, check_rankings};
 
 #[cfg(test)]
 mod tests;

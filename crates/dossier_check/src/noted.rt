@@ -1,9 +1,10 @@
-//! Keys of the rows so far, by place.
-ghost use Rattle.std.specs.Prelude.{◌≡◌, ℕ, List, [], ◌∷◌, ◌++◌, map, position, option_map, IfOk};
-ghost use Rattle.admit_core.specs.Faults.{row_number, first_row};
+//! What is kept of the rows so far: their keys by place, or the first row of each key.
+ghost use Rattle.std.specs.Prelude.{◌≡◌, ℕ, List, [], ◌∷◌, ◌++◌, map, find, Some, None, IfOk, IsSome, if◌then◌else◌};
+ghost use Rattle.indexmap.specs.IndexMap.{get};
+ghost use Rattle.admit_core.specs.Faults.{first_row};
 
 use admit_core::OutOfMemory;
-use indexmap::IndexSet;
+use indexmap::{IndexMap, IndexSet};
 use std::hash::Hash;
 
 /// What two rows must not share.
@@ -31,4 +32,43 @@ pub(crate) fn note<R, K: Hash + Eq + Copy + Drop, Q: Key<R, K>>(
         return Ok(None);
     }
     Ok(Some(place as u64 + 2))
+}
+
+/// The row of a key, where the keys are those of the rows by place.
+pub(crate) fn row_with<R: Copy, K: Hash + Eq + Copy + Drop>(
+    keys: &IndexSet<K>,
+    rows: &[R],
+    key: K,
+) -> Option<R>
+    ensures { (own : R → K) → keys.now.keys ≡ map own rows.now → result ≡ find (λ r. K.eq key (own r)) rows.now }
+{
+    match keys.get_index_of(&key) {
+        Some(place) => rows.get(place).copied(),
+        None => None,
+    }
+}
+
+/// What is kept of a candidate's first wish: the row's number, and the preference.
+#[derive(Clone, Copy, Debug, PartialEq, Eq)]
+pub(crate) struct FirstWish {
+    pub(crate) row: u64,
+    pub(crate) preference: u32,
+}
+
+/// Notes a value of a key, unless one was noted before; answers the one noted before.
+pub(crate) fn note_first<K: Hash + Eq + Copy + Drop, V: Copy + Drop>(
+    firsts: &mut IndexMap<K, V>,
+    key: K,
+    value: V,
+) -> Result<Option<V>, OutOfMemory>
+    ensures first { IfOk result (λ first. first ≡ get K.eq firsts.old key) }
+    ensures kept { IfOk result (λ first. IsSome first → (k : K) → get K.eq firsts.new k ≡ get K.eq firsts.old k) }
+    ensures noted { IfOk result (λ first. first ≡ None → (k : K) →
+        get K.eq firsts.new k ≡ (if K.eq key k then Some value else get K.eq firsts.old k)) }
+{
+    if let Some(first) = firsts.get(&key) {
+        return Ok(Some(*first));
+    }
+    firsts.insert(key, value)?;
+    Ok(None)
 }

@@ -1,5 +1,6 @@
 //! Tests of rows, each on its own, and lists of them.
-ghost use Rattle.std.specs.Prelude.{◌≡◌, ℕ, List, [], ◌∷◌, ◌++◌, option_map, length, IfOk, map};
+ghost use Rattle.std.specs.Prelude.{◌≡◌, ℕ, List, [], ◌∷◌, ◌++◌, Option, option_map, length, IfOk, map, true};
+ghost use Rattle.std.specs.Option.{option_map_or};
 ghost use Rattle.admit_core.specs.declared.refusal.Reason.TheVariants as reasons;
 ghost use Rattle.admit_core.specs.Faults.{Test, row_number, first_reason, repeats, takes_rank, names_unknown};
 ghost use Rattle.admit_core.specs.Lists.{is_among};
@@ -99,36 +100,33 @@ impl<R, K: Hash + Eq + Copy + Drop, Q: Key<R, K>> RowTest<R> for TakesRank<K, Q>
     }
 }
 
-/// What a row names in a field.
+/// What a row names, if anything.
 pub(crate) trait Names<R> {
-    ghost field: { ℕ };
+    ghost named: { R → Option ℕ };
 
-    ghost named: { R → ℕ };
-
-    fn field_of(&self) -> u32
-        ensures { result ≡ field };
-
-    fn named_by(&self, row: &R) -> u32
+    fn named_by(&self, row: &R) -> Option<u32>
         ensures { result ≡ named row.now };
 }
 
-/// What the row names is not among known ids.
+/// What the row names in a field, counted from 1, is not among known ids.
 #[derive(Drop)]
 pub(crate) struct NamesUnknown<'a, Q> {
+    pub(crate) field: u32,
     pub(crate) ids: &'a IndexSet<u32>,
     pub(crate) rule: Q,
 }
 
 impl<'a, R, Q: Names<R>> RowTest<R> for NamesUnknown<'a, Q> {
-    ghost test = { λ c. names_unknown Q.field (λ row. is_among (Q.named row) c.ids.now.keys) };
+    ghost test = { λ c. names_unknown c.field (λ row. option_map_or (λ id. is_among id c.ids.now.keys) (Q.named row) true) };
 
     ghost has_seen = { λ c before. Unit {0} };
 
     fn stands(&mut self, row: &R, _number: u64) -> Result<Option<Reason>, OutOfMemory> {
-        let id = self.rule.named_by(row);
-        if self.ids.contains(&id) {
-            return Ok(None);
+        if let Some(id) = self.rule.named_by(row) {
+            if !self.ids.contains(&id) {
+                return Ok(Some(Reason::Unknown(self.field)));
+            }
         }
-        Ok(Some(Reason::Unknown(self.rule.field_of())))
+        Ok(None)
     }
 }

@@ -1,8 +1,12 @@
 //! What the rows of each slot must not share, and what they name.
 
+ghost use Rattle.std.specs.Prelude.{Some};
+
 use crate::noted::Key;
 use crate::row_tests::Names;
-use admit_core::{GroupRow, RankRow};
+use admit_core::{
+    BoardRow, CeilingRow, GroupRow, ProgrammeRow, RankRow, SchoolRow, StateRow, WishRow,
+};
 
 /// The row's own id.
 #[derive(Drop)]
@@ -12,6 +16,30 @@ impl Key<GroupRow, u32> for OwnId {
     ghost key = { λ r. r.id };
 
     fn key_of(&self, row: &GroupRow) -> u32 {
+        row.id
+    }
+}
+
+impl Key<ProgrammeRow, u32> for OwnId {
+    ghost key = { λ r. r.id };
+
+    fn key_of(&self, row: &ProgrammeRow) -> u32 {
+        row.id
+    }
+}
+
+impl Key<SchoolRow, u32> for OwnId {
+    ghost key = { λ r. r.id };
+
+    fn key_of(&self, row: &SchoolRow) -> u32 {
+        row.id
+    }
+}
+
+impl Key<WishRow, u32> for OwnId {
+    ghost key = { λ r. r.id };
+
+    fn key_of(&self, row: &WishRow) -> u32 {
         row.id
     }
 }
@@ -40,20 +68,130 @@ impl Key<RankRow, (u32, u32)> for GroupAndRank {
     }
 }
 
+/// A school and a candidate.
+#[derive(Drop)]
+pub(crate) struct SchoolAndCandidate;
+
+impl Key<BoardRow, (u32, u32)> for SchoolAndCandidate {
+    ghost key = { λ r. (r.school, r.candidate) };
+
+    fn key_of(&self, row: &BoardRow) -> (u32, u32) {
+        (row.school, row.candidate)
+    }
+}
+
+/// A school and a rank.
+#[derive(Drop)]
+pub(crate) struct SchoolAndRank;
+
+impl Key<BoardRow, (u32, u32)> for SchoolAndRank {
+    ghost key = { λ r. (r.school, r.rank) };
+
+    fn key_of(&self, row: &BoardRow) -> (u32, u32) {
+        (row.school, row.rank)
+    }
+}
+
+/// A candidate, a programme and a school.
+#[derive(Drop)]
+pub(crate) struct WhatIsWished;
+
+impl Key<WishRow, (u32, u32, Option<u32>)> for WhatIsWished {
+    ghost key = { λ r. (r.candidate, r.programme, r.school) };
+
+    fn key_of(&self, row: &WishRow) -> (u32, u32, Option<u32>) {
+        (row.candidate, row.programme, row.school)
+    }
+}
+
+/// The wish of a status.
+#[derive(Drop)]
+pub(crate) struct ItsWish;
+
+impl Key<StateRow, u32> for ItsWish {
+    ghost key = { λ r. r.wish };
+
+    fn key_of(&self, row: &StateRow) -> u32 {
+        row.wish
+    }
+}
+
+/// A day and a school.
+#[derive(Drop)]
+pub(crate) struct DayAndSchool;
+
+impl Key<CeilingRow, (u32, u32)> for DayAndSchool {
+    ghost key = { λ r. (r.day, r.school) };
+
+    fn key_of(&self, row: &CeilingRow) -> (u32, u32) {
+        (row.day, row.school)
+    }
+}
+
 /// The group of a row.
 #[derive(Drop)]
 pub(crate) struct ItsGroup;
 
-impl Names<RankRow> for ItsGroup {
-    ghost field = { 1 };
+impl Names<ProgrammeRow> for ItsGroup {
+    ghost named = { λ r. Some r.group };
 
-    ghost named = { λ r. r.group };
-
-    fn field_of(&self) -> u32 {
-        1
+    fn named_by(&self, row: &ProgrammeRow) -> Option<u32> {
+        Some(row.group)
     }
+}
 
-    fn named_by(&self, row: &RankRow) -> u32 {
-        row.group
+impl Names<RankRow> for ItsGroup {
+    ghost named = { λ r. Some r.group };
+
+    fn named_by(&self, row: &RankRow) -> Option<u32> {
+        Some(row.group)
+    }
+}
+
+/// The school of a row.
+#[derive(Drop)]
+pub(crate) struct ItsSchool;
+
+impl Names<BoardRow> for ItsSchool {
+    ghost named = { λ r. Some r.school };
+
+    fn named_by(&self, row: &BoardRow) -> Option<u32> {
+        Some(row.school)
+    }
+}
+
+impl Names<WishRow> for ItsSchool {
+    ghost named = { λ r. r.school };
+
+    fn named_by(&self, row: &WishRow) -> Option<u32> {
+        row.school
+    }
+}
+
+impl Names<CeilingRow> for ItsSchool {
+    ghost named = { λ r. Some r.school };
+
+    fn named_by(&self, row: &CeilingRow) -> Option<u32> {
+        Some(row.school)
+    }
+}
+
+/// The programme of a wish.
+#[derive(Drop)]
+pub(crate) struct ItsProgramme;
+
+impl Names<WishRow> for ItsProgramme {
+    ghost named = { λ r. Some r.programme };
+
+    fn named_by(&self, row: &WishRow) -> Option<u32> {
+        Some(row.programme)
+    }
+}
+
+impl Names<StateRow> for ItsWish {
+    ghost named = { λ r. Some r.wish };
+
+    fn named_by(&self, row: &StateRow) -> Option<u32> {
+        Some(row.wish)
     }
 }

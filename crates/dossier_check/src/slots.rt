@@ -1,12 +1,16 @@
-//! The tests of each slot.
+//! The tests of each slot that needs no test of its own.
 ghost use Rattle.std.specs.Prelude.{◌≡◌, ◌<◌, ◌^◌, length, map, IfOk};
 ghost use Rattle.admit_core.specs.declared.slot.Slot.TheVariants as slots;
 ghost use Rattle.admit_core.specs.Faults.{first_in};
-ghost use Rattle.admit_core.specs.Relations.{group_tests, ranking_tests, group_ids};
+ghost use Rattle.admit_core.specs.Relations.{group_tests, programme_tests, school_tests, ranking_tests, boarding_tests, ceiling_tests, group_ids, programme_ids, school_ids};
 ghost use Rattle.dossier_check.specs.Outcome.{AnswersFault};
 
+use crate::day_falls::{DayFalls, ItsDay};
 use crate::row_tests::{NamesUnknown, NoTest, Repeats, TakesRank, Then};
-use crate::rules::{GroupAndCandidate, GroupAndRank, ItsGroup, OwnId};
+use crate::rules::{
+    DayAndSchool, GroupAndCandidate, GroupAndRank, ItsGroup, ItsSchool, OwnId, SchoolAndCandidate,
+    SchoolAndRank,
+};
 use crate::scan::scan;
 use admit_core::{InFault, Slot, Tables};
 use indexmap::IndexSet;
@@ -29,6 +33,52 @@ pub(crate) fn check_groups(alloc: Global, tables: &Tables) -> Result<IndexSet<u3
     Ok(checks.first.keys)
 }
 
+/// Checks the programmes, and answers their ids by place.
+pub(crate) fn check_programmes(
+    alloc: Global,
+    tables: &Tables,
+    groups: &IndexSet<u32>,
+) -> Result<IndexSet<u32>, InFault>
+    requires groups { groups.now.keys ≡ group_ids tables.now }
+    requires small { length tables.now.programmes < 2 ^ 32 }
+    ensures fault { AnswersFault result (first_in slots.Programmes (programme_tests tables.now) tables.now.programmes) }
+    ensures ids { IfOk result (λ ids. ids.keys ≡ programme_ids tables.now) }
+{
+    let mut checks = Then {
+        first: Repeats {
+            keys: IndexSet::new(alloc),
+            rule: OwnId,
+        },
+        rest: Then {
+            first: NamesUnknown {
+                field: 2,
+                ids: groups,
+                rule: ItsGroup,
+            },
+            rest: NoTest,
+        },
+    };
+    scan(Slot::Programmes, &mut checks, tables.programmes.as_slice())?;
+    Ok(checks.first.keys)
+}
+
+/// Checks the schools, and answers their ids by place.
+pub(crate) fn check_schools(alloc: Global, tables: &Tables) -> Result<IndexSet<u32>, InFault>
+    requires { length tables.now.schools < 2 ^ 32 }
+    ensures fault { AnswersFault result (first_in slots.Schools school_tests tables.now.schools) }
+    ensures ids { IfOk result (λ ids. ids.keys ≡ school_ids tables.now) }
+{
+    let mut checks = Then {
+        first: Repeats {
+            keys: IndexSet::new(alloc),
+            rule: OwnId,
+        },
+        rest: NoTest,
+    };
+    scan(Slot::Schools, &mut checks, tables.schools.as_slice())?;
+    Ok(checks.first.keys)
+}
+
 /// Checks the rankings, and answers the pairs of group and candidate by place.
 pub(crate) fn check_ranks(
     alloc: Global,
@@ -47,6 +97,7 @@ pub(crate) fn check_ranks(
         },
         rest: Then {
             first: NamesUnknown {
+                field: 1,
                 ids: groups,
                 rule: ItsGroup,
             },
@@ -61,4 +112,72 @@ pub(crate) fn check_ranks(
     };
     scan(Slot::Rankings, &mut checks, tables.rankings.as_slice())?;
     Ok(checks.first.keys)
+}
+
+/// Checks the boarding ranks, and answers the pairs of school and candidate by place.
+pub(crate) fn check_boarding(
+    alloc: Global,
+    tables: &Tables,
+    schools: &IndexSet<u32>,
+) -> Result<IndexSet<(u32, u32)>, InFault>
+    requires schools { schools.now.keys ≡ school_ids tables.now }
+    requires small { length tables.now.boarding < 2 ^ 32 }
+    ensures fault { AnswersFault result (first_in slots.Boarding (boarding_tests tables.now) tables.now.boarding) }
+    ensures pairs { IfOk result (λ pairs. pairs.keys ≡ map (λ r. (r.school, r.candidate)) tables.now.boarding) }
+{
+    let mut checks = Then {
+        first: Repeats {
+            keys: IndexSet::new(alloc),
+            rule: SchoolAndCandidate,
+        },
+        rest: Then {
+            first: NamesUnknown {
+                field: 1,
+                ids: schools,
+                rule: ItsSchool,
+            },
+            rest: Then {
+                first: TakesRank {
+                    keys: IndexSet::new(alloc),
+                    rule: SchoolAndRank,
+                },
+                rest: NoTest,
+            },
+        },
+    };
+    scan(Slot::Boarding, &mut checks, tables.boarding.as_slice())?;
+    Ok(checks.first.keys)
+}
+
+/// Checks the ceilings.
+pub(crate) fn check_ceilings(
+    alloc: Global,
+    tables: &Tables,
+    schools: &IndexSet<u32>,
+) -> Result<(), InFault>
+    requires schools { schools.now.keys ≡ school_ids tables.now }
+    requires small { length tables.now.ceilings < 2 ^ 32 }
+    ensures { AnswersFault result (first_in slots.Ceilings (ceiling_tests tables.now) tables.now.ceilings) }
+{
+    let mut checks = Then {
+        first: Repeats {
+            keys: IndexSet::new(alloc),
+            rule: DayAndSchool,
+        },
+        rest: Then {
+            first: NamesUnknown {
+                field: 2,
+                ids: schools,
+                rule: ItsSchool,
+            },
+            rest: Then {
+                first: DayFalls {
+                    last: 0,
+                    rule: ItsDay,
+                },
+                rest: NoTest,
+            },
+        },
+    };
+    scan(Slot::Ceilings, &mut checks, tables.ceilings.as_slice())
 }

@@ -1,8 +1,0 @@
-use Rattle.std.proofs.Common.{All, sym, subst}
-use Rattle.admit_core.specs.Validity.{IsRanking}
-use Rattle.dossier_check.proofs.ValidRankings.{rankings_of}
-use Rattle.dossier_check.proofs.check.check_rankings.Goals as goal
-
-pub returns-clause-rankings : goal.returns-clause-rankings
-returns-clause-rankings c =
-    subst (All IsRanking) (sym c.in_ok-rank_groups.ensures) (rankings_of c.args.tables.now c.requires.rankings c.in_ok-_ranked.ensures.fault c.requires.groups)

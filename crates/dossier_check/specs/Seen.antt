@@ -1,0 +1,40 @@
+-- What a scan keeps of the rows before.
+use Rattle.std.specs.Prelude.{◌≡◌, ℕ, Bool, ◌&&◌, nat_eq, nat_lt, List, map, Option, Some, option_map}
+use Rattle.std.specs.Option.{option_map_or}
+use Rattle.admit_core.specs.declared.tables.StateRow.{StateRow}
+use Rattle.admit_core.specs.declared.tables.WishRow.{WishRow}
+use Rattle.admit_core.specs.declared.tables.Tables.{Tables}
+use Rattle.admit_core.specs.Faults.{first_row}
+use Rattle.admit_core.specs.Relations.{first_wish_of, last_row, is_accepted, same_candidate, candidate_with}
+use Rattle.dossier_check.specs.declared.noted.FirstWish.{FirstWish}
+
+-- the pairs that boarding and ranking rows are found by
+abbrev pub ranked_pairs : Tables → List (ℕ × ℕ)
+ranked_pairs t = map (λ r. (r.group, r.candidate)) t.rankings
+
+abbrev pub boarded_pairs : Tables → List (ℕ × ℕ)
+boarded_pairs t = map (λ b. (b.school, b.candidate)) t.boarding
+
+-- `found` gives for each key the number of the first row that has it; `has k` says whether a row has k
+abbrev pub AreFirstRows : {R K : Type 0} → (K → R → Bool) → (K → Option ℕ) → List R → Type 0
+AreFirstRows {R} {K} has found before = (k : K) → found k ≡ first_row (has k) before
+
+-- whether a wish has this candidate and this preference, and one at all
+abbrev pub has_preference : ℕ × ℕ → WishRow → Bool
+has_preference k r = nat_lt 0 r.preference && (nat_eq k.0 r.candidate && nat_eq k.1 r.preference)
+
+-- whether a status is an accepted one of this candidate
+abbrev pub is_accepted_of : Tables → ℕ → StateRow → Bool
+is_accepted_of t candidate r = is_accepted r.status && same_candidate (Some candidate) (candidate_with t r.wish)
+
+-- what is kept of a candidate's first wish
+abbrev pub noted_wish : ℕ × WishRow → FirstWish
+noted_wish first = record { row = first.0; preference = first.1.preference }
+
+-- `found` gives for each candidate his first wish
+abbrev pub AreFirstWishes : (ℕ → Option FirstWish) → List WishRow → Type 0
+AreFirstWishes found before = (candidate : ℕ) → found candidate ≡ option_map noted_wish (first_wish_of before candidate)
+
+-- the day of the last row, or 0
+abbrev pub IsLastDay : {R : Type 0} → (R → ℕ) → List R → ℕ → Type 0
+IsLastDay day before last = last ≡ option_map_or day (last_row before) 0

@@ -1,0 +1,194 @@
+//! The items of the dossier, with places for ids.
+ghost use Rattle.std.specs.Prelude.{◌≡◌, ◌<◌, ◌≤◌, ◌^◌, ℕ, length, map, option_map, IfOk};
+ghost use Rattle.admit_core.specs.declared.tables.Tables.{Tables};
+ghost use Rattle.admit_core.specs.Relations.{wish_ids};
+ghost use Rattle.admit_core.specs.Standing.{place_of, programme_of_row, school_of_row, board_rank_of, wish_of_row, status_of_row, target_of, ceiling_of_row, answer_of_row};
+ghost use Rattle.dossier_check.specs.Keys.{AreKeysOf};
+
+use crate::noted::row_with;
+use admit_core::{
+    Answer, AnswerKind, CeilingChange, OutOfMemory, Programme, School, Status, Tables, Wish,
+    WishRow,
+};
+use indexmap::IndexSet;
+use std::alloc::Global;
+
+/// What the rows of the slots are found by, by place.
+#[derive(Drop)]
+pub(crate) struct Keys {
+    pub(crate) groups: IndexSet<u32>,
+    pub(crate) programmes: IndexSet<u32>,
+    pub(crate) schools: IndexSet<u32>,
+    pub(crate) boarding: IndexSet<(u32, u32)>,
+    pub(crate) wishes: IndexSet<u32>,
+    pub(crate) state: IndexSet<u32>,
+}
+
+/// The place of an id among ids, and their number where it is none of them.
+fn place_in(ids: &IndexSet<u32>, id: u32) -> u32
+    requires { length ids.now.keys < 2 ^ 32 }
+    ensures { result ≡ place_of ids.now.keys id }
+{
+    ids.get_index_of(&id).unwrap_or(ids.len()) as u32
+}
+
+/// The same of an id that may be missing.
+fn place_in_any(ids: &IndexSet<u32>, id: Option<u32>) -> Option<u32>
+    requires { length ids.now.keys < 2 ^ 32 }
+    ensures { result ≡ option_map (place_of ids.now.keys) id }
+{
+    match id {
+        Some(id) => Some(place_in(ids, id)),
+        None => None,
+    }
+}
+
+/// The programmes, with the places of their groups.
+pub(crate) fn programmes_of(
+    alloc: Global,
+    tables: &Tables,
+    keys: &Keys,
+) -> Result<Vec<Programme>, OutOfMemory>
+    requires { AreKeysOf tables.now keys.now }
+    ensures { IfOk result (λ programmes. programmes.items ≡ map (programme_of_row tables.now) tables.now.programmes) }
+{
+    let mut programmes = Vec::new(alloc);
+    for row in tables.programmes.as_slice() {
+        programmes.push(Programme {
+            id: row.id,
+            group: place_in(&keys.groups, row.group),
+            seats: row.seats,
+            limit: row.limit,
+        })?;
+    }
+    Ok(programmes)
+}
+
+/// The schools.
+pub(crate) fn schools_of(alloc: Global, tables: &Tables) -> Result<Vec<School>, OutOfMemory>
+    ensures { IfOk result (λ schools. schools.items ≡ map school_of_row tables.now.schools) }
+{
+    let rows = tables.schools.as_slice().iter();
+    let schools = rows.map(|row| School {
+        id: row.id,
+        beds: row.beds,
+        ceiling: row.ceiling,
+    });
+    Ok(schools.collect(alloc)?)
+}
+
+/// A candidate's rank in a school; 0 without a school.
+fn board_rank_of(tables: &Tables, keys: &Keys, candidate: u32, school: Option<u32>) -> u32
+    requires { AreKeysOf tables.now keys.now }
+    ensures { result ≡ board_rank_of tables.now candidate school }
+{
+    let Some(school) = school else { return 0 };
+    let rows = tables.boarding.as_slice();
+    match row_with(&keys.boarding, rows, (school, candidate)) {
+        Some(row) => row.rank,
+        None => 0,
+    }
+}
+
+/// The wishes, with the places of what they name and the candidates' ranks in the schools.
+pub(crate) fn wishes_of(
+    alloc: Global,
+    tables: &Tables,
+    keys: &Keys,
+) -> Result<Vec<Wish>, OutOfMemory>
+    requires { AreKeysOf tables.now keys.now }
+    ensures { IfOk result (λ wishes. wishes.items ≡ map (wish_of_row tables.now) tables.now.wishes) }
+{
+    let mut wishes = Vec::new(alloc);
+    for row in tables.wishes.as_slice() {
+        wishes.push(Wish {
+            id: row.id,
+            candidate: row.candidate,
+            programme: place_in(&keys.programmes, row.programme),
+            school: place_in_any(&keys.schools, row.school),
+            board_rank: board_rank_of(tables, keys, row.candidate, row.school),
+            preference: row.preference,
+        })?;
+    }
+    Ok(wishes)
+}
+
+/// The status of a wish; one that no row names waits.
+fn status_of(tables: &Tables, keys: &Keys, wish: &WishRow) -> Status
+    requires { AreKeysOf tables.now keys.now }
+    ensures { result ≡ status_of_row tables.now wish.now }
+{
+    match row_with(&keys.state, tables.state.as_slice(), wish.id) {
+        Some(row) => row.status,
+        None => Status::Waiting,
+    }
+}
+
+/// The statuses of the wishes.
+pub(crate) fn statuses_of(
+    alloc: Global,
+    tables: &Tables,
+    keys: &Keys,
+) -> Result<Vec<Status>, OutOfMemory>
+    requires { AreKeysOf tables.now keys.now }
+    ensures { IfOk result (λ statuses. statuses.items ≡ map (status_of_row tables.now) tables.now.wishes) }
+{
+    let mut statuses = Vec::new(alloc);
+    for wish in tables.wishes.as_slice() {
+        statuses.push(status_of(tables, keys, wish))?;
+    }
+    Ok(statuses)
+}
+
+/// The ceilings, with the places of their schools.
+pub(crate) fn ceilings_of(
+    alloc: Global,
+    tables: &Tables,
+    keys: &Keys,
+) -> Result<Vec<CeilingChange>, OutOfMemory>
+    requires { AreKeysOf tables.now keys.now }
+    ensures { IfOk result (λ ceilings. ceilings.items ≡ map (ceiling_of_row tables.now) tables.now.ceilings) }
+{
+    let mut ceilings = Vec::new(alloc);
+    for row in tables.ceilings.as_slice() {
+        ceilings.push(CeilingChange {
+            day: row.day,
+            school: place_in(&keys.schools, row.school),
+            ceiling: row.ceiling,
+        })?;
+    }
+    Ok(ceilings)
+}
+
+/// The target of an answer: a wish's place, or a candidate's id for `Quit`.
+fn target_of(keys: &Keys, kind: AnswerKind, target: u32) -> u32
+    requires { length keys.now.wishes.keys < 2 ^ 32 }
+    ensures { (t : Tables) → keys.now.wishes.keys ≡ wish_ids t → result ≡ target_of t kind target }
+{
+    match kind {
+        AnswerKind::Accept | AnswerKind::Refuse | AnswerKind::Withdraw => {
+            place_in(&keys.wishes, target)
+        }
+        AnswerKind::Quit => target,
+    }
+}
+
+/// The answers, with the places of their wishes.
+pub(crate) fn answers_of(
+    alloc: Global,
+    tables: &Tables,
+    keys: &Keys,
+) -> Result<Vec<Answer>, OutOfMemory>
+    requires { AreKeysOf tables.now keys.now }
+    ensures { IfOk result (λ answers. answers.items ≡ map (answer_of_row tables.now) tables.now.answers) }
+{
+    let mut answers = Vec::new(alloc);
+    for row in tables.answers.as_slice() {
+        answers.push(Answer {
+            day: row.day,
+            kind: row.kind,
+            target: target_of(keys, row.kind, row.target),
+        })?;
+    }
+    Ok(answers)
+}

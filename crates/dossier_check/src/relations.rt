@@ -1,0 +1,144 @@
+//! The relations between the rows of tables, as a whole.
+ghost use Rattle.std.specs.Prelude.{◌≡◌, All, IfOk, map};
+ghost use Rattle.std.specs.Option.{option_or};
+ghost use Rattle.admit_core.specs.declared.slot.Slot.TheVariants as slots;
+ghost use Rattle.admit_core.specs.Faults.{first_in};
+ghost use Rattle.admit_core.specs.Ranges.{AreRows, AreTables, IsGroupRow, IsRankRow};
+ghost use Rattle.admit_core.specs.Relations.{group_tests, ranking_tests, first_fault, programme_ids, school_ids, wish_ids};
+ghost use Rattle.admit_core.specs.Standing.{dossier_of};
+ghost use Rattle.admit_core.specs.Validity.{IsRanking, IsValid};
+ghost use Rattle.dossier_check.specs.Ids.{ids_of};
+ghost use Rattle.dossier_check.specs.Keys.{AreKeysOf};
+ghost use Rattle.dossier_check.specs.Outcome.{AnswersFault, first_from_wishes};
+ghost use Rattle.dossier_check.specs.Seen.{ranked_pairs, boarded_pairs};
+
+use crate::answers::check_answers;
+use crate::groups::rank_groups;
+use crate::index::Index;
+use crate::items::{
+    Keys, answers_of, ceilings_of, programmes_of, schools_of, statuses_of, wishes_of,
+};
+use crate::slots::{
+    check_boarding, check_ceilings, check_groups, check_programmes, check_ranks, check_schools,
+};
+use crate::state::check_state;
+use crate::wishes::check_wishes;
+use admit_core::{Dossier, InFault, OutOfMemory, RankGroup, Sequence, Tables};
+use indexmap::IndexSet;
+use std::alloc::Global;
+
+/// The dossier that tables stand for, and the places of its ids.
+#[derive(Drop)]
+pub struct Checked {
+    pub dossier: Dossier,
+    pub index: Index,
+}
+
+/// Tests the slots from the wishes on, and answers what the wishes and the statuses are found by.
+fn check_wishes_on<'a>(
+    alloc: Global,
+    tables: &'a Tables,
+    programmes: &'a IndexSet<u32>,
+    schools: &'a IndexSet<u32>,
+    ranked: &'a IndexSet<(u32, u32)>,
+    boarding: &'a IndexSet<(u32, u32)>,
+) -> Result<(IndexSet<u32>, IndexSet<u32>), InFault>
+    requires programmes { programmes.now.keys ≡ programme_ids tables.now }
+    requires schools { schools.now.keys ≡ school_ids tables.now }
+    requires ranked { ranked.now.keys ≡ ranked_pairs tables.now }
+    requires boarding { boarding.now.keys ≡ boarded_pairs tables.now }
+    requires ranges { AreTables tables.now }
+    ensures fault { AnswersFault result (first_from_wishes tables.now) }
+    ensures wishes { IfOk result (λ keys. keys.0.keys ≡ wish_ids tables.now) }
+    ensures state { IfOk result (λ keys. keys.1.keys ≡ map (λ s. s.wish) tables.now.state) }
+{
+    let wishes = check_wishes(alloc, tables, programmes, schools, ranked, boarding)?;
+    let state = check_state(alloc, tables, &wishes.ids)?;
+    check_ceilings(alloc, tables, schools)?;
+    check_answers(tables, &wishes.ids, &wishes.firsts)?;
+    Ok((wishes.ids, state))
+}
+
+/// Tests the rows of all slots in their order, and answers what they are found by.
+fn check_slots(alloc: Global, tables: &Tables) -> Result<Keys, InFault>
+    requires { AreTables tables.now }
+    ensures fault { AnswersFault result (first_fault tables.now) }
+    ensures keys { IfOk result (AreKeysOf tables.now) }
+{
+    let groups = check_groups(alloc, tables)?;
+    let programmes = check_programmes(alloc, tables, &groups)?;
+    let schools = check_schools(alloc, tables)?;
+    let ranked = check_ranks(alloc, tables, &groups)?;
+    let boarding = check_boarding(alloc, tables, &schools)?;
+    let (wishes, state) = check_wishes_on(
+        alloc,
+        tables,
+        &programmes,
+        &schools,
+        &ranked,
+        &boarding,
+    )?;
+    Ok(Keys {
+        groups,
+        programmes,
+        schools,
+        boarding,
+        wishes,
+        state,
+    })
+}
+
+/// Makes the dossier that fault-free tables stand for.
+fn make_dossier(alloc: Global, tables: &Tables, keys: &Keys) -> Result<Dossier, OutOfMemory>
+    requires keys { AreKeysOf tables.now keys.now }
+    requires valid { IsValid (dossier_of tables.now) }
+    ensures { IfOk result (λ dossier. dossier ≡ dossier_of tables.now) }
+{
+    let groups = rank_groups(alloc, tables, &keys.groups)?;
+    let programmes = programmes_of(alloc, tables, keys)?;
+    let schools = schools_of(alloc, tables)?;
+    let wishes = wishes_of(alloc, tables, keys)?;
+    let statuses = statuses_of(alloc, tables, keys)?;
+    let ceilings = ceilings_of(alloc, tables, keys)?;
+    let answers = answers_of(alloc, tables, keys)?;
+    Ok(Dossier {
+        groups: Sequence::from_vec(groups),
+        programmes: Sequence::from_vec(programmes),
+        schools: Sequence::from_vec(schools),
+        wishes: Sequence::from_vec(wishes),
+        statuses: Sequence::from_vec(statuses),
+        ceilings: Sequence::from_vec(ceilings),
+        answers: Sequence::from_vec(answers),
+    })
+}
+
+/// Checks the relations between the rows of tables: their first fault by slot, row and reason, or
+/// the dossier that they stand for, with all rows in file order and the rankings by rank.
+pub fn check(alloc: Global, tables: &Tables) -> Result<Checked, InFault>
+    requires { AreTables tables.now }
+    ensures fault { AnswersFault result (first_fault tables.now) }
+    ensures dossier { IfOk result (λ checked. checked.dossier ≡ dossier_of tables.now) }
+    ensures index { IfOk result (λ checked. checked.index ≡ ids_of tables.now) }
+{
+    let keys = check_slots(alloc, tables)?;
+    let dossier = make_dossier(alloc, tables, &keys)?;
+    let index = Index {
+        wishes: keys.wishes,
+        schools: keys.schools,
+    };
+    Ok(Checked { dossier, index })
+}
+
+/// Checks the groups and their rankings, and makes the groups with their candidates by rank.
+pub fn check_rankings(alloc: Global, tables: &Tables) -> Result<Vec<RankGroup>, InFault>
+    requires groups { AreRows IsGroupRow tables.now.groups }
+    requires rankings { AreRows IsRankRow tables.now.rankings }
+    ensures fault { AnswersFault result (option_or (first_in slots.Groups group_tests tables.now.groups)
+        (first_in slots.Rankings (ranking_tests tables.now) tables.now.rankings)) }
+    ensures groups { IfOk result (λ groups. groups.items ≡ (dossier_of tables.now).groups) }
+    ensures rankings { IfOk result (λ groups. All IsRanking groups.items) }
+{
+    let groups = check_groups(alloc, tables)?;
+    let _ranked = check_ranks(alloc, tables, &groups)?;
+    Ok(rank_groups(alloc, tables, &groups)?)
+}

@@ -1,0 +1,210 @@
+//! The tests of wishes.
+ghost use Rattle.std.specs.Prelude.{◌≡◌, ◌<◌, ◌^◌, ℕ, length, nat_eq, IfOk};
+ghost use Rattle.indexmap.specs.IndexMap.{get};
+ghost use Rattle.admit_core.specs.declared.slot.Slot.TheVariants as slots;
+ghost use Rattle.admit_core.specs.Faults.{first_in};
+ghost use Rattle.admit_core.specs.Relations.{wish_tests, programme_ids, school_ids, wish_ids};
+ghost use Rattle.dossier_check.specs.Outcome.{AnswersFault};
+ghost use Rattle.dossier_check.specs.Seen.{ranked_pairs, boarded_pairs, AreFirstWishes};
+
+use crate::noted::{FirstWish, note_first, row_with};
+use crate::row_tests::{NamesUnknown, NoTest, Repeats, RowTest, Then};
+use crate::rules::{ItsProgramme, ItsSchool, OwnId, WhatIsWished};
+use crate::scan::scan;
+use admit_core::{InFault, OutOfMemory, Reason, Slot, Tables, WishRow};
+use indexmap::{IndexMap, IndexSet};
+use std::alloc::Global;
+
+/// The candidate isn't ranked in the group of the programme.
+#[derive(Drop)]
+pub(crate) struct Unranked<'a> {
+    pub(crate) tables: &'a Tables,
+    pub(crate) programmes: &'a IndexSet<u32>,
+    pub(crate) ranked: &'a IndexSet<(u32, u32)>,
+}
+
+impl<'a> RowTest<WishRow> for Unranked<'a> {
+    ghost use Rattle.admit_core.specs.Relations.{unranked, programme_ids};
+    ghost use Rattle.dossier_check.specs.Seen.{ranked_pairs};
+
+    ghost test = { λ c. unranked c.tables.now };
+
+    ghost has_seen = { λ c before. (c.programmes.now.keys ≡ programme_ids c.tables.now) × (c.ranked.now.keys ≡ ranked_pairs c.tables.now) };
+
+    fn stands(&mut self, row: &WishRow, _number: u64) -> Result<Option<Reason>, OutOfMemory> {
+        let programmes = self.tables.programmes.as_slice();
+        if let Some(programme) = row_with(self.programmes, programmes, row.programme) {
+            if self.ranked.contains(&(programme.group, row.candidate)) {
+                return Ok(None);
+            }
+        }
+        Ok(Some(Reason::Unranked))
+    }
+}
+
+/// The candidate has no rank in the school.
+#[derive(Drop)]
+pub(crate) struct NoBoardingRank<'a> {
+    pub(crate) tables: &'a Tables,
+    pub(crate) boarded: &'a IndexSet<(u32, u32)>,
+}
+
+impl<'a> RowTest<WishRow> for NoBoardingRank<'a> {
+    ghost use Rattle.admit_core.specs.Relations.{no_boarding_rank};
+    ghost use Rattle.dossier_check.specs.Seen.{boarded_pairs};
+
+    ghost test = { λ c. no_boarding_rank c.tables.now };
+
+    ghost has_seen = { λ c before. c.boarded.now.keys ≡ boarded_pairs c.tables.now };
+
+    fn stands(&mut self, row: &WishRow, _number: u64) -> Result<Option<Reason>, OutOfMemory> {
+        if let Some(school) = row.school {
+            if !self.boarded.contains(&(school, row.candidate)) {
+                return Ok(Some(Reason::NoBoardingRank));
+            }
+        }
+        Ok(None)
+    }
+}
+
+/// Of this wish and the candidate's first one, one has a preference and the other has none.
+#[derive(Drop)]
+pub(crate) struct PreferenceMixed {
+    pub(crate) firsts: IndexMap<u32, FirstWish>,
+}
+
+impl RowTest<WishRow> for PreferenceMixed {
+    ghost use Rattle.std.specs.Prelude.{nat_eq};
+    ghost use Rattle.indexmap.specs.IndexMap.{get};
+    ghost use Rattle.admit_core.specs.Relations.{preference_mixed};
+    ghost use Rattle.dossier_check.specs.Seen.{AreFirstWishes};
+
+    ghost test = { λ c. preference_mixed };
+
+    ghost has_seen = { λ c before. AreFirstWishes (get nat_eq c.firsts) before };
+
+    fn stands(&mut self, row: &WishRow, number: u64) -> Result<Option<Reason>, OutOfMemory> {
+        let own = FirstWish {
+            row: number,
+            preference: row.preference,
+        };
+        match note_first(&mut self.firsts, row.candidate, own)? {
+            Some(first) if (first.preference == 0) != (row.preference == 0) => {
+                Ok(Some(Reason::PreferenceMixed(first.row)))
+            }
+            _ => Ok(None),
+        }
+    }
+}
+
+/// An earlier wish of the candidate has the same positive preference.
+#[derive(Drop)]
+pub(crate) struct PreferenceTaken {
+    pub(crate) rows: IndexMap<(u32, u32), u64>,
+}
+
+impl RowTest<WishRow> for PreferenceTaken {
+    ghost use Rattle.indexmap.specs.IndexMap.{get};
+    ghost use Rattle.admit_core.specs.Relations.{preference_taken};
+    ghost use Rattle.dossier_check.specs.Pairs.{pair_eq};
+    ghost use Rattle.dossier_check.specs.Seen.{AreFirstRows, has_preference};
+
+    ghost test = { λ c. preference_taken };
+
+    ghost has_seen = { λ c before. AreFirstRows has_preference (get pair_eq c.rows) before };
+
+    fn stands(&mut self, row: &WishRow, number: u64) -> Result<Option<Reason>, OutOfMemory> {
+        if row.preference == 0 {
+            return Ok(None);
+        }
+        match note_first(&mut self.rows, (row.candidate, row.preference), number)? {
+            Some(first) => Ok(Some(Reason::PreferenceTaken(first))),
+            None => Ok(None),
+        }
+    }
+}
+
+/// The ids of the wishes by place, and each candidate's first wish.
+#[derive(Drop)]
+pub(crate) struct WishKeys {
+    pub(crate) ids: IndexSet<u32>,
+    pub(crate) firsts: IndexMap<u32, FirstWish>,
+}
+
+/// Checks the wishes.
+pub(crate) fn check_wishes<'a>(
+    alloc: Global,
+    tables: &'a Tables,
+    programmes: &'a IndexSet<u32>,
+    schools: &IndexSet<u32>,
+    ranked: &'a IndexSet<(u32, u32)>,
+    boarded: &'a IndexSet<(u32, u32)>,
+) -> Result<WishKeys, InFault>
+    requires programmes { programmes.now.keys ≡ programme_ids tables.now }
+    requires schools { schools.now.keys ≡ school_ids tables.now }
+    requires ranked { ranked.now.keys ≡ ranked_pairs tables.now }
+    requires boarded { boarded.now.keys ≡ boarded_pairs tables.now }
+    requires small { length tables.now.wishes < 2 ^ 32 }
+    ensures fault { AnswersFault result (first_in slots.Wishes (wish_tests tables.now) tables.now.wishes) }
+    ensures ids { IfOk result (λ keys. keys.ids.keys ≡ wish_ids tables.now) }
+    ensures firsts { IfOk result (λ keys. AreFirstWishes (get nat_eq keys.firsts) tables.now.wishes) }
+{
+    let preferences = Then {
+        first: PreferenceMixed {
+            firsts: IndexMap::new(alloc),
+        },
+        rest: Then {
+            first: PreferenceTaken {
+                rows: IndexMap::new(alloc),
+            },
+            rest: NoTest,
+        },
+    };
+    let ranks = Then {
+        first: Unranked {
+            tables,
+            programmes,
+            ranked,
+        },
+        rest: Then {
+            first: NoBoardingRank { tables, boarded },
+            rest: preferences,
+        },
+    };
+    let names = Then {
+        first: NamesUnknown {
+            field: 3,
+            ids: programmes,
+            rule: ItsProgramme,
+        },
+        rest: Then {
+            first: NamesUnknown {
+                field: 4,
+                ids: schools,
+                rule: ItsSchool,
+            },
+            rest: ranks,
+        },
+    };
+    let mut checks = Then {
+        first: Repeats {
+            keys: IndexSet::new(alloc),
+            rule: OwnId,
+        },
+        rest: Then {
+            first: Repeats {
+                keys: IndexSet::new(alloc),
+                rule: WhatIsWished,
+            },
+            rest: names,
+        },
+    };
+    scan(Slot::Wishes, &mut checks, tables.wishes.as_slice())?;
+    let Then { first: own, rest } = checks;
+    let ranks = rest.rest.rest.rest;
+    let preferences = ranks.rest.rest;
+    Ok(WishKeys {
+        ids: own.keys,
+        firsts: preferences.first.firsts,
+    })
+}
