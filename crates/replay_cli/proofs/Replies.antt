@@ -26,6 +26,17 @@ stops_at_fault A view fault tables first (Ok x) is from = absurd from
 stops_at_fault A view (faults.Refused refusal) tables first (Err stop) is from = rw (is, from) refl
 stops_at_fault A view faults.OutOfMemory tables first (Err stop) is from = rw from tt
 
+-- of want of memory nothing is said
+pub memory_gives : {X : Type 0} (view : X → List ℕ) (r : Result X Stop) (expected : Result DossierRows Stop) → IsErrAnd r (λ stop. stop ≡ stops.OutOfMemory)
+    → GivesText view r expected
+memory_gives view (Ok x) expected from = absurd from
+memory_gives view (Err stop) expected from = rw from tt
+
+pub memory_has_cause : {X : Type 0} (left : Slot → Option (List ℕ)) (before now : Slot → ℕ) (r : Result X Stop) → IsErrAnd r (λ stop. stop ≡ stops.OutOfMemory)
+    → IfErr r (HasCause left before now)
+memory_has_cause left before now (Ok x) from = absurd from
+memory_has_cause left before now (Err stop) from = rw from tt
+
 -- a stop that the words and the slots' bytes determine is the outcome
 end_of_stop : (stop : Stop) (exit : Exit) (text : List ℕ) (expected : Result DossierRows Stop) → Stopped stop expected → IsStoppedBy stop exit text
     → IsTrue (is_answer exit) → IsEnd expected exit text

@@ -1,6 +1,7 @@
 -- The lines of the call orders.
-use Rattle.std.specs.Prelude.{ℕ, List, [], ◌∷◌, ◌++◌, codes, flat_map, zip}
+use Rattle.std.specs.Prelude.{◌≡◌, ℕ, List, [], ◌∷◌, ◌++◌, codes, flat_map, zip}
 use Rattle.std.specs.Fmt.{decimal}
+use Rattle.admit_core.specs.CallOrder.{AreCallOrders}
 use Rattle.admit_core.specs.Lines.{bound_letter}
 use Rattle.admit_core.specs.declared.ranking.Bound.{Bound}
 use Rattle.admit_core.specs.declared.ranking.CallOrder.{CallOrder}
@@ -24,3 +25,7 @@ group_text (group, order) = order_text group.id order
 
 abbrev pub orders_text : List RankGroup → List CallOrder → List ℕ
 orders_text groups orders = flat_map group_text (zip groups orders)
+
+-- the text has the lines of the groups' call orders
+abbrev pub IsOrdersText : List RankGroup → List ℕ → Type 0
+IsOrdersText groups text = (orders : List CallOrder) × AreCallOrders groups orders × (text ≡ orders_text groups orders)

@@ -1,13 +1,10 @@
 -- How a run ends and what it writes.
 use Rattle.std.specs.Prelude.{◌≡◌, ◌≢◌, ◌⊎◌, ℕ, Bool, true, false, List, Option, Result, Ok, Err, IsOk, IsOkAnd}
-use Rattle.admit_core.specs.CallOrder.{AreCallOrders}
 use Rattle.admit_core.specs.DossierRows.{DossierRows}
-use Rattle.admit_core.specs.declared.ranking.CallOrder.{CallOrder}
-use Rattle.admit_core.specs.declared.ranking.RankGroup.{RankGroup}
 use Rattle.admit_core.specs.declared.slot.Slot.{Slot}
 use Rattle.shelf_io.specs.Bytes.{AppendsPrefix}
 use Rattle.replay_cli.specs.Input.{IsFaultAt, Stopped, dossier_in}
-use Rattle.replay_cli.specs.OrderText.{orders_text}
+use Rattle.replay_cli.specs.OrderText.{IsOrdersText}
 use Rattle.replay_cli.specs.Stops.{◌>>=◌, exit_of, stop_text}
 use Rattle.replay_cli.specs.Words.{mode_of}
 use Rattle.replay_cli.specs.declared.exit.Exit.{Exit}
@@ -15,10 +12,6 @@ use Rattle.replay_cli.specs.declared.exit.Exit.TheVariants.{Done, Refused, BadWo
 use Rattle.replay_cli.specs.declared.words.Mode.{Mode}
 use Rattle.replay_cli.specs.declared.stop.Stop.{Stop}
 use Rattle.replay_cli.specs.declared.stop.Stop.TheVariants as stops
-
--- the text has the lines of the groups' call orders
-abbrev pub IsOrdersText : List RankGroup → List ℕ → Type 0
-IsOrdersText groups text = (orders : List CallOrder) × AreCallOrders groups orders × (text ≡ orders_text groups orders)
 
 -- what the words ask for, and then the dossier that the slots' bytes stand for
 abbrev pub accepted : List (List ℕ) → (Slot → List ℕ) → Result DossierRows Stop

@@ -1,15 +1,15 @@
 //! The lines of the call orders.
-ghost use Rattle.std.specs.Prelude.{◌≡◌, ◌++◌, IfOk, OnOk, All, length, flat_map, string_bytes};
+ghost use Rattle.std.specs.Prelude.{◌≡◌, ◌++◌, IfOk, OnOk, All, flat_map, string_bytes};
 ghost use Rattle.admit_core.specs.CallOrder.{AreCallOrders};
 ghost use Rattle.admit_core.specs.Validity.{IsRanking};
-ghost use Rattle.replay_cli.specs.OrderText.{bound_text, candidate_text, order_text, orders_text};
+ghost use Rattle.replay_cli.specs.OrderText.{IsOrdersText, bound_text, candidate_text, order_text, orders_text};
 
-use admit_core::{Bound, CallOrder, CallOrders, OutOfMemory, RankGroup, Sequence};
+use admit_core::{Bound, CallOrder, CallOrders, Dossier, OutOfMemory, RankGroup, Sequence};
 use call_order::call_order;
 use std::alloc::{AllocError, Global};
 
 /// The call order of each group.
-pub(crate) fn call_orders(alloc: Global, groups: &[RankGroup]) -> Result<CallOrders, OutOfMemory>
+fn call_orders(alloc: Global, groups: &[RankGroup]) -> Result<CallOrders, OutOfMemory>
     requires { All IsRanking groups.now }
     ensures { IfOk result (λ called. AreCallOrders groups.now called.orders) }
 {
@@ -55,17 +55,25 @@ fn push_order(text: &mut String, id: u32, order: &CallOrder) -> Result<(), Alloc
 }
 
 /// The lines of all groups, in file order.
-pub(crate) fn orders_text(
+fn orders_text(
     alloc: Global,
     groups: &[RankGroup],
-    orders: &CallOrders,
+    orders: &[CallOrder],
 ) -> Result<Vec<u8>, AllocError>
-    requires { AreCallOrders groups.now orders.now.orders }
-    ensures { IfOk result (λ text. text.items ≡ orders_text groups.now orders.now.orders) }
+    ensures { IfOk result (λ text. text.items ≡ orders_text groups.now orders.now) }
 {
     let mut text = String::new(alloc);
-    for (group, order) in groups.iter().zip(orders.orders.as_slice()) {
+    for (group, order) in groups.iter().zip(orders) {
         push_order(&mut text, group.id, order)?;
     }
     Ok(text.into_bytes())
+}
+
+/// The text of the mode `order`.
+pub(crate) fn order_report(alloc: Global, dossier: &Dossier) -> Result<Vec<u8>, OutOfMemory>
+    ensures { IfOk result (λ text. IsOrdersText dossier.now.groups text.items) }
+{
+    let groups = dossier.groups.as_slice();
+    let called = call_orders(alloc, groups)?;
+    Ok(orders_text(alloc, groups, called.orders.as_slice())?)
 }

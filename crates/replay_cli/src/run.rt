@@ -9,18 +9,18 @@ ghost use Rattle.replay_cli.specs.Stops as Stops;
 ghost use Rattle.replay_cli.specs.Words.{mode_of};
 
 use crate::exit::Exit;
-use crate::orders::{call_orders, orders_text};
+use crate::orders::order_report;
 use crate::stop::Stop;
 use crate::tables::read_order_tables;
 use crate::words::{Mode, mode_of};
 use admit_core::OutOfMemory;
-use dossier_check::check_rankings;
+use dossier_check::check;
 use shelf_io::{IoRefusal, Shelf, Sink, write_all};
 use std::alloc::Global;
 
-/// The text of the mode `order`.
-#[tactic(auto, unfolding(crate::specs::Input::dossier_in), using(crate::proofs::Faults::fault_of_rankings))]
-fn order_report<S: Shelf>(alloc: Global, shelf: &mut S) -> Result<Vec<u8>, Stop>
+/// Runs the mode `order`: reads its tables, checks them, and makes the text.
+#[tactic(auto, unfolding(crate::specs::Input::dossier_in))]
+fn run_order<S: Shelf>(alloc: Global, shelf: &mut S) -> Result<Vec<u8>, Stop>
     ensures value { (slots : Slot → List ℕ) → Tells (S.left shelf.old) slots → GivesText (λ text. text.items) result (dossier_in slots) }
     ensures taken { (slots : Slot → List ℕ) → Tells (S.left shelf.old) slots → OnOk result ((slot : Slot) → IsRead slot → S.left shelf.new slot ≡ Some []) }
     ensures others { (slot : Slot) → ¬ IsRead slot → S.left shelf.new slot ≡ S.left shelf.old slot }
@@ -28,9 +28,8 @@ fn order_report<S: Shelf>(alloc: Global, shelf: &mut S) -> Result<Vec<u8>, Stop>
     ensures fault { IfErr result (HasCause (S.left shelf.old) (S.faults shelf.old) (S.faults shelf.new)) }
 {
     let tables = read_order_tables(alloc, shelf)?;
-    let groups = check_rankings(alloc, &tables)?;
-    let orders = call_orders(alloc, &groups)?;
-    Ok(orders_text(alloc, &groups, &orders)?)
+    let checked = check(alloc, &tables)?;
+    Ok(order_report(alloc, &checked.dossier)?)
 }
 
 /// The whole text of a run, or why there is none.
@@ -44,7 +43,7 @@ fn report<S: Shelf>(alloc: Global, words: &[String], shelf: &mut S) -> Result<Ve
     ensures counts { NoneFell (S.faults shelf.old) (S.faults shelf.new) }
 {
     match mode_of(words)? {
-        Mode::Order => order_report(alloc, shelf),
+        Mode::Order => run_order(alloc, shelf),
     }
 }
 

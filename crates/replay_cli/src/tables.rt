@@ -4,7 +4,7 @@ ghost use Rattle.admit_core.specs.declared.slot.Slot.{Slot};
 ghost use Rattle.admit_core.specs.Ranges.{AreTables};
 ghost use Rattle.shelf_io.specs.Bytes.{OthersKept};
 ghost use Rattle.shelf_io.specs.Faults.{NoneFell};
-ghost use Rattle.replay_cli.specs.Input.{FaultsAt, Gives, HasCause, IsRead, Tells, only_rankings, order_tables, sized};
+ghost use Rattle.replay_cli.specs.Input.{FaultsAt, Gives, HasCause, IsRead, Tells, order_tables, sized};
 
 use crate::stop::Stop;
 use admit_core::{Reason, Refusal, Sequence, Slot, Tables};
@@ -41,7 +41,6 @@ fn slot_bytes<S: Shelf>(alloc: Global, shelf: &mut S, slot: Slot) -> Result<Vec<
 pub(crate) fn read_order_tables<S: Shelf>(alloc: Global, shelf: &mut S) -> Result<Tables, Stop>
     ensures value { (slots : Slot → List ℕ) → Tells (S.left shelf.old) slots → Gives (λ tables. tables) result (order_tables slots) }
     ensures ranges { IfOk result AreTables }
-    ensures only { IfOk result (λ tables. tables ≡ only_rankings tables.groups tables.rankings) }
     ensures taken { (slots : Slot → List ℕ) → Tells (S.left shelf.old) slots → OnOk result ((slot : Slot) → IsRead slot → S.left shelf.new slot ≡ Some []) }
     ensures others { (slot : Slot) → ¬ IsRead slot → S.left shelf.new slot ≡ S.left shelf.old slot }
     ensures counts { NoneFell (S.faults shelf.old) (S.faults shelf.new) }
