@@ -1,9 +1,10 @@
 -- What the fields of a row say, from left to right, with the first fault that is met.
-use Rattle.std.specs.Prelude.{ℕ, ◌-◌, ◌&&◌, Bool, true, false, List, [], ◌∷◌, length, map, Option, Some, None, Result, Ok, Err, nat_lt, nat_le, unwrap_or, if◌then◌else◌, IsSome, ℤ}
+use Rattle.std.specs.Prelude.{ℕ, ◌-◌, ◌&&◌, Bool, true, false, List, [], ◌∷◌, length, map, Option, Some, None, Result, Ok, Err, nat_lt, nat_le, unwrap_or, if◌then◌else◌, IsSome}
 use Rattle.std.specs.Prelude.{codes, nat_eq}
 use Rattle.std.specs.Cmp.Lexicographic.{pointwise}
 use Rattle.std.specs.Char.{is_ascii_digit}
 use Rattle.std.specs.List.{list_all}
+use Rattle.std.specs.Option.{ok_or}
 use Rattle.std.specs.Str.Parse.{digits_value}
 use Rattle.csv.specs.Records.{field_at}
 use Rattle.admit_core.specs.declared.dossier.TheConstants.{MAX_DAY, MAX_NUMBER}
@@ -64,17 +65,13 @@ optional_from limits position text = within limits position (number_of text) >>=
 unfoldable pub optional_number : Limits → List (List ℕ) → ℕ → Result (Option ℕ) Reason
 optional_number limits fields position = optional_from limits position (text_at fields position)
 
--- a date column that may be empty; it is empty too where only a longer header has it
 abbrev pub since_of : ℕ × ℕ × ℕ → Since
 since_of date = record { year = date.0; month = date.1; day = date.2 }
 
-abbrev pub dated : ℕ → Option ℤ → Result (Option Since) Reason
-dated position None = Err (NotDate position)
-dated position (Some number) = Ok (Some (since_of (date_of number)))
-
+-- a date column that may be empty, as it is where the row has no such field
 abbrev pub optional_date_from : ℕ → List ℕ → Result (Option Since) Reason
 optional_date_from position [] = Ok None
-optional_date_from position text = dated position (date_in text)
+optional_date_from position text = ok_or (date_in text) (NotDate position) >>= λ number. Ok (Some (since_of (date_of number)))
 
 unfoldable pub optional_date : List (List ℕ) → ℕ → Result (Option Since) Reason
 optional_date fields position = optional_date_from position (text_at fields position)
@@ -88,18 +85,13 @@ abbrev pub choice : {A : Type 0} → List (List ℕ × A) → List ℕ → Optio
 choice [] text = None
 choice (entry ∷ others) text = if pointwise nat_eq text entry.0 then Some entry.1 else choice others text
 
--- a value, or the reason where there is none
-abbrev pub value_or : {A : Type 0} → Reason → Option A → Result A Reason
-value_or reason None = Err reason
-value_or reason (Some value) = Ok value
-
 -- a flag column
 unfoldable pub flag : List (List ℕ) → ℕ → Result Bool Reason
-flag fields position = value_or (NotFlag position) (choice ((codes "0", false) ∷ (codes "1", true) ∷ []) (text_at fields position))
+flag fields position = ok_or (choice ((codes "0", false) ∷ (codes "1", true) ∷ []) (text_at fields position)) (NotFlag position)
 
 -- a word column
 unfoldable pub word : {A : Type 0} → List (List ℕ × A) → List (List ℕ) → ℕ → Result A Reason
-word table fields position = value_or (NotWord position) (choice table (text_at fields position))
+word table fields position = ok_or (choice table (text_at fields position)) (NotWord position)
 
 -- the table of these values, each beside its word
 abbrev pub words : {A : Type 0} → (A → List ℕ) → List A → List (List ℕ × A)

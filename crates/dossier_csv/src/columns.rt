@@ -1,5 +1,5 @@
 //! The columns of a row.
-ghost use Rattle.std.specs.Prelude.{◌≡◌, ◌≤◌, IfOk, map};
+ghost use Rattle.std.specs.Prelude.{◌≡◌, ◌<◌, ◌^◌, ◌≤◌, IfOk, IfSome, map};
 ghost use Rattle.std.specs.Option.{ForSome};
 ghost use Rattle.csv.specs.Records.{fields_of};
 ghost use Rattle.dossier_csv.specs.Columns as Columns;
@@ -50,9 +50,11 @@ fn text_at(row: &ByteRecord, position: u32) -> &[u8]
         .unwrap_or(&[])
 }
 
-/// The number that a text of digits writes.
-fn number_of(text: &[u8]) -> Option<u64>
-    ensures { result ≡ Columns.number_of text.now }
+/// The number that a text of 1 to 10 ASCII digits writes; none for any other text. Leading zeros
+/// are allowed.
+pub fn number_of(text: &[u8]) -> Option<u64>
+    ensures value { result ≡ Columns.number_of text.now }
+    ensures range { IfSome result (λ number. number < 10 ^ 10) }
 {
     if text.is_empty() || text.len() > MOST_DIGITS {
         return None;

@@ -18,6 +18,7 @@ use admit_core::{
     AnswerRow, BoardRow, CeilingRow, GroupRow, InFault, ProgrammeRow, RankRow, SchoolRow, StateRow,
     WishRow,
 };
+pub use columns::number_of;
 use std::alloc::Global;
 
 /// The rows of the groups slot.
