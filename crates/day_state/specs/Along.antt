@@ -19,6 +19,6 @@ abbrev pub change_own : (Wish → Mark → Mark) → ℕ → State → State
 change_own f c s = with_marks s (λ w m. if w.candidate == c then f w m else m)
 
 -- what becomes of a mark as its candidate's wishes change
-abbrev pub changed_by : OwnChange → Stamp → Wish → Mark → Mark
-changed_by RefuseLive stamp w m = if is_live m then changed_to Refused stamp m else m
-changed_by QuitOpen stamp w m = if is_live m || is_waiting m then changed_to Quit stamp m else m
+abbrev pub changed_by : OwnChange → Stamp → Mark → Mark
+changed_by RefuseLive stamp m = if is_live m then changed_to Refused stamp m else m
+changed_by QuitOpen stamp m = if is_live m || is_waiting m then changed_to Quit stamp m else m

@@ -8,10 +8,10 @@ ghost use Rattle.admit_core.specs.OwnWishes.{own_places};
 ghost use Rattle.day_state.specs.Along.{change_own, changed_by};
 ghost use Rattle.day_state.specs.Kept.{mark_in, wish_in, lives_at, holds_one, in_school, one_if, waiting_mark, recount, recount_some, has_seat_there, has_bed_there, state_of};
 
-use crate::mark::{OwnChange, changed_by, counted, is_live, lives_in_programme, lives_in_school, wish_at};
-use admit_core::{Dossier, Wish};
-use admit_core::OutOfMemory;
-use admit_core::{Mark, Stamp, Status};
+use crate::mark::{
+    OwnChange, changed_by, counted, is_live, lives_in_programme, lives_in_school, wish_at,
+};
+use admit_core::{Dossier, Mark, OutOfMemory, Stamp, Status, Wish};
 use std::alloc::Global;
 use std::marker::Model;
 
@@ -52,14 +52,14 @@ impl<'d> CountedMarks<'d> {
     }
 
     /// The same marks again.
-    pub fn copy(&self) -> Result<CountedMarks<'d>, OutOfMemory>
+    pub fn copy(&self, alloc: Global) -> Result<CountedMarks<'d>, OutOfMemory>
         ensures { IfOk result (λ s. s ≡ self.now) }
     {
         Ok(CountedMarks {
             dossier: self.dossier,
-            marks: self.marks.clone()?,
-            seats: self.seats.clone()?,
-            beds: self.beds.clone()?,
+            marks: self.marks.as_slice().to_vec(alloc)?,
+            seats: self.seats.as_slice().to_vec(alloc)?,
+            beds: self.beds.as_slice().to_vec(alloc)?,
         })
     }
 
@@ -135,13 +135,11 @@ impl<'d> CountedMarks<'d> {
     /// Changes all wishes of a candidate; `own` has their places.
     pub fn change_own(&mut self, own: &[u32], candidate: u32, change: OwnChange, stamp: Stamp)
         requires { own.now ≡ own_places self.old.dossier candidate }
-        ensures { self.new ≡ change_own (changed_by change stamp) candidate self.old }
+        ensures { self.new ≡ change_own (λ w m. changed_by change stamp m) candidate self.old }
     {
         let _ = &self.marks; // learns the invariant: as many marks as wishes
-        let dossier = self.dossier;
-        let wishes = dossier.wishes.as_slice();
         for place in own {
-            let mark = changed_by(change, wish_at(wishes, *place), self.mark(*place), stamp);
+            let mark = changed_by(change, self.mark(*place), stamp);
             self.set_mark(own, *place, mark);
         }
     }

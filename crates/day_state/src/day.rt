@@ -13,13 +13,10 @@ ghost use Rattle.day_state.specs.Lapsing.{lapsed};
 ghost use Rattle.day_state.specs.Laws.{AreOwn, OwnFit};
 ghost use Rattle.day_state.specs.Applied.{answered, after_fitting, after_fitting_front, refused_at};
 
+use crate::counted_marks::CountedMarks;
 use crate::index::{CandidateIndex, candidate_at};
 use crate::mark::{OwnChange, changed_to, first_mark, is_live_status, is_waiting_status, lapses};
-use crate::counted_marks::CountedMarks;
-use admit_core::{Answer, AnswerKind, Dossier};
-use admit_core::Terms;
-use admit_core::OutOfMemory;
-use admit_core::{Stamp, Status};
+use admit_core::{Answer, AnswerKind, Dossier, OutOfMemory, Stamp, Status, Terms};
 use std::alloc::Global;
 use std::marker::Model;
 
@@ -69,12 +66,12 @@ impl<'d> DayState<'d> {
     }
 
     /// An equal state.
-    pub fn copy(&self) -> Result<DayState<'d>, OutOfMemory>
+    pub fn copy(&self, alloc: Global) -> Result<DayState<'d>, OutOfMemory>
         ensures { IfOk result (λ s. s ≡ self.now) }
     {
         Ok(DayState {
-            index: self.index.copy()?,
-            live: self.live.copy()?,
+            index: self.index.copy(alloc)?,
+            live: self.live.copy(alloc)?,
         })
     }
 
@@ -186,7 +183,8 @@ impl<'d> DayState<'d> {
         let candidate = candidate_at(dossier.wishes.as_slice(), wish);
         let own = self.index.own_of(wish);
         let mark = changed_to(self.live.mark(wish), Status::Accepted, stamp);
-        self.live.change_own(own, candidate, OwnChange::RefuseLive, stamp);
+        self.live
+            .change_own(own, candidate, OwnChange::RefuseLive, stamp);
         self.live.set_mark(own, wish, mark);
     }
 
@@ -195,7 +193,8 @@ impl<'d> DayState<'d> {
         ensures { self.new ≡ after_kind Quit self.old candidate stamp }
     {
         let own = self.index.of(candidate);
-        self.live.change_own(own, candidate, OwnChange::QuitOpen, stamp);
+        self.live
+            .change_own(own, candidate, OwnChange::QuitOpen, stamp);
     }
 
     /// Does what an answer says, where it fits.

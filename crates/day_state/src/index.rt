@@ -7,8 +7,7 @@ ghost use Rattle.admit_core.specs.DossierRows.{DossierRows, candidate_of};
 ghost use Rattle.admit_core.specs.OwnWishes.{own_places};
 ghost use Rattle.day_state.specs.Kept.{candidate_in, IsIndex, IsSpan, AreSpans};
 
-use admit_core::{Dossier, Wish};
-use admit_core::OutOfMemory;
+use admit_core::{Dossier, OutOfMemory, Wish};
 use std::alloc::{AllocError, AllocFailed, Global};
 use std::marker::Model;
 
@@ -55,13 +54,13 @@ impl<'d> CandidateIndex<'d> {
     }
 
     /// The same index again.
-    pub fn copy(&self) -> Result<CandidateIndex<'d>, OutOfMemory>
+    pub fn copy(&self, alloc: Global) -> Result<CandidateIndex<'d>, OutOfMemory>
         ensures { IfOk result (λ s. s ≡ self.now) }
     {
         Ok(CandidateIndex {
             dossier: self.dossier,
-            order: self.order.clone()?,
-            spans: self.spans.clone()?,
+            order: self.order.as_slice().to_vec(alloc)?,
+            spans: self.spans.as_slice().to_vec(alloc)?,
         })
     }
 
@@ -156,13 +155,7 @@ fn span_of(wishes: &[Wish], order: &[u32], candidate: u32) -> Span
 }
 
 /// The span of a candidate, where that of a neighbour, who may be the same, is known.
-fn span_beside(
-    wishes: &[Wish],
-    order: &[u32],
-    candidate: u32,
-    neighbour: u32,
-    known: Span,
-) -> Span
+fn span_beside(wishes: &[Wish], order: &[u32], candidate: u32, neighbour: u32, known: Span) -> Span
     requires rises { IsNonDecreasingBy (candidate_in wishes.now) order.now }
     requires count { length order.now < 2 ^ 32 }
     requires known { IsSpan wishes.now order.now neighbour known }

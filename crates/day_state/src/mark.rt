@@ -6,9 +6,7 @@ ghost use Rattle.admit_core.specs.Lapses.{lapses, offer_day};
 ghost use Rattle.day_state.specs.Along.{changed_by};
 ghost use Rattle.day_state.specs.Kept.{mark_in, wish_in, lives_at, in_school, one_if};
 
-use admit_core::Wish;
-use admit_core::Terms;
-use admit_core::{Mark, Stamp, Status};
+use admit_core::{Mark, Stamp, Status, Terms, Wish};
 
 /// Whether a status is that of a live wish.
 pub fn is_live_status(status: Status) -> bool
@@ -90,10 +88,9 @@ pub enum OwnChange {
 }
 
 /// What becomes of a wish's mark where its candidate does this with all his wishes.
-pub fn changed_by(change: OwnChange, wish: Wish, mark: Mark, stamp: Stamp) -> Mark
-    ensures { result ≡ changed_by change stamp wish mark }
+pub fn changed_by(change: OwnChange, mark: Mark, stamp: Stamp) -> Mark
+    ensures { result ≡ changed_by change stamp mark }
 {
-    let _ = wish;
     match change {
         OwnChange::RefuseLive if is_live(mark) => changed_to(mark, Status::Refused, stamp),
         OwnChange::QuitOpen if is_live(mark) || is_waiting(mark) => {

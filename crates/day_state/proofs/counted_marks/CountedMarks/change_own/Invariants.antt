@@ -3,4 +3,4 @@ use Rattle.day_state.proofs.Along.{IsOnWay}
 use Rattle.day_state.proofs.counted_marks.CountedMarks.change_own.Given as goal
 
 abbrev pub invariant-loop-place : goal.invariant-loop-place
-invariant-loop-place l = IsOnWay (changed_by l.change l.stamp) l.fn.self l.self l.own l.place-index
+invariant-loop-place l = IsOnWay (λ w m. changed_by l.change l.stamp m) l.fn.self l.self l.own l.place-index
