@@ -1,5 +1,5 @@
 -- What holds after a list of answers that fits.
-use Rattle.std.proofs.Common.{ℕ, ◌+◌, ◌≡◌, List, [], ◌∷◌, length, inl, inr, refl, sym, ◌∙◌, Some, None}
+use Rattle.std.proofs.Common.{ℕ, ◌+◌, ◌≡◌, List, [], ◌∷◌, inl, inr, refl, ◌∙◌, Some, None}
 use Rattle.std.specs.Prelude.{◌↔◌, Option, Result, IsOk}
 use Rattle.std.proofs.lemmas.Bool.{cases_Bool}
 use Rattle.admit_core.specs.declared.dossier.Answer.{Answer}

@@ -15,7 +15,7 @@ use Rattle.admit_core.specs.State.{State, with_mark_at, with_marks, is_live, is_
 use Rattle.admit_core.specs.Answers.{mark_at, candidate_at, refuse_live, after_kind, after, after_all, is_own_kind, own, status_at, kind_fits, fits, first_unfit}
 use Rattle.day_state.specs.Kept.{mark_in, wish_in}
 use Rattle.admit_core.specs.DossierRows.{DossierRows}
-use Rattle.day_state.specs.Laws.{IsMarked, SameEnd, AnswersStayApart, FitsApart, OrderIsFree, MayExchange}
+use Rattle.day_state.specs.Laws.{AnswersStayApart, FitsApart, OrderIsFree, MayExchange}
 use Rattle.day_state.proofs.Answering.{dossier_after}
 use Rattle.day_state.proofs.Places.{candidate_in}
 use Rattle.day_state.proofs.Along.{mark_in-with_marks, length-with_marks, mark_in-set_same, mark_in-set_other, same_state, same_marks}

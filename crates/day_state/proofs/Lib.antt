@@ -10,4 +10,3 @@ pub mod Filled
 pub mod Independence
 pub mod Lapsing
 pub mod FittingLists
-pub mod FourWishes

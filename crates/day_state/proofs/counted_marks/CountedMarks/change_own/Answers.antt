@@ -1,4 +1,4 @@
-use Rattle.std.proofs.Common.{◌≡◌, ◌∙◌, length, subst}
+use Rattle.std.proofs.Common.{◌≡◌, length, subst}
 use Rattle.admit_core.specs.State.{State}
 use Rattle.day_state.specs.Along.{changed_by}
 use Rattle.day_state.proofs.Along.{on_way_place, on_way_end}
