@@ -10,3 +10,4 @@ pub mod Filled
 pub mod Independence
 pub mod Lapsing
 pub mod FittingLists
+pub mod FourWishes

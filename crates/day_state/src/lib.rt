@@ -6,6 +6,8 @@ mod day;
 mod index;
 mod laws;
 mod mark;
+#[cfg(test)]
+mod tests;
 
 pub use day::{DayState, UnfitAnswer, UnfitAt};
 pub use laws::candidates_stand_apart;
