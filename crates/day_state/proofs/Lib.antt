@@ -1,0 +1,13 @@
+pub mod Counting
+pub mod Places
+pub mod KeptCounts
+pub mod Change
+pub mod Ordering
+pub mod Along
+pub mod OneAccepted
+pub mod Answering
+pub mod Filled
+pub mod Independence
+pub mod Lapsing
+pub mod FittingLists
+pub mod FourWishes

@@ -1,0 +1,99 @@
+-- What is kept beside the marks: an index of the candidates, and the numbers of those who are live.
+use Rattle.std.specs.Prelude.{◌≡◌, ℕ, ◌+◌, ◌-◌, ◌≤◌, ◌<◌, Bool, false, cond, ◌&&◌, List, map, length, filter, Option, Some, None, ◌==◌, slice_get, slice_index, slice_range, slice_set, unwrap_or, All}
+use Rattle.std.specs.List.{list_any, range_with_len}
+use Rattle.std.specs.List.Sorted.{IsNonDecreasingBy}
+use Rattle.admit_core.specs.declared.dossier.Wish.{Wish}
+use Rattle.admit_core.specs.declared.state.Status.TheVariants.{Waiting}
+use Rattle.admit_core.specs.declared.state.Mark.{Mark}
+use Rattle.day_state.specs.declared.index.Span.{Span}
+use Rattle.admit_core.specs.DossierRows.{DossierRows, candidates_of}
+use Rattle.admit_core.specs.State.{State, entries, is_live, has_school, holds_seat, holds_bed}
+
+-- a wish that waits from the start
+abbrev pub waiting_mark : Mark
+waiting_mark = record { status = Waiting; stamp = record { day = 0; pass = 0 } }
+
+-- the mark and the wish at a place
+abbrev pub mark_in : List Mark → ℕ → Mark
+mark_in ms k = unwrap_or (slice_get ms k) (record { status = Waiting; stamp = record { day = 0; pass = 0 } })
+
+abbrev pub wish_in : List Wish → ℕ → Wish
+wish_in ws k = unwrap_or (slice_get ws k) (record { id = 0; candidate = 0; programme = 0; school = None; board_rank = 0; preference = 0 })
+
+-- the candidate of the wish at a place, or 0 where none is there
+abbrev pub candidate_in : List Wish → ℕ → ℕ
+candidate_in ws k = slice_index (map (λ w. w.candidate) ws) k
+
+-- the wish at a place is live and passes a test
+abbrev pub lives_at : List Wish → List Mark → (Wish → Bool) → ℕ → Bool
+lives_at ws ms test k = is_live (mark_in ms k) && test (wish_in ws k)
+
+-- a candidate has a live wish that passes a test
+abbrev pub holds_one : (Wish → Bool) → State → ℕ → Bool
+holds_one test s c = list_any (λ (w, m). is_live m && (w.candidate == c) && test w) (entries s)
+
+-- the wish has this school, where one is given
+abbrev pub in_school : Option ℕ → Wish → Bool
+in_school None w = false
+in_school (Some h) w = has_school w h
+
+-- the candidate of the wish at a place is live in the programme, or in the school, of that wish
+abbrev pub has_seat_there : State → ℕ → Bool
+has_seat_there s place = holds_seat s (wish_in s.dossier.wishes place).candidate (wish_in s.dossier.wishes place).programme
+
+abbrev pub has_bed_there : State → ℕ → Bool
+has_bed_there s place = holds_one (in_school (wish_in s.dossier.wishes place).school) s (wish_in s.dossier.wishes place).candidate
+
+-- the state of a dossier with these marks
+abbrev pub state_of : DossierRows → List Mark → State
+state_of d marks = record { dossier = d; marks = marks }
+
+-- 1 where it is true
+abbrev pub one_if : Bool → ℕ
+one_if b = cond b 1 0
+
+-- the counts where one candidate's answer at a place was the first truth value and is the second
+abbrev pub recount : List ℕ → ℕ → Bool → Bool → List ℕ
+recount counts k had has = slice_set counts k (slice_index counts k + one_if has - one_if had)
+
+abbrev pub recount_some : List ℕ → Option ℕ → Bool → Bool → List ℕ
+recount_some counts None had has = counts
+recount_some counts (Some k) had has = recount counts k had has
+
+-- each count is the number of the candidates who hold there
+pub record AreCounts (holds : ℕ → ℕ → Bool) (candidates : List ℕ) (n : ℕ) (counts : List ℕ) : Type 0 where
+  pub as_long : length counts ≡ n
+  pub each : (k : ℕ) → k < n → slice_index counts k ≡ length (filter (λ c. holds c k) candidates)
+
+-- the counts of a state by programme and by school
+pub record IsKept (s : State) (seats beds : List ℕ) : Type 0 where
+  pub marks : length s.marks ≡ length s.dossier.wishes
+  pub by_programme : AreCounts (holds_seat s) (candidates_of s.dossier) (length s.dossier.programmes) seats
+  pub by_school : AreCounts (holds_bed s) (candidates_of s.dossier) (length s.dossier.schools) beds
+
+-- the places of all wishes by candidate, those of one candidate ascending
+pub record IsIndex (ws : List Wish) (order : List ℕ) : Type 0 where
+  pub as_long : length order ≡ length ws
+  pub within : All (λ k. k < length ws) order
+  pub rises : IsNonDecreasingBy (candidate_in ws) order
+  pub own : (c : ℕ) → filter (λ k. candidate_in ws k == c) order ≡ filter (λ k. candidate_in ws k == c) (range_with_len 0 (length ws))
+
+-- where in the order the wishes of a candidate stand
+pub record IsSpan (ws : List Wish) (order : List ℕ) (c : ℕ) (span : Span) : Type 0 where
+  pub rises : span.from ≤ span.to
+  pub within : span.to ≤ length order
+  pub own : slice_range order span.from span.to ≡ filter (λ k. candidate_in ws k == c) order
+
+-- the span at a place
+abbrev pub span_in : List Span → ℕ → Span
+span_in spans k = unwrap_or (slice_get spans k) (record { from = 0; to = 0 })
+
+-- the first n wishes have each the span of its candidate
+pub record AreSpans (ws : List Wish) (order : List ℕ) (n : ℕ) (spans : List Span) : Type 0 where
+  pub count : length spans ≡ n
+  pub each : (k : ℕ) → k < n → IsSpan ws order (candidate_in ws k) (span_in spans k)
+
+-- an index by candidate and by wish
+pub record IsIndexed (ws : List Wish) (order : List ℕ) (spans : List Span) : Type 0 where
+  pub by_candidate : IsIndex ws order
+  pub by_wish : AreSpans ws order (length ws) spans

@@ -1,0 +1,299 @@
+//! The state of a dossier's wishes on a day.
+ghost use Rattle.std.specs.Prelude.{◌≡◌, ◌<◌, ◌≤◌, ◌^◌, length, ◌↔◌, IfOk, IsOk, IsTrue, ◌&&◌, All, pos, slice_index_or};
+ghost use Rattle.admit_core.specs.declared.state.Status.TheVariants.{Offered, Accepted};
+ghost use Rattle.admit_core.specs.declared.dossier.AnswerKind.TheVariants.{Accept, Quit};
+ghost use Rattle.admit_core.specs.State.{State, with_mark_at, holds_seat, holds_bed, seat_holders, bed_holders, is_live, is_waiting};
+ghost use Rattle.admit_core.specs.Answers.{mark_at, status_at, change_at, after_kind, first_unfit};
+ghost use Rattle.admit_core.specs.OwnWishes.{own_places, IsOneAccepted};
+ghost use Rattle.admit_core.specs.Days.{first_evening};
+ghost use Rattle.admit_core.specs.Validity.{IsTarget};
+ghost use Rattle.admit_core.specs.Lapses.{lapse};
+ghost use Rattle.day_state.specs.Kept.{mark_in};
+ghost use Rattle.day_state.specs.Lapsing.{lapsed};
+ghost use Rattle.day_state.specs.Laws.{AreOwn, OwnFit};
+ghost use Rattle.day_state.specs.Applied.{answered, after_fitting, after_fitting_front, refused_at};
+
+use crate::counted_marks::CountedMarks;
+use crate::index::{CandidateIndex, candidate_at};
+use crate::mark::{OwnChange, changed_to, first_mark, is_live_status, is_waiting_status, lapses};
+use admit_core::{Answer, AnswerKind, Dossier, OutOfMemory, Stamp, Status, Terms};
+use std::alloc::Global;
+use std::marker::Model;
+
+/// An answer that does not fit; the status is the one that was found.
+#[derive(Clone, Copy, Debug, PartialEq, Eq)]
+pub struct UnfitAnswer {
+    pub status: Status,
+}
+
+/// The first answer of a list that does not fit.
+#[derive(Clone, Copy, Debug, PartialEq, Eq)]
+pub struct UnfitAt {
+    pub index: u32,
+    pub status: Status,
+}
+
+/// The marks of a dossier's wishes. At most one wish of each candidate is accepted.
+#[derive(Drop)]
+pub struct DayState<'d> {
+    index: CandidateIndex<'d>,
+    live: CountedMarks<'d>,
+}
+
+impl<'d> Model for DayState<'d> {
+    ghost use Rattle.admit_core.specs.State.{State};
+    ghost use Rattle.day_state.specs.Whole.{IsDayState};
+
+    ghost Value = { State };
+
+    ghost view = { λ s. s.live };
+
+    ghost invariant = { λ s. IsDayState s.index s.live };
+}
+
+impl<'d> DayState<'d> {
+    /// The statuses that the dossier comes in with.
+    pub fn begin(alloc: Global, dossier: &'d Dossier) -> Result<DayState<'d>, OutOfMemory>
+        ensures { IfOk result (λ s. s ≡ first_evening dossier.now) }
+    {
+        let index = CandidateIndex::build(alloc, dossier)?;
+        let mut live = CountedMarks::waiting(alloc, dossier)?;
+        for (place, status) in dossier.statuses.as_slice().iter().enumerate() {
+            let wish = place as u32;
+            live.set_mark(index.own_of(wish), wish, first_mark(*status));
+        }
+        Ok(DayState { index, live })
+    }
+
+    /// An equal state.
+    pub fn copy(&self, alloc: Global) -> Result<DayState<'d>, OutOfMemory>
+        ensures { IfOk result (λ s. s ≡ self.now) }
+    {
+        Ok(DayState {
+            index: self.index.copy(alloc)?,
+            live: self.live.copy(alloc)?,
+        })
+    }
+
+    /// Becomes equal to another state of the same dossier.
+    pub fn set_from(&mut self, other: &DayState<'d>)
+        requires { self.old.dossier ≡ other.now.dossier }
+        ensures { self.new ≡ other.now }
+    {
+        self.live.set_from(&other.live);
+    }
+
+    /// The dossier.
+    pub fn dossier(&self) -> &'d Dossier
+        ensures { result.now ≡ self.now.dossier }
+    {
+        self.live.dossier()
+    }
+
+    /// The status of a wish.
+    pub fn status(&self, wish: u32) -> Status
+        requires { wish < length self.now.dossier.wishes }
+        ensures { result ≡ status_at self.now wish }
+    {
+        self.live.mark(wish).status
+    }
+
+    /// The stamp of a wish.
+    pub fn stamp(&self, wish: u32) -> Stamp
+        requires { wish < length self.now.dossier.wishes }
+        ensures { result ≡ (mark_at self.now wish).stamp }
+    {
+        self.live.mark(wish).stamp
+    }
+
+    /// The number of candidates who are live in a programme.
+    pub fn live_in_programme(&self, programme: u32) -> u32
+        requires { programme < length self.now.dossier.programmes }
+        ensures { result ≡ length (seat_holders self.now programme) }
+    {
+        self.live.live_in_programme(programme)
+    }
+
+    /// The number of candidates who are live in a school.
+    pub fn live_in_school(&self, school: u32) -> u32
+        requires { school < length self.now.dossier.schools }
+        ensures { result ≡ length (bed_holders self.now school) }
+    {
+        self.live.live_in_school(school)
+    }
+
+    /// The places of a candidate's wishes, ascending.
+    pub fn own_wishes(&self, candidate: u32) -> &[u32]
+        ensures { result.now ≡ own_places self.now.dossier candidate }
+    {
+        self.index.of(candidate)
+    }
+
+    /// Whether a candidate is live in a programme.
+    pub fn is_live_in_programme(&self, candidate: u32, programme: u32) -> bool
+        ensures { result ≡ holds_seat self.now candidate programme }
+    {
+        self.live
+            .holds_seat(self.index.of(candidate), candidate, programme)
+    }
+
+    /// Whether a candidate is live in a school.
+    pub fn is_live_in_school(&self, candidate: u32, school: u32) -> bool
+        ensures { result ≡ holds_bed self.now candidate school }
+    {
+        self.live
+            .holds_bed(self.index.of(candidate), candidate, school)
+    }
+
+    /// Gives a wish a status.
+    pub fn set(&mut self, wish: u32, status: Status, stamp: Stamp)
+        requires place { wish < length self.old.dossier.wishes }
+        requires one_accepted { IsOneAccepted (change_at self.old wish status stamp) }
+        ensures { self.new ≡ change_at self.old wish status stamp }
+    {
+        let mark = changed_to(self.live.mark(wish), status, stamp);
+        self.live.set_mark(self.index.own_of(wish), wish, mark);
+    }
+
+    /// Gives a wish another status than accepted.
+    fn put(&mut self, wish: u32, status: Status, stamp: Stamp)
+        requires place { wish < length self.old.dossier.wishes }
+        requires other { ¬ (status ≡ Accepted) }
+        ensures { self.new ≡ change_at self.old wish status stamp }
+    {
+        let _ = &self.live;
+        self.set(wish, status, stamp);
+    }
+
+    /// Offers a waiting wish.
+    pub fn offer(&mut self, wish: u32, stamp: Stamp)
+        requires place { wish < length self.old.dossier.wishes }
+        requires waits { IsTrue (is_waiting (mark_at self.old wish)) }
+        ensures { self.new ≡ change_at self.old wish Offered stamp }
+    {
+        self.put(wish, Status::Offered, stamp);
+    }
+
+    /// Accepts a wish: its candidate's other live wishes are refused.
+    fn accept(&mut self, wish: u32, stamp: Stamp)
+        requires { wish < length self.old.dossier.wishes }
+        ensures { self.new ≡ after_kind Accept self.old wish stamp }
+    {
+        let dossier = self.live.dossier();
+        let candidate = candidate_at(dossier.wishes.as_slice(), wish);
+        let own = self.index.own_of(wish);
+        let mark = changed_to(self.live.mark(wish), Status::Accepted, stamp);
+        self.live
+            .change_own(own, candidate, OwnChange::RefuseLive, stamp);
+        self.live.set_mark(own, wish, mark);
+    }
+
+    /// Quits all that is open of a candidate.
+    fn quit(&mut self, candidate: u32, stamp: Stamp)
+        ensures { self.new ≡ after_kind Quit self.old candidate stamp }
+    {
+        let own = self.index.of(candidate);
+        self.live
+            .change_own(own, candidate, OwnChange::QuitOpen, stamp);
+    }
+
+    /// Does what an answer says, where it fits.
+    pub fn apply(&mut self, answer: Answer, stamp: Stamp) -> Result<(), UnfitAnswer>
+        requires { IsTarget self.old.dossier answer.kind answer.target }
+        ensures result { result ≡ answered self.old answer }
+        ensures state { self.new ≡ after_fitting self.old stamp answer }
+    {
+        let wish = answer.target;
+        match answer.kind {
+            AnswerKind::Accept => {
+                let status = self.status(wish);
+                if !is_live_status(status) {
+                    return Err(UnfitAnswer { status });
+                }
+                self.accept(wish, stamp);
+            }
+            AnswerKind::Refuse => {
+                let status = self.status(wish);
+                if !is_live_status(status) {
+                    return Err(UnfitAnswer { status });
+                }
+                self.put(wish, Status::Refused, stamp);
+            }
+            AnswerKind::Withdraw => {
+                let status = self.status(wish);
+                if !is_waiting_status(status) {
+                    return Err(UnfitAnswer { status });
+                }
+                self.put(wish, Status::Withdrawn, stamp);
+            }
+            AnswerKind::Quit => self.quit(answer.target, stamp),
+        }
+        Ok(())
+    }
+
+    /// Does what answers say, in their order, up to the first one that does not fit. Each
+    /// candidate's wishes come of his own answers alone, and the list fits where those of each
+    /// candidate do.
+    pub fn apply_day(&mut self, answers: &[Answer], stamp: Stamp) -> Result<(), UnfitAt>
+        requires targets { All (λ a. IsTarget self.old.dossier a.kind a.target) answers.now }
+        requires count { length answers.now < 2 ^ 32 }
+        ensures result { result ≡ refused_at (first_unfit 0 self.old stamp answers.now) }
+        ensures state { self.new ≡ after_fitting_front self.old stamp answers.now }
+        ensures own_fit { IsOk result ↔ OwnFit self.old stamp answers.now }
+        ensures apart { IsOk result → AreOwn self.old stamp answers.now self.new }
+    {
+        let _ = &self.live; // learns the invariant
+        self.apply_front(answers, stamp)
+    }
+
+    /// Does what answers say, in their order, up to the first one that does not fit.
+    fn apply_front(&mut self, answers: &[Answer], stamp: Stamp) -> Result<(), UnfitAt>
+        requires targets { All (λ a. IsTarget self.old.dossier a.kind a.target) answers.now }
+        requires count { length answers.now < 2 ^ 32 }
+        ensures result { result ≡ refused_at (first_unfit 0 self.old stamp answers.now) }
+        ensures state { self.new ≡ after_fitting_front self.old stamp answers.now }
+    {
+        for (index, answer) in answers.iter().enumerate() {
+            if let Err(unfit) = self.apply(*answer, stamp) {
+                return Err(UnfitAt {
+                    index: index as u32,
+                    status: unfit.status,
+                });
+            }
+        }
+        Ok(())
+    }
+
+    /// Ends the offers whose deadline has passed.
+    pub fn lapse(&mut self, terms: &Terms, day: u32)
+        requires { length terms.now.before ≡ length self.old.dossier.wishes }
+        ensures { self.new ≡ lapse terms.now day self.old }
+    {
+        let dossier = self.live.dossier();
+        let count = dossier.wishes.len() as u32;
+        for wish in 0..count {
+            lapse_at(&self.index, &mut self.live, terms, day, wish);
+        }
+    }
+}
+
+/// Ends the offer of a wish where its deadline has passed.
+fn lapse_at(
+    index: &CandidateIndex<'_>,
+    live: &mut CountedMarks<'_>,
+    terms: &Terms,
+    day: u32,
+    wish: u32,
+)
+    requires before { wish < length terms.now.before }
+    requires same { index.now ≡ live.old.dossier }
+    requires place { wish < length live.old.marks }
+    requires wish { wish < length index.now.wishes }
+    ensures { live.new ≡ with_mark_at live.old wish (lapsed terms.now.term day (slice_index_or terms.now.before wish (pos 0)) (mark_in live.old.marks wish)) }
+{
+    let mark = live.mark(wish);
+    if lapses(terms, day, wish, mark) {
+        let mark = changed_to(mark, Status::Lapsed, Stamp { day, pass: 0 });
+        live.set_mark(index.own_of(wish), wish, mark);
+    }
+}

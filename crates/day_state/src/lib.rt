@@ -1,0 +1,13 @@
+//! The state of a dossier's wishes on a day, and what answers and deadlines do to it.
+#![tactic(auto)]
+
+mod counted_marks;
+mod day;
+mod index;
+mod laws;
+mod mark;
+#[cfg(test)]
+mod tests;
+
+pub use day::{DayState, UnfitAnswer, UnfitAt};
+pub use laws::candidates_stand_apart;

@@ -1,0 +1,150 @@
+//! Tests of wishes and their marks.
+ghost use Rattle.std.specs.Prelude.{◌≡◌, ◌<◌, ◌≤◌, ◌+◌, ◌^◌, ◌&&◌, ◌==◌, length, IsTrue, pos, negsuc, ◌≤ℤ◌, slice_index_or};
+ghost use Rattle.admit_core.specs.State.{changed_to, is_live, is_waiting, is_live_status, is_waiting_status};
+ghost use Rattle.admit_core.specs.Days.{first_mark};
+ghost use Rattle.admit_core.specs.Lapses.{lapses, offer_day};
+ghost use Rattle.day_state.specs.Along.{changed_by};
+ghost use Rattle.day_state.specs.Kept.{mark_in, wish_in, lives_at, in_school, one_if};
+
+use admit_core::{Mark, Stamp, Status, Terms, Wish};
+
+/// Whether a status is that of a live wish.
+pub fn is_live_status(status: Status) -> bool
+    ensures { result ≡ is_live_status status }
+{
+    matches!(status, Status::Offered | Status::Accepted)
+}
+
+/// Whether a status is that of a waiting wish.
+pub fn is_waiting_status(status: Status) -> bool
+    ensures { result ≡ is_waiting_status status }
+{
+    matches!(status, Status::Waiting)
+}
+
+/// Whether a mark is that of a live wish.
+pub fn is_live(mark: Mark) -> bool
+    ensures { result ≡ is_live mark }
+{
+    is_live_status(mark.status)
+}
+
+/// Whether a mark is that of a waiting wish.
+pub fn is_waiting(mark: Mark) -> bool
+    ensures { result ≡ is_waiting mark }
+{
+    is_waiting_status(mark.status)
+}
+
+/// The mark of a wish that gets a status: the stamp changes only with the status.
+pub fn changed_to(mark: Mark, status: Status, stamp: Stamp) -> Mark
+    ensures { result ≡ changed_to status stamp mark }
+{
+    if mark.status == status {
+        mark
+    } else {
+        Mark { status, stamp }
+    }
+}
+
+/// The day of a wish's offer: its stamp's, or the one that it came in with.
+pub fn offer_day(terms: &Terms, wish: u32, mark: Mark) -> i64
+    requires { wish < length terms.now.before }
+    ensures day { result ≡ offer_day (slice_index_or terms.now.before wish (pos 0)) mark }
+    ensures low { negsuc 2147483647 ≤ℤ result }
+    ensures high { result ≤ℤ pos 4294967295 }
+{
+    if mark.stamp.day > 0 {
+        i64::from(mark.stamp.day)
+    } else {
+        i64::from(terms.before.as_slice()[wish as usize])
+    }
+}
+
+/// Whether a wish's offer ends before a day.
+pub fn lapses(terms: &Terms, day: u32, wish: u32, mark: Mark) -> bool
+    requires { wish < length terms.now.before }
+    ensures { result ≡ lapses terms.now.term day (slice_index_or terms.now.before wish (pos 0)) mark }
+{
+    matches!(mark.status, Status::Offered)
+        && offer_day(terms, wish, mark) + i64::from(terms.term) < i64::from(day)
+}
+
+/// The mark of a status that a dossier comes in with.
+pub fn first_mark(status: Status) -> Mark
+    ensures { result ≡ first_mark status }
+{
+    Mark {
+        status,
+        stamp: Stamp { day: 0, pass: 0 },
+    }
+}
+
+/// What a candidate does with all his wishes at once.
+#[derive(Clone, Copy)]
+pub enum OwnChange {
+    RefuseLive,
+    QuitOpen,
+}
+
+/// What becomes of a wish's mark where its candidate does this with all his wishes.
+pub fn changed_by(change: OwnChange, mark: Mark, stamp: Stamp) -> Mark
+    ensures { result ≡ changed_by change stamp mark }
+{
+    match change {
+        OwnChange::RefuseLive if is_live(mark) => changed_to(mark, Status::Refused, stamp),
+        OwnChange::QuitOpen if is_live(mark) || is_waiting(mark) => {
+            changed_to(mark, Status::Quit, stamp)
+        }
+        _ => mark,
+    }
+}
+
+/// The wish at a place.
+pub fn wish_at(wishes: &[Wish], place: u32) -> Wish
+    requires { place < length wishes.now }
+    ensures { result ≡ wish_in wishes.now place }
+{
+    wishes[place as usize]
+}
+
+/// Whether the wish has this school, where one is given.
+pub fn is_in_school(wish: Wish, school: Option<u32>) -> bool
+    ensures { result ≡ in_school school wish }
+{
+    match school {
+        None => false,
+        Some(_) => wish.school == school,
+    }
+}
+
+/// Whether the wish at a place is live in a programme.
+pub fn lives_in_programme(wishes: &[Wish], marks: &[Mark], place: u32, programme: u32) -> bool
+    requires wish { place < length wishes.now }
+    requires mark { place < length marks.now }
+    ensures { result ≡ lives_at wishes.now marks.now (λ w. w.programme == programme) place }
+{
+    is_live(marks[place as usize]) && wishes[place as usize].programme == programme
+}
+
+/// Whether the wish at a place is live in a school, where one is given.
+pub fn lives_in_school(wishes: &[Wish], marks: &[Mark], place: u32, school: Option<u32>) -> bool
+    requires wish { place < length wishes.now }
+    requires mark { place < length marks.now }
+    ensures { result ≡ lives_at wishes.now marks.now (in_school school) place }
+{
+    is_live(marks[place as usize]) && is_in_school(wishes[place as usize], school)
+}
+
+/// A count after one who was counted, or wasn't, is counted, or isn't.
+pub fn counted(count: u32, had: bool, has: bool) -> u32
+    requires comes { count + one_if has < 2 ^ 32 }
+    requires goes { one_if had ≤ count + one_if has }
+    ensures { result + one_if had ≡ count + one_if has }
+{
+    match (had, has) {
+        (false, true) => count + 1,
+        (true, false) => count - 1,
+        _ => count,
+    }
+}
