@@ -15,7 +15,7 @@ use Rattle.call_queues.proofs.Firsts.{find_passes, find-drop-position, find-drop
 use Rattle.call_queues.proofs.Standing.{find-standing, Moves, standing-moves, standing-all}
 
 -- two flags are those of their kind, and of no other
-own_flags : (scholar resident : Bool) → has_flags (kind_by scholar resident) scholar resident ≡ true
+pub own_flags : (scholar resident : Bool) → has_flags (kind_by scholar resident) scholar resident ≡ true
 own_flags false false = refl
 own_flags true false = refl
 own_flags false true = refl

@@ -1,7 +1,7 @@
 //! The kinds of candidates.
 ghost use Rattle.std.specs.Prelude.{◌≡◌, ◌<◌, ◌≤◌, length};
 ghost use Rattle.std.specs.List.{position_or_len};
-ghost use Rattle.call_queues.specs.Kinds.{is_of, next_place};
+ghost use Rattle.call_queues.specs.Kinds.{kind_of, is_of, next_place};
 
 use admit_core::Ranked;
 
@@ -15,6 +15,18 @@ pub enum Kind {
 }
 
 impl Kind {
+    /// The kind of a candidate.
+    pub fn of(ranked: &Ranked) -> Kind
+        ensures { result ≡ kind_of ranked.now }
+    {
+        match (ranked.scholar, ranked.resident) {
+            (false, false) => Kind::Neither,
+            (true, false) => Kind::ScholarOnly,
+            (false, true) => Kind::ResidentOnly,
+            (true, true) => Kind::BothKinds,
+        }
+    }
+
     /// Whether a candidate is of this kind.
     pub fn includes(self, ranked: &Ranked) -> bool
         ensures { result ≡ is_of self ranked.now }

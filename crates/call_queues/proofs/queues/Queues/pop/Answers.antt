@@ -3,7 +3,6 @@ use Rattle.call_queues.specs.Kinds.{is_of}
 use Rattle.call_queues.proofs.Firsts.{without_first-none}
 use Rattle.call_queues.proofs.MovedHeads.{head-goes}
 use Rattle.call_queues.proofs.queues.Queues.pop.Goals as goal
-use Rattle.call_queues.proofs.queues.Queues.pop.Goals.{After-tick}
 
 pub next_place-next-requires : goal.next_place-next-requires
 next_place-next-requires g c =
