@@ -17,7 +17,7 @@ mod state;
 mod wishes;
 
 pub use index::{Index, school_place, wish_place};
-pub use relations::{Checked, check, check_rankings};
+pub use relations::{Checked, check};
 
 #[cfg(test)]
 mod tests;

@@ -1,12 +1,9 @@
 //! The relations between the rows of tables, as a whole.
 ghost use Rattle.std.specs.Prelude.{◌≡◌, All, IfOk, map};
-ghost use Rattle.std.specs.Option.{option_or};
-ghost use Rattle.admit_core.specs.declared.slot.Slot.TheVariants as slots;
-ghost use Rattle.admit_core.specs.Faults.{first_in};
-ghost use Rattle.admit_core.specs.Ranges.{AreRows, AreTables, IsGroupRow, IsRankRow};
+ghost use Rattle.admit_core.specs.Ranges.{AreTables};
 ghost use Rattle.admit_core.specs.Relations.{group_tests, ranking_tests, first_fault, programme_ids, school_ids, wish_ids};
 ghost use Rattle.admit_core.specs.Standing.{dossier_of};
-ghost use Rattle.admit_core.specs.Validity.{IsRanking, IsValid};
+ghost use Rattle.admit_core.specs.Validity.{IsValid};
 ghost use Rattle.dossier_check.specs.Ids.{ids_of};
 ghost use Rattle.dossier_check.specs.Keys.{AreKeysOf};
 ghost use Rattle.dossier_check.specs.Outcome.{AnswersFault, first_from_wishes};
@@ -23,7 +20,7 @@ use crate::slots::{
 };
 use crate::state::check_state;
 use crate::wishes::check_wishes;
-use admit_core::{Dossier, InFault, OutOfMemory, RankGroup, Sequence, Tables};
+use admit_core::{Dossier, InFault, OutOfMemory, Sequence, Tables};
 use indexmap::IndexSet;
 use std::alloc::Global;
 
@@ -127,18 +124,4 @@ pub fn check(alloc: Global, tables: &Tables) -> Result<Checked, InFault>
         schools: keys.schools,
     };
     Ok(Checked { dossier, index })
-}
-
-/// Checks the groups and their rankings, and makes the groups with their candidates by rank.
-pub fn check_rankings(alloc: Global, tables: &Tables) -> Result<Vec<RankGroup>, InFault>
-    requires groups { AreRows IsGroupRow tables.now.groups }
-    requires rankings { AreRows IsRankRow tables.now.rankings }
-    ensures fault { AnswersFault result (option_or (first_in slots.Groups group_tests tables.now.groups)
-        (first_in slots.Rankings (ranking_tests tables.now) tables.now.rankings)) }
-    ensures groups { IfOk result (λ groups. groups.items ≡ (dossier_of tables.now).groups) }
-    ensures rankings { IfOk result (λ groups. All IsRanking groups.items) }
-{
-    let groups = check_groups(alloc, tables)?;
-    let _ranked = check_ranks(alloc, tables, &groups)?;
-    Ok(rank_groups(alloc, tables, &groups)?)
 }
