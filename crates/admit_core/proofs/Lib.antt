@@ -5,6 +5,7 @@ pub mod Dossiers
 pub mod FallsLaw
 pub mod LeastFirst
 pub mod NextCalls
+pub mod OneOrder
 pub mod OrderPermutes
 pub mod Remaining
 pub mod Rows

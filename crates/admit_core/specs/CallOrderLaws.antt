@@ -31,3 +31,7 @@ NobodyIsCalledTwice = OfCallOrders (λ g order. IsDistinct nat_eq order.list)
 -- exactly the ranked candidates are called
 abbrev pub ExactlyTheRankedAreCalled : Type 0
 ExactlyTheRankedAreCalled = OfCallOrders (λ g order. (c : ℕ) → is_among c order.list ≡ is_among c (ranked_candidates g))
+
+-- each ranking has exactly one call order
+abbrev pub EachRankingHasOneOrder : Type 0
+EachRankingHasOneOrder = (g : RankGroup) → IsRanking g → (order : CallOrder) × IsCallOrder g order × ((other : CallOrder) → IsCallOrder g other → other ≡ order)

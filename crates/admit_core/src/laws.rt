@@ -1,5 +1,5 @@
 //! The laws of call orders, as theorems over their definition.
-ghost use Rattle.admit_core.specs.CallOrderLaws.{OrdersPermuteRankings, OrdersAreWhole, NobodyIsCalledTwice, ExactlyTheRankedAreCalled};
+ghost use Rattle.admit_core.specs.CallOrderLaws.{OrdersPermuteRankings, OrdersAreWhole, NobodyIsCalledTwice, ExactlyTheRankedAreCalled, EachRankingHasOneOrder};
 
 /// What holds of every call order of every ranking. It does nothing when it is called: its clauses
 /// are theorems.
@@ -8,4 +8,5 @@ pub fn laws_of_call_orders()
     ensures length { OrdersAreWhole }
     ensures distinct { NobodyIsCalledTwice }
     ensures candidates { ExactlyTheRankedAreCalled }
+    ensures one { EachRankingHasOneOrder }
 {}

@@ -1,4 +1,5 @@
 use Rattle.admit_core.proofs.OrderPermutes.{order_permutes, length-order, distinct-order, among-order}
+use Rattle.admit_core.proofs.OneOrder.{one_order}
 use Rattle.admit_core.proofs.laws.laws_of_call_orders.Goals as goal
 
 pub returns : goal.returns
@@ -8,4 +9,5 @@ returns c =
       length = length-order;
       distinct = distinct-order;
       candidates = among-order;
+      one = one_order;
     }
