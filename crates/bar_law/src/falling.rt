@@ -36,7 +36,8 @@ pub trait Falling {
     {
         let mut places = Vec::new(alloc);
         for i in 0..self.count() {
-            if self.over(alloc, i)?.is_some() {
+            let is_overfilled = self.over(alloc, i)?.is_some();
+            if is_overfilled {
                 places.push(i)?;
             }
         }
