@@ -1,5 +1,7 @@
 pub mod ByPlaces
 pub mod Calls
+pub mod ChainRows
+pub mod DayRows
 pub mod DemandLaws
 pub mod Dossiers
 pub mod FallsLaw
