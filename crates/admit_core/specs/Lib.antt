@@ -3,6 +3,7 @@ pub mod AutoAnswer
 pub mod Blocking
 pub mod Boarding
 pub mod CallOrder
+pub mod CallOrderLaws
 pub mod ChainLines
 pub mod Chains
 pub mod Days
