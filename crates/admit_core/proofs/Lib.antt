@@ -5,6 +5,7 @@ pub mod DayRows
 pub mod DemandLaws
 pub mod Dossiers
 pub mod FallsLaw
+pub mod FullBeds
 pub mod LeastFirst
 pub mod NextCalls
 pub mod OrderPermutes

@@ -1,5 +1,6 @@
 pub mod Answers
 pub mod AutoAnswer
+pub mod BarLaws
 pub mod Blocking
 pub mod Boarding
 pub mod CallOrder

@@ -4,6 +4,7 @@
 //! rules are theorems (`worked_rows`).
 #![tactic(auto)]
 
+mod bar_laws;
 mod chain;
 mod dossier;
 mod explanation;
@@ -19,6 +20,7 @@ mod steps;
 mod tables;
 mod worked;
 
+pub use bar_laws::laws_of_bars;
 pub use chain::{Chain, ChainFault, ChainReason, CheckReason, DayChain, FallLine, PassChain};
 pub use dossier::{
     Answer, AnswerKind, CeilingChange, Dossier, MAX_DAY, MAX_NUMBER, MAX_ROWS, Programme, School,
