@@ -82,7 +82,7 @@ module _ (s : State) (orders : List CallOrder) (lower upper : List ℕ) (at_most
       (lt-ltb (slice_index lower h) w.board_rank (omega (arith, at_most.each h)))
 
   -- open under the lower bars is open under the higher ones
-  open_under_higher : (w : Wish) (m : Mark) → is_open s lower w m ≡ true → is_open s upper w m ≡ true
+  pub open_under_higher : (w : Wish) (m : Mark) → is_open s lower w m ≡ true → is_open s upper w m ≡ true
   open_under_higher w m t =
       open_step (is_waiting m) (is_behind_bar s lower w w.school) (is_behind_bar s upper w w.school) (behind_lower w w.school) t
 
@@ -99,12 +99,12 @@ module _ (s : State) (orders : List CallOrder) (lower upper : List ℕ) (at_most
       parts.1
 
   -- no more stand ahead under the lower bars
-  ahead_at_most : (w : Wish) → ahead s orders lower w ≤ ahead s orders upper w
+  pub ahead_at_most : (w : Wish) → ahead s orders lower w ≤ ahead s orders upper w
   ahead_at_most w =
       count_implied (wants_seat s lower w.programme) (wants_seat s upper w.programme) (wants_under_higher w.programme) (before s orders w)
 
   -- a seat that is left under the higher bars is left under the lower ones
-  seat_stays : (w : Wish) → (needs_no_seat s orders w || nat_lt (ahead s orders upper w) (seats_left s w.programme)) ≡ true
+  pub seat_stays : (w : Wish) → (needs_no_seat s orders w || nat_lt (ahead s orders upper w) (seats_left s w.programme)) ≡ true
       → (needs_no_seat s orders w || nat_lt (ahead s orders lower w) (seats_left s w.programme)) ≡ true
   seat_stays w t =
       let left = seats_left s w.programme in

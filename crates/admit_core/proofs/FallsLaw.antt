@@ -59,7 +59,7 @@ more_than xs ys rising n lt f =
     omega (arith, fewer, length-take-le (suc n) xs lt)
 
 -- a write reaches its place alone
-at_set : (xs : List ℕ) (i v j : ℕ) → i < length xs → ((j ≡ i) × (slice_index (set xs i v) j ≡ v)) ⊎ (slice_index (set xs i v) j ≡ slice_index xs j)
+pub at_set : (xs : List ℕ) (i v j : ℕ) → i < length xs → ((j ≡ i) × (slice_index (set xs i v) j ≡ v)) ⊎ (slice_index (set xs i v) j ≡ slice_index xs j)
 at_set xs i v j lt =
     elim (cases_eq j i) [
       | inl same ↦ inl (same, get_or-set_at xs i j v 0 same lt)

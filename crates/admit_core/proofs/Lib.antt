@@ -1,8 +1,11 @@
 pub mod ByPlaces
 pub mod Calls
+pub mod ChainRows
+pub mod DayRows
 pub mod DemandLaws
 pub mod Dossiers
 pub mod FallsLaw
+pub mod FullBeds
 pub mod LeastFirst
 pub mod NextCalls
 pub mod OneOrder

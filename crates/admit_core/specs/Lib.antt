@@ -1,14 +1,19 @@
 pub mod Answers
 pub mod AutoAnswer
+pub mod BarLaws
+pub mod Blocking
 pub mod Boarding
 pub mod CallOrder
 pub mod CallOrderLaws
+pub mod ChainLines
+pub mod Chains
 pub mod Days
 pub mod DossierRows
 pub mod Explanations
 pub mod Falls
 pub mod Faults
 pub mod Lapses
+pub mod LeastBeds
 pub mod Lines
 pub mod Lists
 pub mod OwnWishes
@@ -20,5 +25,7 @@ pub mod Slots
 pub mod Standing
 pub mod State
 pub mod Validity
+pub mod WorkedChains
+pub mod WorkedDays
 pub mod WorkedFaults
 pub mod WorkedRows

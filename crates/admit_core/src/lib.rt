@@ -4,6 +4,8 @@
 //! rules are theorems (`worked_rows`).
 #![tactic(auto)]
 
+mod bar_laws;
+mod chain;
 mod dossier;
 mod explanation;
 mod laws;
@@ -18,6 +20,8 @@ mod steps;
 mod tables;
 mod worked;
 
+pub use bar_laws::laws_of_bars;
+pub use chain::{Chain, ChainFault, ChainReason, CheckReason, DayChain, FallLine, PassChain};
 pub use dossier::{
     Answer, AnswerKind, CeilingChange, Dossier, MAX_DAY, MAX_NUMBER, MAX_ROWS, Programme, School,
     Wish,
@@ -35,4 +39,4 @@ pub use tables::{
     AnswerRow, BoardRow, CeilingRow, GroupRow, ProgrammeRow, RankRow, SchoolRow, Since, StateRow,
     Tables, WishRow,
 };
-pub use worked::{worked_faults, worked_rows};
+pub use worked::{worked_chains, worked_days, worked_faults, worked_rows};

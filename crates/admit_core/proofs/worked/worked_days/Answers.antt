@@ -1,0 +1,20 @@
+use Rattle.admit_core.proofs.DayRows.{vacant_seat_holds, bed_is_held_holds, edges_of_bars_hold, freed_seat_holds, freed_bed_holds, limit_under_bar_holds, answers_fit_holds, accepts_one_holds, quits_hold, deadline_holds, first_day_explained_holds, second_day_explained_holds, bars_explained_holds}
+use Rattle.admit_core.proofs.worked.worked_days.Goals as goal
+
+pub returns : goal.returns
+returns c =
+    record {
+      vacant_seat = vacant_seat_holds;
+      bed_is_held = bed_is_held_holds;
+      edges_of_bars = edges_of_bars_hold;
+      freed_seat = freed_seat_holds;
+      freed_bed = freed_bed_holds;
+      limit_under_bar = limit_under_bar_holds;
+      answers_fit = answers_fit_holds;
+      accepts_one = accepts_one_holds;
+      quits = quits_hold;
+      deadline = deadline_holds;
+      first_day_explained = first_day_explained_holds;
+      second_day_explained = second_day_explained_holds;
+      bars_explained = bars_explained_holds;
+    }

@@ -1,0 +1,136 @@
+//! Chains: the falls of days, written down so that a reader can test them without making them.
+ghost use Rattle.std.specs.Prelude.{◌≡◌, Some};
+ghost use Rattle.admit_core.specs.ChainLines.{chain_reason_name, chain_reason_number, check_reason_name, check_reason_number, chain_fault_text};
+
+use crate::sequence::Sequence;
+use std::fmt;
+
+/// A written fall of a school's bar. The school and the wishes are ids as read.
+#[derive(Debug, Drop)]
+pub struct FallLine {
+    pub row: u64,
+    pub school: u32,
+    pub from: u32,
+    pub to: u32,
+    pub wishes: Sequence<u32>,
+}
+
+/// The falls of one pass, the row of its own line, and that of the line that follows.
+#[derive(Debug, Drop)]
+pub struct PassChain {
+    pub row: u64,
+    pub falls: Sequence<FallLine>,
+    pub next_row: u64,
+}
+
+/// The passes of one day, and the row of the line that follows.
+#[derive(Debug, Drop)]
+pub struct DayChain {
+    pub passes: Sequence<PassChain>,
+    pub next_row: u64,
+}
+
+/// The days 1, 2, .. of a chain.
+#[derive(Debug, Drop)]
+pub struct Chain {
+    pub days: Sequence<DayChain>,
+}
+
+/// Why a text is no chain.
+#[derive(Clone, Copy, Debug, PartialEq, Eq)]
+pub enum ChainReason {
+    NotLine,
+    WrongNumber,
+    NoEnd,
+    AfterEnd,
+}
+
+/// The row at which a text is no chain, counted from 1, and why.
+#[derive(Clone, Copy, Debug, PartialEq, Eq)]
+pub struct ChainFault {
+    pub row: u64,
+    pub reason: ChainReason,
+}
+
+/// Why a day's chain is not valid. `StillOver` keeps the place of the school.
+#[derive(Clone, Copy, Debug, PartialEq, Eq)]
+pub enum CheckReason {
+    NotOver,
+    WrongWishes,
+    WrongBar,
+    StillOver { school: u32 },
+    PassMissing,
+    PassExtra,
+}
+
+impl ChainReason {
+    /// The number that is printed for the reason.
+    pub fn number(&self) -> u32
+        ensures { result ≡ chain_reason_number self.now }
+    {
+        match self {
+            ChainReason::NotLine => 1,
+            ChainReason::WrongNumber => 2,
+            ChainReason::NoEnd => 3,
+            ChainReason::AfterEnd => 4,
+        }
+    }
+}
+
+impl CheckReason {
+    /// The number that is printed for the reason.
+    pub fn number(&self) -> u32
+        ensures { result ≡ check_reason_number self.now }
+    {
+        match self {
+            CheckReason::NotOver => 1,
+            CheckReason::WrongWishes => 2,
+            CheckReason::WrongBar => 3,
+            CheckReason::StillOver { school: _ } => 4,
+            CheckReason::PassMissing => 5,
+            CheckReason::PassExtra => 6,
+        }
+    }
+}
+
+/// The reason's name.
+impl fmt::Display for ChainReason {
+    ghost output = { λ reason. Some (chain_reason_name reason) };
+
+    fn fmt<W: fmt::Write>(&self, f: &mut fmt::Formatter<W>) -> fmt::Result {
+        f.write_str(match self {
+            ChainReason::NotLine => "NotLine",
+            ChainReason::WrongNumber => "WrongNumber",
+            ChainReason::NoEnd => "NoEnd",
+            ChainReason::AfterEnd => "AfterEnd",
+        })
+    }
+}
+
+/// The reason's name, without the school that is kept.
+impl fmt::Display for CheckReason {
+    ghost output = { λ reason. Some (check_reason_name reason) };
+
+    fn fmt<W: fmt::Write>(&self, f: &mut fmt::Formatter<W>) -> fmt::Result {
+        f.write_str(match self {
+            CheckReason::NotOver => "NotOver",
+            CheckReason::WrongWishes => "WrongWishes",
+            CheckReason::WrongBar => "WrongBar",
+            CheckReason::StillOver { school: _ } => "StillOver",
+            CheckReason::PassMissing => "PassMissing",
+            CheckReason::PassExtra => "PassExtra",
+        })
+    }
+}
+
+/// The line of a fault, without its line feed.
+impl fmt::Display for ChainFault {
+    ghost output = { λ fault. Some (chain_fault_text fault) };
+
+    fn fmt<W: fmt::Write>(&self, f: &mut fmt::Formatter<W>) -> fmt::Result {
+        let row = self.row;
+        let number = self.reason.number();
+        let reason = self.reason;
+        write!(f, "not a chain row {row} reason {number} {reason}")
+    }
+}
