@@ -4,3 +4,4 @@ pub mod Front
 pub mod Visiting
 pub mod Calling
 pub mod Ranking
+pub mod Listed

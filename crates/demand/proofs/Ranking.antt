@@ -1,23 +1,48 @@
 -- The first of each rank in a list put in order by rank: the demanded ranks with their names.
-use Rattle.std.proofs.Common.{ℕ, zero, suc, ◌+◌, ◌≤◌, ◌<◌, ◌≡◌, Bool, true, false, cond, not, ◌&&◌, ◌||◌, List, [], ◌∷◌, map, length, get_or, inl, inr, refl, sym, ◌∙◌, ap, arith, nat_eq, filter, Option, Some, None}
+use Rattle.std.proofs.Common.{ℕ, zero, suc, ◌+◌, ◌≤◌, ◌<◌, ◌≡◌, Bool, true, false, cond, not, ◌&&◌, ◌||◌, List, [], ◌∷◌, map, length, get_or, take, ◌++◌, inl, inr, refl, sym, ◌∙◌, ap, arith, nat_eq, filter, Option, Some, None, nat_lt, add-zero, zero-add}
 use Rattle.std.specs.Prelude.{◌==◌, option_map, unwrap_or, zip, find}
 use Rattle.std.specs.List.{list_any, enumerate_from, dedup, dedup_from, AllByRecursion}
 use Rattle.std.specs.List.Sorted.{IsNonDecreasingBy, IsPermutation, IsStableByKey}
 use Rattle.std.specs.Ordering.{nat_cmp}
-use Rattle.std.proofs.lemmas.Bool.{cases_Bool, false≢true, eqb-true, eqb-false, eq-eqb, ne_eqb, cases_eq}
+use Rattle.std.proofs.lemmas.Bool.{cases_Bool, false≢true, eqb-true, eqb-false, eq-eqb, ne_eqb, cases_eq, and_right}
+use Rattle.std.proofs.lemmas.List.{take_more}
+use Rattle.std.proofs.lemmas.Slice.Zip.{length-zip}
+use Rattle.std.proofs.lemmas.List.FromFn.{get_or-map-range_with_len}
 use Rattle.admit_core.specs.declared.dossier.Wish.{Wish}
 use Rattle.admit_core.specs.declared.state.Mark.{Mark}
 use Rattle.admit_core.specs.declared.ranking.CallOrder.{CallOrder}
 use Rattle.admit_core.specs.Lists.{is_among, ascending}
-use Rattle.admit_core.specs.State.{State, entries}
-use Rattle.admit_core.specs.Proposals.{is_proposed, demands_bed, demanded_ranks}
+use Rattle.admit_core.specs.State.{State, entries, has_school, holds_bed}
+use Rattle.admit_core.specs.Proposals.{is_proposed, proposed, demands_bed, demanded_ranks}
 use Rattle.admit_core.specs.Boarding.{name_of}
 use Rattle.admit_core.proofs.Tests.{Ascends, same_members, ascends_ascending, among-ascending}
 use Rattle.day_state.proofs.Ordering.{stable_own}
 use Rattle.day_state.proofs.Places.{any-map}
 use Rattle.demand.specs.declared.demands.Demand.{Demand}
-use Rattle.demand.specs.Proposed.{proposed_flags}
-use Rattle.demand.specs.Demands.{demands_of, demands_if, demands_in, same_rank}
+use Rattle.day_state.specs.Kept.{wish_in}
+use Rattle.day_state.proofs.Places.{entry_in, entries_by_place}
+use Rattle.demand.specs.Demands.{demands_of, needs_bed, demand_in, same_rank}
+
+-- one more that passes a test, or fails it, in what is made of those who pass
+picked_last : {X : Type 0} (p : ℕ → Bool) (f : ℕ → X) (xs : List ℕ) (x : ℕ) → p x ≡ true → map f (filter p (xs ++ x ∷ [])) ≡ map f (filter p xs) ++ f x ∷ []
+picked_last p f [] x passes = rw passes refl
+picked_last {X} p f (y ∷ ys) x passes =
+    let later = picked_last p f ys x passes in
+    elim (cases_Bool (p y)) [ inl here ↦ rw here (ap (λ (zs : List X). f y ∷ zs) later) | inr not_here ↦ rw not_here later ]
+
+left_last : {X : Type 0} (p : ℕ → Bool) (f : ℕ → X) (xs : List ℕ) (x : ℕ) → p x ≡ false → map f (filter p (xs ++ x ∷ [])) ≡ map f (filter p xs)
+left_last p f [] x fails = rw fails refl
+left_last {X} p f (y ∷ ys) x fails =
+    let later = left_last p f ys x fails in
+    elim (cases_Bool (p y)) [ inl here ↦ rw here (ap (λ (zs : List X). f y ∷ zs) later) | inr not_here ↦ rw not_here later ]
+
+pub picked : {X : Type 0} (p : ℕ → Bool) (f : ℕ → X) (xs : List ℕ) (i : ℕ) → i < length xs → p (get_or xs i 0) ≡ true
+    → map f (filter p (take (i + 1) xs)) ≡ map f (filter p (take i xs)) ++ f (get_or xs i 0) ∷ []
+picked p f xs i lt passes = rw (take_more xs i 0 lt) (picked_last p f (take i xs) (get_or xs i 0) passes)
+
+pub passed_over : {X : Type 0} (p : ℕ → Bool) (f : ℕ → X) (xs : List ℕ) (i : ℕ) → i < length xs → p (get_or xs i 0) ≡ false
+    → map f (filter p (take (i + 1) xs)) ≡ map f (filter p (take i xs))
+passed_over p f xs i lt fails = rw (take_more xs i 0 lt) (left_last p f (take i xs) (get_or xs i 0) fails)
 
 -- at this rank
 abbrev at_rank : ℕ → Demand → Bool
@@ -74,7 +99,7 @@ firsts k (x ∷ xs) from rises =
           let above : k.rank < x.rank = omega (arith, from.0, eqb-false x.rank k.rank other) in
           rw other (
             record { above = above; found = rw (eq-eqb x.rank x.rank refl) refl },
-            later_first k.rank x xs (kept x xs) (omega (arith, above)) (firsts x xs rises.0 rises.1)
+            later_first k.rank x xs (kept x xs) (omega (arith, above)) (firsts x xs rises.0 rises.1),
           )
     ]
 
@@ -161,16 +186,25 @@ demand_at x = record { rank = x.1.0.board_rank; wish = x.0 }
 abbrev placed : (Wish × Mark → Bool) → ℕ → List (Wish × Mark) → List Demand
 placed test n es = map demand_at (filter (λ x. test x.1) (enumerate_from n es))
 
-flagged_demands : (s : State) (h : ℕ) (f : Wish × Mark → Bool) (n : ℕ) (ws : List Wish) (ms : List Mark)
-    → map (λ (x : ℕ × (Wish × Bool)). let d : Demand = record { rank = x.1.0.board_rank; wish = x.0 } in d) (filter (λ x. demands_if s h x.1.0 x.1.1) (enumerate_from n (zip ws (map f (zip ws ms)))))
-    ≡ placed (λ e. demands_if s h e.0 (f e)) n (zip ws ms)
-flagged_demands s h f n [] ms = refl
-flagged_demands s h f n (w ∷ ws) [] = refl
-flagged_demands s h f n (w ∷ ws) (m ∷ ms) =
-    let later = flagged_demands s h f (n + 1) ws ms in
-    elim (cases_Bool (demands_if s h w (f (w, m)))) [
-      | inl demands ↦ rw demands (ap (λ (ys : List Demand). record { rank = w.board_rank; wish = n } ∷ ys) later)
-      | inr not_so ↦ rw not_so later
+-- the demands of proposed wishes, by place
+from_places : (s : State) (h : ℕ) (proposes : Wish × Mark → Bool) (n : ℕ) (es : List (Wish × Mark))
+    → ((k : ℕ) (d : Wish × Mark) → k < length es → wish_in s.dossier.wishes (n + k) ≡ (get_or es k d).0)
+    → map (demand_in s.dossier.wishes) (filter (needs_bed s h) (map (λ x. x.0) (filter (λ x. proposes x.1) (enumerate_from n es))))
+    ≡ placed (λ e. has_school e.0 h && nat_lt 0 e.0.board_rank && not (holds_bed s e.0.candidate h) && proposes e) n es
+from_places s h proposes n [] at = refl
+from_places s h proposes n (e ∷ es) at =
+    let ws = s.dossier.wishes in
+    let needs = λ (w : Wish). has_school w h && nat_lt 0 w.board_rank && not (holds_bed s w.candidate h) in
+    let here : wish_in ws n ≡ e.0 = ap (wish_in ws) (sym (add-zero n)) ∙ at 0 e (omega arith) in
+    let later = from_places s h proposes (n + 1) es (λ k d lt. let next : (n + 1) + k ≡ n + suc k = omega arith in ap (wish_in ws) next ∙ at (suc k) d (omega arith)) in
+    let demand : demand_in ws n ≡ demand_at (n, e) = ap (λ (w : Wish). let d : Demand = record { rank = w.board_rank; wish = n } in d) here in
+    let need : needs_bed s h n ≡ needs e.0 = ap needs here in
+    elim (cases_Bool (proposes e)) [
+      | inl proposed ↦ elim (cases_Bool (needs e.0)) [
+        | inl needed ↦ rw (proposed, need, needed) (ap (λ (d : Demand). d ∷ map (demand_in ws) (filter (needs_bed s h) (map (λ x. x.0) (filter (λ x. proposes x.1) (enumerate_from (n + 1) es))))) demand ∙ ap (λ (ys : List Demand). demand_at (n, e) ∷ ys) later)
+        | inr not_needed ↦ rw (proposed, need, not_needed) later
+      ]
+      | inr not_proposed ↦ rw (not_proposed, and_right (needs e.0) false refl) later
     ]
 
 ranks_placed : (test : Wish × Mark → Bool) (n : ℕ) (es : List (Wish × Mark)) → map (λ x. x.rank) (placed test n es) ≡ map (λ e. e.0.board_rank) (filter test es)
@@ -210,20 +244,28 @@ each_named : (name : ℕ → ℕ) (xs zs : List Demand) → ((y : Demand) → fi
 each_named name xs [] h all = tt
 each_named name xs (z ∷ zs) h all = (h z all.0, each_named name xs zs h all.1)
 
+entry_wishes : (s : State) → length s.marks ≡ length s.dossier.wishes → (k : ℕ) (d : Wish × Mark) → k < length (entries s)
+    → wish_in s.dossier.wishes (0 + k) ≡ (get_or (entries s) k d).0
+entry_wishes s long k d lt =
+    let n = length s.dossier.wishes in
+    let within : k < n = omega (arith, length-zip s.dossier.wishes s.marks) in
+    ap (wish_in s.dossier.wishes) (zero-add k)
+    ∙ sym (ap (λ (e : Wish × Mark). e.0) (ap (λ es. get_or es k d) (entries_by_place s long) ∙ get_or-map-range_with_len (entry_in s) 0 n k k d within (zero-add k)))
+
 -- the firsts of what is put in order are the demanded ranks with their names
-pub demands_are : (s : State) (orders : List CallOrder) (bars : List ℕ) (h : ℕ) (flags : List Bool) (by_place sorted firsts : List Demand)
-    → flags ≡ proposed_flags s orders bars → by_place ≡ demands_in s h (zip s.dossier.wishes flags)
+pub demands_are : (s : State) (orders : List CallOrder) (bars : List ℕ) (h : ℕ) (places : List ℕ) (by_place sorted firsts : List Demand)
+    → length s.marks ≡ length s.dossier.wishes → places ≡ proposed s orders bars → by_place ≡ map (demand_in s.dossier.wishes) (filter (needs_bed s h) places)
     → IsPermutation by_place sorted → IsNonDecreasingBy (λ x. x.rank) sorted → IsStableByKey (λ x. x.rank) nat_cmp by_place sorted
     → firsts ≡ dedup same_rank sorted → firsts ≡ demands_of s orders bars h
-demands_are s orders bars h flags by_place sorted firsts are placed_are moved rising stable firsts_are =
+demands_are s orders bars h places by_place sorted firsts long are placed_are moved rising stable firsts_are =
     let es = entries s in
     let test = λ (e : Wish × Mark). demands_bed s orders bars h e.0 e.1 in
     let name = name_of s orders bars h in
     let rank = λ (x : Demand). x.rank in
     let zs = dedup same_rank sorted in
     let is : by_place ≡ placed test 0 es =
-    placed_are ∙ ap (λ fs. demands_in s h (zip s.dossier.wishes fs)) are
-    ∙ flagged_demands s h (λ e. is_proposed s orders bars e.0 e.1) 0 s.dossier.wishes s.marks in
+    placed_are ∙ ap (λ ks. map (demand_in s.dossier.wishes) (filter (needs_bed s h) ks)) are
+    ∙ from_places s h (λ e. is_proposed s orders bars e.0 e.1) 0 es (entry_wishes s long) in
     let rises = rises_from sorted rising in
     let own : (r : ℕ) → filter (at_rank r) sorted ≡ filter (at_rank r) (placed test 0 es) = λ r.
     stable_own rank by_place sorted moved stable r ∙ ap (filter (at_rank r)) is in

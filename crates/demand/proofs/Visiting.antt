@@ -287,7 +287,9 @@ below_all s orders bars n flags long below sets =
     let at : (k : ℕ) → k < count → get_or flags k false ≡ f (entry_in s k) = λ k lt.
     sets.each k (omega (arith, length-replicate count false, lt))
     ∙ ap (λ b. b || is_proposed_below s orders bars n k) (get_or-replicate count k false false lt)
-    ∙ ap (λ b. b && f (entry_in s k)) (lt-ltb (wish_in s.dossier.wishes k).programme n (below k lt)) in
-    (fill_by_all (λ k. f (entry_in s k)) flags count false as_long at
-    ∙ sym (map-map f (entry_in s) (range_with_len 0 count))
-    ∙ ap (map f) (sym (entries_by_place s long)), as_long)
+    ∙ ap (λ b. b && f (entry_in s k)) (lt-ltb (wish_in s.dossier.wishes k).programme n (below k lt)) in (
+      fill_by_all (λ k. f (entry_in s k)) flags count false as_long at
+          ∙ sym (map-map f (entry_in s) (range_with_len 0 count))
+          ∙ ap (map f) (sym (entries_by_place s long)),
+      as_long,
+    )

@@ -1,6 +1,6 @@
 -- The demanded ranks of a school with their names.
-use Rattle.std.specs.Prelude.{ℕ, Bool, not, ◌&&◌, ◌==◌, nat_lt, List, map, filter}
-use Rattle.std.specs.List.{enumerate_from}
+use Rattle.std.specs.Prelude.{ℕ, Bool, not, ◌&&◌, ◌==◌, nat_lt, List, map}
+use Rattle.day_state.specs.Kept.{wish_in}
 use Rattle.demand.specs.declared.demands.Demand.{Demand}
 use Rattle.admit_core.specs.declared.dossier.Wish.{Wish}
 use Rattle.admit_core.specs.declared.ranking.CallOrder.{CallOrder}
@@ -12,14 +12,15 @@ use Rattle.admit_core.specs.Boarding.{name_of}
 abbrev pub demands_of : State → List CallOrder → List ℕ → ℕ → List Demand
 demands_of s orders bars h = map (λ r. record { rank = r; wish = name_of s orders bars h r }) (demanded_ranks s orders bars h)
 
--- a wish demands a bed of the school, where it is proposed
-abbrev pub demands_if : State → ℕ → Wish → Bool → Bool
-demands_if s h w is_proposed = has_school w h && nat_lt 0 w.board_rank && not (holds_bed s w.candidate h) && is_proposed
+-- the wish at a place demands a bed of the school, where it is proposed
+abbrev pub needs_bed : State → ℕ → ℕ → Bool
+needs_bed s h k =
+    has_school (wish_in s.dossier.wishes k) h && nat_lt 0 (wish_in s.dossier.wishes k).board_rank
+    && not (holds_bed s (wish_in s.dossier.wishes k).candidate h)
 
--- the ranks and places of those wishes that demand a bed of the school, where each says whether it is proposed
-abbrev pub demands_in : State → ℕ → List (Wish × Bool) → List Demand
-demands_in s h flagged =
-    map (λ x. record { rank = x.1.0.board_rank; wish = x.0 }) (filter (λ x. demands_if s h x.1.0 x.1.1) (enumerate_from 0 flagged))
+-- the rank of the wish at a place, with the place
+abbrev pub demand_in : List Wish → ℕ → Demand
+demand_in ws k = record { rank = (wish_in ws k).board_rank; wish = k }
 
 -- whether two demands have one rank
 abbrev pub same_rank : Demand → Demand → Bool

@@ -1,13 +1,14 @@
 //! The demanded ranks of a school, with the wishes that demand them.
-ghost use Rattle.std.specs.Prelude.{◌≡◌, ℕ, ◌<◌, ◌^◌, length, List, zip, IfOk, OnOk};
+ghost use Rattle.std.specs.Prelude.{◌≡◌, ℕ, ◌<◌, length, List, map, filter, All, IfOk, OnOk};
 ghost use Rattle.std.specs.List.{dedup};
 ghost use Rattle.std.specs.List.Sorted.{IsPermutation, IsNonDecreasingBy, IsStableByKey};
 ghost use Rattle.std.specs.Ordering.{nat_cmp};
 ghost use Rattle.admit_core.specs.declared.ranking.CallOrder.{CallOrder};
-ghost use Rattle.demand.specs.Proposed.{proposed_flags};
-ghost use Rattle.demand.specs.Demands.{demands_of, demands_if, demands_in, same_rank};
+ghost use Rattle.admit_core.specs.Proposals.{proposed};
+ghost use Rattle.demand.specs.Demands.{demands_of, needs_bed, demand_in, same_rank};
 
-use admit_core::{OutOfMemory, Wish};
+use crate::open::wish_at;
+use admit_core::OutOfMemory;
 use day_state::DayState;
 use std::alloc::{AllocError, Global};
 
@@ -18,39 +19,44 @@ pub struct Demand {
     pub wish: u32,
 }
 
-/// Whether a wish that is proposed, or isn't, demands a bed of a school.
-fn demands(state: &DayState<'_>, school: u32, wish: &Wish, is_proposed: bool) -> bool
-    ensures { result ≡ demands_if state.now school wish.now is_proposed }
+/// Whether the wish at a place has a school in which its candidate has a rank and no bed.
+fn needs_bed(state: &DayState<'_>, school: u32, place: u32) -> bool
+    requires { place < length state.now.dossier.wishes }
+    ensures { result ≡ needs_bed state.now school place }
 {
-    is_proposed
-        && wish.school == Some(school)
+    let wish = wish_at(state, place);
+    wish.school == Some(school)
         && wish.board_rank > 0
         && !state.is_live_in_school(wish.candidate, school)
 }
 
-/// The ranks and places of the wishes that demand a bed of a school, by place.
+/// The rank of the wish at a place, with the place.
+fn demand_at(state: &DayState<'_>, place: u32) -> Demand
+    requires { place < length state.now.dossier.wishes }
+    ensures { result ≡ demand_in state.now.dossier.wishes place }
+{
+    Demand {
+        rank: wish_at(state, place).board_rank,
+        wish: place,
+    }
+}
+
+/// The demands of those of these wishes that need a bed of a school, in their order.
 fn demands_by_place(
     alloc: Global,
     state: &DayState<'_>,
-    flags: &[bool],
+    places: &[u32],
     school: u32,
 ) -> Result<Vec<Demand>, OutOfMemory>
-    requires { length flags.now < 2 ^ 32 }
-    ensures { IfOk result (λ v. v.items ≡ demands_in state.now school (zip state.now.dossier.wishes flags.now)) }
+    requires { All (λ k. k < length state.now.dossier.wishes) places.now }
+    ensures { IfOk result (λ v. v.items ≡ map (demand_in state.now.dossier.wishes) (filter (needs_bed state.now school) places.now)) }
 {
-    let dossier = state.dossier();
-    let demands = dossier
-        .wishes
-        .as_slice()
-        .iter()
-        .zip(flags.iter())
-        .enumerate()
-        .filter(|(_, (wish, flag))| demands(state, school, wish, **flag))
-        .map(|(place, (wish, _))| Demand {
-            rank: wish.board_rank,
-            wish: place as u32,
-        })
-        .collect(alloc)?;
+    let mut demands = Vec::new(alloc);
+    for place in places {
+        if needs_bed(state, school, *place) {
+            demands.push(demand_at(state, *place))?;
+        }
+    }
     Ok(demands)
 }
 
@@ -71,17 +77,19 @@ fn keep_firsts(demands: &mut Vec<Demand>)
     demands.dedup_by_key(|demand| demand.rank);
 }
 
-/// The demanded ranks of a school with their names, from the least rank; `flags` says which wishes are proposed.
+/// The demanded ranks of a school with their names, from the least rank, where these are the places
+/// of the proposed wishes.
 pub fn demands_of(
     alloc: Global,
     state: &DayState<'_>,
-    flags: &[bool],
+    places: &[u32],
     school: u32,
 ) -> Result<Vec<Demand>, OutOfMemory>
-    requires { length flags.now < 2 ^ 32 }
-    ensures { IfOk result (λ v. (orders : List CallOrder) (bars : List ℕ) → flags.now ≡ proposed_flags state.now orders bars → v.items ≡ demands_of state.now orders bars school) }
+    requires { All (λ k. k < length state.now.dossier.wishes) places.now }
+    ensures { IfOk result (λ v. (orders : List CallOrder) (bars : List ℕ) → places.now ≡ proposed state.now orders bars → v.items ≡ demands_of state.now orders bars school) }
 {
-    let mut demands = demands_by_place(alloc, state, flags, school)?;
+    let _ = state.marks(); // one for each wish
+    let mut demands = demands_by_place(alloc, state, places, school)?;
     sort_demands(&mut demands)?;
     keep_firsts(&mut demands);
     Ok(demands)

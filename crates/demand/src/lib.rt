@@ -7,4 +7,5 @@ mod open;
 mod round;
 mod walk;
 
-pub use round::{PlainRound, proposed};
+pub use round::PlainRound;
+pub use walk::proposed;

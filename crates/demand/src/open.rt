@@ -19,7 +19,7 @@ fn is_waiting(mark: Mark) -> bool
 }
 
 /// The wish at a place.
-fn wish_at(state: &DayState<'_>, place: u32) -> Wish
+pub fn wish_at(state: &DayState<'_>, place: u32) -> Wish
     requires { place < length state.now.dossier.wishes }
     ensures wish { result ≡ wish_in state.now.dossier.wishes place }
     ensures school { ForSome result.school (λ h. h < length state.now.dossier.schools) }

@@ -1,50 +1,20 @@
 //! The boarding schools of a state as a system of falling bars.
-ghost use Rattle.std.specs.Prelude.{◌≡◌, ◌<◌, ◌^◌, length, map, filter, slice_get, IfOk, nat_le};
-ghost use Rattle.std.specs.List.{enumerate_from};
+ghost use Rattle.std.specs.Prelude.{◌≡◌, ◌<◌, length, map, filter, slice_get, All, IfOk, nat_le};
 ghost use Rattle.admit_core.specs.CallOrder.{AreCallOrders};
 ghost use Rattle.admit_core.specs.Proposals.{proposed};
+ghost use Rattle.admit_core.specs.Boarding.{boarding};
+ghost use Rattle.bar_law.specs.Overfilled.{rank_over};
 ghost use Rattle.demand.specs.Called.{AreCalled};
-ghost use Rattle.demand.specs.Proposed.{proposed_flags};
 
 use crate::called::call_everyone;
 use crate::demands::{Demand, demands_of};
-use crate::walk::proposed_flags;
+use crate::walk::proposed_places;
 use admit_core::{CallOrders, OutOfMemory, Steps};
 use bar_law::Falling;
 use day_state::DayState;
 use std::alloc::Global;
 use std::sync::ledger::Ledger;
 use vacancies::beds_left;
-
-/// The places that are flagged, ascending.
-fn flagged(alloc: Global, flags: &[bool]) -> Result<Vec<u32>, OutOfMemory>
-    requires { length flags.now < 2 ^ 32 }
-    ensures { IfOk result (λ v. v.items ≡ map (λ x. x.0) (filter (λ x. x.1) (enumerate_from 0 flags.now))) }
-{
-    let places = flags
-        .iter()
-        .enumerate()
-        .filter(|(_, flag)| **flag)
-        .map(|(place, _)| place as u32)
-        .collect(alloc)?;
-    Ok(places)
-}
-
-/// The places of the wishes that are proposed under bars, ascending.
-pub fn proposed(
-    alloc: Global,
-    state: &DayState<'_>,
-    orders: &CallOrders,
-    bars: &[u32],
-) -> Result<Vec<u32>, OutOfMemory>
-    requires orders { AreCallOrders state.now.dossier.groups orders.now.orders }
-    requires bars { length bars.now ≡ length state.now.dossier.schools }
-    ensures { IfOk result (λ places. places.items ≡ proposed state.now orders.now.orders bars.now) }
-{
-    call_everyone(state, orders);
-    let flags = proposed_flags(alloc, state, orders, bars)?;
-    flagged(alloc, &flags)
-}
 
 /// The boarding schools (*internats*) of a state, with their ceilings and their present bars.
 #[derive(Drop)]
@@ -84,12 +54,31 @@ impl<'a, 'd> PlainRound<'a, 'd> {
         })
     }
 
-    /// Whether each wish is proposed under the present bars.
-    fn flags(&self, alloc: Global) -> Result<Vec<bool>, OutOfMemory>
-        ensures flags { IfOk result (λ v. v.items ≡ proposed_flags self.now.state.now self.now.orders.now.orders self.now.bars.items) }
-        ensures few { IfOk result (λ v. length v.items < 2 ^ 32) }
+    /// The places of the wishes that are proposed under the present bars, ascending.
+    fn proposed(&self, alloc: Global) -> Result<Vec<u32>, OutOfMemory>
+        ensures places { IfOk result (λ v. v.items ≡ proposed self.now.state.now self.now.orders.now.orders self.now.bars.items) }
+        ensures within { IfOk result (λ v. All (λ k. k < length self.now.state.now.dossier.wishes) v.items) }
     {
-        proposed_flags(alloc, self.state, self.orders, &self.bars)
+        let _ = self.state.marks(); // one for each wish
+        let places = proposed_places(alloc, self.state, self.orders, &self.bars)?;
+        Ok(places)
+    }
+
+    /// The least demanded rank of a school that finds no bed, where these are the places of the
+    /// proposed wishes.
+    fn over_among(
+        &self,
+        alloc: Global,
+        places: &[u32],
+        school: u32,
+    ) -> Result<Option<u32>, OutOfMemory>
+        requires places { places.now ≡ proposed self.now.state.now self.now.orders.now.orders self.now.bars.items }
+        requires within { All (λ k. k < length self.now.state.now.dossier.wishes) places.now }
+        requires school { school < length self.now.ceilings.items }
+        ensures { IfOk result (λ over. over ≡ rank_over (boarding self.now.state.now self.now.orders.now.orders self.now.ceilings.items) self.now.bars.items school) }
+    {
+        let demands = demands_of(alloc, self.state, places, school)?;
+        Ok(rank_at(&demands, beds_left(self.state, school)))
     }
 }
 
@@ -114,14 +103,24 @@ impl Falling for PlainRound<'_, '_> {
     }
 
     fn over(&self, alloc: Global, i: u32) -> Result<Option<u32>, OutOfMemory> {
-        let flags = self.flags(alloc)?;
-        let demands = demands_of(alloc, self.state, &flags, i)?;
-        Ok(rank_at(&demands, beds_left(self.state, i)))
+        let places = self.proposed(alloc)?;
+        self.over_among(alloc, &places, i)
+    }
+
+    fn overfilled(&self, alloc: Global) -> Result<Vec<u32>, OutOfMemory> {
+        let places = self.proposed(alloc)?;
+        let mut schools = Vec::new(alloc);
+        for school in 0..self.count() {
+            if self.over_among(alloc, &places, school)?.is_some() {
+                schools.push(school)?;
+            }
+        }
+        Ok(schools)
     }
 
     fn names(&self, alloc: Global, i: u32, upto: u32) -> Result<Vec<u32>, OutOfMemory> {
-        let flags = self.flags(alloc)?;
-        let demands = demands_of(alloc, self.state, &flags, i)?;
+        let places = self.proposed(alloc)?;
+        let demands = demands_of(alloc, self.state, &places, i)?;
         names_up_to(alloc, &demands, upto)
     }
 

@@ -1,14 +1,16 @@
 //! The walk along call orders that finds the proposed wishes.
-ghost use Rattle.std.specs.Prelude.{◌≡◌, ℕ, ◌<◌, ◌≤◌, ◌^◌, ◌&&◌, ◌||◌, false, nat_lt, length, replicate, All, IfOk};
+ghost use Rattle.std.specs.Prelude.{◌≡◌, ℕ, ◌<◌, ◌^◌, ◌&&◌, ◌||◌, false, nat_lt, length, map, filter, replicate, All, IfOk};
+ghost use Rattle.std.specs.List.{enumerate_from};
+ghost use Rattle.admit_core.specs.CallOrder.{AreCallOrders};
 ghost use Rattle.admit_core.specs.Lists.{is_among};
-ghost use Rattle.admit_core.specs.Proposals.{wants_seat};
+ghost use Rattle.admit_core.specs.Proposals.{wants_seat, proposed};
 ghost use Rattle.day_state.specs.Kept.{wish_in};
 ghost use Rattle.demand.specs.Called.{AreCalled};
 ghost use Rattle.demand.specs.Flags.{SetsAlso};
 ghost use Rattle.demand.specs.Open.{is_open_at};
 ghost use Rattle.demand.specs.Proposed.{is_served_at, is_proposed_at, proposed_flags};
 
-use crate::called::{limit_of, order_of};
+use crate::called::{call_everyone, limit_of, order_of};
 use crate::open::{has_open_wish, is_open_at};
 use admit_core::{CallOrders, OutOfMemory};
 use day_state::DayState;
@@ -16,13 +18,7 @@ use std::alloc::Global;
 use vacancies::seats_left;
 
 /// Flags those of these wishes that are open ones in a programme.
-fn flag_open(
-    state: &DayState<'_>,
-    bars: &[u32],
-    programme: u32,
-    own: &[u32],
-    flags: &mut Vec<bool>,
-)
+fn flag_open(state: &DayState<'_>, bars: &[u32], programme: u32, own: &[u32], flags: &mut Vec<bool>)
     requires own { All (λ k. k < length state.now.dossier.wishes) own.now }
     requires bars { length bars.now ≡ length state.now.dossier.schools }
     requires flags { length flags.old.items ≡ length state.now.dossier.wishes }
@@ -114,7 +110,7 @@ fn programme_count(state: &DayState<'_>) -> u32
 }
 
 /// Whether each wish is proposed, by place.
-pub fn proposed_flags(
+fn proposed_flags(
     alloc: Global,
     state: &DayState<'_>,
     orders: &CallOrders,
@@ -132,4 +128,51 @@ pub fn proposed_flags(
         flag_proposed(state, orders, bars, programme, &mut flags);
     }
     Ok(flags)
+}
+
+/// The places that are flagged, ascending.
+fn flagged(alloc: Global, flags: &[bool]) -> Result<Vec<u32>, OutOfMemory>
+    requires { length flags.now < 2 ^ 32 }
+    ensures { IfOk result (λ v. v.items ≡ map (λ x. x.0) (filter (λ x. x.1) (enumerate_from 0 flags.now))) }
+{
+    let places = flags
+        .iter()
+        .enumerate()
+        .filter(|(_, flag)| **flag)
+        .map(|(place, _)| place as u32)
+        .collect(alloc)?;
+    Ok(places)
+}
+
+/// The places of the wishes that are proposed under bars, ascending.
+pub fn proposed_places(
+    alloc: Global,
+    state: &DayState<'_>,
+    orders: &CallOrders,
+    bars: &[u32],
+) -> Result<Vec<u32>, OutOfMemory>
+    requires orders { AreCalled state.now.dossier orders.now.orders }
+    requires bars { length bars.now ≡ length state.now.dossier.schools }
+    ensures { IfOk result (λ places. places.items ≡ proposed state.now orders.now.orders bars.now) }
+{
+    let flags = proposed_flags(alloc, state, orders, bars)?;
+    flagged(alloc, &flags)
+}
+
+/// The places of the wishes that are proposed under bars, ascending.
+///
+/// It costs about the length of the call orders, each taken once for each of its programmes, and of
+/// the wishes.
+pub fn proposed(
+    alloc: Global,
+    state: &DayState<'_>,
+    orders: &CallOrders,
+    bars: &[u32],
+) -> Result<Vec<u32>, OutOfMemory>
+    requires orders { AreCallOrders state.now.dossier.groups orders.now.orders }
+    requires bars { length bars.now ≡ length state.now.dossier.schools }
+    ensures { IfOk result (λ places. places.items ≡ proposed state.now orders.now.orders bars.now) }
+{
+    call_everyone(state, orders);
+    proposed_places(alloc, state, orders, bars)
 }
