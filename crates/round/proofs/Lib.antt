@@ -1,1 +1,4 @@
+pub mod Members
+pub mod NewHolders
 pub mod Offering
+pub mod SeatLaw
