@@ -1,14 +1,12 @@
--- Lists of numbers of which none stands twice, and how many they can be.
+-- Lists of numbers of which none stands twice.
 use Rattle.std.proofs.Common.{ℕ, ◌≤◌, ◌≡◌, Bool, true, false, cond, ◌&&◌, ◌||◌, List, [], ◌∷◌, map, length, suc, inl, inr, refl, sym, ◌∙◌, ap, subst, arith, nat_eq, filter}
-use Rattle.std.specs.Prelude.{IsSome, is_some}
+use Rattle.std.specs.List.Sorted.{IsStrictlyIncreasing}
 use Rattle.std.specs.List.{list_any, IsDistinct, AllByRecursion}
 use Rattle.std.proofs.lemmas.Bool.{cases_Bool, eqb-true, or_cases, or_left, or_right, or_parts}
-use Rattle.std.proofs.lemmas.Cmp.{nat_eq_equiv}
-use Rattle.std.proofs.lemmas.List.{length-map}
+use Rattle.std.proofs.lemmas.Bool.Decides.{Decides-eqb}
 use Rattle.std.proofs.lemmas.Map.Keys.{IsDistinct-head, IsDistinct-tail, IsDistinct-cons}
-use Rattle.std.proofs.lemmas.Map.Made.{is_some-lookup}
-use Rattle.std.proofs.lemmas.Map.Steps.{length-le_from_keys}
-use Rattle.std.specs.Map.{lookup, keys_of}
+use Rattle.std.proofs.lemmas.List.Kept.{AllPairs-from_increasing}
+use Rattle.std.proofs.lemmas.Map.Made.{IsDistinct-from_AllPairs}
 use Rattle.admit_core.specs.Lists.{is_among, distinct}
 use Rattle.admit_core.proofs.OrderPermutes.{nat_eq_turn}
 
@@ -87,22 +85,6 @@ distinct_once (n ∷ ns) =
       | inr new ↦ rw new (IsDistinct-cons nat_eq n (distinct ns) (all_differ n (distinct ns) (among-distinct n ns ∙ new)) rest)
     ]
 
--- each number as a key
-abbrev keyed : List ℕ → List (ℕ × ℕ)
-keyed [] = []
-keyed (y ∷ ys) = (y, y) ∷ keyed ys
-
-length-keyed : (ys : List ℕ) → length (keyed ys) ≡ length ys
-length-keyed [] = refl
-length-keyed (y ∷ ys) = ap suc (length-keyed ys)
-
-keys-keyed : (ys : List ℕ) → keys_of (keyed ys) ≡ ys
-keys-keyed [] = refl
-keys-keyed (y ∷ ys) = ap (λ (zs : List ℕ). y ∷ zs) (keys-keyed ys)
-
--- numbers of which none stands twice are at most as many as a list that has them all
-pub at_most_as_many : (xs ys : List ℕ) → IsDistinct nat_eq xs → ((c : ℕ) → is_among c xs ≡ true → is_among c ys ≡ true) → length xs ≤ length ys
-at_most_as_many xs ys apart all =
-    let found : (c : ℕ) → is_among c xs ≡ true → is_some (lookup (nat_eq c) (keyed ys)) ≡ true =
-    λ c among. is_some-lookup (nat_eq c) (keyed ys) ∙ ap (list_any (nat_eq c)) (keys-keyed ys) ∙ all c among in
-    omega (arith, length-le_from_keys nat_eq_equiv xs (keyed ys) apart found, length-keyed ys)
+-- rising numbers are apart
+pub distinct_increasing : (ns : List ℕ) → IsStrictlyIncreasing ns → IsDistinct nat_eq ns
+distinct_increasing ns rises = IsDistinct-from_AllPairs Decides-eqb ns (λ i j d lt lt'. λ e. omega (arith, AllPairs-from_increasing ns rises i j d lt lt', e))

@@ -3,6 +3,7 @@ use Rattle.std.proofs.Common.{ℕ, ◌<◌, ◌≡◌, Bool, true, false, not, �
 use Rattle.std.specs.Prelude.{◌==◌, if◌then◌else◌}
 use Rattle.std.specs.List.{list_any, Any}
 use Rattle.std.proofs.lemmas.Bool.{cases_Bool, and_parts, and_from, false≢true, not-true, not-false}
+use Rattle.std.proofs.lemmas.Slice.Zip.{length-zip, get_or-zip}
 use Rattle.std.proofs.lemmas.List.Folds.{Any-from_list_any, list_any_at}
 use Rattle.admit_core.specs.declared.dossier.Wish.{Wish}
 use Rattle.admit_core.specs.declared.state.Mark.{Mark}
@@ -44,6 +45,16 @@ pub record MakesLive (s : State) (orders : List CallOrder) (bars : List ℕ) (te
   pub offers : is_proposed s orders bars entry.0 entry.1 ≡ true
   pub own : nat_eq entry.0.candidate c ≡ true
   pub passes : test entry.0 ≡ true
+
+-- the wish of an entry is the dossier's at that place
+pub entry_wish : (s : State) (k : ℕ) (e : Wish × Mark) → k < length (entries s) → get_or (entries s) k e ≡ e
+    → (k < length s.dossier.wishes) × (get_or s.dossier.wishes k e.0 ≡ e.0)
+entry_wish s k e lt here =
+    let ws = s.dossier.wishes in
+    let ms = s.marks in
+    let in_wishes : k < length ws = omega (arith, length-zip ws ms) in
+    let in_marks : k < length ms = omega (arith, length-zip ws ms) in
+    (in_wishes, ap (λ (x : Wish × Mark). x.0) (sym (get_or-zip ws ms k e in_wishes in_marks) ∙ here))
 
 module _ (s : State) (orders : List CallOrder) (bars : List ℕ) (stamp : Stamp) where
   -- the mark of a wish after the offers

@@ -5,7 +5,8 @@ use Rattle.std.specs.List.{before_first, position_or_len, list_any, IsDistinct, 
 use Rattle.std.proofs.lemmas.Bool.{cases_Bool, and_parts, and_from, or_cases, or_left, or_right, not-true, not-false, eqb-true, eq-eqb, ltb-true, leb-true, false≢true}
 use Rattle.std.proofs.lemmas.List.Folds.{list_any_at}
 use Rattle.std.proofs.lemmas.List.Sums.{length-filter, count_by-le-length}
-use Rattle.std.proofs.lemmas.Slice.Zip.{length-zip, get_or-zip}
+use Rattle.std.proofs.lemmas.Cmp.{nat_eq_equiv}
+use Rattle.std.proofs.lemmas.Map.Made.{length-le_from_is_member}
 use Rattle.std.proofs.lemmas.Map.Keys.{IsDistinct-head, IsDistinct-tail}
 use Rattle.admit_core.specs.declared.dossier.Wish.{Wish}
 use Rattle.admit_core.specs.declared.state.Mark.{Mark}
@@ -16,14 +17,14 @@ use Rattle.admit_core.specs.Lists.{is_among, distinct}
 use Rattle.admit_core.specs.DossierRows.{DossierRows, group_of, limit_of, ranking_of, candidates_of}
 use Rattle.admit_core.specs.CallOrder.{IsCallOrder, AreCallOrders}
 use Rattle.admit_core.specs.CallOrderLaws.{ranked_candidates}
-use Rattle.admit_core.specs.Validity.{IsValid, IsValidGroup, IsValidWish}
+use Rattle.admit_core.specs.Validity.{IsValid, IsValidGroup}
 use Rattle.admit_core.specs.State.{State, entries, holds_seat, seats_left, seat_holders}
 use Rattle.admit_core.specs.Proposals.{is_open, wants_seat, has_open_wish, order_of, before, ahead, position_of, needs_no_seat, is_proposed, is_open_in}
 use Rattle.admit_core.specs.Days.{offered}
 use Rattle.admit_core.proofs.OrderPermutes.{distinct-order, among-order, nat_eq_turn}
 use Rattle.round.specs.PassLaws.{new_seat_holders, OffersFitSeats}
-use Rattle.round.proofs.Members.{among-filter, among_filtered, distinct-filter, distinct_once, none_twice, at_most_as_many}
-use Rattle.round.proofs.NewHolders.{MakesLive, becomes_live}
+use Rattle.round.proofs.Members.{among-filter, among_filtered, distinct-filter, distinct_once, none_twice}
+use Rattle.round.proofs.NewHolders.{MakesLive, becomes_live, entry_wish}
 
 -- 1 where it is true
 abbrev one_if : Bool → ℕ
@@ -88,16 +89,6 @@ module _ (s : State) (orders : List CallOrder) (bars : List ℕ) (stamp : Stamp)
   is_order : (p : ℕ) → IsOrderOf (order_of s.dossier orders p) (map (λ r. r.candidate) (ranking_of s.dossier p))
   is_order p = order_at s.dossier.groups orders (group_of s.dossier p) are valid.groups
 
-  -- the wish of a place is one of the dossier's
-  wish_at : (k : ℕ) (e : Wish × Mark) → k < length (entries s) → get_or (entries s) k e ≡ e → IsValidWish s.dossier e.0
-  wish_at k e lt here =
-      let ws = s.dossier.wishes in
-      let ms = s.marks in
-      let in_wishes : k < length ws = omega (arith, length-zip ws ms) in
-      let in_marks : k < length ms = omega (arith, length-zip ws ms) in
-      let same : get_or ws k e.0 ≡ e.0 = ap (λ (x : Wish × Mark). x.0) (sym (get_or-zip ws ms k e in_wishes in_marks) ∙ here) in
-      rw same at (valid.wishes k e.0 in_wishes)
-
   -- who becomes live in a programme is called, wants a seat, and has few before him who want one
   served : (p c : ℕ) → MakesLive s orders bars (λ w. w.programme == p) c → holds_seat s c p ≡ false
       → (is_among c (order_of s.dossier orders p) ≡ true) × (wants_seat s bars p c ≡ true)
@@ -124,7 +115,8 @@ module _ (s : State) (orders : List CallOrder) (bars : List ℕ) (stamp : Stamp)
         ]
         | inr left ↦ omega (arith, ltb-true (count_by (wants_seat s bars p) front) (seats_left s p) left, length-filter (wants_seat s bars p) front)
       ] in
-      let ranked : is_among w.candidate (map (λ r. r.candidate) (ranking_of s.dossier w.programme)) ≡ true = (wish_at makes.place e makes.within makes.here).ranked in
+      let ranked : is_among w.candidate (map (λ r. r.candidate) (ranking_of s.dossier w.programme)) ≡ true =
+      let listed = entry_wish s makes.place e makes.within makes.here in (rw listed.1 at (valid.wishes makes.place w listed.0)).ranked in
       let stands : is_among c (map (λ r. r.candidate) (ranking_of s.dossier p)) ≡ true = rw (own, named) at ranked in
       ((is_order p).ranked c ∙ stands, wanting, few)
 
@@ -143,7 +135,7 @@ module _ (s : State) (orders : List CallOrder) (bars : List ℕ) (stamp : Stamp)
       let serves = λ (c : ℕ). holds_seat new c p && not (holds_seat s c p) in
       let once : IsDistinct nat_eq (new_seat_holders s new p) =
       distinct-filter (λ c. not (holds_seat s c p)) (seat_holders new p) (distinct-filter (λ c. holds_seat new c p) (candidates_of s.dossier) (distinct_once (map (λ w. w.candidate) s.dossier.wishes))) in
-      let within = at_most_as_many (new_seat_holders s new p) (filter serves order) once
+      let within = length-le_from_is_member nat_eq_equiv (new_seat_holders s new p) (filter serves order) once
       (λ c among.
       let is_new = new_seat p c among in
       let facts = served p c (becomes_live s orders bars stamp (λ w. w.programme == p) c is_new.0 is_new.1) is_new.1 in
