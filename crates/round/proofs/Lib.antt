@@ -5,4 +5,5 @@ pub mod Members
 pub mod NewHolders
 pub mod Offering
 pub mod OfferLaws
+pub mod PassClauses
 pub mod SeatLaw
