@@ -1,4 +1,5 @@
 pub mod ByPlaces
+pub mod CalledCounts
 pub mod Calls
 pub mod DemandLaws
 pub mod Dossiers
