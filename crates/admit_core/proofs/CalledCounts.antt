@@ -1,5 +1,5 @@
 -- How many of those called, and of those who remain, pass a test.
-use Rattle.std.proofs.Common.{ℕ, ◌+◌, ◌≡◌, Bool, cond, not, List, [], ◌∷◌, ◌++◌, map, length, length-append, refl, sym, ◌∙◌, ap, arith, filter, Some, nat_eq, count_by}
+use Rattle.std.proofs.Common.{ℕ, ◌+◌, ◌≡◌, Bool, cond, not, List, [], ◌∷◌, ◌++◌, map, length, length-append, refl, sym, ◌∙◌, arith, filter, Some, nat_eq, count_by}
 use Rattle.std.specs.List.{find, IsDistinct}
 use Rattle.std.proofs.lemmas.List.Sums.{sum_by-append, sum_by-cons}
 use Rattle.std.proofs.lemmas.List.Sorted.{IsPermutation-filter_both, length_permutation, sum_by-IsPermutation}

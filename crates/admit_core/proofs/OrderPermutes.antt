@@ -1,9 +1,9 @@
 -- A call order has its ranking's candidates, in an order of its own.
-use Rattle.std.proofs.Common.{ℕ, zero, suc, ◌≤◌, ◌<◌, ◌≡◌, Bool, true, false, not, List, [], ◌∷◌, ◌++◌, map, length, take, inl, inr, refl, sym, ◌∙◌, ap, subst, arith, filter, Some, nat_eq}
+use Rattle.std.proofs.Common.{ℕ, zero, suc, ◌≤◌, ◌<◌, ◌≡◌, Bool, false, not, List, [], ◌∷◌, ◌++◌, map, length, take, inl, inr, refl, sym, ◌∙◌, ap, subst, arith, filter, Some, nat_eq}
 use Rattle.std.specs.Prelude.{slice_get, zip}
-use Rattle.std.specs.List.{list_any, find, IsDistinct, AllByRecursion}
+use Rattle.std.specs.List.{find, IsDistinct, AllByRecursion}
 use Rattle.std.specs.List.Sorted.{IsPermutation}
-use Rattle.std.proofs.lemmas.Bool.{cases_Bool, false≢true, eqb-true, eqb-false, eq-eqb, ne_eqb}
+use Rattle.std.proofs.lemmas.Bool.{cases_Bool, eqb-true, eqb-false, eq-eqb, ne_eqb}
 use Rattle.std.proofs.lemmas.List.{append-nil, length-map, take_all}
 use Rattle.std.proofs.lemmas.List.Sorted.{IsPermutation-refl, IsPermutation-cons, IsPermutation-middle, IsPermutation-trans, IsPermutation-map, IsPermutation-pop_more, length_permutation, list_any-IsPermutation}
 use Rattle.std.proofs.lemmas.Map.Keys.{IsDistinct-head, IsDistinct-tail, IsDistinct-cons, IsDistinct-IsPermutation}
@@ -18,7 +18,7 @@ use Rattle.admit_core.specs.CallOrder.{remaining, may_be_called, next_after, IsC
 use Rattle.admit_core.specs.CallOrderLaws.{ranked_candidates, OrdersPermuteRankings, OrdersAreWhole, NobodyIsCalledTwice, ExactlyTheRankedAreCalled}
 use Rattle.admit_core.specs.Validity.{IsRanking}
 use Rattle.admit_core.proofs.LeastFirst.{found_has}
-use Rattle.admit_core.proofs.NextCalls.{next_none, next_some, find_any, remaining_push, remaining_first}
+use Rattle.admit_core.proofs.NextCalls.{next_none, next_some, remaining_push, remaining_first}
 
 pub nat_eq_turn : (x y : ℕ) → nat_eq x y ≡ nat_eq y x
 nat_eq_turn x y =
@@ -52,7 +52,7 @@ permutation_without {X = X} key test (y ∷ ys) x apart e =
           let head = IsDistinct-head nat_eq (key y) (map key ys) apart in
           let same : y ≡ x = let found = rw here at e in (cc) in
           let own : IsPermutation (y ∷ ys) (y ∷ filter (λ z. not (nat_eq (key z) (key y))) (y ∷ ys)) =
-              rw (eq-eqb (key y) (key y) refl, all_stay key (key y) ys head) (IsPermutation-refl (y ∷ ys)) in
+          rw (eq-eqb (key y) (key y) refl, all_stay key (key y) ys head) (IsPermutation-refl (y ∷ ys)) in
           subst (λ w. IsPermutation (y ∷ ys) (w ∷ filter (λ z. not (nat_eq (key z) (key w))) (y ∷ ys))) same own
       | inr later ↦
           let found = rw later at e in
