@@ -1,4 +1,6 @@
 pub mod ByPlaces
+pub mod CallRows
+pub mod CalledCounts
 pub mod Calls
 pub mod ChainRows
 pub mod DayRows
@@ -7,11 +9,14 @@ pub mod Dossiers
 pub mod FallsLaw
 pub mod FullBeds
 pub mod LeastFirst
+pub mod LeastOrder
 pub mod NextCalls
 pub mod OneOrder
 pub mod OrderPermutes
+pub mod RatesKept
 pub mod Remaining
 pub mod Rows
+pub mod ScholarsFirst
 pub mod SlotFacts
 pub mod SmallDossier
 pub mod Tests

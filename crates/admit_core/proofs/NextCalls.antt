@@ -52,7 +52,7 @@ nobody rs false true both scholars residents is e = absurd (false≢true (sym (f
 nobody rs true true true scholars residents is e = absurd (false≢true (sym (find_none (λ r. r.scholar && r.resident) rs e) ∙ is))
 nobody rs true true false scholars residents is e = absurd (false≢true (sym (find_none (λ r. r.scholar) rs e) ∙ scholars refl))
 
-mapped_none : {X Y : Type 0} (f : X → Y) (o : Option X) → option_map f o ≡ None → o ≡ None
+pub mapped_none : {X Y : Type 0} (f : X → Y) (o : Option X) → option_map f o ≡ None → o ≡ None
 mapped_none f None e = refl
 mapped_none f (Some x) e = absurd (cc)
 

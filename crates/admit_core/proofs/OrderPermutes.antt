@@ -1,11 +1,11 @@
 -- A call order has its ranking's candidates, in an order of its own.
-use Rattle.std.proofs.Common.{ℕ, zero, suc, ◌≤◌, ◌<◌, ◌≡◌, Bool, true, false, not, List, [], ◌∷◌, ◌++◌, map, length, take, inl, inr, refl, sym, ◌∙◌, ap, arith, filter, Some, nat_eq}
+use Rattle.std.proofs.Common.{ℕ, zero, suc, ◌≤◌, ◌<◌, ◌≡◌, Bool, false, not, List, [], ◌∷◌, ◌++◌, map, length, take, inl, inr, refl, sym, ◌∙◌, ap, subst, arith, filter, Some, nat_eq}
 use Rattle.std.specs.Prelude.{slice_get, zip}
-use Rattle.std.specs.List.{list_any, IsDistinct, AllByRecursion}
+use Rattle.std.specs.List.{find, IsDistinct, AllByRecursion}
 use Rattle.std.specs.List.Sorted.{IsPermutation}
-use Rattle.std.proofs.lemmas.Bool.{cases_Bool, false≢true, eqb-true, eqb-false, eq-eqb, ne_eqb}
+use Rattle.std.proofs.lemmas.Bool.{cases_Bool, eqb-true, eqb-false, eq-eqb, ne_eqb}
 use Rattle.std.proofs.lemmas.List.{append-nil, length-map, take_all}
-use Rattle.std.proofs.lemmas.List.Sorted.{IsPermutation-refl, IsPermutation-cons, IsPermutation-middle, IsPermutation-trans, IsPermutation-pop_more, length_permutation, list_any-IsPermutation}
+use Rattle.std.proofs.lemmas.List.Sorted.{IsPermutation-refl, IsPermutation-cons, IsPermutation-middle, IsPermutation-trans, IsPermutation-map, IsPermutation-pop_more, length_permutation, list_any-IsPermutation}
 use Rattle.std.proofs.lemmas.Map.Keys.{IsDistinct-head, IsDistinct-tail, IsDistinct-cons, IsDistinct-IsPermutation}
 use Rattle.std.proofs.lemmas.Option.{slice_get_past}
 use Rattle.std.proofs.lemmas.Slice.Zip.{length-zip}
@@ -14,10 +14,11 @@ use Rattle.admit_core.specs.declared.ranking.RankGroup.{RankGroup}
 use Rattle.admit_core.specs.declared.ranking.Bound.{Bound}
 use Rattle.admit_core.specs.declared.ranking.CallOrder.{CallOrder}
 use Rattle.admit_core.specs.Lists.{is_among}
-use Rattle.admit_core.specs.CallOrder.{remaining, next_after, IsCallOrder}
+use Rattle.admit_core.specs.CallOrder.{remaining, may_be_called, next_after, IsCallOrder}
 use Rattle.admit_core.specs.CallOrderLaws.{ranked_candidates, OrdersPermuteRankings, OrdersAreWhole, NobodyIsCalledTwice, ExactlyTheRankedAreCalled}
 use Rattle.admit_core.specs.Validity.{IsRanking}
-use Rattle.admit_core.proofs.NextCalls.{next_none, next_some, find_any, remaining_push, remaining_first}
+use Rattle.admit_core.proofs.LeastFirst.{found_has}
+use Rattle.admit_core.proofs.NextCalls.{next_none, next_some, remaining_push, remaining_first}
 
 pub nat_eq_turn : (x y : ℕ) → nat_eq x y ≡ nat_eq y x
 nat_eq_turn x y =
@@ -26,26 +27,41 @@ nat_eq_turn x y =
       | inr other ↦ other ∙ sym (ne_eqb y x (λ e. eqb-false x y other (sym e)))
     ]
 
-all_stay : {X : Type 0} (key : X → ℕ) (c : ℕ) (xs : List X) → AllByRecursion (λ k. nat_eq c k ≡ false) (map key xs) → filter (λ x. not (nat_eq (key x) c)) xs ≡ xs
+-- where all keys differ from one, none goes by that key
+pub all_stay : {X : Type 0} (key : X → ℕ) (c : ℕ) (xs : List X) → AllByRecursion (λ k. nat_eq c k ≡ false) (map key xs) → filter (λ x. not (nat_eq (key x) c)) xs ≡ xs
 all_stay key c [] all = refl
 all_stay key c (x ∷ xs) all = rw (nat_eq_turn (key x) c, all.0) (ap (λ ys. x ∷ ys) (all_stay key c xs all.1))
 
--- where keys differ, a list is one of its keys and the others
-pub permutation_without : {X : Type 0} (key : X → ℕ) (c : ℕ) (xs : List X) → IsDistinct nat_eq (map key xs) → list_any (λ x. nat_eq (key x) c) xs ≡ true
-    → IsPermutation (map key xs) (c ∷ map key (filter (λ x. not (nat_eq (key x) c)) xs))
-permutation_without key c [] apart t = absurd (false≢true t)
-permutation_without key c (x ∷ xs) apart t =
-    elim (cases_Bool (nat_eq (key x) c)) [
+all_by_key : {X : Type 0} (key : X → ℕ) (P : ℕ → Type 0) (xs : List X) → AllByRecursion P (map key xs) → AllByRecursion (λ x. P (key x)) xs
+all_by_key key P [] all = tt
+all_by_key key P (x ∷ xs) all = (all.0, all_by_key key P xs all.1)
+
+-- where keys differ, what is found has another key than the first, if that fails the test
+pub later_key : {X : Type 0} (key : X → ℕ) (test : X → Bool) (y : X) (ys : List X) (x : X) → IsDistinct nat_eq (map key (y ∷ ys)) → find test ys ≡ Some x → nat_eq (key y) (key x) ≡ false
+later_key {X = X} key test y ys x apart found =
+    let other = λ (k : ℕ). nat_eq (key y) k ≡ false in
+    found_has (λ (z : X). other (key z)) test ys x (all_by_key key other ys (IsDistinct-head nat_eq (key y) (map key ys) apart)) found
+
+-- where keys differ, a list is one that is found in it and the others
+pub permutation_without : {X : Type 0} (key : X → ℕ) (test : X → Bool) (xs : List X) (x : X) → IsDistinct nat_eq (map key xs) → find test xs ≡ Some x
+    → IsPermutation xs (x ∷ filter (λ y. not (nat_eq (key y) (key x))) xs)
+permutation_without key test [] x apart e = absurd (cc)
+permutation_without {X = X} key test (y ∷ ys) x apart e =
+    elim (cases_Bool (test y)) [
       | inl here ↦
-          let same = eqb-true (key x) c here in
-          let all = IsDistinct-head nat_eq (key x) (map key xs) apart in
-          rw (here, all_stay key c xs (rw same at all), same) (IsPermutation-refl (c ∷ map key xs))
-      | inr other ↦
-          let rest = map key (filter (λ x. not (nat_eq (key x) c)) xs) in
-          let later = permutation_without key c xs (IsDistinct-tail nat_eq (key x) (map key xs) apart) (rw other at t) in
-          rw other
-          (IsPermutation-trans (key x ∷ map key xs) (key x ∷ c ∷ rest) (c ∷ key x ∷ rest) (IsPermutation-cons (key x) (map key xs) (c ∷ rest) later)
-          (IsPermutation-middle (key x ∷ []) c rest))
+          let head = IsDistinct-head nat_eq (key y) (map key ys) apart in
+          let same : y ≡ x = let found = rw here at e in (cc) in
+          let own : IsPermutation (y ∷ ys) (y ∷ filter (λ z. not (nat_eq (key z) (key y))) (y ∷ ys)) =
+          rw (eq-eqb (key y) (key y) refl, all_stay key (key y) ys head) (IsPermutation-refl (y ∷ ys)) in
+          subst (λ w. IsPermutation (y ∷ ys) (w ∷ filter (λ z. not (nat_eq (key z) (key w))) (y ∷ ys))) same own
+      | inr later ↦
+          let found = rw later at e in
+          let others = λ (z : X). not (nat_eq (key z) (key x)) in
+          let apart_from = later_key key test y ys x apart found in
+          let rest = permutation_without key test ys x (IsDistinct-tail nat_eq (key y) (map key ys) apart) found in
+          rw apart_from
+          (IsPermutation-trans (y ∷ ys) (y ∷ x ∷ filter others ys) (x ∷ y ∷ filter others ys) (IsPermutation-cons y ys (x ∷ filter others ys) rest)
+          (IsPermutation-middle (y ∷ []) x (filter others ys)))
     ]
 
 all_filter : {X : Type 0} (P : ℕ → Type 0) (key : X → ℕ) (test : X → Bool) (xs : List X) → AllByRecursion P (map key xs) → AllByRecursion P (map key (filter test xs))
@@ -80,11 +96,11 @@ parts_push g before c b ranking next parts =
     let key = λ (r : Ranked). r.candidate in
     let rs = remaining g before in
     let (r, called) = next_some g before c b ranking.ranks next in
-    let stands = find_any _ (λ (x : Ranked). nat_eq x.candidate c) rs r called.first (eq-eqb r.candidate c called.candidate) in
     let apart = distinct_filter key (λ (x : Ranked). not (is_among x.candidate before)) g.list ranking.candidates in
-    rw remaining_push
-    (IsPermutation-pop_more (ranked_candidates g) before (map key rs) (map key (filter (λ x. not (nat_eq x.candidate c)) rs)) c parts
-    (permutation_without key c rs apart stands))
+    let others = filter (λ (x : Ranked). not (nat_eq x.candidate r.candidate)) rs in
+    let goes = IsPermutation-map key rs (r ∷ others) (permutation_without key (may_be_called b) rs r apart called.first) in
+    rw (← called.candidate, remaining_push g before r.candidate)
+    (IsPermutation-pop_more (ranked_candidates g) before (map key rs) (map key others) r.candidate parts goes)
 
 -- what stands at a place of a list is one more of its front
 pub take_next : {X : Type 0} (xs : List X) (k : ℕ) (x : X) → slice_get xs k ≡ Some x → take (suc k) xs ≡ take k xs ++ x ∷ []

@@ -1,11 +1,13 @@
 -- Laws of call orders.
-use Rattle.std.specs.Prelude.{◌≡◌, ℕ, List, map, length, nat_eq}
-use Rattle.std.specs.List.{IsDistinct}
+use Rattle.std.specs.Prelude.{◌≡◌, ◌≢◌, ℕ, ◌*◌, ◌≤◌, ◌<◌, Bool, true, ◌&&◌, List, map, length, take, slice_get, Some, nat_eq, count_by, Contains}
+use Rattle.std.specs.List.{list_any, IsDistinct}
 use Rattle.std.specs.List.Sorted.{IsPermutation}
+use Rattle.admit_core.specs.declared.ranking.Ranked.{Ranked}
 use Rattle.admit_core.specs.declared.ranking.RankGroup.{RankGroup}
+use Rattle.admit_core.specs.declared.ranking.Bound.TheVariants.{Alone}
 use Rattle.admit_core.specs.declared.ranking.CallOrder.{CallOrder}
 use Rattle.admit_core.specs.Lists.{is_among}
-use Rattle.admit_core.specs.CallOrder.{IsCallOrder}
+use Rattle.admit_core.specs.CallOrder.{called, remaining, IsCallOrder}
 use Rattle.admit_core.specs.Validity.{IsRanking}
 
 -- the candidates of a ranking, by rank
@@ -35,3 +37,60 @@ ExactlyTheRankedAreCalled = OfCallOrders (λ g order. (c : ℕ) → is_among c o
 -- each ranking has exactly one call order
 abbrev pub EachRankingHasOneOrder : Type 0
 EachRankingHasOneOrder = (g : RankGroup) → IsRanking g → (order : CallOrder) × IsCallOrder g order × ((other : CallOrder) → IsCallOrder g other → other ≡ order)
+
+-- while some of a kind remain, they are at least the rate's part of those called so far
+abbrev pub KeepsRateAfter : ℕ → (Ranked → Bool) → RankGroup → List ℕ → Type 0
+KeepsRateAfter rate kind g before =
+    list_any kind (remaining g before) ≡ true → rate * length before ≤ 100 * count_by kind (called g before)
+
+-- each front of a list keeps a rate
+abbrev pub KeepsRate : ℕ → (Ranked → Bool) → RankGroup → List ℕ → Type 0
+KeepsRate rate kind g list = (n : ℕ) → KeepsRateAfter rate kind g (take n list)
+
+abbrev pub KeepsScholarRate : RankGroup → CallOrder → Type 0
+KeepsScholarRate g order = KeepsRate g.scholar_pct (λ r. r.scholar) g order.list
+
+abbrev pub ScholarRateIsKept : Type 0
+ScholarRateIsKept = OfCallOrders KeepsScholarRate
+
+-- the residents' rate is kept up to the first position at which scholarship alone ruled
+abbrev pub KeepsResidentRate : RankGroup → CallOrder → Type 0
+KeepsResidentRate g order =
+    (n : ℕ) → ((k : ℕ) → k < n → slice_get order.trace k ≢ Some Alone) → KeepsRateAfter g.resident_pct (λ r. r.resident) g (take n order.list)
+
+abbrev pub ResidentRateIsKept : Type 0
+ResidentRateIsKept = OfCallOrders KeepsResidentRate
+
+-- nobody of greater rank is called before a resident scholar
+abbrev pub CallsResidentScholarsFirst : RankGroup → CallOrder → Type 0
+CallsResidentScholarsFirst g order =
+    (r s : Ranked) (i j : ℕ) → Contains g.list r → Contains g.list s → slice_get order.list i ≡ Some r.candidate → slice_get order.list j ≡ Some s.candidate
+    → i < j → (s.scholar && s.resident) ≡ true → r.rank < s.rank
+
+abbrev pub ResidentScholarsComeFirst : Type 0
+ResidentScholarsComeFirst = OfCallOrders CallsResidentScholarsFirst
+
+-- where two lists first differ, the first of them has the lesser rank
+abbrev pub HasLesserRank : RankGroup → List ℕ → List ℕ → Type 0
+HasLesserRank g one other =
+    (k : ℕ) (r s : Ranked) → take k one ≡ take k other → Contains g.list r → Contains g.list s
+    → slice_get one k ≡ Some r.candidate → slice_get other k ≡ Some s.candidate → r.candidate ≢ s.candidate → r.rank < s.rank
+
+-- of all permutations of the ranking that keep a rate, this list is the least
+abbrev pub IsLeastThatKeeps : ℕ → (Ranked → Bool) → RankGroup → List ℕ → Type 0
+IsLeastThatKeeps rate kind g list =
+    (other : List ℕ) → IsPermutation (ranked_candidates g) other → KeepsRate rate kind g other → HasLesserRank g list other
+
+-- where the residents' rate is 0, a call order is the least that keeps the scholars' rate
+abbrev pub IsLeastByScholars : RankGroup → CallOrder → Type 0
+IsLeastByScholars g order = g.resident_pct ≡ 0 → IsLeastThatKeeps g.scholar_pct (λ r. r.scholar) g order.list
+
+abbrev pub ScholarOrderIsLeast : Type 0
+ScholarOrderIsLeast = OfCallOrders IsLeastByScholars
+
+-- and where the scholars' rate is 0, the least that keeps the residents' rate
+abbrev pub IsLeastByResidents : RankGroup → CallOrder → Type 0
+IsLeastByResidents g order = g.scholar_pct ≡ 0 → IsLeastThatKeeps g.resident_pct (λ r. r.resident) g order.list
+
+abbrev pub ResidentOrderIsLeast : Type 0
+ResidentOrderIsLeast = OfCallOrders IsLeastByResidents

@@ -1,1 +1,2 @@
 pub mod Favoured
+pub mod QueuedCalls

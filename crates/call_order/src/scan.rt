@@ -150,8 +150,8 @@ fn next_after(group: &RankGroup, before: &[u32]) -> Option<(u32, Bound)>
     }
 }
 
-/// The call order of a group.
-pub(crate) fn call_order_scanned(alloc: Global, group: &RankGroup) -> Result<CallOrder, OutOfMemory>
+/// The call order of a group by the plain scan, slowly: what `call_order` is compared with.
+pub fn call_order_scanned(alloc: Global, group: &RankGroup) -> Result<CallOrder, OutOfMemory>
     requires { IsRanking group.now }
     ensures { IfOk result (IsCallOrder group.now) }
 {

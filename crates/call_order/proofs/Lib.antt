@@ -1,0 +1,2 @@
+pub mod ByKinds
+pub mod QueuedSoFar

@@ -1,0 +1,48 @@
+//! The call order of a ranking group.
+ghost use Rattle.std.specs.Prelude.{◌≡◌, ◌<◌, length, nat_eq, IfOk};
+ghost use Rattle.std.specs.List.{IsDistinct};
+ghost use Rattle.std.specs.List.Sorted.{IsPermutation};
+ghost use Rattle.admit_core.specs.CallOrder.{IsCallOrder};
+ghost use Rattle.admit_core.specs.CallOrderLaws.{ranked_candidates};
+ghost use Rattle.admit_core.specs.Validity.{IsRanking};
+
+use crate::queued::call_order_queued;
+use admit_core::{CallOrder, OutOfMemory, RankGroup, Steps};
+use call_queues::Queues;
+use std::alloc::Global;
+use std::marker::Brand;
+use std::sync::ledger::{Blank, Ledger};
+
+/// The call order, with a counter that the blank opens.
+fn counted<L: Ledger>(
+    alloc: Global,
+    blank: Blank,
+    group: &RankGroup,
+) -> Result<CallOrder, OutOfMemory>
+    requires ranking { IsRanking group.now }
+    requires name { blank.name ≡ L.name }
+    requires parts { blank.parts ≡ L.parts }
+    requires shared { 0 < L.parts }
+    ensures { IfOk result (IsCallOrder group.now) }
+{
+    let mut steps: Steps<L> = Steps::new(blank);
+    let mut queues = Queues::build(alloc, group.list.as_slice())?;
+    call_order_queued(
+        alloc,
+        &mut queues,
+        group.scholar_pct,
+        group.resident_pct,
+        &mut steps,
+    )
+}
+
+/// The call order of a group, with the bound of each position.
+pub fn call_order(alloc: Global, group: &RankGroup) -> Result<CallOrder, OutOfMemory>
+    requires { IsRanking group.now }
+    ensures order { IfOk result (IsCallOrder group.now) }
+    ensures permutation { IfOk result (λ order. IsPermutation (ranked_candidates group.now) order.list) }
+    ensures distinct { IfOk result (λ order. IsDistinct nat_eq order.list) }
+    ensures length { IfOk result (λ order. length order.list ≡ length group.now.list) }
+{
+    counted::<Brand>(alloc, Blank::new(1), group)
+}

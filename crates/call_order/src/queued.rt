@@ -1,0 +1,181 @@
+//! Call orders by four queues: each call is chosen by the heads of the queues alone.
+ghost use Rattle.std.specs.Prelude.{◌≡◌, ◌+◌, ◌++◌, ◌<◌, ◌≤◌, ◌^◌, ◌&&◌, [], length, map, find, nat_eq, option_map, IfOk, IfErr};
+ghost use Rattle.std.specs.List.{list_any, IsDistinct};
+ghost use Rattle.std.specs.List.Sorted.{IsStrictlyIncreasing};
+ghost use Rattle.admit_core.specs.CallOrder.{may_be_called, IsCallOrder};
+ghost use Rattle.call_queues.specs.Kinds.{is_of};
+ghost use Rattle.call_order.specs.QueuedCalls.{ranking_by, earlier_of, more_called, too_few, bound_by, call_by};
+
+use admit_core::{Bound, CallOrder, OutOfMemory, Ranked, Sequence, Steps};
+use call_queues::{Kind, Queues};
+use std::alloc::Global;
+use std::sync::ledger::Ledger;
+
+/// The minimum rates of scholars and of residents, in per cent.
+#[derive(Clone, Copy, Debug)]
+struct Rates {
+    scholar_pct: u32,
+    resident_pct: u32,
+}
+
+/// How many were called, and how many of them are scholars and residents.
+#[derive(Clone, Copy, Debug)]
+struct Tally {
+    calls: usize,
+    scholars: usize,
+    residents: usize,
+}
+
+impl Tally {
+    /// Counts one more call.
+    fn count(self, called: &Ranked) -> Tally
+        requires calls { self.calls + 1 < 2 ^ 64 }
+        requires scholars { self.scholars ≤ self.calls }
+        requires residents { self.residents ≤ self.calls }
+        ensures { result ≡ more_called self called.now }
+    {
+        Tally {
+            calls: self.calls + 1,
+            scholars: self.scholars + usize::from(called.scholar),
+            residents: self.residents + usize::from(called.resident),
+        }
+    }
+}
+
+/// Whether too few were called for one more call, at a minimum rate in per cent.
+fn too_few(pct: u32, favoured: usize, calls: usize) -> bool
+    ensures { result ≡ too_few pct favoured calls }
+{
+    100 * (favoured as u128) < u128::from(pct) * (calls as u128 + 1)
+}
+
+/// Whether someone of a kind remains.
+fn any_remains(queues: &Queues, kind: Kind) -> bool
+    ensures { result ≡ list_any (is_of kind) queues.now.remaining }
+{
+    queues.peek(kind).is_some()
+}
+
+/// Whether a scholar remains.
+fn scholar_remains(queues: &Queues) -> bool
+    ensures { result ≡ list_any (λ r. r.scholar) queues.now.remaining }
+{
+    any_remains(queues, Kind::ScholarOnly) || any_remains(queues, Kind::BothKinds)
+}
+
+/// Whether a resident remains.
+fn resident_remains(queues: &Queues) -> bool
+    ensures { result ≡ list_any (λ r. r.resident) queues.now.remaining }
+{
+    any_remains(queues, Kind::ResidentOnly) || any_remains(queues, Kind::BothKinds)
+}
+
+/// Whether a resident scholar remains.
+fn both_remain(queues: &Queues) -> bool
+    ensures { result ≡ list_any (λ r. r.scholar && r.resident) queues.now.remaining }
+{
+    any_remains(queues, Kind::BothKinds)
+}
+
+/// Which rates bind the next call.
+fn bound_by(queues: &Queues, rates: Rates, tally: Tally) -> Bound
+    ensures { result ≡ bound_by rates tally queues.now.remaining }
+{
+    let scholar_binds =
+        scholar_remains(queues) && too_few(rates.scholar_pct, tally.scholars, tally.calls);
+    let resident_binds =
+        resident_remains(queues) && too_few(rates.resident_pct, tally.residents, tally.calls);
+    match (scholar_binds, resident_binds) {
+        (false, false) => Bound::Free,
+        (true, false) => Bound::Scholar,
+        (false, true) => Bound::Resident,
+        (true, true) if both_remain(queues) => Bound::Both,
+        (true, true) => Bound::Alone,
+    }
+}
+
+/// The one of lesser rank.
+fn earlier(one: Option<Ranked>, other: Option<Ranked>) -> Option<Ranked>
+    ensures { result ≡ earlier_of one other }
+{
+    match (one, other) {
+        (None, _) => other,
+        (Some(_), None) => one,
+        (Some(first), Some(second)) if first.rank < second.rank => Some(first),
+        (Some(_), Some(second)) => Some(second),
+    }
+}
+
+/// The least rank among those who remain and may be called: one of the heads.
+fn first_eligible(queues: &Queues, bound: Bound) -> Option<Ranked>
+    requires { IsStrictlyIncreasing (map (λ r. r.rank) queues.now.remaining) }
+    ensures { result ≡ find (may_be_called bound) queues.now.remaining }
+{
+    let scholar = queues.peek(Kind::ScholarOnly);
+    let resident = queues.peek(Kind::ResidentOnly);
+    let both = queues.peek(Kind::BothKinds);
+    match bound {
+        Bound::Free => earlier(
+            earlier(queues.peek(Kind::Neither), scholar),
+            earlier(resident, both),
+        ),
+        Bound::Scholar | Bound::Alone => earlier(scholar, both),
+        Bound::Resident => earlier(resident, both),
+        Bound::Both => both,
+    }
+}
+
+/// The next one and his bound. `None` where nobody remains.
+fn next_call(queues: &Queues, rates: Rates, tally: Tally) -> Option<(Ranked, Bound)>
+    requires { IsStrictlyIncreasing (map (λ r. r.rank) queues.now.remaining) }
+    ensures { result ≡ call_by rates tally queues.now.remaining }
+{
+    let bound = bound_by(queues, rates, tally);
+    match first_eligible(queues, bound) {
+        None => None,
+        Some(ranked) => Some((ranked, bound)),
+    }
+}
+
+/// The call order of those who remain in the queues, at these minimum rates in per cent. It takes
+/// them all, in one step a candidate, and chooses by the heads.
+pub fn call_order_queued<L: Ledger>(
+    alloc: Global,
+    queues: &mut Queues,
+    scholar_pct: u32,
+    resident_pct: u32,
+    steps: &mut Steps<L>,
+) -> Result<CallOrder, OutOfMemory>
+    requires scholar_pct { scholar_pct ≤ 100 }
+    requires resident_pct { resident_pct ≤ 100 }
+    requires candidates { IsDistinct nat_eq (map (λ r. r.candidate) queues.old.remaining) }
+    ensures order { IfOk result (IsCallOrder (ranking_by scholar_pct resident_pct queues.old.remaining)) }
+    ensures emptied { IfOk result (λ order. queues.new.remaining ≡ []) }
+    ensures taken { IfOk result (λ order. queues.new.taken ≡ queues.old.taken ++ order.list) }
+    ensures steps { IfOk result (λ order. steps.new ≡ steps.old + length queues.old.remaining) }
+    ensures unchanged { IfErr result (λ want. queues.new ≡ queues.old) }
+    ensures no_step { IfErr result (λ want. steps.new ≡ steps.old) }
+{
+    let count = queues.remaining();
+    let mut list = Vec::with_capacity(alloc, count)?;
+    let mut trace = Vec::with_capacity(alloc, count)?;
+    let rates = Rates {
+        scholar_pct,
+        resident_pct,
+    };
+    let mut tally = Tally {
+        calls: 0,
+        scholars: 0,
+        residents: 0,
+    };
+    while let Some((ranked, bound)) = next_call(queues, rates, tally) {
+        queues.pop(Kind::of(&ranked), steps);
+        tally = tally.count(&ranked);
+        list.push_reserved(ranked.candidate);
+        trace.push_reserved(bound);
+    }
+    Ok(CallOrder {
+        list: Sequence::from_vec(list),
+        trace: Sequence::from_vec(trace),
+    })
+}
