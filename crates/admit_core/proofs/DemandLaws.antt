@@ -65,7 +65,7 @@ and_first a b c d h t =
     and_from (d && b) c (and_from d b (h inner.0) inner.1) outer.1
 
 -- an open wish waits, and is not behind its bar
-not_barred_step : (waits behind : Bool) → (waits && not (waits && behind)) ≡ true → behind ≡ false
+pub not_barred_step : (waits behind : Bool) → (waits && not (waits && behind)) ≡ true → behind ≡ false
 not_barred_step true true t = sym t
 not_barred_step true false t = refl
 not_barred_step false true t = sym t
@@ -147,7 +147,7 @@ module _ (s : State) (orders : List CallOrder) (lower upper : List ℕ) (at_most
       (sym (demanded s orders upper h r) ∙ t)
 
 -- who is not behind the bar of a school and has no bed there ranks at most at the bar
-not_over : (s : State) (bars : List ℕ) (w : Wish) (school : Option ℕ) (h : ℕ) → is_school school h ≡ true
+pub not_over : (s : State) (bars : List ℕ) (w : Wish) (school : Option ℕ) (h : ℕ) → is_school school h ≡ true
     → not (holds_bed s w.candidate h) ≡ true → is_behind_bar s bars w school ≡ false → w.board_rank ≤ slice_index bars h
 not_over s bars w None h has no_bed t = absurd (false≢true has)
 not_over s bars w (Some g) h has no_bed t =

@@ -1,11 +1,15 @@
 pub mod ByPlaces
 pub mod Calls
 pub mod ChainRows
+pub mod Counting
 pub mod DayRows
 pub mod DemandLaws
 pub mod Dossiers
+pub mod Evenings
 pub mod FallsLaw
+pub mod FilledSeats
 pub mod FullBeds
+pub mod Holders
 pub mod LeastFirst
 pub mod NextCalls
 pub mod OrderPermutes
