@@ -1,11 +1,11 @@
 -- Counting candidates: those who are served in an order, and those who are freed nothing.
 use Rattle.std.proofs.Common.{ℕ, zero, suc, ◌+◌, ◌≤◌, ◌<◌, ◌≡◌, ◌⊎◌, Bool, true, false, cond, not, ◌&&◌, List, [], ◌∷◌, map, length, take, inl, inr, refl, sym, ◌∙◌, ap, arith, filter, nat_eq, count_by, get_or, add-one}
 use Rattle.std.specs.Prelude.{sum}
-use Rattle.std.specs.List.{IsDistinct, position_or_len, before_first, range_with_len, sum_by}
+use Rattle.std.specs.List.{IsDistinct, position_or_len, range_with_len, sum_by}
 use Rattle.std.proofs.lemmas.Bool.{and_parts, and_from, cases_Bool, cases_lt, eqb-true, eq-eqb, false≢true, and_cases, not-false}
 use Rattle.std.proofs.lemmas.Cmp.{nat_eq_equiv}
 use Rattle.std.proofs.lemmas.List.{take-take, map-id}
-use Rattle.std.proofs.lemmas.List.Sums.{count_by_more_yes, count_by_more_no, sum_by-take-le, get_or-le-sum_by, sum-map, fails_before_first, length-filter}
+use Rattle.std.proofs.lemmas.List.Sums.{count_by_more_yes, count_by_more_no, sum_by-take-le, get_or-le-sum_by, sum-map, fails_before_first}
 use Rattle.std.proofs.lemmas.List.Folds.{Any-from_list_any}
 use Rattle.std.proofs.lemmas.List.FromFn.{get_or-range_with_len, length-range_with_len}
 use Rattle.std.proofs.lemmas.Map.Made.{length-le_from_is_member, is_member-filter}

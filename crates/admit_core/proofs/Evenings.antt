@@ -1,7 +1,7 @@
 -- In the evening of a day a programme has seats left only where each waiting wish of it is barred.
-use Rattle.std.proofs.Common.{ℕ, ◌+◌, ◌<◌, ◌≡◌, Bool, true, false, not, ◌&&◌, ◌||◌, List, [], ◌∷◌, map, length, inl, inr, refl, sym, ◌∙◌, ap, subst, arith, filter, nat_eq, nat_lt, get_or, Option, Some, None}
+use Rattle.std.proofs.Common.{ℕ, ◌+◌, ◌<◌, ◌≡◌, Bool, true, false, not, ◌&&◌, ◌||◌, List, [], ◌∷◌, map, length, inl, inr, refl, sym, ◌∙◌, ap, subst, arith, nat_eq, nat_lt, get_or, Option, Some, None}
 use Rattle.std.specs.Prelude.{slice_index, IsTrue, IsSome}
-use Rattle.std.specs.List.{list_any, IsDistinct, All}
+use Rattle.std.specs.List.{All}
 use Rattle.std.proofs.lemmas.Bool.{and_parts, and_from, cases_Bool, cases_order, eqb-true, eq-eqb, false≢true, ltb-true, both_ways, false_from_ne_true, not-true, not_from_false}
 use Rattle.std.proofs.lemmas.List.{get_or_default}
 use Rattle.std.proofs.lemmas.List.Elements.{All-same, All-map}
@@ -12,15 +12,14 @@ use Rattle.admit_core.specs.declared.state.Mark.{Mark}
 use Rattle.admit_core.specs.declared.state.Freed.{Freed}
 use Rattle.admit_core.specs.declared.state.Stamp.{Stamp}
 use Rattle.admit_core.specs.declared.ranking.CallOrder.{CallOrder}
-use Rattle.admit_core.specs.declared.records.PassEnd.{PassEnd}
 use Rattle.admit_core.specs.DossierRows.{DossierRows, candidates_of}
 use Rattle.admit_core.specs.CallOrder.{AreCallOrders}
 use Rattle.admit_core.specs.Validity.{IsValid, IsApart}
 use Rattle.admit_core.specs.State.{State, entries, is_live, is_waiting, is_school, has_school, holds_seat, holds_bed, seats_left}
 use Rattle.admit_core.specs.Proposals.{is_behind_bar, is_barred, is_open, ahead, needs_no_seat, is_proposed}
 use Rattle.admit_core.specs.AutoAnswer.{auto_mark, best_live}
-use Rattle.admit_core.specs.Days.{offered, closing, freed_after, frees_nothing, Passes}
-use Rattle.admit_core.specs.EveningLaws.{last_bars, IsFilled, SeatsAreFilled}
+use Rattle.admit_core.specs.Days.{offered, closing, freed_after, frees_nothing}
+use Rattle.admit_core.specs.EveningLaws.{IsFilled, SeatsAreFilled}
 use Rattle.admit_core.proofs.Tests.{filter_implied}
 use Rattle.admit_core.proofs.DemandLaws.{not_over, not_barred_step}
 use Rattle.admit_core.proofs.Holders.{holds, lives_with, marked_by, entries_marked, holds_after, held_before, holder_has_wish}
@@ -28,7 +27,7 @@ use Rattle.admit_core.proofs.Counting.{nothing_freed}
 use Rattle.admit_core.proofs.FilledSeats.{offer_if, live_or_offered, waits_still, auto_live, auto_waits, order_distinct, takers_fill}
 
 -- the wish of an entry stands at its place
-entry_wish : (s : State) (k : ℕ) (x : Wish × Mark) → k < length (entries s) → get_or (entries s) k x ≡ x
+pub entry_wish : (s : State) (k : ℕ) (x : Wish × Mark) → k < length (entries s) → get_or (entries s) k x ≡ x
     → (k < length s.dossier.wishes) × (x.0 ≡ get_or s.dossier.wishes k x.0)
 entry_wish s k x lt at =
     let ws = s.dossier.wishes in
@@ -38,7 +37,7 @@ entry_wish s k x lt at =
     let m_lt : k < length ms = omega (arith, long, lt) in
     (w_lt, ap (λ (e : Wish × Mark). e.0) (sym at ∙ get_or-zip ws ms k x w_lt m_lt))
 
-school_is : (school : Option ℕ) (h : ℕ) → is_school school h ≡ true → school ≡ Some h
+pub school_is : (school : Option ℕ) (h : ℕ) → is_school school h ≡ true → school ≡ Some h
 school_is None h t = absurd (false≢true t)
 school_is (Some g) h t = ap Some (eqb-true g h t)
 
@@ -56,7 +55,7 @@ apart_rank v w h apart v_has w_has same =
     (apart.ranks some (v_school ∙ sym (school_is w.school h w_has))).1 same
 
 -- two wishes of a candidate with the same school have the same rank there
-same_rank : (d : DossierRows) → IsValid d → (j k : ℕ) (v w : Wish) (h : ℕ) → j < length d.wishes → k < length d.wishes → v ≡ get_or d.wishes j v
+pub same_rank : (d : DossierRows) → IsValid d → (j k : ℕ) (v w : Wish) (h : ℕ) → j < length d.wishes → k < length d.wishes → v ≡ get_or d.wishes j v
     → w ≡ get_or d.wishes k w → has_school v h ≡ true → has_school w h ≡ true → v.candidate ≡ w.candidate → v.board_rank ≡ w.board_rank
 same_rank d valid j k v w h j_lt k_lt v_at w_at v_has w_has same =
     let ws = d.wishes in
@@ -72,20 +71,20 @@ same_rank d valid j k v w h j_lt k_lt v_at w_at v_has w_has same =
     ]
 
 module _ (o : State) (orders : List CallOrder) (bars : List ℕ) (stamp : Stamp) where
-  abbrev offer : Wish → Mark → Mark
+  abbrev pub offer : Wish → Mark → Mark
   offer w m = offer_if stamp (is_proposed o orders bars w m) m
 
-  abbrev after_offers : State
+  abbrev pub after_offers : State
   after_offers = offered o orders bars stamp
 
-  abbrev closed : State
+  abbrev pub closed : State
   closed = closing o orders bars stamp
 
-  abbrev answer : Wish → Mark → Mark
+  abbrev pub answer : Wish → Mark → Mark
   answer w m = auto_mark stamp (best_live after_offers w.candidate) w m
 
   -- automatic answers give nobody a seat or a bed
-  held_after_offers : (test : Wish → Bool) (c : ℕ) → holds test closed c ≡ true → holds test after_offers c ≡ true
+  pub held_after_offers : (test : Wish → Bool) (c : ℕ) → holds test closed c ≡ true → holds test after_offers c ≡ true
   held_after_offers test c t = held_before test after_offers answer c (λ w m live. auto_live stamp (best_live after_offers w.candidate) w m live) t
 
   -- where they free nothing, who held a seat after the offers holds it
@@ -98,14 +97,14 @@ module _ (o : State) (orders : List CallOrder) (bars : List ℕ) (stamp : Stamp)
       (eqb-true freed.seats 0 parts.0) c p (holder_has_wish (λ w. nat_eq w.programme p) after_offers c held) lt held
 
   -- then a programme that the pass filled is full in the evening
-  full_in_evening : IsTrue (frees_nothing (freed_after o orders bars stamp)) → (p : ℕ) → p < length o.dossier.programmes
+  pub full_in_evening : IsTrue (frees_nothing (freed_after o orders bars stamp)) → (p : ℕ) → p < length o.dossier.programmes
       → seats_left after_offers p ≡ 0 → seats_left closed p ≡ 0
   full_in_evening none p lt full =
       let more = filter_implied (λ c. holds_seat after_offers c p) (λ c. holds_seat closed c p) (seat_kept none p lt) (candidates_of o.dossier) in
       omega (arith, more, full)
 
   -- who is behind the bar of a school gets no bed there
-  no_bed : IsValid o.dossier → (k : ℕ) (x : Wish × Mark) → k < length (entries o) → get_or (entries o) k x ≡ x → (h : ℕ) → has_school x.0 h ≡ true
+  pub no_bed : IsValid o.dossier → (k : ℕ) (x : Wish × Mark) → k < length (entries o) → get_or (entries o) k x ≡ x → (h : ℕ) → has_school x.0 h ≡ true
       → not (holds_bed o x.0.candidate h) ≡ true → slice_index bars h < x.0.board_rank → holds_bed closed x.0.candidate h ≡ false
   no_bed valid k x lt at h has free over =
       let w = x.0 in

@@ -1,8 +1,8 @@
 -- After a pass whose automatic answers free nothing, a programme has seats left only where each waiting wish of it is barred.
-use Rattle.std.proofs.Common.{ℕ, zero, suc, ◌-◌, ◌≤◌, ◌<◌, ◌≡◌, ◌⊎◌, Bool, true, false, cond, not, ◌&&◌, ◌||◌, List, [], ◌∷◌, map, length, take, inl, inr, refl, sym, ◌∙◌, ap, arith, filter, nat_eq, nat_lt, count_by, get_or, Option, Some, None}
-use Rattle.std.specs.Prelude.{slice_get, slice_index, option_map, unwrap_or, IsTrue}
-use Rattle.std.specs.List.{list_any, IsDistinct, AllZip, All, position_or_len, before_first}
-use Rattle.std.proofs.lemmas.Bool.{and_parts, and_from, or_parts, or_right, cases_Bool, cases_lt, eqb-true, eq-eqb, false≢true, lt-ltb, ltb-false, and_cases, both_ways}
+use Rattle.std.proofs.Common.{ℕ, zero, suc, ◌≤◌, ◌<◌, ◌≡◌, ◌⊎◌, Bool, true, false, cond, not, ◌&&◌, ◌||◌, List, [], ◌∷◌, length, take, inl, inr, refl, sym, ◌∙◌, arith, nat_eq, nat_lt, count_by, get_or, Option, Some, None}
+use Rattle.std.specs.Prelude.{slice_get, option_map, unwrap_or}
+use Rattle.std.specs.List.{IsDistinct, AllZip, All, position_or_len, before_first}
+use Rattle.std.proofs.lemmas.Bool.{and_parts, and_from, or_parts, or_right, cases_Bool, eqb-true, false≢true, lt-ltb, ltb-false, and_cases, both_ways}
 use Rattle.std.proofs.lemmas.List.Sums.{prefix_len-le-length, length-filter}
 use Rattle.std.proofs.lemmas.List.Elements.{All-head, All-tail}
 use Rattle.std.proofs.lemmas.List.Folds.{Any-from_list_any, list_any_at}
@@ -15,19 +15,19 @@ use Rattle.admit_core.specs.declared.state.Status.{Status}
 use Rattle.admit_core.specs.declared.state.Status.TheVariants.{Waiting, Offered, Accepted, Refused, Withdrawn, Quit, AutoRefused, AutoWithdrawn, Lapsed}
 use Rattle.admit_core.specs.declared.ranking.RankGroup.{RankGroup}
 use Rattle.admit_core.specs.declared.ranking.CallOrder.{CallOrder}
-use Rattle.admit_core.specs.DossierRows.{DossierRows, candidates_of, group_of, seats_of}
+use Rattle.admit_core.specs.DossierRows.{DossierRows, candidates_of, group_of}
 use Rattle.admit_core.specs.CallOrder.{IsCallOrder, AreCallOrders}
 use Rattle.admit_core.specs.Validity.{IsValid, IsValidGroup}
-use Rattle.admit_core.specs.State.{State, entries, with_marks, is_live, is_waiting, holds_seat, holds_bed, seats_left, changed_to}
-use Rattle.admit_core.specs.Proposals.{is_open, is_open_in, wants_seat, has_open_wish, order_of, ahead, before, needs_no_seat, is_proposed}
-use Rattle.admit_core.specs.AutoAnswer.{auto_mark, best_live, auto_all}
-use Rattle.admit_core.specs.Days.{offered, closing, freed_after, frees_nothing}
+use Rattle.admit_core.specs.State.{State, entries, is_live, is_waiting, holds_seat, seats_left, changed_to}
+use Rattle.admit_core.specs.Proposals.{is_open, is_open_in, wants_seat, has_open_wish, order_of, ahead, needs_no_seat, is_proposed}
+use Rattle.admit_core.specs.AutoAnswer.{auto_mark}
+use Rattle.admit_core.specs.Days.{offered, closing}
 use Rattle.admit_core.proofs.OrderPermutes.{distinct-order}
-use Rattle.admit_core.proofs.Holders.{holds, lives_with, marked_by, holds_after, holds_kept, held_before, holder_has_wish}
-use Rattle.admit_core.proofs.Counting.{count_front, first_at_most, served, pass_at_most, split_count, nothing_freed}
+use Rattle.admit_core.proofs.Holders.{lives_with, marked_by, holds_after, holds_kept, holder_has_wish}
+use Rattle.admit_core.proofs.Counting.{count_front, first_at_most, served, pass_at_most, split_count}
 
 -- what a mark is that was changed: an offered or accepted wish is live, one that was given up is not, and none waits
-offered_lives : (status : Status) (old stamp : Stamp) → is_live (changed_to Offered stamp (record { status = status; stamp = old })) ≡ true
+pub offered_lives : (status : Status) (old stamp : Stamp) → is_live (changed_to Offered stamp (record { status = status; stamp = old })) ≡ true
 offered_lives Waiting old stamp = refl
 offered_lives Offered old stamp = refl
 offered_lives Accepted old stamp = refl

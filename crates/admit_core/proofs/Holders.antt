@@ -1,17 +1,14 @@
 -- Who holds a seat or a bed after marks have changed.
-use Rattle.std.proofs.Common.{ℕ, zero, suc, ◌+◌, ◌≤◌, ◌<◌, ◌≡◌, Bool, true, false, cond, not, ◌&&◌, ◌||◌, List, [], ◌∷◌, map, length, inl, inr, refl, sym, ◌∙◌, ap, arith, filter, nat_eq, count_by, get_or}
-use Rattle.std.specs.Prelude.{zip, sum}
-use Rattle.std.specs.List.{list_any, range_with_len}
-use Rattle.std.proofs.lemmas.Bool.{and_parts, and_from, cases_Bool, eqb-true, eq-eqb, or_left, or_right, or_cases, false≢true}
-use Rattle.std.proofs.lemmas.List.Sums.{sum_by-cons, get_or-le-sum_by, sum-map}
-use Rattle.std.proofs.lemmas.List.FromFn.{get_or-range_with_len, length-range_with_len}
-use Rattle.std.proofs.lemmas.List.Folds.{Any-from_list_any, list_any_at, list_any-from_Any}
+use Rattle.std.proofs.Common.{ℕ, ◌≡◌, Bool, true, false, cond, ◌&&◌, ◌||◌, List, [], ◌∷◌, map, inl, inr, refl, sym, ◌∙◌, ap, nat_eq}
+use Rattle.std.specs.Prelude.{zip}
+use Rattle.std.specs.List.{list_any}
+use Rattle.std.proofs.lemmas.Bool.{and_parts, cases_Bool, eqb-true, eq-eqb, or_left, or_right, or_cases, false≢true}
 use Rattle.admit_core.specs.declared.dossier.Wish.{Wish}
 use Rattle.admit_core.specs.declared.state.Mark.{Mark}
 use Rattle.admit_core.specs.DossierRows.{candidates_of}
 use Rattle.admit_core.specs.Lists.{is_among, distinct}
-use Rattle.admit_core.specs.State.{State, entries, with_marks, is_live, holds_seat, holds_bed, has_school}
-use Rattle.admit_core.proofs.Tests.{Implies, any_implied}
+use Rattle.admit_core.specs.State.{State, entries, with_marks, is_live}
+use Rattle.admit_core.proofs.Tests.{any_implied}
 
 -- an entry with the mark that f gives
 abbrev pub marked_by : (Wish → Mark → Mark) → Wish × Mark → Wish × Mark

@@ -1,6 +1,7 @@
 pub mod ByPlaces
 pub mod Calls
 pub mod ChainRows
+pub mod ClosedEvenings
 pub mod Counting
 pub mod DayRows
 pub mod DemandLaws

@@ -1,5 +1,5 @@
 -- What holds in the evening of every day.
-use Rattle.std.specs.Prelude.{ℕ, ◌<◌, List, [], ◌∷◌, All, IsTrue}
+use Rattle.std.specs.Prelude.{◌≡◌, ℕ, ◌<◌, List, [], ◌∷◌, All, IsTrue}
 use Rattle.admit_core.specs.declared.dossier.Wish.{Wish}
 use Rattle.admit_core.specs.declared.state.Mark.{Mark}
 use Rattle.admit_core.specs.declared.ranking.CallOrder.{CallOrder}
@@ -7,7 +7,9 @@ use Rattle.admit_core.specs.declared.records.PassEnd.{PassEnd}
 use Rattle.admit_core.specs.Validity.{IsValid}
 use Rattle.admit_core.specs.CallOrder.{AreCallOrders}
 use Rattle.admit_core.specs.State.{State, entries, is_waiting, seats_left}
-use Rattle.admit_core.specs.Proposals.{is_barred}
+use Rattle.admit_core.specs.Proposals.{is_barred, proposed}
+use Rattle.admit_core.specs.Falls.{IsGreatest}
+use Rattle.admit_core.specs.Boarding.{boarding}
 use Rattle.admit_core.specs.Days.{Passes}
 
 -- the bars of the last pass of a day
@@ -28,3 +30,14 @@ SeatsAreFilled =
     → AreCallOrders opening.dossier.groups orders
     → Passes orders ceilings day k opening passes evening
     → All (IsFilled evening (last_bars passes)) (entries evening)
+
+-- an evening is closed: under its own greatest bars and the same ceilings no wish is proposed
+abbrev pub EveningsAreClosed : Type 0
+EveningsAreClosed =
+    (orders : List CallOrder) (ceilings : List ℕ) (day k : ℕ) (opening : State) (passes : List PassEnd) (evening : State)
+    → IsValid opening.dossier
+    → AreCallOrders opening.dossier.groups orders
+    → Passes orders ceilings day k opening passes evening
+    → (bars : List ℕ)
+    → IsGreatest (boarding evening orders ceilings) bars
+    → proposed evening orders bars ≡ []
