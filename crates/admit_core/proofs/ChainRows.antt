@@ -18,7 +18,7 @@ pub valid_chain_holds : ValidChain
 valid_chain_holds = (refl, (record { lines = (record { over = refl; names = refl; tells = refl }, tt); settled = refl }, refl, refl))
 
 pub chain_faults_hold : ChainFaults
-chain_faults_hold = (refl, refl, refl, refl, refl, refl, refl, refl, refl, refl, refl)
+chain_faults_hold = (refl, refl, refl, refl, refl, refl, refl, refl, refl, refl, refl, refl)
 
 pub two_passes_hold : TwoPasses
 two_passes_hold = (refl, refl)

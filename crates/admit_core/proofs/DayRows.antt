@@ -12,7 +12,7 @@ use Rattle.admit_core.specs.Boarding.{boarding}
 use Rattle.admit_core.specs.Days.{IsPassEnd, changes, offered, closing, freed_after}
 use Rattle.admit_core.proofs.Rows.{passes_with}
 use Rattle.admit_core.specs.WorkedRows.{two_orders}
-use Rattle.admit_core.specs.WorkedDays.{VacantSeat, BedIsHeld, EdgesOfBars, FreedSeat, FreedBed, LimitUnderBar, AnswersFit, AcceptsOne, Quits, Deadline, FirstDayExplained, SecondDayExplained, BarsExplained, two_candidates, edges, edge_orders, edge_marks, in_order, evening_one, quits}
+use Rattle.admit_core.specs.WorkedDays.{VacantSeat, BedIsHeld, EdgesOfBars, FreedSeat, FreedBed, LimitUnderBar, AnswersFit, AcceptsOne, AcceptedStays, BetterOffer, LiveTwice, HoldersStandAside, Quits, Deadline, FirstDayExplained, SecondDayExplained, BarsExplained, two_candidates, edges, edge_orders, edge_marks, in_order, evening_one, quits}
 
 -- a pass with its automatic answers, by its run of falls
 pass_end : (s : State) (orders : List CallOrder) (ceilings : List ℕ) (stamp : Stamp) (end : PassEnd) → IsRun (boarding s orders ceilings) end.pass.falls
@@ -109,6 +109,18 @@ answers_fit_holds = (refl, refl, refl, refl, refl, refl)
 
 pub accepts_one_holds : AcceptsOne
 accepts_one_holds = refl
+
+pub accepted_stays_holds : AcceptedStays
+accepted_stays_holds = refl
+
+pub better_offer_holds : BetterOffer
+better_offer_holds = (refl, refl)
+
+pub live_twice_holds : LiveTwice
+live_twice_holds = (refl, refl, refl)
+
+pub holders_stand_aside_holds : HoldersStandAside
+holders_stand_aside_holds = (refl, refl)
 
 pub quits_hold : Quits
 quits_hold = (

@@ -19,7 +19,7 @@ use Rattle.admit_core.specs.Boarding.{boarding}
 use Rattle.admit_core.proofs.Tests.{increasing-ascending, any_implied, count_implied, among-ascending, among-map_filter}
 
 -- the wish demands a bed of the school at this rank
-abbrev demands_at : State → List CallOrder → List ℕ → ℕ → ℕ → Wish × Mark → Bool
+abbrev pub demands_at : State → List CallOrder → List ℕ → ℕ → ℕ → Wish × Mark → Bool
 demands_at s orders bars h r e = demands_bed s orders bars h e.0 e.1 && nat_eq r e.0.board_rank
 
 -- a rank is demanded where some wish demands a bed at it
@@ -31,14 +31,14 @@ demanded s orders bars h r =
     among-ascending r (map rank (filter demands (entries s))) ∙ among-map_filter rank demands r (entries s)
 
 -- the parts of what it takes to demand a bed
-record Demands (s : State) (orders : List CallOrder) (bars : List ℕ) (h : ℕ) (w : Wish) (m : Mark) : Type 0 where
-  has : has_school w h ≡ true
-  ranked : nat_lt 0 w.board_rank ≡ true
-  no_bed : not (holds_bed s w.candidate h) ≡ true
-  opens : is_open s bars w m ≡ true
-  seat : (needs_no_seat s orders w || nat_lt (ahead s orders bars w) (seats_left s w.programme)) ≡ true
+pub record Demands (s : State) (orders : List CallOrder) (bars : List ℕ) (h : ℕ) (w : Wish) (m : Mark) : Type 0 where
+  pub has : has_school w h ≡ true
+  pub ranked : nat_lt 0 w.board_rank ≡ true
+  pub no_bed : not (holds_bed s w.candidate h) ≡ true
+  pub opens : is_open s bars w m ≡ true
+  pub seat : (needs_no_seat s orders w || nat_lt (ahead s orders bars w) (seats_left s w.programme)) ≡ true
 
-demand_parts : (s : State) (orders : List CallOrder) (bars : List ℕ) (h : ℕ) (w : Wish) (m : Mark)
+pub demand_parts : (s : State) (orders : List CallOrder) (bars : List ℕ) (h : ℕ) (w : Wish) (m : Mark)
     → demands_bed s orders bars h w m ≡ true → Demands s orders bars h w m
 demand_parts s orders bars h w m t =
     let outer = and_parts (has_school w h && nat_lt 0 w.board_rank && not (holds_bed s w.candidate h)) (is_proposed s orders bars w m) t in
@@ -47,7 +47,7 @@ demand_parts s orders bars h w m t =
     let proposed = and_parts (is_open s bars w m) (needs_no_seat s orders w || nat_lt (ahead s orders bars w) (seats_left s w.programme)) outer.1 in
     record { has = inner.0; ranked = inner.1; no_bed = middle.1; opens = proposed.0; seat = proposed.1 }
 
-demand_from : (s : State) (orders : List CallOrder) (bars : List ℕ) (h : ℕ) (w : Wish) (m : Mark)
+pub demand_from : (s : State) (orders : List CallOrder) (bars : List ℕ) (h : ℕ) (w : Wish) (m : Mark)
     → Demands s orders bars h w m → demands_bed s orders bars h w m ≡ true
 demand_from s orders bars h w m d = rw (d.has, d.ranked, d.no_bed, d.opens, d.seat) refl
 
@@ -65,7 +65,7 @@ and_first a b c d h t =
     and_from (d && b) c (and_from d b (h inner.0) inner.1) outer.1
 
 -- an open wish waits, and is not behind its bar
-not_barred_step : (waits behind : Bool) → (waits && not (waits && behind)) ≡ true → behind ≡ false
+pub not_barred_step : (waits behind : Bool) → (waits && not (waits && behind)) ≡ true → behind ≡ false
 not_barred_step true true t = sym t
 not_barred_step true false t = refl
 not_barred_step false true t = sym t
@@ -147,7 +147,7 @@ module _ (s : State) (orders : List CallOrder) (lower upper : List ℕ) (at_most
       (sym (demanded s orders upper h r) ∙ t)
 
 -- who is not behind the bar of a school and has no bed there ranks at most at the bar
-not_over : (s : State) (bars : List ℕ) (w : Wish) (school : Option ℕ) (h : ℕ) → is_school school h ≡ true
+pub not_over : (s : State) (bars : List ℕ) (w : Wish) (school : Option ℕ) (h : ℕ) → is_school school h ≡ true
     → not (holds_bed s w.candidate h) ≡ true → is_behind_bar s bars w school ≡ false → w.board_rank ≤ slice_index bars h
 not_over s bars w None h has no_bed t = absurd (false≢true has)
 not_over s bars w (Some g) h has no_bed t =

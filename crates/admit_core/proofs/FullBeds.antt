@@ -1,5 +1,5 @@
 -- Under the greatest bars of a lawful system, a place whose bar is below its ceiling is full: else its bar could rise by one.
-use Rattle.std.proofs.Common.{ℕ, suc, ◌+◌, ◌≤◌, ◌<◌, ◌≡◌, ◌⊎◌, ap, true, ◌||◌, List, [], ◌∷◌, length, inl, inr, refl, sym, arith, nat_eq, get_or, set}
+use Rattle.std.proofs.Common.{ℕ, suc, ◌+◌, ◌≤◌, ◌<◌, ◌≡◌, ◌⊎◌, ap, true, List, ◌∷◌, length, inl, inr, refl, sym, arith, nat_eq, get_or, set}
 use Rattle.std.specs.Prelude.{slice_index}
 use Rattle.std.specs.List.{IsDistinct}
 use Rattle.std.specs.List.Sorted.{IsStrictlyIncreasing}

@@ -3,11 +3,16 @@ pub mod CallRows
 pub mod CalledCounts
 pub mod Calls
 pub mod ChainRows
+pub mod ClosedEvenings
+pub mod Counting
 pub mod DayRows
 pub mod DemandLaws
 pub mod Dossiers
+pub mod Evenings
 pub mod FallsLaw
+pub mod FilledSeats
 pub mod FullBeds
+pub mod Holders
 pub mod LeastFirst
 pub mod LeastOrder
 pub mod NextCalls

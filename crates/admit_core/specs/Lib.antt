@@ -9,6 +9,7 @@ pub mod ChainLines
 pub mod Chains
 pub mod Days
 pub mod DossierRows
+pub mod EveningLaws
 pub mod Explanations
 pub mod Falls
 pub mod Faults

@@ -50,6 +50,7 @@ ChainFaults =
     × (fault_of (one_pass (line 3 5 10 2 (3 ∷ 1 ∷ []) ∷ []) 4) ≡ Some (3, WrongWishes))
     × (fault_of (one_pass (line 3 5 10 2 (1 ∷ []) ∷ []) 4) ≡ Some (3, WrongWishes))
     × (fault_of (one_pass (line 3 5 10 2 (1 ∷ 9 ∷ []) ∷ []) 4) ≡ Some (3, WrongWishes))
+    × (fault_of (one_pass (line 3 5 9 2 (1 ∷ 9 ∷ []) ∷ []) 4) ≡ Some (3, WrongWishes))
     × (fault_of (one_pass (line 3 5 10 1 (1 ∷ 3 ∷ []) ∷ []) 4) ≡ Some (3, WrongBar))
     × (fault_of (one_pass (line 3 5 9 2 (1 ∷ 3 ∷ []) ∷ []) 4) ≡ Some (3, WrongBar))
     × (fault_of (one_pass [] 3) ≡ Some (3, StillOver 0))

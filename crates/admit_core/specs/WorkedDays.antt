@@ -16,11 +16,13 @@ use Rattle.admit_core.specs.declared.explanation.Explanation.{Explanation}
 use Rattle.admit_core.specs.declared.explanation.Explanation.TheVariants.{Gone, Live, Barred, NoSeat}
 use Rattle.admit_core.specs.declared.explanation.BarCause.TheVariants.{Ceiling, Full}
 use Rattle.admit_core.specs.DossierRows.{DossierRows}
-use Rattle.admit_core.specs.State.{State, entries}
+use Rattle.admit_core.specs.State.{State, entries, seats_left, free_beds}
+use Rattle.admit_core.specs.Proposals.{proposed, demanded_ranks}
+use Rattle.admit_core.specs.AutoAnswer.{auto_all}
 use Rattle.admit_core.specs.Answers.{after_all}
 use Rattle.admit_core.specs.Days.{Days, first_evening, ceilings_of, morning, unfit_on, closing}
 use Rattle.admit_core.specs.Explanations.{explanation}
-use Rattle.admit_core.specs.WorkedRows.{programme, limited, school, wish, boarder, rows, order, marked, two_offers, two_orders, realistic, realistic_order, first_marks, last_marks}
+use Rattle.admit_core.specs.WorkedRows.{programme, limited, school, wish, boarder, rows, state, order, marked, two_offers, two_orders, realistic, realistic_order, first_marks, last_marks}
 
 abbrev pub fall : ℕ → ℕ → ℕ → List ℕ → Fall
 fall h from to wishes = record { school = h; from = from; to = to; wishes = wishes }
@@ -164,6 +166,44 @@ abbrev pub AcceptsOne : Type 0
 AcceptsOne =
     (after_all three_wishes (record { day = 2; pass = 0 }) (accepts 0 ∷ [])).marks
     ≡ marked Accepted 2 0 ∷ marked Refused 2 0 ∷ marked Waiting 0 0 ∷ marked Offered 1 1 ∷ []
+
+-- accepting what is accepted changes nothing, not its stamp either
+abbrev pub AcceptedStays : Type 0
+AcceptedStays =
+    (after_all three_wishes (record { day = 2; pass = 0 }) (accepts 1 ∷ [])).marks
+    ≡ marked Refused 2 0 ∷ marked Accepted 1 0 ∷ marked Waiting 0 0 ∷ marked Offered 1 1 ∷ []
+
+-- what is answered for a candidate who has accepted: nothing while he has no better offer, and that one once he has it
+abbrev pub ranks_two : List Mark → State
+ranks_two marks = record { dossier = rows (programme 10 0 1 ∷ programme 20 0 1 ∷ []) [] (wish 1 81 0 2 ∷ wish 2 81 1 1 ∷ []) []; marks = marks }
+
+abbrev pub BetterOffer : Type 0
+BetterOffer =
+    let kept = marked Accepted 1 1 ∷ marked Waiting 0 0 ∷ [] in
+    let better = marked Accepted 1 1 ∷ marked Offered 2 1 ∷ [] in
+    ((auto_all (ranks_two kept) (record { day = 2; pass = 1 })).marks ≡ kept)
+    × ((auto_all (ranks_two better) (record { day = 2; pass = 1 })).marks ≡ marked AutoRefused 2 1 ∷ marked Accepted 2 1 ∷ [])
+
+-- who is live in a programme or a school takes one seat or bed there, by however many wishes
+abbrev pub live_twice : State
+live_twice =
+    state (rows (programme 10 0 2 ∷ programme 20 0 1 ∷ []) (school 5 2 9 ∷ []) (boarder 1 71 0 0 1 0 ∷ wish 2 71 0 0 ∷ boarder 3 71 1 0 1 0 ∷ [])
+    (Offered ∷ Accepted ∷ Offered ∷ []))
+
+abbrev pub LiveTwice : Type 0
+LiveTwice = (seats_left live_twice 0 ≡ 1) × (seats_left live_twice 1 ≡ 0) × (free_beds live_twice 0 ≡ 1)
+
+-- who is live in a school is not barred there and demands no bed, and who is live in a programme stands ahead of nobody
+abbrev pub live_in_both : State
+live_in_both =
+    state (rows (programme 10 0 2 ∷ programme 20 0 1 ∷ []) (school 5 1 9 ∷ [])
+    (boarder 1 71 0 0 3 0 ∷ boarder 2 71 1 0 3 0 ∷ wish 3 71 0 0 ∷ wish 4 72 0 0 ∷ [])
+    (Offered ∷ Waiting ∷ Waiting ∷ Waiting ∷ []))
+
+abbrev pub HoldersStandAside : Type 0
+HoldersStandAside =
+    let orders = in_order (71 ∷ 72 ∷ []) ∷ [] in
+    (proposed live_in_both orders (0 ∷ []) ≡ 1 ∷ 2 ∷ 3 ∷ []) × (demanded_ranks live_in_both orders (0 ∷ []) 0 ≡ [])
 
 -- who quits loses all his live and waiting wishes, and the seat is offered on the same day
 abbrev pub Quits : Type 0

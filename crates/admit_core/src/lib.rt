@@ -7,6 +7,7 @@
 mod bar_laws;
 mod chain;
 mod dossier;
+mod evening_laws;
 mod explanation;
 mod laws;
 mod lines;
@@ -26,6 +27,7 @@ pub use dossier::{
     Answer, AnswerKind, CeilingChange, Dossier, MAX_DAY, MAX_NUMBER, MAX_ROWS, Programme, School,
     Wish,
 };
+pub use evening_laws::laws_of_evenings;
 pub use explanation::{BarCause, Explanation};
 pub use laws::laws_of_call_orders;
 pub use ranking::{Bound, CallOrder, CallOrders, RankGroup, Ranked};

@@ -1,7 +1,7 @@
 //! Worked cases of the rules, as theorems.
 ghost use Rattle.admit_core.specs.WorkedFaults.{RankingFaults, WishFaults, StateFaults, OtherFaults, StandingRows};
 ghost use Rattle.admit_core.specs.WorkedChains.{ValidChain, ChainFaults, TwoPasses, AnyName, Envies, SeatIsVacant, NoneBlocks, BedsNeeded};
-ghost use Rattle.admit_core.specs.WorkedDays.{VacantSeat, BedIsHeld, EdgesOfBars, FreedSeat, FreedBed, LimitUnderBar, AnswersFit, AcceptsOne, Quits, Deadline, FirstDayExplained, SecondDayExplained, BarsExplained};
+ghost use Rattle.admit_core.specs.WorkedDays.{VacantSeat, BedIsHeld, EdgesOfBars, FreedSeat, FreedBed, LimitUnderBar, AnswersFit, AcceptsOne, AcceptedStays, BetterOffer, LiveTwice, HoldersStandAside, Quits, Deadline, FirstDayExplained, SecondDayExplained, BarsExplained};
 ghost use Rattle.admit_core.specs.WorkedRows.{SmallRate, NoRate, FullRates, ScholarshipAlone, ScholarsExhausted, GreatestBar, OneFall, WhyNot, OneBed, NoSecondSeat, TwoOffers, BetterWaits, CallLimit, Cascade, OneDay, TwoDays, OldOffer, SmallDossier};
 
 /// What the definitions give on worked cases of the rules. It does nothing when it is called: its
@@ -37,6 +37,10 @@ pub fn worked_days()
     ensures limit_under_bar { LimitUnderBar }
     ensures answers_fit { AnswersFit }
     ensures accepts_one { AcceptsOne }
+    ensures accepted_stays { AcceptedStays }
+    ensures better_offer { BetterOffer }
+    ensures live_twice { LiveTwice }
+    ensures holders_stand_aside { HoldersStandAside }
     ensures quits { Quits }
     ensures deadline { Deadline }
     ensures first_day_explained { FirstDayExplained }
