@@ -9,8 +9,8 @@ mod chain;
 mod dossier;
 mod evening_laws;
 mod explanation;
-mod laws;
 mod lines;
+mod order_laws;
 mod ranking;
 mod records;
 mod refusal;
@@ -29,7 +29,7 @@ pub use dossier::{
 };
 pub use evening_laws::laws_of_evenings;
 pub use explanation::{BarCause, Explanation};
-pub use laws::laws_of_call_orders;
+pub use order_laws::laws_of_call_orders;
 pub use ranking::{Bound, CallOrder, CallOrders, RankGroup, Ranked};
 pub use records::{DayRecord, Fall, Lapse, PassEnd, PassRecord, Terms};
 pub use refusal::{InFault, OutOfMemory, Reason, Refusal};

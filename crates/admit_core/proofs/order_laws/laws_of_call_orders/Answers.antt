@@ -3,7 +3,7 @@ use Rattle.admit_core.proofs.OneOrder.{one_order}
 use Rattle.admit_core.proofs.ScholarsFirst.{scholars_come_first}
 use Rattle.admit_core.proofs.RatesKept.{scholar_rate_kept, resident_rate_kept}
 use Rattle.admit_core.proofs.LeastOrder.{scholar_order_least, resident_order_least}
-use Rattle.admit_core.proofs.laws.laws_of_call_orders.Goals as goal
+use Rattle.admit_core.proofs.order_laws.laws_of_call_orders.Goals as goal
 
 pub returns : goal.returns
 returns c =
