@@ -1,5 +1,6 @@
 pub mod ByPlaces
 pub mod Calls
+pub mod ChainLaws
 pub mod ChainRows
 pub mod ClosedEvenings
 pub mod Counting
