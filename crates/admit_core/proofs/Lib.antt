@@ -2,6 +2,7 @@ pub mod ByPlaces
 pub mod CallRows
 pub mod CalledCounts
 pub mod Calls
+pub mod ChainLaws
 pub mod ChainRows
 pub mod ClosedEvenings
 pub mod Counting

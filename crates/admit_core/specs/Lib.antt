@@ -5,6 +5,7 @@ pub mod Blocking
 pub mod Boarding
 pub mod CallOrder
 pub mod CallOrderLaws
+pub mod ChainLaws
 pub mod ChainLines
 pub mod Chains
 pub mod Days

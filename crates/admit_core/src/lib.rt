@@ -6,6 +6,7 @@
 
 mod bar_laws;
 mod chain;
+mod chain_laws;
 mod dossier;
 mod evening_laws;
 mod explanation;
@@ -23,6 +24,7 @@ mod worked;
 
 pub use bar_laws::laws_of_bars;
 pub use chain::{Chain, ChainFault, ChainReason, CheckReason, DayChain, FallLine, PassChain};
+pub use chain_laws::laws_of_chains;
 pub use dossier::{
     Answer, AnswerKind, CeilingChange, Dossier, MAX_DAY, MAX_NUMBER, MAX_ROWS, Programme, School,
     Wish,
