@@ -1,9 +1,9 @@
 -- The first of a list by the heads of its kinds.
-use Rattle.std.proofs.Common.{ℕ, ◌<◌, ◌≡◌, Bool, true, false, cond, not, ◌&&◌, ◌||◌, List, [], ◌∷◌, map, inl, inr, refl, sym, ◌∙◌, ap, arith, filter, Option, Some, None, nat_eq, nat_lt}
+use Rattle.std.proofs.Common.{ℕ, ◌<◌, ◌≡◌, Bool, true, false, not, ◌&&◌, ◌||◌, List, [], ◌∷◌, map, inl, inr, refl, sym, ◌∙◌, ap, arith, filter, Option, Some, None, nat_eq, nat_lt}
 use Rattle.std.specs.Prelude.{find, is_some}
-use Rattle.std.specs.List.{list_any, AllByRecursion, IsDistinct}
+use Rattle.std.specs.List.{list_any, IsDistinct}
 use Rattle.std.specs.List.Sorted.{IsStrictlyIncreasing}
-use Rattle.std.proofs.lemmas.Bool.{cases_Bool, or_parts, lt-ltb, le-ltb, eq-eqb}
+use Rattle.std.proofs.lemmas.Bool.{cases_Bool, lt-ltb, le-ltb, eq-eqb}
 use Rattle.std.proofs.lemmas.Map.Keys.{IsDistinct-head, IsDistinct-tail}
 use Rattle.admit_core.specs.declared.ranking.Ranked.{Ranked}
 use Rattle.admit_core.specs.declared.ranking.Bound.{Bound}
@@ -11,9 +11,8 @@ use Rattle.admit_core.specs.declared.ranking.Bound.TheVariants.{Free, Scholar, R
 use Rattle.admit_core.specs.CallOrder.{may_be_called}
 use Rattle.admit_core.proofs.LeastFirst.{RisesBy, found_has, rises_by_key}
 use Rattle.admit_core.proofs.OrderPermutes.{all_stay, later_key}
-use Rattle.call_queues.specs.declared.kind.Kind.{Kind}
 use Rattle.call_queues.specs.declared.kind.Kind.TheVariants.{Neither, ScholarOnly, ResidentOnly, BothKinds}
-use Rattle.call_queues.specs.Kinds.{has_flags, kind_by, kind_of, is_of, head_of, without_first, without_head}
+use Rattle.call_queues.specs.Kinds.{has_flags, kind_by, kind_of, is_of, head_of, without_first}
 use Rattle.call_queues.proofs.MovedHeads.{own_flags}
 use Rattle.call_order.specs.QueuedCalls.{earlier_of}
 

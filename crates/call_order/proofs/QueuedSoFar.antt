@@ -1,7 +1,7 @@
 -- A call order in the making by the queues: what holds of the calls so far.
-use Rattle.std.proofs.Common.{ℕ, ◌+◌, ◌≤◌, ◌<◌, ◌≡◌, Bool, false, not, ◌&&◌, List, [], ◌∷◌, ◌++◌, map, length, refl, sym, ◌∙◌, ap, arith, filter, Option, Some, None, nat_eq, count_by}
+use Rattle.std.proofs.Common.{ℕ, ◌+◌, ◌≤◌, ◌<◌, ◌≡◌, false, not, List, [], ◌∷◌, ◌++◌, map, length, refl, sym, ◌∙◌, ap, arith, filter, Option, Some, None, nat_eq, count_by}
 use Rattle.std.specs.Prelude.{option_map, find}
-use Rattle.std.specs.List.{list_any, IsDistinct}
+use Rattle.std.specs.List.{IsDistinct}
 use Rattle.std.specs.List.Sorted.{IsStrictlyIncreasing}
 use Rattle.std.proofs.lemmas.List.{length_push}
 use Rattle.std.proofs.lemmas.List.Sums.{count_by-le-length}
@@ -19,7 +19,7 @@ use Rattle.call_queues.specs.Kinds.{kind_of, is_of, head_of, without_head}
 use Rattle.call_queues.proofs.Firsts.{length-without_first}
 use Rattle.call_order.specs.declared.queued.Rates.{Rates}
 use Rattle.call_order.specs.declared.queued.Tally.{Tally}
-use Rattle.call_order.specs.QueuedCalls.{more_called, bound_by, call_by}
+use Rattle.call_order.specs.QueuedCalls.{more_called, call_by}
 use Rattle.call_order.proofs.ByKinds.{head_of_own_kind, without_first-filter}
 
 -- a ranking whose queues can be built: its ranks rise, and nobody is ranked twice
@@ -84,8 +84,11 @@ pub record QueuedCall (g : RankGroup) (list : List ℕ) (trace : List Bound) (ta
 tally_push : (g : RankGroup) (list : List ℕ) (r : Ranked) (b : Bound) → IsQueued g → find (may_be_called b) (remaining g list) ≡ Some r
     → more_called (tally_of g list) r ≡ tally_of g (list ++ r.candidate ∷ [])
 tally_push g list r b queued found =
-    rw (length_push list r.candidate, count_called_push (λ (x : Ranked). x.scholar) (may_be_called b) g list r queued.candidates found,
-    count_called_push (λ (x : Ranked). x.resident) (may_be_called b) g list r queued.candidates found) refl
+    rw (
+      length_push list r.candidate,
+      count_called_push (λ (x : Ranked). x.scholar) (may_be_called b) g list r queued.candidates found,
+      count_called_push (λ (x : Ranked). x.resident) (may_be_called b) g list r queued.candidates found,
+    ) refl
 
 pub queued_push : {g : RankGroup} {list : List ℕ} {trace : List Bound} {tally : Tally} {rs : List Ranked} {r : Ranked} {b : Bound} → QueuedSoFar g list trace tally rs
     → IsQueued g → call_by (rates_of g) tally rs ≡ Some (r, b) → QueuedCall g list trace tally rs r b

@@ -9,3 +9,6 @@ mod scan;
 pub use group::call_order;
 pub use queued::call_order_queued;
 pub use scan::call_order_scanned;
+
+#[cfg(test)]
+mod tests;

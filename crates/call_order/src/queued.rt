@@ -81,10 +81,10 @@ fn both_remain(queues: &Queues) -> bool
 fn bound_by(queues: &Queues, rates: Rates, tally: Tally) -> Bound
     ensures { result ≡ bound_by rates tally queues.now.remaining }
 {
-    let scholar_binds =
-        scholar_remains(queues) && too_few(rates.scholar_pct, tally.scholars, tally.calls);
-    let resident_binds =
-        resident_remains(queues) && too_few(rates.resident_pct, tally.residents, tally.calls);
+    let scholar_binds = scholar_remains(queues)
+        && too_few(rates.scholar_pct, tally.scholars, tally.calls);
+    let resident_binds = resident_remains(queues)
+        && too_few(rates.resident_pct, tally.residents, tally.calls);
     match (scholar_binds, resident_binds) {
         (false, false) => Bound::Free,
         (true, false) => Bound::Scholar,

@@ -1,6 +1,6 @@
 use Rattle.std.proofs.Common.{◌≡◌, ◌∙◌, [], ◌∷◌, length, sym, refl, ap, arith, Some}
 use Rattle.std.proofs.lemmas.List.{append-nil, append_assoc, length_push}
-use Rattle.call_order.proofs.QueuedSoFar.{QueuedSoFar, queued_none, queued_push, queued_done}
+use Rattle.call_order.proofs.QueuedSoFar.{queued_none, queued_push, queued_done}
 use Rattle.call_order.proofs.queued.call_order_queued.Goals as goal
 
 pub loop-ranked-init : goal.loop-ranked-init
@@ -87,4 +87,3 @@ returns-clause-steps g c =
     let end = queued_done c.loop-ranked.invariant.so_far (record { ranks = c.remaining-count.ensures.ranks; candidates = c.requires.candidates }) (sym c.next_call.ensures ∙ c.in_default.is) in
     let none = ap length end.nobody in
     omega (arith, c.loop-ranked.invariant.steps, c.loop-ranked.invariant.so_far.count, none)
-
