@@ -1,5 +1,5 @@
 -- The small dossier of the tests is valid.
-use Rattle.std.proofs.Common.{ℕ, ◌≤◌, ◌<◌, ◌≡◌, Bool, true, false, List, [], ◌∷◌, get_or, refl, arith, lit≤, lit<, nat_eq, Some, None}
+use Rattle.std.proofs.Common.{ℕ, ◌≤◌, ◌≡◌, Bool, true, false, List, [], ◌∷◌, get_or, refl, arith, lit≤, lit<, nat_eq, Some, None}
 use Rattle.std.specs.Prelude.{◌↔◌, IsSome, All}
 use Rattle.std.specs.List.{AllPairs, IsDistinct}
 use Rattle.std.proofs.lemmas.List.Elements.{All-cons, All-nil}
