@@ -17,7 +17,7 @@ ghost use Rattle.day_state.specs.Applied.{answered, after_fitting, after_fitting
 use crate::counted_marks::CountedMarks;
 use crate::index::{CandidateIndex, candidate_at};
 use crate::mark::{OwnChange, changed_to, first_mark, is_live_status, is_waiting_status, lapses};
-use admit_core::{Answer, AnswerKind, Dossier, OutOfMemory, Stamp, Status, Terms};
+use admit_core::{Answer, AnswerKind, Dossier, Mark, OutOfMemory, Stamp, Status, Terms};
 use std::alloc::Global;
 use std::marker::Model;
 
@@ -89,6 +89,14 @@ impl<'d> DayState<'d> {
         ensures { result.now ≡ self.now.dossier }
     {
         self.live.dossier()
+    }
+
+    /// The marks of all wishes, by place.
+    pub fn marks(&self) -> &[Mark]
+        ensures marks { result.now ≡ self.now.marks }
+        ensures one_each { length result.now ≡ length self.now.dossier.wishes }
+    {
+        self.live.marks()
     }
 
     /// The status of a wish.
