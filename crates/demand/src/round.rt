@@ -38,10 +38,8 @@ impl<'a, 'd> PlainRound<'a, 'd> {
     ) -> Result<PlainRound<'a, 'd>, OutOfMemory>
         requires orders { AreCallOrders state.now.dossier.groups orders.now.orders }
         requires ceilings { length ceilings.now ≡ length state.now.dossier.schools }
-        ensures state { IfOk result (λ round. round.state.now ≡ state.now) }
-        ensures orders { IfOk result (λ round. round.orders.now.orders ≡ orders.now.orders) }
-        ensures ceilings { IfOk result (λ round. round.ceilings.items ≡ ceilings.now) }
-        ensures bars { IfOk result (λ round. round.bars.items ≡ ceilings.now) }
+        ensures system { IfOk result (λ round. ⟦<PlainRound<'a, 'd> as Falling>⟧.system round ≡ boarding state.now orders.now.orders ceilings.now) }
+        ensures bars { IfOk result (λ round. ⟦<PlainRound<'a, 'd> as Falling>⟧.bars round ≡ ceilings.now) }
     {
         call_everyone(state, orders);
         let bars = ceilings.to_vec(alloc)?;

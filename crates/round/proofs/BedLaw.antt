@@ -1,5 +1,5 @@
 -- As many candidates become live in a school as there are demanded ranks.
-use Rattle.std.proofs.Common.{ℕ, ◌≤◌, ◌<◌, ◌≡◌, Bool, true, false, not, ◌&&◌, ◌||◌, List, [], ◌∷◌, map, length, get_or, inl, inr, refl, sym, ◌∙◌, ap, subst, arith, filter, find, nat_eq, nat_lt, zero, suc, Option, Some, None}
+use Rattle.std.proofs.Common.{ℕ, ◌≤◌, ◌<◌, ◌≡◌, Bool, true, false, not, ◌&&◌, List, [], ◌∷◌, map, length, get_or, inl, inr, refl, sym, ◌∙◌, ap, arith, filter, find, nat_eq, nat_lt, suc, Option, Some, None}
 use Rattle.std.specs.Prelude.{◌↔◌, IsSome, option_map, unwrap_or}
 use Rattle.std.specs.List.{list_any, IsDistinct}
 use Rattle.std.proofs.lemmas.Bool.{cases_Bool, cases_order, and_parts, and_from, or_cases, or_left, or_right, not-true, eqb-true, eq-eqb, lt-ltb, false≢true}

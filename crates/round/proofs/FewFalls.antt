@@ -1,6 +1,6 @@
 -- Each fall of a school's bar bars a waiting wish for good.
-use Rattle.std.proofs.Common.{ℕ, ◌+◌, ◌-◌, ◌≤◌, ◌<◌, ◌≡◌, Bool, true, false, cond, not, ◌&&◌, ◌||◌, List, [], ◌∷◌, length, get_or, inl, inr, refl, sym, ◌∙◌, ap, subst, arith, filter, nat_eq, nat_lt, zero, suc, Option, Some, None, count_by}
-use Rattle.std.specs.Prelude.{slice_index, is_some, Contains}
+use Rattle.std.proofs.Common.{ℕ, ◌+◌, ◌-◌, ◌≤◌, ◌<◌, ◌≡◌, Bool, true, false, cond, not, ◌&&◌, ◌||◌, List, [], ◌∷◌, length, get_or, inl, inr, refl, sym, ◌∙◌, subst, arith, filter, nat_eq, nat_lt, zero, suc, Option, Some, None}
+use Rattle.std.specs.Prelude.{slice_index, is_some}
 use Rattle.std.proofs.lemmas.Bool.{cases_Bool, and_parts, and_from, not-true, eqb-true, lt-ltb, false≢true, cases_eq}
 use Rattle.std.proofs.lemmas.Cmp.{nat_eq_equiv}
 use Rattle.std.proofs.lemmas.List.{length-set, get_or-set_same, get_or-set_other}
@@ -12,15 +12,15 @@ use Rattle.admit_core.specs.declared.dossier.Wish.{Wish}
 use Rattle.admit_core.specs.declared.state.Mark.{Mark}
 use Rattle.admit_core.specs.declared.records.Fall.{Fall}
 use Rattle.admit_core.specs.declared.ranking.CallOrder.{CallOrder}
-use Rattle.admit_core.specs.State.{State, entries, is_waiting, is_school, has_school, holds_bed, seats_left}
+use Rattle.admit_core.specs.State.{State, entries, is_waiting, is_school, holds_bed, seats_left}
 use Rattle.admit_core.specs.Proposals.{is_behind_bar, is_barred, is_open, is_proposed, needs_no_seat, ahead, demands_bed, demanded_ranks}
 use Rattle.admit_core.specs.Falls.{FallingSystem, IsAtMost, is_overfilled, fall_of, fallen, AreFalls}
 use Rattle.admit_core.specs.Boarding.{boarding}
 use Rattle.admit_core.proofs.DemandLaws.{demanded, behind_lower, boarding_is_lawful}
 use Rattle.admit_core.proofs.FallsLaw.{over_in, over_rank, falls_under}
-use Rattle.admit_core.proofs.Tests.{Implies, filter_implied, step_implied}
+use Rattle.admit_core.proofs.Tests.{Implies, filter_implied}
 use Rattle.round.specs.PassLaws.{waiting_boarders, FallsAreFew}
-use Rattle.round.proofs.BedLaw.{Demands, demand_parts}
+use Rattle.round.proofs.BedLaw.{demand_parts}
 
 -- one more passes the weaker test
 filter_grows : {X : Type 0} (p q : X → Bool) → Implies p q → (xs : List X) (k : ℕ) (x : X) → k < length xs → get_or xs k x ≡ x → p x ≡ false → q x ≡ true
@@ -69,8 +69,11 @@ module _ (s : State) (orders : List CallOrder) (ceilings : List ℕ) where
   barred_at_most : (bars : List ℕ) → length (filter (barred bars) (entries s)) ≤ waiting_boarders s
   barred_at_most bars =
       let boards = λ (e : Wish × Mark). is_waiting e.1 && is_some e.0.school in
-      omega (arith, length-filter boards (entries s),
-      filter_implied (barred bars) boards (λ e t. boards_from e.0.school (is_waiting e.1) (is_behind_bar s bars e.0 e.0.school) (no_bar s bars e.0 e.0.school) t) (entries s))
+      omega (
+        arith,
+        length-filter boards (entries s),
+        filter_implied (barred bars) boards (λ e t. boards_from e.0.school (is_waiting e.1) (is_behind_bar s bars e.0 e.0.school) (no_bar s bars e.0 e.0.school) t) (entries s),
+      )
 
   -- a fall lowers one bar, and no other
   fall_lowers : (bars : List ℕ) (i : ℕ) → IsAtMost bars ceilings → is_overfilled sys bars i ≡ true → IsAtMost (fallen bars (fall_of sys bars i)) bars

@@ -1,7 +1,7 @@
 -- Greatest bars are lowered only where all free beds are demanded.
-use Rattle.std.proofs.Common.{ℕ, ◌+◌, ◌≤◌, ◌<◌, ◌≡◌, true, List, ◌∷◌, length, map, inl, inr, refl, sym, ◌∙◌, ap, arith, nat_eq}
-use Rattle.std.specs.Prelude.{slice_index, slice_set, Contains}
-use Rattle.std.specs.List.{IsDistinct, range_with_len}
+use Rattle.std.proofs.Common.{ℕ, ◌+◌, ◌≤◌, ◌<◌, ◌≡◌, true, List, ◌∷◌, length, inl, inr, sym, ◌∙◌, arith, nat_eq}
+use Rattle.std.specs.Prelude.{slice_index, slice_set}
+use Rattle.std.specs.List.{IsDistinct}
 use Rattle.std.proofs.lemmas.Bool.{eqb-true, eq-eqb, or_left, or_right, cases_lt, cases_eq}
 use Rattle.std.proofs.lemmas.Cmp.{nat_eq_equiv}
 use Rattle.std.proofs.lemmas.List.{length-set, get_or-set_same, get_or-set_other, get_or_past}
@@ -74,11 +74,14 @@ module _ (sys : FallingSystem) (lawful : IsLawful sys) (bars : List ℕ) (is_gre
   one_more : length (sys.ranks raised h) ≤ length (sys.ranks bars h) + 1
   one_more =
       let top : ℕ = slice_index bars h + 1 in
-      omega (arith, length-le_from_is_member nat_eq_equiv (sys.ranks raised h) (top ∷ sys.ranks bars h) (once h h_bar)
-      (λ r among. elim (cases_eq r top) [
-        | inl here ↦ or_left (nat_eq r top) (is_among r (sys.ranks bars h)) (eq-eqb r top here)
-        | inr below ↦ or_right (nat_eq r top) (is_among r (sys.ranks bars h)) (stays h r h_bar among (omega (arith, raised_to_bar h r h_bar among, at_h, below)))
-      ]))
+      omega (
+        arith,
+        length-le_from_is_member nat_eq_equiv (sys.ranks raised h) (top ∷ sys.ranks bars h) (once h h_bar)
+            (λ r among. elim (cases_eq r top) [
+              | inl here ↦ or_left (nat_eq r top) (is_among r (sys.ranks bars h)) (eq-eqb r top here)
+              | inr below ↦ or_right (nat_eq r top) (is_among r (sys.ranks bars h)) (stays h r h_bar among (omega (arith, raised_to_bar h r h_bar among, at_h, below)))
+            ]),
+      )
 
   -- THE LAW: all beds are demanded
   pub lowered_is_full : length (sys.ranks bars h) ≡ slice_index sys.free h

@@ -1,14 +1,13 @@
 -- Lists of numbers of which none stands twice.
-use Rattle.std.proofs.Common.{ℕ, ◌≤◌, ◌≡◌, Bool, true, false, cond, ◌&&◌, ◌||◌, List, [], ◌∷◌, map, length, suc, inl, inr, refl, sym, ◌∙◌, ap, subst, arith, nat_eq, filter}
+use Rattle.std.proofs.Common.{ℕ, ◌≡◌, Bool, true, false, cond, ◌||◌, List, [], ◌∷◌, inl, inr, refl, ◌∙◌, ap, arith, nat_eq, filter}
 use Rattle.std.specs.List.Sorted.{IsStrictlyIncreasing}
-use Rattle.std.specs.List.{list_any, IsDistinct, AllByRecursion}
+use Rattle.std.specs.List.{IsDistinct, AllByRecursion}
 use Rattle.std.proofs.lemmas.Bool.{cases_Bool, eqb-true, or_cases, or_left, or_right, or_parts}
 use Rattle.std.proofs.lemmas.Bool.Decides.{Decides-eqb}
 use Rattle.std.proofs.lemmas.Map.Keys.{IsDistinct-head, IsDistinct-tail, IsDistinct-cons}
 use Rattle.std.proofs.lemmas.List.Kept.{AllPairs-from_increasing}
 use Rattle.std.proofs.lemmas.Map.Made.{IsDistinct-from_AllPairs}
 use Rattle.admit_core.specs.Lists.{is_among, distinct}
-use Rattle.admit_core.proofs.OrderPermutes.{nat_eq_turn}
 
 -- what stands in a filtered list
 pub among-filter : (p : ℕ → Bool) (c : ℕ) (ns : List ℕ) → is_among c ns ≡ true → p c ≡ true → is_among c (filter p ns) ≡ true

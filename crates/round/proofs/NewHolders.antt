@@ -1,8 +1,8 @@
 -- Who becomes live as wishes are offered.
-use Rattle.std.proofs.Common.{ℕ, ◌<◌, ◌≡◌, Bool, true, false, not, ◌&&◌, ◌||◌, List, [], ◌∷◌, map, length, get_or, inl, inr, refl, sym, ◌∙◌, ap, arith, filter, nat_eq, zip, zero, suc}
+use Rattle.std.proofs.Common.{ℕ, ◌<◌, ◌≡◌, Bool, true, false, ◌&&◌, List, [], ◌∷◌, map, length, get_or, inl, inr, refl, sym, ◌∙◌, ap, arith, nat_eq, zip}
 use Rattle.std.specs.Prelude.{◌==◌, if◌then◌else◌}
-use Rattle.std.specs.List.{list_any, Any}
-use Rattle.std.proofs.lemmas.Bool.{cases_Bool, and_parts, and_from, false≢true, not-true, not-false}
+use Rattle.std.specs.List.{list_any}
+use Rattle.std.proofs.lemmas.Bool.{cases_Bool, and_parts, and_from, false≢true}
 use Rattle.std.proofs.lemmas.Slice.Zip.{length-zip, get_or-zip}
 use Rattle.std.proofs.lemmas.List.Folds.{Any-from_list_any, list_any_at}
 use Rattle.admit_core.specs.declared.dossier.Wish.{Wish}
@@ -11,7 +11,7 @@ use Rattle.admit_core.specs.declared.state.Status.{Status}
 use Rattle.admit_core.specs.declared.state.Status.TheVariants.{Waiting, Offered, Accepted, Refused, Withdrawn, Quit, AutoRefused, AutoWithdrawn, Lapsed}
 use Rattle.admit_core.specs.declared.state.Stamp.{Stamp}
 use Rattle.admit_core.specs.declared.ranking.CallOrder.{CallOrder}
-use Rattle.admit_core.specs.State.{State, entries, with_marks, is_live, changed_to}
+use Rattle.admit_core.specs.State.{State, entries, is_live, changed_to}
 use Rattle.admit_core.specs.Proposals.{is_proposed}
 use Rattle.admit_core.specs.Days.{offered}
 use Rattle.day_state.specs.Kept.{holds_one}

@@ -1,5 +1,5 @@
 -- The laws of passes.
-use Rattle.std.proofs.Common.{ℕ, ◌<◌, ◌≡◌, List, map, length, get_or, inl, inr, refl, sym, ◌∙◌, ap, arith, zero-add}
+use Rattle.std.proofs.Common.{ℕ, ◌<◌, ◌≡◌, List, map, length, inl, inr, ◌∙◌, arith}
 use Rattle.std.specs.Prelude.{slice_index}
 use Rattle.std.specs.List.{range_with_len}
 use Rattle.std.proofs.lemmas.Bool.{cases_lt}

@@ -1,8 +1,10 @@
 -- No programme takes in more candidates than it has seats left, or than its call limit.
-use Rattle.std.proofs.Common.{ℕ, ◌+◌, ◌-◌, ◌≤◌, ◌<◌, ◌≡◌, Bool, true, false, cond, not, ◌&&◌, ◌||◌, List, [], ◌∷◌, map, length, take, get_or, inl, inr, refl, sym, ◌∙◌, ap, arith, filter, nat_eq, nat_lt, nat_le, zero, suc, count_by}
+use Rattle.std.proofs.Common.{ℕ, ◌+◌, ◌-◌, ◌≤◌, ◌<◌, ◌≡◌, Bool, true, false, cond, not, ◌&&◌, ◌||◌, List, [], ◌∷◌, map, length, get_or, inl, inr, refl, sym, ◌∙◌, ap, arith, filter, nat_eq, nat_lt, nat_le, zero, suc, count_by}
 use Rattle.std.specs.Prelude.{max, ◌==◌, option_map, unwrap_or, slice_get, All}
-use Rattle.std.specs.List.{before_first, position_or_len, list_any, IsDistinct, AllByRecursion}
-use Rattle.std.proofs.lemmas.Bool.{cases_Bool, and_parts, and_from, or_cases, or_left, or_right, not-true, not-false, eqb-true, eq-eqb, ltb-true, leb-true, false≢true}
+use Rattle.std.specs.List.{before_first, position_or_len, IsDistinct, AllByRecursion}
+use Rattle.std.proofs.lemmas.Bool.{cases_Bool, and_parts, and_from, or_cases, or_left, or_right, not-true, eqb-true, eq-eqb, ltb-true, leb-true, false≢true}
+use Rattle.std.proofs.lemmas.Option.{unwrap_or-slice_get}
+use Rattle.std.proofs.lemmas.List.{get_or_default}
 use Rattle.std.proofs.lemmas.List.Folds.{list_any_at}
 use Rattle.std.proofs.lemmas.List.Sums.{length-filter, count_by-le-length}
 use Rattle.std.proofs.lemmas.Cmp.{nat_eq_equiv}
@@ -13,16 +15,17 @@ use Rattle.admit_core.specs.declared.state.Mark.{Mark}
 use Rattle.admit_core.specs.declared.state.Stamp.{Stamp}
 use Rattle.admit_core.specs.declared.ranking.CallOrder.{CallOrder}
 use Rattle.admit_core.specs.declared.ranking.RankGroup.{RankGroup}
-use Rattle.admit_core.specs.Lists.{is_among, distinct}
-use Rattle.admit_core.specs.DossierRows.{DossierRows, group_of, limit_of, ranking_of, candidates_of}
-use Rattle.admit_core.specs.CallOrder.{IsCallOrder, AreCallOrders}
-use Rattle.admit_core.specs.CallOrderLaws.{ranked_candidates}
+use Rattle.admit_core.specs.Lists.{is_among}
+use Rattle.admit_core.specs.DossierRows.{group_of, limit_of, candidates_of}
+use Rattle.admit_core.specs.CallOrder.{AreCallOrders}
 use Rattle.admit_core.specs.Validity.{IsValid, IsValidGroup}
 use Rattle.admit_core.specs.State.{State, entries, holds_seat, seats_left, seat_holders}
-use Rattle.admit_core.specs.Proposals.{is_open, wants_seat, has_open_wish, order_of, before, ahead, position_of, needs_no_seat, is_proposed, is_open_in}
+use Rattle.admit_core.specs.Proposals.{is_open, wants_seat, has_open_wish, order_of, before, ahead, needs_no_seat, is_open_in}
 use Rattle.admit_core.specs.Days.{offered}
-use Rattle.admit_core.proofs.OrderPermutes.{distinct-order, among-order, nat_eq_turn}
-use Rattle.round.specs.PassLaws.{new_seat_holders, OffersFitSeats}
+use Rattle.admit_core.proofs.OrderPermutes.{distinct-order, nat_eq_turn}
+use Rattle.day_state.specs.Kept.{wish_in}
+use Rattle.demand.proofs.Calling.{all_called}
+use Rattle.round.specs.PassLaws.{new_seat_holders}
 use Rattle.round.proofs.Members.{among-filter, among_filtered, distinct-filter, distinct_once, none_twice}
 use Rattle.round.proofs.NewHolders.{MakesLive, becomes_live, entry_wish}
 
@@ -70,24 +73,18 @@ few_served served wants m n (x ∷ xs) apart each =
       | inr other ↦ omega (arith, length_filter_cons served x xs, rest, ap one_if other)
     ]
 
--- the call order of a group's place: nobody twice, and exactly the ranked candidates
-record IsOrderOf (order ranking : List ℕ) : Type 0 where
-  once : IsDistinct nat_eq order
-  ranked : (c : ℕ) → is_among c order ≡ is_among c ranking
-
-order_at : (groups : List RankGroup) (orders : List CallOrder) (k : ℕ) → AreCallOrders groups orders → All IsValidGroup groups
-    → IsOrderOf (unwrap_or (option_map (λ (o : CallOrder). o.list) (slice_get orders k)) []) (map (λ r. r.candidate) (unwrap_or (option_map (λ (g : RankGroup). g.list) (slice_get groups k)) []))
-order_at [] [] k are valid = record { once = none_twice; ranked = λ c. refl }
-order_at [] (o ∷ os) k are valid = absurd are
-order_at (g ∷ gs) [] k are valid = absurd are
-order_at (g ∷ gs) (o ∷ os) zero are valid =
-    let ranking = (valid 0 g (omega arith)).ranking in
-    record { once = distinct-order g o ranking are.0; ranked = among-order g o ranking are.0 }
-order_at (g ∷ gs) (o ∷ os) (suc k) are valid = order_at gs os k are.1 (λ i d lt. valid (suc i) d (omega arith))
+-- nobody stands twice in the call order at a place
+order_once : (groups : List RankGroup) (orders : List CallOrder) (k : ℕ) → AreCallOrders groups orders → All IsValidGroup groups
+    → IsDistinct nat_eq (unwrap_or (option_map (λ (o : CallOrder). o.list) (slice_get orders k)) [])
+order_once [] [] k are valid = none_twice
+order_once [] (o ∷ os) k are valid = absurd are
+order_once (g ∷ gs) [] k are valid = absurd are
+order_once (g ∷ gs) (o ∷ os) zero are valid = distinct-order g o (valid 0 g (omega arith)).ranking are.0
+order_once (g ∷ gs) (o ∷ os) (suc k) are valid = order_once gs os k are.1 (λ i d lt. valid (suc i) d (omega arith))
 
 module _ (s : State) (orders : List CallOrder) (bars : List ℕ) (stamp : Stamp) (valid : IsValid s.dossier) (are : AreCallOrders s.dossier.groups orders) where
-  is_order : (p : ℕ) → IsOrderOf (order_of s.dossier orders p) (map (λ r. r.candidate) (ranking_of s.dossier p))
-  is_order p = order_at s.dossier.groups orders (group_of s.dossier p) are valid.groups
+  called_once : (p : ℕ) → IsDistinct nat_eq (order_of s.dossier orders p)
+  called_once p = order_once s.dossier.groups orders (group_of s.dossier p) are valid.groups
 
   -- who becomes live in a programme is called, wants a seat, and has few before him who want one
   served : (p c : ℕ) → MakesLive s orders bars (λ w. w.programme == p) c → holds_seat s c p ≡ false
@@ -115,10 +112,11 @@ module _ (s : State) (orders : List CallOrder) (bars : List ℕ) (stamp : Stamp)
         ]
         | inr left ↦ omega (arith, ltb-true (count_by (wants_seat s bars p) front) (seats_left s p) left, length-filter (wants_seat s bars p) front)
       ] in
-      let ranked : is_among w.candidate (map (λ r. r.candidate) (ranking_of s.dossier w.programme)) ≡ true =
-      let listed = entry_wish s makes.place e makes.within makes.here in (rw listed.1 at (valid.wishes makes.place w listed.0)).ranked in
-      let stands : is_among c (map (λ r. r.candidate) (ranking_of s.dossier p)) ≡ true = rw (own, named) at ranked in
-      ((is_order p).ranked c ∙ stands, wanting, few)
+      let listed = entry_wish s makes.place e makes.within makes.here in
+      let is : wish_in s.dossier.wishes makes.place ≡ w =
+      unwrap_or-slice_get s.dossier.wishes makes.place (wish_in [] 0) ∙ get_or_default s.dossier.wishes makes.place (wish_in [] 0) w listed.0 ∙ listed.1 in
+      let called = (all_called s.dossier valid orders are).each makes.place listed.0 in
+      (rw (own, named) at (rw is at called), wanting, few)
 
   -- who is new in a programme
   new_seat : (p c : ℕ) → is_among c (new_seat_holders s (offered s orders bars stamp) p) ≡ true
@@ -141,7 +139,7 @@ module _ (s : State) (orders : List CallOrder) (bars : List ℕ) (stamp : Stamp)
       let facts = served p c (becomes_live s orders bars stamp (λ w. w.programme == p) c is_new.0 is_new.1) is_new.1 in
       among-filter serves c order facts.0 (and_from (holds_seat new c p) (not (holds_seat s c p)) is_new.0 (rw is_new.1 refl))) in
       let few : length (filter serves order) ≤ max (seats_left s p) (limit_of s.dossier p) - 0 =
-      few_served serves (wants_seat s bars p) (max (seats_left s p) (limit_of s.dossier p)) 0 order (is_order p).once
+      few_served serves (wants_seat s bars p) (max (seats_left s p) (limit_of s.dossier p)) 0 order (called_once p)
       (λ c among serving.
       let parts = and_parts (holds_seat new c p) (not (holds_seat s c p)) serving in
       let before = not-true (holds_seat s c p) parts.1 in

@@ -1,8 +1,5 @@
-use Rattle.std.proofs.Common.{rules, ◌≡◌, ◌<◌, ◌∙◌, ℕ, List, length, subst}
-use Rattle.std.specs.Prelude.{All}
+use Rattle.std.proofs.Common.{rules, ◌≡◌, ◌∙◌, subst}
 use Rattle.admit_core.specs.Validity.{IsValid}
-use Rattle.admit_core.specs.State.{State}
-use Rattle.admit_core.specs.DossierRows.{DossierRows}
 use Rattle.admit_core.specs.Proposals.{proposed}
 use Rattle.admit_core.specs.Days.{offered}
 use Rattle.round.proofs.Offering.{proposed_are_wishes, offers_recorded}
