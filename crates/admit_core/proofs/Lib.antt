@@ -4,6 +4,8 @@ pub mod DemandLaws
 pub mod Dossiers
 pub mod FallsLaw
 pub mod LeastFirst
+pub mod NextCalls
+pub mod OrderPermutes
 pub mod Remaining
 pub mod Rows
 pub mod SlotFacts

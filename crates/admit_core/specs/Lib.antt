@@ -2,6 +2,7 @@ pub mod Answers
 pub mod AutoAnswer
 pub mod Boarding
 pub mod CallOrder
+pub mod CallOrderLaws
 pub mod Days
 pub mod DossierRows
 pub mod Explanations

@@ -6,6 +6,7 @@
 
 mod dossier;
 mod explanation;
+mod laws;
 mod lines;
 mod ranking;
 mod records;
@@ -22,6 +23,7 @@ pub use dossier::{
     Wish,
 };
 pub use explanation::{BarCause, Explanation};
+pub use laws::laws_of_call_orders;
 pub use ranking::{Bound, CallOrder, CallOrders, RankGroup, Ranked};
 pub use records::{DayRecord, Fall, Lapse, PassEnd, PassRecord, Terms};
 pub use refusal::{InFault, OutOfMemory, Reason, Refusal};

@@ -2,7 +2,7 @@
 ghost use Rattle.std.specs.Prelude.{◌≡◌, ◌<◌, ◌≤◌, ◌^◌, length, ◌↔◌, IfOk, IsOk, IsTrue, ◌&&◌, All, pos, slice_index_or};
 ghost use Rattle.admit_core.specs.declared.state.Status.TheVariants.{Offered, Accepted};
 ghost use Rattle.admit_core.specs.declared.dossier.AnswerKind.TheVariants.{Accept, Quit};
-ghost use Rattle.admit_core.specs.State.{State, with_mark_at, holds_seat, holds_bed, seat_holders, bed_holders, is_live, is_waiting};
+ghost use Rattle.admit_core.specs.State.{State, with_mark_at, holds_seat, holds_bed, seat_holders, bed_holders, is_live, is_waiting, changed_to};
 ghost use Rattle.admit_core.specs.Answers.{mark_at, status_at, change_at, after_kind, first_unfit};
 ghost use Rattle.admit_core.specs.OwnWishes.{own_places, IsOneAccepted};
 ghost use Rattle.admit_core.specs.Days.{first_evening};
@@ -11,6 +11,7 @@ ghost use Rattle.admit_core.specs.Lapses.{lapse};
 ghost use Rattle.admit_core.specs.AutoAnswer.{auto_one, freed_by};
 ghost use Rattle.day_state.specs.Pending.{IsPending};
 ghost use Rattle.day_state.specs.Kept.{mark_in};
+ghost use Rattle.day_state.specs.Along.{change_along};
 ghost use Rattle.day_state.specs.Lapsing.{lapsed};
 ghost use Rattle.day_state.specs.Laws.{AreOwn, OwnFit};
 ghost use Rattle.day_state.specs.Applied.{answered, after_fitting, after_fitting_front, refused_at};
@@ -183,6 +184,18 @@ impl<'d> DayState<'d> {
         ensures { self.new ≡ change_at self.old wish Offered stamp }
     {
         self.put(wish, Status::Offered, stamp);
+    }
+
+    /// Offers wishes that wait, and keeps one mark for each wish.
+    pub fn offer_all(&mut self, wishes: &[u32], stamp: Stamp)
+        requires { All (λ k. k < length self.old.dossier.wishes) wishes.now }
+        ensures offered { self.new ≡ change_along (λ w m. changed_to Offered stamp m) wishes.now self.old }
+        ensures marks { length self.new.marks ≡ length self.new.dossier.wishes }
+    {
+        let _ = &self.live; // learns the invariant
+        for wish in wishes {
+            self.put(*wish, Status::Offered, stamp);
+        }
     }
 
     /// Accepts a wish: its candidate's other live wishes are refused.

@@ -1,0 +1,134 @@
+-- A call order has its ranking's candidates, in an order of its own.
+use Rattle.std.proofs.Common.{ℕ, zero, suc, ◌≤◌, ◌<◌, ◌≡◌, Bool, true, false, not, List, [], ◌∷◌, ◌++◌, map, length, take, inl, inr, refl, sym, ◌∙◌, ap, arith, filter, Some, nat_eq}
+use Rattle.std.specs.Prelude.{slice_get, zip}
+use Rattle.std.specs.List.{list_any, IsDistinct, AllByRecursion}
+use Rattle.std.specs.List.Sorted.{IsPermutation}
+use Rattle.std.proofs.lemmas.Bool.{cases_Bool, false≢true, eqb-true, eqb-false, eq-eqb, ne_eqb}
+use Rattle.std.proofs.lemmas.List.{append-nil, length-map, take_all}
+use Rattle.std.proofs.lemmas.List.Sorted.{IsPermutation-refl, IsPermutation-cons, IsPermutation-middle, IsPermutation-trans, IsPermutation-pop_more, length_permutation, list_any-IsPermutation}
+use Rattle.std.proofs.lemmas.Map.Keys.{IsDistinct-head, IsDistinct-tail, IsDistinct-cons, IsDistinct-IsPermutation}
+use Rattle.std.proofs.lemmas.Option.{slice_get_past}
+use Rattle.std.proofs.lemmas.Slice.Zip.{length-zip}
+use Rattle.admit_core.specs.declared.ranking.Ranked.{Ranked}
+use Rattle.admit_core.specs.declared.ranking.RankGroup.{RankGroup}
+use Rattle.admit_core.specs.declared.ranking.Bound.{Bound}
+use Rattle.admit_core.specs.declared.ranking.CallOrder.{CallOrder}
+use Rattle.admit_core.specs.Lists.{is_among}
+use Rattle.admit_core.specs.CallOrder.{remaining, next_after, IsCallOrder}
+use Rattle.admit_core.specs.CallOrderLaws.{ranked_candidates, OrdersPermuteRankings, OrdersAreWhole, NobodyIsCalledTwice, ExactlyTheRankedAreCalled}
+use Rattle.admit_core.specs.Validity.{IsRanking}
+use Rattle.admit_core.proofs.NextCalls.{next_none, next_some, find_any, remaining_push, remaining_first}
+
+pub nat_eq_turn : (x y : ℕ) → nat_eq x y ≡ nat_eq y x
+nat_eq_turn x y =
+    elim (cases_Bool (nat_eq x y)) [
+      | inl same ↦ same ∙ sym (eq-eqb y x (sym (eqb-true x y same)))
+      | inr other ↦ other ∙ sym (ne_eqb y x (λ e. eqb-false x y other (sym e)))
+    ]
+
+all_stay : {X : Type 0} (key : X → ℕ) (c : ℕ) (xs : List X) → AllByRecursion (λ k. nat_eq c k ≡ false) (map key xs) → filter (λ x. not (nat_eq (key x) c)) xs ≡ xs
+all_stay key c [] all = refl
+all_stay key c (x ∷ xs) all = rw (nat_eq_turn (key x) c, all.0) (ap (λ ys. x ∷ ys) (all_stay key c xs all.1))
+
+-- where keys differ, a list is one of its keys and the others
+pub permutation_without : {X : Type 0} (key : X → ℕ) (c : ℕ) (xs : List X) → IsDistinct nat_eq (map key xs) → list_any (λ x. nat_eq (key x) c) xs ≡ true
+    → IsPermutation (map key xs) (c ∷ map key (filter (λ x. not (nat_eq (key x) c)) xs))
+permutation_without key c [] apart t = absurd (false≢true t)
+permutation_without key c (x ∷ xs) apart t =
+    elim (cases_Bool (nat_eq (key x) c)) [
+      | inl here ↦
+          let same = eqb-true (key x) c here in
+          let all = IsDistinct-head nat_eq (key x) (map key xs) apart in
+          rw (here, all_stay key c xs (rw same at all), same) (IsPermutation-refl (c ∷ map key xs))
+      | inr other ↦
+          let rest = map key (filter (λ x. not (nat_eq (key x) c)) xs) in
+          let later = permutation_without key c xs (IsDistinct-tail nat_eq (key x) (map key xs) apart) (rw other at t) in
+          rw other
+          (IsPermutation-trans (key x ∷ map key xs) (key x ∷ c ∷ rest) (c ∷ key x ∷ rest) (IsPermutation-cons (key x) (map key xs) (c ∷ rest) later)
+          (IsPermutation-middle (key x ∷ []) c rest))
+    ]
+
+all_filter : {X : Type 0} (P : ℕ → Type 0) (key : X → ℕ) (test : X → Bool) (xs : List X) → AllByRecursion P (map key xs) → AllByRecursion P (map key (filter test xs))
+all_filter P key test [] all = tt
+all_filter P key test (x ∷ xs) all =
+    elim (cases_Bool (test x)) [
+      | inl passes ↦ rw passes (all.0, all_filter P key test xs all.1)
+      | inr fails ↦ rw fails (all_filter P key test xs all.1)
+    ]
+
+-- keys that differ still do after a filter
+pub distinct_filter : {X : Type 0} (key : X → ℕ) (test : X → Bool) (xs : List X) → IsDistinct nat_eq (map key xs) → IsDistinct nat_eq (map key (filter test xs))
+distinct_filter key test [] apart = apart
+distinct_filter key test (x ∷ xs) apart =
+    let later = distinct_filter key test xs (IsDistinct-tail nat_eq (key x) (map key xs) apart) in
+    elim (cases_Bool (test x)) [
+      | inl passes ↦
+          rw passes
+          (IsDistinct-cons nat_eq (key x) (map key (filter test xs)) (all_filter _ key test xs (IsDistinct-head nat_eq (key x) (map key xs) apart)) later)
+      | inr fails ↦ rw fails later
+    ]
+
+-- after some calls a ranking's candidates are those called and those who remain
+abbrev Parts : RankGroup → List ℕ → Type 0
+Parts g before = IsPermutation (ranked_candidates g) (before ++ map (λ r. r.candidate) (remaining g before))
+
+parts_first : (g : RankGroup) → Parts g []
+parts_first g = rw remaining_first (IsPermutation-refl (ranked_candidates g))
+
+parts_push : (g : RankGroup) (before : List ℕ) (c : ℕ) (b : Bound) → IsRanking g → next_after g before ≡ Some (c, b) → Parts g before → Parts g (before ++ c ∷ [])
+parts_push g before c b ranking next parts =
+    let key = λ (r : Ranked). r.candidate in
+    let rs = remaining g before in
+    let (r, called) = next_some g before c b ranking.ranks next in
+    let stands = find_any _ (λ (x : Ranked). nat_eq x.candidate c) rs r called.first (eq-eqb r.candidate c called.candidate) in
+    let apart = distinct_filter key (λ (x : Ranked). not (is_among x.candidate before)) g.list ranking.candidates in
+    rw remaining_push
+    (IsPermutation-pop_more (ranked_candidates g) before (map key rs) (map key (filter (λ x. not (nat_eq x.candidate c)) rs)) c parts
+    (permutation_without key c rs apart stands))
+
+-- what stands at a place of a list is one more of its front
+pub take_next : {X : Type 0} (xs : List X) (k : ℕ) (x : X) → slice_get xs k ≡ Some x → take (suc k) xs ≡ take k xs ++ x ∷ []
+take_next [] k x e = absurd (cc)
+take_next (y ∷ ys) zero x e = let same : y ≡ x = (cc) in rw same refl
+take_next (y ∷ ys) (suc k) x e = ap (λ zs. y ∷ zs) (take_next ys k x e)
+
+-- the call at each place
+pub call_at : {A B : Type 0} (xs : List A) (ys : List B) (k : ℕ) → length ys ≡ length xs → k < length xs
+    → (x : A) × (y : B) × (slice_get xs k ≡ Some x) × (slice_get (zip xs ys) k ≡ Some (x, y))
+call_at [] ys k e lt = absurd (omega arith)
+call_at (x ∷ xs) [] k e lt = absurd (omega arith)
+call_at (x ∷ xs) (y ∷ ys) zero e lt = (x, y, refl, refl)
+call_at (x ∷ xs) (y ∷ ys) (suc k) e lt = call_at xs ys k (omega arith) (omega arith)
+
+parts_at : (g : RankGroup) (order : CallOrder) → IsRanking g → IsCallOrder g order → (k : ℕ) → k ≤ length order.list → Parts g (take k order.list)
+parts_at g order ranking calls zero le = parts_first g
+parts_at g order ranking calls (suc k) le =
+    let (c, b, here, both) = call_at order.list order.trace k calls.as_long (omega arith) in
+    rw (take_next order.list k c here)
+    (parts_push g (take k order.list) c b ranking (calls.each_next k ∙ both) (parts_at g order ranking calls k (omega arith)))
+
+-- after a whole call order nobody remains
+pub none_remains : (g : RankGroup) (order : CallOrder) → IsRanking g → IsCallOrder g order → remaining g order.list ≡ []
+none_remains g order ranking calls =
+    let n = length order.list in
+    let past = slice_get_past (zip order.list order.trace) n (omega (arith, length-zip order.list order.trace)) in
+    let next = calls.each_next n ∙ past in
+    next_none g order.list ranking.ranks (rw (take_all n order.list (omega arith)) at next)
+
+-- the list of a call order is a permutation of its ranking's candidates
+pub order_permutes : OrdersPermuteRankings
+order_permutes g order ranking calls =
+    let n = length order.list in
+    let parts = parts_at g order ranking calls n (omega arith) in
+    rw (take_all n order.list (omega arith), none_remains g order ranking calls, append-nil) at parts
+
+pub length-order : OrdersAreWhole
+length-order g order ranking calls = length_permutation (ranked_candidates g) order.list (order_permutes g order ranking calls) ∙ length-map g.list (λ (r : Ranked). r.candidate)
+
+pub distinct-order : NobodyIsCalledTwice
+distinct-order g order ranking calls =
+    IsDistinct-IsPermutation nat_eq nat_eq_turn (ranked_candidates g) order.list (order_permutes g order ranking calls) ranking.candidates
+
+pub among-order : ExactlyTheRankedAreCalled
+among-order g order ranking calls c =
+    sym (list_any-IsPermutation (nat_eq c) (ranked_candidates g) order.list (order_permutes g order ranking calls))

@@ -1,0 +1,11 @@
+//! The laws of call orders, as theorems over their definition.
+ghost use Rattle.admit_core.specs.CallOrderLaws.{OrdersPermuteRankings, OrdersAreWhole, NobodyIsCalledTwice, ExactlyTheRankedAreCalled};
+
+/// What holds of every call order of every ranking. It does nothing when it is called: its clauses
+/// are theorems.
+pub fn laws_of_call_orders()
+    ensures permutation { OrdersPermuteRankings }
+    ensures length { OrdersAreWhole }
+    ensures distinct { NobodyIsCalledTwice }
+    ensures candidates { ExactlyTheRankedAreCalled }
+{}

@@ -1,0 +1,17 @@
+//! The bars of a system, as a list.
+ghost use Rattle.std.specs.Prelude.{◌≡◌, IfOk};
+
+use admit_core::OutOfMemory;
+use bar_law::Falling;
+use std::alloc::Global;
+
+/// The present bars of all places.
+pub fn bars_of<F: Falling>(alloc: Global, system: &F) -> Result<Vec<u32>, OutOfMemory>
+    ensures { IfOk result (λ bars. bars.items ≡ F.bars system.now) }
+{
+    let mut bars = Vec::new(alloc);
+    for i in 0..system.count() {
+        bars.push(system.bar(i))?;
+    }
+    Ok(bars)
+}

@@ -1,0 +1,8 @@
+//! A pass: the greatest bars of the boarding schools, and the offers under them.
+#![tactic(auto)]
+
+mod bars;
+mod one_pass;
+
+pub use bars::bars_of;
+pub use one_pass::pass;
