@@ -26,7 +26,7 @@ pub fn auto_all(state: &mut DayState<'_>, stamp: Stamp) -> Freed
     ensures state { state.new ≡ auto_all state.old stamp }
     ensures freed { result ≡ freed state.old state.new }
 {
-    state.known();
+    let _ = state.marks(); // one for each wish
     let mut all = Freed { seats: 0, beds: 0 };
     let wishes = state.dossier().wishes.as_slice();
     for (place, wish) in wishes.iter().enumerate() {

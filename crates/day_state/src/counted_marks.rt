@@ -73,6 +73,13 @@ impl<'d> CountedMarks<'d> {
         copy_counts(&mut self.beds, &other.beds);
     }
 
+    /// The marks of all wishes, by place.
+    pub fn marks(&self) -> &[Mark]
+        ensures { result.now ≡ self.now.marks }
+    {
+        self.marks.as_slice()
+    }
+
     /// The mark of a wish.
     pub fn mark(&self, wish: u32) -> Mark
         requires { wish < length self.now.marks }

@@ -19,7 +19,7 @@ ghost use Rattle.day_state.specs.Applied.{answered, after_fitting, after_fitting
 use crate::counted_marks::CountedMarks;
 use crate::index::{CandidateIndex, candidate_at};
 use crate::mark::{OwnChange, changed_to, first_mark, is_live_status, is_waiting_status, lapses};
-use admit_core::{Answer, AnswerKind, Dossier, Freed, OutOfMemory, Stamp, Status, Terms};
+use admit_core::{Answer, AnswerKind, Dossier, Freed, Mark, OutOfMemory, Stamp, Status, Terms};
 use std::alloc::Global;
 use std::marker::Model;
 
@@ -93,13 +93,12 @@ impl<'d> DayState<'d> {
         self.live.dossier()
     }
 
-    /// What is true of every state: each wish has a mark, and at most one wish of each candidate is
-    /// accepted. The call does nothing.
-    pub fn known(&self)
-        ensures marks { length self.now.marks ≡ length self.now.dossier.wishes }
-        ensures one_accepted { IsOneAccepted self.now }
+    /// The marks of all wishes, by place.
+    pub fn marks(&self) -> &[Mark]
+        ensures marks { result.now ≡ self.now.marks }
+        ensures one_each { length result.now ≡ length self.now.dossier.wishes }
     {
-        let _ = &self.live;
+        self.live.marks()
     }
 
     /// The status of a wish.

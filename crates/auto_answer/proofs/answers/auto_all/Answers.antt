@@ -1,5 +1,6 @@
 use Rattle.std.proofs.Common.{◌≡◌, ◌<◌, ◌+◌, ◌∙◌, ap, sym, length, arith, get_or, List, None, false, true}
 use Rattle.admit_core.specs.declared.dossier.Wish.{Wish}
+use Rattle.admit_core.specs.declared.state.Mark.{Mark}
 use Rattle.admit_core.specs.DossierRows.{DossierRows, candidate_of}
 use Rattle.admit_core.specs.Lists.{is_among}
 use Rattle.admit_core.specs.State.{State}
@@ -11,7 +12,7 @@ abbrev no_wish : Wish
 no_wish = record { id = 0; candidate = 0; programme = 0; school = None; board_rank = 0; preference = 0 }
 
 pub loop-place-init : goal.loop-place-init
-loop-place-init c = answered_none c.args.state.now c.args.stamp c.known.ensures.marks
+loop-place-init c = answered_none c.args.state.now c.args.stamp (ap (λ (ms : List Mark). length ms) (sym c.marks.ensures.marks) ∙ c.marks.ensures.one_each)
 
 pub is_last_wish-requires : goal.is_last_wish-requires
 is_last_wish-requires c =

@@ -1,0 +1,4 @@
+pub mod AnswersOn
+pub mod Changes
+pub mod DayPasses
+pub mod DeskStates
