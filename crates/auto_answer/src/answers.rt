@@ -5,7 +5,6 @@ ghost use Rattle.admit_core.specs.AutoAnswer.{auto_one, auto_all, freed_by, free
 ghost use Rattle.admit_core.specs.DossierRows.{candidate_of};
 ghost use Rattle.admit_core.specs.Lists.{is_among};
 ghost use Rattle.admit_core.specs.OwnWishes.{own_places};
-ghost use Rattle.day_state.specs.Pending.{IsPending};
 ghost use Rattle.auto_answer.specs.LastWish.{wishers};
 
 use admit_core::{Freed, Stamp};
@@ -13,7 +12,6 @@ use day_state::DayState;
 
 /// Answers for a candidate who ranks his wishes; nothing changes for one who doesn't.
 pub fn auto_one(state: &mut DayState<'_>, candidate: u32, stamp: Stamp) -> Freed
-    requires { IsPending }
     ensures state { state.new ≡ auto_one state.old candidate stamp }
     ensures freed { result ≡ freed_by state.old state.new candidate }
 {
@@ -22,7 +20,6 @@ pub fn auto_one(state: &mut DayState<'_>, candidate: u32, stamp: Stamp) -> Freed
 
 /// Answers for all candidates who rank their wishes.
 pub fn auto_all(state: &mut DayState<'_>, stamp: Stamp) -> Freed
-    requires { IsPending }
     ensures state { state.new ≡ auto_all state.old stamp }
     ensures freed { result ≡ freed state.old state.new }
 {

@@ -6,7 +6,6 @@ ghost use Rattle.admit_core.specs.Ranges.{IsDay as IsDayNumber};
 ghost use Rattle.admit_core.specs.Days.{IsDay, unfit_on, morning};
 ghost use Rattle.day_run.specs.AnswersOn.{IsUnfitOf, TellsNoneUnfit};
 ghost use Rattle.day_run.specs.DayPasses.{schools_of_passes, last_opening};
-ghost use Rattle.day_state.specs.Pending.{IsPending};
 
 use crate::answers_on::answer;
 use crate::desk::Desk;
@@ -29,7 +28,6 @@ pub fn run_day(
     day: u32,
     picker: &mut dyn Picker,
 ) -> Result<DayRecord, DayRefusal>
-    requires pending { IsPending }
     requires orders { AreCallOrders desk.old.present.dossier.groups orders.now.orders }
     requires ceilings { length ceilings.now ≡ length desk.old.present.dossier.schools }
     requires day { IsDayNumber day }
@@ -60,7 +58,6 @@ pub fn run_dated_day(
     day: u32,
     picker: &mut dyn Picker,
 ) -> Result<DayRecord, DayRefusal>
-    requires pending { IsPending }
     requires orders { AreCallOrders desk.old.present.dossier.groups orders.now.orders }
     requires ceilings { length ceilings.now ≡ length desk.old.present.dossier.schools }
     requires before { length terms.now.before ≡ length desk.old.present.dossier.wishes }
@@ -92,7 +89,6 @@ pub(crate) fn run_with(
     day: u32,
     picker: &mut dyn Picker,
 ) -> Result<DayRecord, DayRefusal>
-    requires pending { IsPending }
     requires orders { AreCallOrders desk.old.present.dossier.groups orders.now.orders }
     requires ceilings { length ceilings.now ≡ length desk.old.present.dossier.schools }
     requires before { ForSome (option_copied terms) (λ t. length t.before ≡ length desk.old.present.dossier.wishes) }
@@ -139,7 +135,6 @@ fn play<'d>(
     day: u32,
     picker: &mut dyn Picker,
 ) -> Result<DayRecord, DayRefusal>
-    requires pending { IsPending }
     requires same { opening.old.dossier ≡ state.old.dossier }
     requires orders { AreCallOrders state.old.dossier.groups orders.now.orders }
     requires ceilings { length ceilings.now ≡ length state.old.dossier.schools }

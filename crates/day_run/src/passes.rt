@@ -4,7 +4,6 @@ ghost use Rattle.admit_core.specs.CallOrder.{AreCallOrders};
 ghost use Rattle.admit_core.specs.Days.{IsPassEnd, Passes, closing, frees_nothing};
 ghost use Rattle.bar_law.specs.Runs.{schools_of};
 ghost use Rattle.day_run.specs.DayPasses.{schools_of_passes, last_opening, open_wishes};
-ghost use Rattle.day_state.specs.Pending.{IsPending};
 
 use crate::changes::answered_changes;
 use admit_core::{CallOrders, Freed, OutOfMemory, PassEnd, Sequence, Stamp};
@@ -27,7 +26,6 @@ pub(crate) fn make_passes<'d>(
     day: u32,
     picker: &mut dyn Picker,
 ) -> Result<Vec<PassEnd>, OutOfMemory>
-    requires pending { IsPending }
     requires same { opening.old.dossier ≡ state.old.dossier }
     requires orders { AreCallOrders state.old.dossier.groups orders.now.orders }
     requires ceilings { length ceilings.now ≡ length state.old.dossier.schools }
@@ -75,7 +73,6 @@ fn make_pass<'d>(
     stamp: Stamp,
     picker: &mut dyn Picker,
 ) -> Result<PassEnd, OutOfMemory>
-    requires pending { IsPending }
     requires same { opening.old.dossier ≡ state.old.dossier }
     requires orders { AreCallOrders state.old.dossier.groups orders.now.orders }
     requires ceilings { length ceilings.now ≡ length state.old.dossier.schools }

@@ -203,12 +203,12 @@ own_first true false m n = refl
 own_first false true m n = refl
 own_first false false m n = refl
 
-pub refuse_live_is : (s : State) (c : ℕ) (stamp : Stamp) → change_own (λ w m. changed_by RefuseLive stamp m) c s ≡ refuse_live s c stamp
+pub refuse_live_is : (s : State) (c : ℕ) (stamp : Stamp) → change_own (changed_by RefuseLive stamp) c s ≡ refuse_live s c stamp
 refuse_live_is s c stamp =
-    with_marks_same (λ w m. if w.candidate == c then changed_by RefuseLive stamp m else m) (λ w m. if is_live m && (w.candidate == c) then changed_to Refused stamp m else m) s
+    with_marks_same (λ w m. if w.candidate == c then changed_by RefuseLive stamp w m else m) (λ w m. if is_live m && (w.candidate == c) then changed_to Refused stamp m else m) s
     (λ w m. own_first (w.candidate == c) (is_live m) m (changed_to Refused stamp m))
 
-pub quit_all_is : (s : State) (c : ℕ) (stamp : Stamp) → change_own (λ w m. changed_by QuitOpen stamp m) c s ≡ quit_all s c stamp
+pub quit_all_is : (s : State) (c : ℕ) (stamp : Stamp) → change_own (changed_by QuitOpen stamp) c s ≡ quit_all s c stamp
 quit_all_is s c stamp =
-    with_marks_same (λ w m. if w.candidate == c then changed_by QuitOpen stamp m else m) (λ w m. if (is_live m || is_waiting m) && (w.candidate == c) then changed_to Quit stamp m else m) s
+    with_marks_same (λ w m. if w.candidate == c then changed_by QuitOpen stamp w m else m) (λ w m. if (is_live m || is_waiting m) && (w.candidate == c) then changed_to Quit stamp m else m) s
     (λ w m. own_first (w.candidate == c) (is_live m || is_waiting m) m (changed_to Quit stamp m))

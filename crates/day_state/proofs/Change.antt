@@ -1,5 +1,5 @@
 -- What a change of one mark asks and gives, in the words of the code.
-use Rattle.std.proofs.Common.{ℕ, ◌+◌, ◌≤◌, ◌<◌, ◌≡◌, Bool, true, false, List, [], map, length, get_or, refl, sym, ◌∙◌, arith, filter, Option, Some, None}
+use Rattle.std.proofs.Common.{ℕ, ◌+◌, ◌≤◌, ◌<◌, ◌≡◌, Bool, true, false, not, ◌&&◌, List, [], map, length, get_or, refl, sym, ◌∙◌, arith, filter, Option, Some, None}
 use Rattle.std.specs.Prelude.{slice_index, ◌==◌, All}
 use Rattle.std.proofs.lemmas.Option.{unwrap_or-slice_get}
 use mathlib.Core.Bool.{beq}
@@ -14,10 +14,12 @@ use Rattle.admit_core.specs.declared.state.Mark.{Mark}
 use Rattle.admit_core.specs.DossierRows.{DossierRows, candidate_of}
 use Rattle.admit_core.specs.State.{State, has_school, with_mark_at, holds_seat, holds_bed}
 use Rattle.admit_core.specs.OwnWishes.{own_places}
+use Rattle.admit_core.specs.AutoAnswer.{freed_by}
 use Rattle.admit_core.specs.Validity.{IsValid, IsValidWish}
 use Rattle.day_state.specs.Kept.{mark_in, wish_in, lives_at, holds_one, in_school, one_if, recount, recount_some, has_seat_there, has_bed_there, state_of, AreCounts, IsKept}
 use Rattle.day_state.proofs.Places.{candidate_in, own_any}
 use Rattle.day_state.proofs.KeptCounts.{kept_after, holders_after, count_bounds}
+use Rattle.day_state.proofs.Freeing.{freed_there}
 
 pub own_within : (d : DossierRows) (c : ℕ) → All (λ k. k < length d.wishes) (own_places d c)
 own_within d c =
@@ -116,3 +118,12 @@ pub kept_changed : (d : DossierRows) (marks : List Mark) (seats beds : List ℕ)
 kept_changed d marks seats beds wish m valid kept lt =
     let named = named_valid d marks seats beds wish valid kept lt in
     kept_after (state_of d marks) seats beds wish m kept lt named.programme named.school
+
+-- what the change frees
+pub freed_changed : (d : DossierRows) (marks : List Mark) (seats beds : List ℕ) (wish : ℕ) (m : Mark) → IsValid d → IsKept (state_of d marks) seats beds → wish < length marks
+    → let s = state_of d marks in let new = with_mark_at s wish m in
+    freed_by s new (candidate_of d wish)
+    ≡ record { seats = one_if (has_seat_there s wish && not (has_seat_there new wish)); beds = one_if (has_bed_there s wish && not (has_bed_there new wish)) }
+freed_changed d marks seats beds wish m valid kept lt =
+    let named = named_valid d marks seats beds wish valid kept lt in
+    rw (candidate_in d.wishes wish) (freed_there (state_of d marks) wish m kept.marks lt named.programme named.school)

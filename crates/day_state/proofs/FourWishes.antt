@@ -1,5 +1,5 @@
 -- The small dossier of the tests is valid.
-use Rattle.std.proofs.Common.{ℕ, ◌≤◌, ◌≡◌, List, [], ◌∷◌, get_or, refl, arith, lit≤, lit<, nat_eq, false, Some, None}
+use Rattle.std.proofs.Common.{ℕ, ◌≤◌, ◌≡◌, Bool, true, false, List, [], ◌∷◌, get_or, refl, arith, lit≤, lit<, nat_eq, Some, None}
 use Rattle.std.specs.Prelude.{◌↔◌, IsSome, All}
 use Rattle.std.specs.List.{AllPairs, IsDistinct}
 use Rattle.std.proofs.lemmas.List.Elements.{All-cons, All-nil}
@@ -15,7 +15,7 @@ use Rattle.admit_core.specs.Lists.{ascending}
 use Rattle.admit_core.specs.Ranges.{IsNumber}
 use Rattle.admit_core.specs.Validity.{IsValid, IsValidRanked, IsValidGroup, IsValidProgramme, IsValidSchool, IsValidWish, IsApart, NotBothAccepted, IsValidCeiling, NotSameDay, IsValidAnswer}
 use Rattle.admit_core.specs.WorkedRows.{ranked, programme, school, wish, boarder}
-use Rattle.day_state.specs.FourWishes.{four_wishes}
+use Rattle.day_state.specs.FourWishes.{four_wishes, preference_if}
 
 number : (n : ℕ) → 1 ≤ n → n ≤ 2000000000 → IsNumber n
 number n a b = record { from_one = a; at_most = b }
@@ -29,17 +29,37 @@ distinct ns =
 no_pairs : {X : Type 0} (R : X → X → Type 0) → AllPairs R []
 no_pairs R i j d i_lt j_lt = absurd (omega arith)
 
-free : (v w : Wish) → v.preference ≡ 0 → w.preference ≡ 0 → (v.candidate ≡ w.candidate → v.programme ≡ w.programme → v.school ≡ w.school → ⊥)
-    → (IsSome v.school → v.school ≡ w.school → (v.board_rank ≡ w.board_rank) ↔ (v.candidate ≡ w.candidate)) → IsApart v w
-free v w p q named ranks = record {
-  named = named;
-  ranks = ranks;
-  both_ranked = λ e. (λ x. q, λ x. p);
-  preferences = λ e f. p;
+-- preferences of one candidate's two wishes
+record AreRanked (m n : ℕ) : Type 0 where
+  both : (m ≡ 0) ↔ (n ≡ 0)
+  differ : m ≡ n → m ≡ 0
+
+ranked_if : (ranks : Bool) (m n : ℕ) → 1 ≤ m → 1 ≤ n → (m ≡ n → ⊥) → AreRanked (preference_if ranks m) (preference_if ranks n)
+ranked_if true m n a b ne = record { both = (λ e. absurd (omega arith), λ e. absurd (omega arith)); differ = λ e. absurd (ne e) }
+ranked_if false m n a b ne = record { both = (λ e. refl, λ e. refl); differ = λ e. refl }
+
+in_range_if : (ranks : Bool) (n : ℕ) → n ≤ 2000000000 → preference_if ranks n ≤ 2000000000
+in_range_if true n le = le
+in_range_if false n le = lit≤ tt
+
+-- two wishes of one candidate
+beside_each_other : (v w : Wish) → AreRanked v.preference w.preference → (v.programme ≡ w.programme → v.school ≡ w.school → ⊥)
+    → (v.school ≡ w.school → (v.board_rank ≡ w.board_rank) ↔ (v.candidate ≡ w.candidate)) → IsApart v w
+beside_each_other v w ranked named ranks = record {
+  named = λ c. named;
+  ranks = λ s. ranks;
+  both_ranked = λ c. ranked.both;
+  preferences = λ c. ranked.differ;
 }
 
-unboarded : (w : Wish) → w.preference ≡ 0 → (11 ≡ w.candidate → 0 ≡ w.programme → None ≡ w.school → ⊥) → IsApart (wish 1 11 0 0) w
-unboarded w q named = free (wish 1 11 0 0) w refl q named (λ s h. absurd (cc))
+-- wishes of two candidates
+strangers : (v w : Wish) → (v.candidate ≡ w.candidate → ⊥) → (IsSome v.school → v.school ≡ w.school → ⊥) → IsApart v w
+strangers v w other ranks = record {
+  named = λ c. absurd (other c);
+  ranks = λ s h. absurd (ranks s h);
+  both_ranked = λ c. absurd (other c);
+  preferences = λ c. absurd (other c);
+}
 
 waits_not : Waiting ≡ Accepted → ⊥
 waits_not e = (cc)
@@ -62,12 +82,12 @@ none_accepted v s x y z f g h =
 differ : (m n : ℕ) → (nat_eq m n ≡ false) → m ≡ n → ⊥
 differ m n f = eqb-false m n f
 
-pub four_wishes_valid : (first : Status) → IsValid (four_wishes first)
-four_wishes_valid first =
-    let d = four_wishes first in
-    let alone = wish 1 11 0 0 in
-    let beside = boarder 2 11 0 0 3 0 in
-    let away = boarder 3 11 1 0 3 0 in
+pub four_wishes_valid : (first : Status) (ranks : Bool) → IsValid (four_wishes first ranks)
+four_wishes_valid first ranks =
+    let d = four_wishes first ranks in
+    let alone = wish 1 11 0 (preference_if ranks 2) in
+    let beside = boarder 2 11 0 0 3 (preference_if ranks 3) in
+    let away = boarder 3 11 1 0 3 (preference_if ranks 1) in
     let other = wish 4 12 0 0 in
     let lone_school = All-cons IsValidSchool (school 5 2 9) [] (record { id = number 5 (lit≤ tt) (lit≤ tt); beds = lit≤ tt; ceiling = lit≤ tt }) (All-nil IsValidSchool) in
     record {
@@ -83,26 +103,26 @@ four_wishes_valid first =
           (All-cons (IsValidProgramme d) (programme 20 0 3) [] (record { id = number 20 (lit≤ tt) (lit≤ tt); group = lit< tt; seats = lit≤ tt; limit = lit≤ tt }) (All-nil (IsValidProgramme d)));
       schools = lone_school;
       wishes =
-          All-cons (IsValidWish d) alone (beside ∷ away ∷ other ∷ []) (record { id = number 1 (lit≤ tt) (lit≤ tt); programme = lit< tt; school = λ h e. absurd (none_some h e); ranked = refl; board_rank = refl; preference = lit≤ tt })
-          (All-cons (IsValidWish d) beside (away ∷ other ∷ []) (record { id = number 2 (lit≤ tt) (lit≤ tt); programme = lit< tt; school = λ h e. let is : 0 ≡ h = (cc) in rw (← is) (lit< tt); ranked = refl; board_rank = number 3 (lit≤ tt) (lit≤ tt); preference = lit≤ tt })
-          (All-cons (IsValidWish d) away (other ∷ []) (record { id = number 3 (lit≤ tt) (lit≤ tt); programme = lit< tt; school = λ h e. let is : 0 ≡ h = (cc) in rw (← is) (lit< tt); ranked = refl; board_rank = number 3 (lit≤ tt) (lit≤ tt); preference = lit≤ tt })
+          All-cons (IsValidWish d) alone (beside ∷ away ∷ other ∷ []) (record { id = number 1 (lit≤ tt) (lit≤ tt); programme = lit< tt; school = λ h e. absurd (none_some h e); ranked = refl; board_rank = refl; preference = in_range_if ranks 2 (lit≤ tt) })
+          (All-cons (IsValidWish d) beside (away ∷ other ∷ []) (record { id = number 2 (lit≤ tt) (lit≤ tt); programme = lit< tt; school = λ h e. let is : 0 ≡ h = (cc) in rw (← is) (lit< tt); ranked = refl; board_rank = number 3 (lit≤ tt) (lit≤ tt); preference = in_range_if ranks 3 (lit≤ tt) })
+          (All-cons (IsValidWish d) away (other ∷ []) (record { id = number 3 (lit≤ tt) (lit≤ tt); programme = lit< tt; school = λ h e. let is : 0 ≡ h = (cc) in rw (← is) (lit< tt); ranked = refl; board_rank = number 3 (lit≤ tt) (lit≤ tt); preference = in_range_if ranks 1 (lit≤ tt) })
           (All-cons (IsValidWish d) other [] (record { id = number 4 (lit≤ tt) (lit≤ tt); programme = lit< tt; school = λ h e. absurd (none_some h e); ranked = refl; board_rank = refl; preference = lit≤ tt }) (All-nil (IsValidWish d)))));
       wishes_apart =
           AllPairs-cons IsApart alone (beside ∷ away ∷ other ∷ [])
-          (All-cons (IsApart alone) beside (away ∷ other ∷ []) (unboarded beside refl (λ c p h. none_some 0 h))
-          (All-cons (IsApart alone) away (other ∷ []) (unboarded away refl (λ c p h. none_some 0 h))
-          (All-cons (IsApart alone) other [] (unboarded other refl (λ c p h. differ 11 12 refl c)) (All-nil (IsApart alone)))))
+          (All-cons (IsApart alone) beside (away ∷ other ∷ []) (beside_each_other alone beside (ranked_if ranks 2 3 (lit≤ tt) (lit≤ tt) (differ 2 3 refl)) (λ p h. none_some 0 h) (λ h. absurd (none_some 0 h)))
+          (All-cons (IsApart alone) away (other ∷ []) (beside_each_other alone away (ranked_if ranks 2 1 (lit≤ tt) (lit≤ tt) (differ 2 1 refl)) (λ p h. none_some 0 h) (λ h. absurd (none_some 0 h)))
+          (All-cons (IsApart alone) other [] (strangers alone other (differ 11 12 refl) (λ s h. absurd (cc))) (All-nil (IsApart alone)))))
           (AllPairs-cons IsApart beside (away ∷ other ∷ [])
-          (All-cons (IsApart beside) away (other ∷ []) (free beside away refl refl (λ c p h. differ 0 1 refl p) (λ s h. (λ e. refl, λ e. refl)))
-          (All-cons (IsApart beside) other [] (free beside other refl refl (λ c p h. differ 11 12 refl c) (λ s h. absurd (some_none 0 h))) (All-nil (IsApart beside))))
+          (All-cons (IsApart beside) away (other ∷ []) (beside_each_other beside away (ranked_if ranks 3 1 (lit≤ tt) (lit≤ tt) (differ 3 1 refl)) (λ p h. differ 0 1 refl p) (λ h. (λ e. refl, λ e. refl)))
+          (All-cons (IsApart beside) other [] (strangers beside other (differ 11 12 refl) (λ s h. some_none 0 h)) (All-nil (IsApart beside))))
           (AllPairs-cons IsApart away (other ∷ [])
-          (All-cons (IsApart away) other [] (free away other refl refl (λ c p h. differ 11 12 refl c) (λ s h. absurd (some_none 0 h))) (All-nil (IsApart away)))
+          (All-cons (IsApart away) other [] (strangers away other (differ 11 12 refl) (λ s h. some_none 0 h)) (All-nil (IsApart away)))
           (AllPairs-cons IsApart other [] (All-nil (IsApart other)) (no_pairs IsApart))));
       one_status_each = refl;
       one_accepted =
-          AllPairs-cons NotBothAccepted (alone, first) ((beside, Offered) ∷ (away, Waiting) ∷ (other, Offered) ∷ []) (none_accepted alone first (beside, Offered) (away, Waiting) (other, Offered) offered_not waits_not offered_not)
-          (AllPairs-cons NotBothAccepted (beside, Offered) ((away, Waiting) ∷ (other, Offered) ∷ [])
-          (All-cons (NotBothAccepted (beside, Offered)) (away, Waiting) ((other, Offered) ∷ []) (λ c a b. waits_not b) (All-cons (NotBothAccepted (beside, Offered)) (other, Offered) [] (λ c a b. offered_not b) (All-nil (NotBothAccepted (beside, Offered)))))
+          AllPairs-cons NotBothAccepted (alone, first) ((beside, Waiting) ∷ (away, Waiting) ∷ (other, Offered) ∷ []) (none_accepted alone first (beside, Waiting) (away, Waiting) (other, Offered) waits_not waits_not offered_not)
+          (AllPairs-cons NotBothAccepted (beside, Waiting) ((away, Waiting) ∷ (other, Offered) ∷ [])
+          (All-cons (NotBothAccepted (beside, Waiting)) (away, Waiting) ((other, Offered) ∷ []) (λ c a b. waits_not b) (All-cons (NotBothAccepted (beside, Waiting)) (other, Offered) [] (λ c a b. offered_not b) (All-nil (NotBothAccepted (beside, Waiting)))))
           (AllPairs-cons NotBothAccepted (away, Waiting) ((other, Offered) ∷ []) (All-cons (NotBothAccepted (away, Waiting)) (other, Offered) [] (λ c a b. offered_not b) (All-nil (NotBothAccepted (away, Waiting))))
           (AllPairs-cons NotBothAccepted (other, Offered) [] (All-nil (NotBothAccepted (other, Offered))) (no_pairs NotBothAccepted))));
       ceilings = All-nil (IsValidCeiling d);

@@ -4,6 +4,11 @@ pub mod KeptCounts
 pub mod Change
 pub mod Ordering
 pub mod Along
+pub mod Lost
+pub mod Freeing
+pub mod Changing
+pub mod Best
+pub mod Taking
 pub mod OneAccepted
 pub mod Answering
 pub mod Filled

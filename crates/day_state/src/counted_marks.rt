@@ -1,17 +1,20 @@
 //! The marks of a dossier's wishes, with the numbers of live candidates.
-ghost use Rattle.std.specs.Prelude.{◌≡◌, ◌<◌, ◌≤◌, ◌+◌, ◌-◌, ◌^◌, ◌==◌, ◌&&◌, length, slice_index, All, IfOk, replicate};
+ghost use Rattle.std.specs.Prelude.{◌≡◌, ◌<◌, ◌≤◌, ◌+◌, ◌-◌, ◌^◌, ◌==◌, ◌&&◌, length, slice_index, All, IfOk, replicate, option_map};
 ghost use Rattle.std.specs.Option.{ForSome};
 ghost use Rattle.std.specs.List.{list_any};
 ghost use Rattle.admit_core.specs.State.{State, with_mark_at, holds_seat, holds_bed, seat_holders, bed_holders};
 ghost use Rattle.admit_core.specs.DossierRows.{candidate_of};
 ghost use Rattle.admit_core.specs.OwnWishes.{own_places};
+ghost use Rattle.admit_core.specs.AutoAnswer.{best_live, freed_by};
 ghost use Rattle.day_state.specs.Along.{change_own, changed_by};
+ghost use Rattle.day_state.specs.Best.{best_among};
 ghost use Rattle.day_state.specs.Kept.{mark_in, wish_in, lives_at, holds_one, in_school, one_if, waiting_mark, recount, recount_some, has_seat_there, has_bed_there, state_of};
 
 use crate::mark::{
-    OwnChange, changed_by, counted, is_live, lives_in_programme, lives_in_school, wish_at,
+    OwnChange, better, changed_by, counted, is_live, live_preference, lives_in_programme,
+    lives_in_school, lost, wish_at,
 };
-use admit_core::{Dossier, Mark, OutOfMemory, Stamp, Status, Wish};
+use admit_core::{Dossier, Freed, Mark, OutOfMemory, Stamp, Status, Wish};
 use std::alloc::Global;
 use std::marker::Model;
 
@@ -139,27 +142,50 @@ impl<'d> CountedMarks<'d> {
         )
     }
 
-    /// Changes all wishes of a candidate; `own` has their places.
-    pub fn change_own(&mut self, own: &[u32], candidate: u32, change: OwnChange, stamp: Stamp)
-        requires { own.now ≡ own_places self.old.dossier candidate }
-        ensures { self.new ≡ change_own (λ w m. changed_by change stamp m) candidate self.old }
+    /// The preference number of a candidate's best live wish, where he ranks his wishes; `own` has
+    /// their places.
+    pub fn best_preference(&self, own: &[u32], candidate: u32) -> Option<u32>
+        requires { own.now ≡ own_places self.now.dossier candidate }
+        ensures { result ≡ option_map (λ x. x.0.preference) (best_live self.now candidate) }
     {
-        let _ = &self.marks; // learns the invariant: as many marks as wishes
-        for place in own {
-            let mark = changed_by(change, self.mark(*place), stamp);
-            self.set_mark(own, *place, mark);
-        }
+        let dossier = self.dossier;
+        best_among(dossier.wishes.as_slice(), self.marks.as_slice(), own)
     }
 
-    /// Gives a wish a mark; `own` has the places of its candidate's wishes.
-    pub fn set_mark(&mut self, own: &[u32], wish: u32, mark: Mark)
+    /// Changes all wishes of a candidate, and counts what he frees; `own` has their places.
+    pub fn change_own(
+        &mut self,
+        own: &[u32],
+        candidate: u32,
+        change: OwnChange,
+        stamp: Stamp,
+    ) -> Freed
+        requires { own.now ≡ own_places self.old.dossier candidate }
+        ensures state { self.new ≡ change_own (changed_by change stamp) candidate self.old }
+        ensures freed { result ≡ freed_by self.old self.new candidate }
+    {
+        let dossier = self.dossier;
+        let wishes = dossier.wishes.as_slice();
+        let mut freed = NOTHING_FREED;
+        for place in own {
+            let mark = changed_by(change, wish_at(wishes, *place), self.mark(*place), stamp);
+            freed = freed_in_all(freed, self.set_mark(own, *place, mark));
+        }
+        freed
+    }
+
+    /// Gives a wish a mark, and counts what its candidate frees; `own` has the places of his
+    /// wishes.
+    pub fn set_mark(&mut self, own: &[u32], wish: u32, mark: Mark) -> Freed
         requires place { wish < length self.old.marks }
         requires own { own.now ≡ own_places self.old.dossier (candidate_of self.old.dossier wish) }
-        ensures { self.new ≡ with_mark_at self.old wish mark }
+        ensures state { self.new ≡ with_mark_at self.old wish mark }
+        ensures freed { result ≡ freed_by self.old self.new (candidate_of self.old.dossier wish) }
     {
         let dossier = self.dossier;
         if is_live(self.marks[wish as usize]) == is_live(mark) {
             self.marks[wish as usize] = mark;
+            NOTHING_FREED
         } else {
             let had_seat = has_seat_there(dossier, &self.marks, own, wish);
             let had_bed = has_bed_there(dossier, &self.marks, own, wish);
@@ -169,8 +195,38 @@ impl<'d> CountedMarks<'d> {
             let named = wish_at(dossier.wishes.as_slice(), wish);
             recount(&mut self.seats, named.programme, had_seat, has_seat);
             recount_some(&mut self.beds, named.school, had_bed, has_bed);
+            Freed {
+                seats: lost(had_seat, has_seat),
+                beds: lost(had_bed, has_bed),
+            }
         }
     }
+}
+
+/// What a change that leaves all as it was frees.
+pub const NOTHING_FREED: Freed = Freed { seats: 0, beds: 0 };
+
+/// What two changes, one after the other, free together.
+fn freed_in_all(first: Freed, then: Freed) -> Freed
+    requires seats { first.seats + then.seats < 2 ^ 32 }
+    requires beds { first.beds + then.beds < 2 ^ 32 }
+    ensures { result ≡ record { seats = first.seats + then.seats; beds = first.beds + then.beds } }
+{
+    Freed {
+        seats: first.seats + then.seats,
+        beds: first.beds + then.beds,
+    }
+}
+
+/// The preference number of the best of a candidate's live wishes that are ranked.
+fn best_among(wishes: &[Wish], marks: &[Mark], own: &[u32]) -> Option<u32>
+    requires wishes { All (λ k. k < length wishes.now) own.now }
+    requires marks { length marks.now ≡ length wishes.now }
+    ensures { result ≡ best_among wishes.now marks.now own.now }
+{
+    own.iter().fold(None, |best, place| {
+        better(best, live_preference(wishes, marks, *place))
+    })
 }
 
 /// Whether a wish's candidate is live in its programme; `own` has the places of his wishes.

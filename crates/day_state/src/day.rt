@@ -9,14 +9,13 @@ ghost use Rattle.admit_core.specs.Days.{first_evening};
 ghost use Rattle.admit_core.specs.Validity.{IsTarget};
 ghost use Rattle.admit_core.specs.Lapses.{lapse};
 ghost use Rattle.admit_core.specs.AutoAnswer.{auto_one, freed_by};
-ghost use Rattle.day_state.specs.Pending.{IsPending};
 ghost use Rattle.day_state.specs.Kept.{mark_in};
 ghost use Rattle.day_state.specs.Along.{change_along};
 ghost use Rattle.day_state.specs.Lapsing.{lapsed};
 ghost use Rattle.day_state.specs.Laws.{AreOwn, OwnFit};
 ghost use Rattle.day_state.specs.Applied.{answered, after_fitting, after_fitting_front, refused_at};
 
-use crate::counted_marks::CountedMarks;
+use crate::counted_marks::{CountedMarks, NOTHING_FREED};
 use crate::index::{CandidateIndex, candidate_at};
 use crate::mark::{OwnChange, changed_to, first_mark, is_live_status, is_waiting_status, lapses};
 use admit_core::{Answer, AnswerKind, Dossier, Freed, Mark, OutOfMemory, Stamp, Status, Terms};
@@ -287,15 +286,22 @@ impl<'d> DayState<'d> {
         Ok(())
     }
 
-    /// Answers for a candidate who ranks his wishes.
+    /// Answers for a candidate, where he ranks his wishes and one of them is live: the best live
+    /// one is accepted, his other live wishes are given up, and so are the waiting ones behind it.
+    /// Tells what he frees.
     pub fn answer_automatically(&mut self, candidate: u32, stamp: Stamp) -> Freed
-        requires { IsPending }
         ensures state { self.new ≡ auto_one self.old candidate stamp }
         ensures freed { result ≡ freed_by self.old self.new candidate }
     {
-        let _ = stamp;
-        let _ = candidate;
-        Freed { seats: 0, beds: 0 }
+        let dossier = self.live.dossier();
+        let _ = &dossier.wishes; // learns that his preferences differ
+        let own = self.index.of(candidate);
+        match self.live.best_preference(own, candidate) {
+            None => NOTHING_FREED,
+            Some(best) => self
+                .live
+                .change_own(own, candidate, OwnChange::TakeBest(best), stamp),
+        }
     }
 
     /// Ends the offers whose deadline has passed.

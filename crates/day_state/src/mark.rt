@@ -1,9 +1,11 @@
 //! Tests of wishes and their marks.
-ghost use Rattle.std.specs.Prelude.{◌≡◌, ◌<◌, ◌≤◌, ◌+◌, ◌^◌, ◌&&◌, ◌==◌, length, IsTrue, pos, negsuc, ◌≤ℤ◌, slice_index_or};
+ghost use Rattle.std.specs.Prelude.{◌≡◌, ◌<◌, ◌≤◌, ◌+◌, ◌^◌, ◌&&◌, ◌==◌, length, IsTrue, not, pos, negsuc, ◌≤ℤ◌, slice_index_or, if◌then◌else◌};
 ghost use Rattle.admit_core.specs.State.{changed_to, is_live, is_waiting, is_live_status, is_waiting_status};
+ghost use Rattle.admit_core.specs.declared.state.Status.TheVariants.{Accepted, AutoRefused};
 ghost use Rattle.admit_core.specs.Days.{first_mark};
 ghost use Rattle.admit_core.specs.Lapses.{lapses, offer_day};
 ghost use Rattle.day_state.specs.Along.{changed_by};
+ghost use Rattle.day_state.specs.Best.{better, live_preference};
 ghost use Rattle.day_state.specs.Kept.{mark_in, wish_in, lives_at, in_school, one_if};
 
 use admit_core::{Mark, Stamp, Status, Terms, Wish};
@@ -80,23 +82,70 @@ pub fn first_mark(status: Status) -> Mark
     }
 }
 
-/// What a candidate does with all his wishes at once.
+/// What is done with all wishes of a candidate at once.
+///
+/// `TakeBest` has the preference number of his best live wish: it is accepted, his other live
+/// wishes are given up, and so are the waiting ones behind it.
 #[derive(Clone, Copy)]
 pub enum OwnChange {
     RefuseLive,
     QuitOpen,
+    TakeBest(u32),
 }
 
-/// What becomes of a wish's mark where its candidate does this with all his wishes.
-pub fn changed_by(change: OwnChange, mark: Mark, stamp: Stamp) -> Mark
-    ensures { result ≡ changed_by change stamp mark }
+/// What becomes of a wish's mark where this is done with all wishes of its candidate.
+pub fn changed_by(change: OwnChange, wish: Wish, mark: Mark, stamp: Stamp) -> Mark
+    ensures { result ≡ changed_by change stamp wish mark }
 {
     match change {
         OwnChange::RefuseLive if is_live(mark) => changed_to(mark, Status::Refused, stamp),
         OwnChange::QuitOpen if is_live(mark) || is_waiting(mark) => {
             changed_to(mark, Status::Quit, stamp)
         }
+        OwnChange::TakeBest(best) if is_live(mark) => {
+            let is_best = wish.preference == best;
+            changed_to(mark, taken_or_refused(is_best), stamp)
+        }
+        OwnChange::TakeBest(best) if is_waiting(mark) && best < wish.preference => {
+            changed_to(mark, Status::AutoWithdrawn, stamp)
+        }
         _ => mark,
+    }
+}
+
+/// What becomes of a live wish whose candidate is answered for.
+fn taken_or_refused(is_best: bool) -> Status
+    ensures { result ≡ (if is_best then Accepted else AutoRefused) }
+{
+    if is_best {
+        Status::Accepted
+    } else {
+        Status::AutoRefused
+    }
+}
+
+/// The lesser of two preference numbers, either of which may be missing.
+pub fn better(one: Option<u32>, other: Option<u32>) -> Option<u32>
+    ensures { result ≡ better one other }
+{
+    match (one, other) {
+        (Some(one), Some(other)) => Some(one.min(other)),
+        (None, found) | (found, None) => found,
+    }
+}
+
+/// The preference number of the wish at a place, where it is live and its candidate ranks his
+/// wishes.
+pub fn live_preference(wishes: &[Wish], marks: &[Mark], place: u32) -> Option<u32>
+    requires wish { place < length wishes.now }
+    requires mark { place < length marks.now }
+    ensures { result ≡ live_preference wishes.now marks.now place }
+{
+    let preference = wishes[place as usize].preference;
+    if is_live(marks[place as usize]) && preference > 0 {
+        Some(preference)
+    } else {
+        None
     }
 }
 
@@ -134,6 +183,13 @@ pub fn lives_in_school(wishes: &[Wish], marks: &[Mark], place: u32, school: Opti
     ensures { result ≡ lives_at wishes.now marks.now (in_school school) place }
 {
     is_live(marks[place as usize]) && is_in_school(wishes[place as usize], school)
+}
+
+/// 1 where one who was counted no longer is.
+pub fn lost(had: bool, has: bool) -> u32
+    ensures { result ≡ one_if (had && not has) }
+{
+    u32::from(had && !has)
 }
 
 /// A count after one who was counted, or wasn't, is counted, or isn't.

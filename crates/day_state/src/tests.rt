@@ -1,13 +1,14 @@
-//! What answers and deadlines do to the wishes of a small dossier.
-ghost use Rattle.std.specs.Prelude.{◌≡◌, ◌<◌, length, All, IfOk, IsTrue, false, None, Some};
+//! What answers, automatic answers and deadlines do to the wishes of a small dossier.
+ghost use Rattle.std.specs.Prelude.{◌≡◌, ◌<◌, length, All, IfOk, IsTrue, Bool, false, None, Some};
 ghost use Rattle.admit_core.specs.Validity.{IsTarget};
 ghost use Rattle.admit_core.specs.WorkedRows.{ranked, programme, wish, boarder};
-ghost use Rattle.day_state.specs.FourWishes.{four_wishes};
+ghost use Rattle.day_state.specs.FourWishes.{four_wishes, preference_if};
 
+use super::mark::is_waiting_status;
 use super::{DayState, UnfitAt};
 use admit_core::{
-    Answer, AnswerKind, Dossier, OutOfMemory, Programme, RankGroup, Ranked, School, Sequence,
-    Stamp, Status, Terms, Wish,
+    Answer, AnswerKind, Dossier, Freed, OutOfMemory, Programme, RankGroup, Ranked, School,
+    Sequence, Stamp, Status, Terms, Wish,
 };
 use std::alloc::Global;
 use std::test::Fail;
@@ -34,8 +35,14 @@ fn programme(id: u32) -> Programme
     }
 }
 
-fn wish(id: u32, candidate: u32) -> Wish
-    ensures { result ≡ wish id candidate 0 0 }
+fn preference_if(ranks: bool, preference: u32) -> u32
+    ensures { result ≡ preference_if ranks preference }
+{
+    if ranks { preference } else { 0 }
+}
+
+fn wish(id: u32, candidate: u32, preference: u32) -> Wish
+    ensures { result ≡ wish id candidate 0 preference }
 {
     Wish {
         id,
@@ -43,26 +50,26 @@ fn wish(id: u32, candidate: u32) -> Wish
         programme: 0,
         school: None,
         board_rank: 0,
-        preference: 0,
+        preference,
     }
 }
 
-fn boarder(id: u32, candidate: u32, programme: u32) -> Wish
-    ensures { result ≡ boarder id candidate programme 0 3 0 }
+fn boarder(id: u32, programme: u32, preference: u32) -> Wish
+    ensures { result ≡ boarder id 11 programme 0 3 preference }
 {
     Wish {
         id,
-        candidate,
+        candidate: 11,
         programme,
         school: Some(0),
         board_rank: 3,
-        preference: 0,
+        preference,
     }
 }
 
-/// The dossier of `four_wishes`, whose first wish has this status.
-fn dossier(alloc: Global, first: Status) -> Result<Dossier, OutOfMemory>
-    ensures { IfOk result (λ d. d ≡ four_wishes first) }
+/// The dossier of `four_wishes`: the first wish has this status, and its candidate may rank his.
+fn dossier(alloc: Global, first: Status, ranks: bool) -> Result<Dossier, OutOfMemory>
+    ensures { IfOk result (λ d. d ≡ four_wishes first ranks) }
 {
     let list = vec![in alloc; ranked(11, 1), ranked(12, 2)]?;
     let mut groups = Vec::new(alloc);
@@ -81,12 +88,12 @@ fn dossier(alloc: Global, first: Status) -> Result<Dossier, OutOfMemory>
         },
     ]?;
     let wishes = vec![in alloc;
-        wish(1, 11),
-        boarder(2, 11, 0),
-        boarder(3, 11, 1),
-        wish(4, 12),
+        wish(1, 11, preference_if(ranks, 2)),
+        boarder(2, 0, preference_if(ranks, 3)),
+        boarder(3, 1, preference_if(ranks, 1)),
+        wish(4, 12, 0),
     ]?;
-    let statuses = vec![in alloc; first, Status::Offered, Status::Waiting, Status::Offered]?;
+    let statuses = vec![in alloc; first, Status::Waiting, Status::Waiting, Status::Offered]?;
     Ok(Dossier {
         groups: Sequence::from_vec(groups),
         programmes: Sequence::from_vec(programmes),
@@ -99,12 +106,12 @@ fn dossier(alloc: Global, first: Status) -> Result<Dossier, OutOfMemory>
 }
 
 /// The wishes' statuses and the days of their stamps, and the numbers of those who are live in the
-/// first programme and in the school.
+/// two programmes and in the school.
 #[derive(Clone, Copy)]
 struct View {
     statuses: [Status; 4],
     days: [u32; 4],
-    live: (u32, u32),
+    live: (u32, u32, u32),
 }
 
 fn is_seen(state: &DayState<'_>, wish: u32, status: Status, day: u32) -> bool
@@ -127,7 +134,9 @@ fn are_counted(state: &DayState<'_>, view: View) -> bool
     requires programmes { length state.now.dossier.programmes ≡ 2 }
     requires schools { length state.now.dossier.schools ≡ 1 }
 {
-    state.live_in_programme(0) == view.live.0 && state.live_in_school(0) == view.live.1
+    state.live_in_programme(0) == view.live.0
+        && state.live_in_programme(1) == view.live.1
+        && state.live_in_school(0) == view.live.2
 }
 
 /// The view of a state of the small dossier.
@@ -139,8 +148,18 @@ fn shows(state: &DayState<'_>, view: View) -> bool {
     is_small && are_seen(state, view) && are_counted(state, view)
 }
 
+/// On day 1, offers a wish that waits, where this is wanted.
+fn offer_where(state: &mut DayState<'_>, wish: u32, wanted: bool)
+    requires { wish < length state.old.dossier.wishes }
+    ensures { state.new.dossier ≡ state.old.dossier }
+{
+    if wanted && is_waiting_status(state.status(wish)) {
+        state.offer(wish, Stamp { day: 1, pass: 1 });
+    }
+}
+
 fn is_target(answer: Answer) -> bool
-    ensures { (first : Status) → IsTrue result → IsTarget (four_wishes first) answer.kind answer.target }
+    ensures { (first : Status) (ranks : Bool) → IsTrue result → IsTarget (four_wishes first ranks) answer.kind answer.target }
 {
     match answer.kind {
         AnswerKind::Quit => answer.target == 11 || answer.target == 12,
@@ -149,7 +168,7 @@ fn is_target(answer: Answer) -> bool
 }
 
 fn are_targets(answers: &[Answer]) -> bool
-    ensures { (first : Status) → IsTrue result → All (λ a. IsTarget (four_wishes first) a.kind a.target) answers.now }
+    ensures { (first : Status) (ranks : Bool) → IsTrue result → All (λ a. IsTarget (four_wishes first ranks) a.kind a.target) answers.now }
 {
     answers.iter().all(|answer| is_target(*answer))
 }
@@ -163,18 +182,29 @@ fn answer_list(alloc: Global, answers: &[(AnswerKind, u32)]) -> Result<Vec<Answe
     Ok(list)
 }
 
+/// What comes in, and what is offered on day 1: the status of the first wish, whether its candidate
+/// ranks his wishes, and whether the second and the third are offered.
+#[derive(Clone, Copy)]
+struct Start {
+    first: Status,
+    ranks: bool,
+    offers: [bool; 2],
+}
+
 /// Whether answers of day 2 lead to this view, or to any where none is given, and this is the first
-/// unfit one, where the first wish came in with a status.
+/// unfit one.
 fn leads(
     alloc: Global,
-    first: Status,
+    start: Start,
     answers: &[(AnswerKind, u32)],
     unfit: Result<(), UnfitAt>,
     view: Option<View>,
 ) -> Result<bool, OutOfMemory> {
     let list = answer_list(alloc, answers)?;
-    let dossier = dossier(alloc, first)?;
+    let dossier = dossier(alloc, start.first, start.ranks)?;
     let mut state = DayState::begin(alloc, &dossier)?;
+    offer_where(&mut state, 1, start.offers[0]);
+    offer_where(&mut state, 2, start.offers[1]);
     if list.len() > 9 || !are_targets(list.as_slice()) {
         return Ok(false);
     }
@@ -185,7 +215,7 @@ fn leads(
 /// A case of two answers.
 #[derive(Clone, Copy)]
 struct Case {
-    first: Status,
+    start: Start,
     answers: [(AnswerKind, u32); 2],
     unfit: Result<(), UnfitAt>,
     view: View,
@@ -194,7 +224,7 @@ struct Case {
 fn holds(alloc: Global, case: Case) -> Result<bool, OutOfMemory> {
     leads(
         alloc,
-        case.first,
+        case.start,
         &case.answers,
         case.unfit,
         Some(case.view),
@@ -203,40 +233,38 @@ fn holds(alloc: Global, case: Case) -> Result<bool, OutOfMemory> {
 
 #[test]
 fn answers_in_turn(rt: HostRuntime) -> Result<(), Fail> {
+    use AnswerKind::{Accept, Quit, Refuse, Withdraw};
+    let accepted = View {
+        statuses: [
+            Status::Accepted,
+            Status::Refused,
+            Status::Waiting,
+            Status::Refused,
+        ],
+        days: [2, 2, 0, 2],
+        live: (1, 0, 0),
+    };
+    let two_offers = Start {
+        first: Status::Offered,
+        ranks: false,
+        offers: [true, false],
+    };
     for case in [
         Case {
-            first: Status::Offered,
-            answers: [(AnswerKind::Accept, 0), (AnswerKind::Refuse, 3)],
+            start: two_offers,
+            answers: [(Accept, 0), (Refuse, 3)],
             unfit: Ok(()),
-            view: View {
-                statuses: [
-                    Status::Accepted,
-                    Status::Refused,
-                    Status::Waiting,
-                    Status::Refused,
-                ],
-                days: [2, 2, 0, 2],
-                live: (1, 0),
-            },
+            view: accepted,
         },
         Case {
-            first: Status::Offered,
-            answers: [(AnswerKind::Refuse, 3), (AnswerKind::Accept, 0)],
+            start: two_offers,
+            answers: [(Refuse, 3), (Accept, 0)],
             unfit: Ok(()),
-            view: View {
-                statuses: [
-                    Status::Accepted,
-                    Status::Refused,
-                    Status::Waiting,
-                    Status::Refused,
-                ],
-                days: [2, 2, 0, 2],
-                live: (1, 0),
-            },
+            view: accepted,
         },
         Case {
-            first: Status::Offered,
-            answers: [(AnswerKind::Refuse, 3), (AnswerKind::Refuse, 3)],
+            start: two_offers,
+            answers: [(Refuse, 3), (Refuse, 3)],
             unfit: Err(UnfitAt {
                 index: 1,
                 status: Status::Refused,
@@ -248,13 +276,16 @@ fn answers_in_turn(rt: HostRuntime) -> Result<(), Fail> {
                     Status::Waiting,
                     Status::Refused,
                 ],
-                days: [0, 0, 0, 2],
-                live: (1, 1),
+                days: [0, 1, 0, 2],
+                live: (1, 0, 1),
             },
         },
         Case {
-            first: Status::Accepted,
-            answers: [(AnswerKind::Accept, 0), (AnswerKind::Withdraw, 2)],
+            start: Start {
+                first: Status::Accepted,
+                ..two_offers
+            },
+            answers: [(Accept, 0), (Withdraw, 2)],
             unfit: Ok(()),
             view: View {
                 statuses: [
@@ -264,17 +295,41 @@ fn answers_in_turn(rt: HostRuntime) -> Result<(), Fail> {
                     Status::Offered,
                 ],
                 days: [0, 2, 2, 0],
-                live: (2, 0),
+                live: (2, 0, 0),
             },
         },
         Case {
-            first: Status::Waiting,
-            answers: [(AnswerKind::Quit, 11), (AnswerKind::Quit, 11)],
+            start: Start {
+                first: Status::Waiting,
+                ..two_offers
+            },
+            answers: [(Quit, 11), (Quit, 11)],
             unfit: Ok(()),
             view: View {
                 statuses: [Status::Quit, Status::Quit, Status::Quit, Status::Offered],
                 days: [2, 2, 2, 0],
-                live: (1, 0),
+                live: (1, 0, 0),
+            },
+        },
+        Case {
+            start: Start {
+                offers: [true, true],
+                ..two_offers
+            },
+            answers: [(Withdraw, 0), (Quit, 11)],
+            unfit: Err(UnfitAt {
+                index: 0,
+                status: Status::Offered,
+            }),
+            view: View {
+                statuses: [
+                    Status::Offered,
+                    Status::Offered,
+                    Status::Offered,
+                    Status::Offered,
+                ],
+                days: [0, 1, 1, 0],
+                live: (2, 1, 1),
             },
         },
     ] {
@@ -295,7 +350,12 @@ fn fits(
     } else {
         Err(UnfitAt { index: 0, status })
     };
-    leads(alloc, status, &[answer], unfit, None)
+    let start = Start {
+        first: status,
+        ranks: false,
+        offers: [false, false],
+    };
+    leads(alloc, start, &[answer], unfit, None)
 }
 
 #[test]
@@ -320,15 +380,138 @@ fn fitting_answers(rt: HostRuntime) -> Result<(), Fail> {
     Ok(())
 }
 
-/// Whether a wish is lapsed after a day's lapse where offers stand three days: the first wish came
-/// in as offered the day before day 0, the second without a date, and the third is offered on day 2.
-fn is_lapsed(alloc: Global, day: u32, wish: u32) -> Result<bool, OutOfMemory>
-    requires { wish < 3 }
-{
-    let dossier = dossier(alloc, Status::Offered)?;
+/// A case of an automatic answer on day 2.
+#[derive(Clone, Copy)]
+struct AutoCase {
+    start: Start,
+    candidate: u32,
+    freed: (u32, u32),
+    view: View,
+}
+
+/// Whether the automatic answer leads to the view and frees as much, and a second one nothing more.
+fn settles(alloc: Global, case: AutoCase) -> Result<bool, OutOfMemory> {
+    let dossier = dossier(alloc, case.start.first, case.start.ranks)?;
     let mut state = DayState::begin(alloc, &dossier)?;
-    state.offer(2, Stamp { day: 2, pass: 1 });
-    let before = vec![in alloc; -1, 0, 0, 9]?;
+    offer_where(&mut state, 1, case.start.offers[0]);
+    offer_where(&mut state, 2, case.start.offers[1]);
+    let freed = state.answer_automatically(case.candidate, Stamp { day: 2, pass: 1 });
+    let again = state.answer_automatically(case.candidate, Stamp { day: 3, pass: 1 });
+    let is_freed = (freed.seats, freed.beds) == case.freed;
+    Ok(is_freed && again == Freed { seats: 0, beds: 0 } && shows(&state, case.view))
+}
+
+#[test]
+fn automatic_answers(rt: HostRuntime) -> Result<(), Fail> {
+    let ranked = Start {
+        first: Status::Offered,
+        ranks: true,
+        offers: [true, false],
+    };
+    let untouched = View {
+        statuses: [
+            Status::Offered,
+            Status::Offered,
+            Status::Waiting,
+            Status::Offered,
+        ],
+        days: [0, 1, 0, 0],
+        live: (2, 0, 1),
+    };
+    for case in [
+        // The best live wish is accepted, and the better one goes on waiting: a bed is freed.
+        AutoCase {
+            start: ranked,
+            candidate: 11,
+            freed: (0, 1),
+            view: View {
+                statuses: [
+                    Status::Accepted,
+                    Status::AutoRefused,
+                    Status::Waiting,
+                    Status::Offered,
+                ],
+                days: [2, 2, 0, 0],
+                live: (2, 0, 0),
+            },
+        },
+        // Two wishes in one programme are given up for one in another with the same school: the
+        // programme is freed once.
+        AutoCase {
+            start: Start {
+                offers: [true, true],
+                ..ranked
+            },
+            candidate: 11,
+            freed: (1, 0),
+            view: View {
+                statuses: [
+                    Status::AutoRefused,
+                    Status::AutoRefused,
+                    Status::Accepted,
+                    Status::Offered,
+                ],
+                days: [2, 2, 2, 0],
+                live: (1, 1, 1),
+            },
+        },
+        // A waiting wish behind the accepted one is withdrawn: nothing is freed.
+        AutoCase {
+            start: Start {
+                offers: [false, false],
+                ..ranked
+            },
+            candidate: 11,
+            freed: (0, 0),
+            view: View {
+                statuses: [
+                    Status::Accepted,
+                    Status::AutoWithdrawn,
+                    Status::Waiting,
+                    Status::Offered,
+                ],
+                days: [2, 2, 0, 0],
+                live: (2, 0, 0),
+            },
+        },
+        // Who answers himself, and who has no wish, is left alone.
+        AutoCase {
+            start: Start {
+                ranks: false,
+                ..ranked
+            },
+            candidate: 11,
+            freed: (0, 0),
+            view: untouched,
+        },
+        AutoCase {
+            start: ranked,
+            candidate: 12,
+            freed: (0, 0),
+            view: untouched,
+        },
+        AutoCase {
+            start: ranked,
+            candidate: 13,
+            freed: (0, 0),
+            view: untouched,
+        },
+    ] {
+        assert!(rt; settles(rt.alloc(), case)?);
+    }
+    Ok(())
+}
+
+/// Whether a wish is lapsed after a day's lapse where offers stand three days: the first wish came
+/// in as offered the day before day 0, the last one without a date, and the second is offered on
+/// day 1.
+fn is_lapsed(alloc: Global, day: u32, wish: u32) -> Result<bool, OutOfMemory>
+    requires { wish < 4 }
+{
+    let dossier = dossier(alloc, Status::Offered, false)?;
+    let mut state = DayState::begin(alloc, &dossier)?;
+    offer_where(&mut state, 1, true);
+    let before = vec![in alloc; -1, 9, 0, 0]?;
     let terms = Terms {
         term: 3,
         before: Sequence::from_vec(before),
@@ -339,7 +522,7 @@ fn is_lapsed(alloc: Global, day: u32, wish: u32) -> Result<bool, OutOfMemory>
 
 #[test]
 fn deadlines(rt: HostRuntime) -> Result<(), Fail> {
-    for (wish, deadline) in [(0, 2), (1, 3), (2, 5)] {
+    for (wish, deadline) in [(0, 2), (3, 3), (1, 4)] {
         assert!(rt; !is_lapsed(rt.alloc(), deadline, wish)?);
         assert!(rt; is_lapsed(rt.alloc(), deadline + 1, wish)?);
     }
@@ -348,14 +531,16 @@ fn deadlines(rt: HostRuntime) -> Result<(), Fail> {
 
 /// A copy stays as it is where the state goes on, and the state goes back to it.
 fn goes_back(alloc: Global) -> Result<bool, OutOfMemory> {
-    let dossier = dossier(alloc, Status::Waiting)?;
+    let dossier = dossier(alloc, Status::Waiting, false)?;
     let mut state = DayState::begin(alloc, &dossier)?;
     let copy = state.copy(alloc)?;
-    state.offer(0, Stamp { day: 1, pass: 1 });
-    let goes_on = state.is_live_in_programme(11, 0) && state.own_wishes(11).len() == 3;
-    let kept = copy.status(0) == Status::Waiting;
+    state.offer(1, Stamp { day: 1, pass: 1 });
+    let goes_on = state.is_live_in_programme(11, 0)
+        && state.is_live_in_school(11, 0)
+        && state.own_wishes(11).len() == 3;
+    let kept = copy.status(1) == Status::Waiting;
     state.set_from(&copy);
-    let back = state.status(0) == Status::Waiting && state.is_live_in_school(11, 0);
+    let back = state.status(1) == Status::Waiting && !state.is_live_in_school(11, 0);
     Ok(goes_on && kept && back)
 }
 

@@ -27,5 +27,8 @@ invariant_of-result c =
       c.boarder.ensures,
       c.boarder-2.ensures,
       c.wish-2.ensures,
+      c.preference_if.ensures,
+      c.preference_if-2.ensures,
+      c.preference_if-3.ensures,
     )
-    (four_wishes_valid c.args.first)
+    (four_wishes_valid c.args.first c.args.ranks)

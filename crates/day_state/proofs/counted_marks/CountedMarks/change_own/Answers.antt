@@ -1,29 +1,97 @@
-use Rattle.std.proofs.Common.{◌≡◌, length, subst}
+use Rattle.std.proofs.Common.{◌≡◌, ◌∙◌, length, subst, sym, ap, refl, arith}
+use Rattle.std.specs.Prelude.{slice_index}
+use Rattle.admit_core.specs.DossierRows.{DossierRows}
+use Rattle.admit_core.specs.Validity.{IsValid}
 use Rattle.admit_core.specs.State.{State}
 use Rattle.day_state.specs.Along.{changed_by}
-use Rattle.day_state.proofs.Along.{on_way_place, on_way_end}
+use Rattle.day_state.proofs.Along.{on_way_none, on_way_place, on_way_end}
+use Rattle.day_state.proofs.Freeing.{has_freed_none}
+use Rattle.day_state.proofs.Changing.{IsStep, counted_step, changing_more}
 use Rattle.day_state.proofs.counted_marks.CountedMarks.change_own.Goals as goal
-use Rattle.day_state.proofs.counted_marks.CountedMarks.change_own.Goals.{Start}
 
 abbrev IsWhole : State → Type 0
 IsWhole s = length s.marks ≡ length s.dossier.wishes
 
+pub loop-place-init : goal.loop-place-init
+loop-place-init c = record { on_way = on_way_none (changed_by c.args.change c.args.stamp) c.args.self.now c.args.own.now; so_far = has_freed_none c.args.self.now c.args.candidate }
+
 pub mark-requires : goal.mark-requires
 mark-requires c =
-    (on_way_place (λ w m. changed_by c.args.change c.args.stamp m) c.args.self.now c.loop-place.self c.args.own.now c.args.candidate c.loop-place.place-index
-    (subst IsWhole c.self.view_is c.self.invariant.marks) c.requires c.loop-place.invariant c.loop-place-test.true).0
+    let f = changed_by c.args.change c.args.stamp in
+    let long : length c.args.self.now.marks ≡ length c.args.self.now.dossier.wishes = subst IsWhole c.self.view_is c.self.invariant.marks in
+    let place = on_way_place f c.args.self.now c.loop-place.self c.args.own.now c.args.candidate c.loop-place.place-index long c.requires c.loop-place.invariant.on_way c.loop-place-test.true in
+    place.0
+
+pub wish_at-requires : goal.wish_at-requires
+wish_at-requires c =
+    let f = changed_by c.args.change c.args.stamp in
+    let long : length c.args.self.now.marks ≡ length c.args.self.now.dossier.wishes = subst IsWhole c.self.view_is c.self.invariant.marks in
+    let place = on_way_place f c.args.self.now c.loop-place.self c.args.own.now c.args.candidate c.loop-place.place-index long c.requires c.loop-place.invariant.on_way c.loop-place-test.true in
+    let same : c.self.inside.dossier.now ≡ c.args.self.now.dossier = ap (λ (s : State). s.dossier) c.self.view_is in
+    let wishes : c.as_slice-wishes.result.now ≡ c.args.self.now.dossier.wishes = c.as_slice-wishes.ensures ∙ ap (λ (d : DossierRows). d.wishes) (c.dossier.view_is ∙ same) in
+    rw wishes (omega (arith, place.0, long, c.loop-place.invariant.on_way.long))
 
 pub set_mark-requires-clause-place : goal.set_mark-requires-clause-place
 set_mark-requires-clause-place c =
-    (on_way_place (λ w m. changed_by c.args.change c.args.stamp m) c.args.self.now c.loop-place.self c.args.own.now c.args.candidate c.loop-place.place-index
-    (subst IsWhole c.self.view_is c.self.invariant.marks) c.requires c.loop-place.invariant c.loop-place-test.true).0
+    let f = changed_by c.args.change c.args.stamp in
+    let long : length c.args.self.now.marks ≡ length c.args.self.now.dossier.wishes = subst IsWhole c.self.view_is c.self.invariant.marks in
+    let place = on_way_place f c.args.self.now c.loop-place.self c.args.own.now c.args.candidate c.loop-place.place-index long c.requires c.loop-place.invariant.on_way c.loop-place-test.true in
+    place.0
 
 pub set_mark-requires-clause-own : goal.set_mark-requires-clause-own
 set_mark-requires-clause-own c =
-    (on_way_place (λ w m. changed_by c.args.change c.args.stamp m) c.args.self.now c.loop-place.self c.args.own.now c.args.candidate c.loop-place.place-index
-    (subst IsWhole c.self.view_is c.self.invariant.marks) c.requires c.loop-place.invariant c.loop-place-test.true).1
+    let f = changed_by c.args.change c.args.stamp in
+    let long : length c.args.self.now.marks ≡ length c.args.self.now.dossier.wishes = subst IsWhole c.self.view_is c.self.invariant.marks in
+    let place = on_way_place f c.args.self.now c.loop-place.self c.args.own.now c.args.candidate c.loop-place.place-index long c.requires c.loop-place.invariant.on_way c.loop-place-test.true in
+    place.1
 
-pub returns : goal.returns
-returns c =
-    on_way_end (λ w m. changed_by c.args.change c.args.stamp m) c.args.self.now c.loop-place.self c.args.own.now c.args.candidate c.loop-place.place-index
-    (subst IsWhole c.self.view_is c.self.invariant.marks) c.requires c.loop-place.invariant c.loop-place-test.false
+pub freed_in_all-freed-requires-clause-seats : goal.freed_in_all-freed-requires-clause-seats
+freed_in_all-freed-requires-clause-seats c =
+    let long : length c.args.self.now.marks ≡ length c.args.self.now.dossier.wishes = subst IsWhole c.self.view_is c.self.invariant.marks in
+    let same : c.self.inside.dossier.now ≡ c.args.self.now.dossier = ap (λ (s : State). s.dossier) c.self.view_is in
+    let wishes : c.as_slice-wishes.result.now ≡ c.loop-place.self.dossier.wishes =
+    c.as_slice-wishes.ensures ∙ ap (λ (d : DossierRows). d.wishes) (c.dossier.view_is ∙ same ∙ sym c.loop-place.invariant.on_way.dossier) in
+    let valid : IsValid c.args.self.now.dossier = subst IsValid (c.dossier.view_is ∙ same) c.dossier.invariant in
+    let step : IsStep c.args.change c.args.stamp c.loop-place.self c.set_mark.new.self (slice_index c.args.own.now c.loop-place.place-index) c.changed_by-mark.result c.set_mark.result = record {
+      mark = c.changed_by-mark.ensures ∙ rw (c.wish_at.ensures, c.mark.ensures, wishes) refl;
+      state = c.set_mark.ensures.state;
+      freed = c.set_mark.ensures.freed;
+    } in
+    (counted_step c.args.change c.args.stamp c.args.candidate c.args.own.now c.args.self.now c.loop-place.self c.set_mark.new.self c.loop-place.freed c.set_mark.result c.loop-place.place-index c.changed_by-mark.result valid long c.requires c.loop-place.invariant c.loop-place-test.true step).seats_fit
+
+pub freed_in_all-freed-requires-clause-beds : goal.freed_in_all-freed-requires-clause-beds
+freed_in_all-freed-requires-clause-beds c =
+    let long : length c.args.self.now.marks ≡ length c.args.self.now.dossier.wishes = subst IsWhole c.self.view_is c.self.invariant.marks in
+    let same : c.self.inside.dossier.now ≡ c.args.self.now.dossier = ap (λ (s : State). s.dossier) c.self.view_is in
+    let wishes : c.as_slice-wishes.result.now ≡ c.loop-place.self.dossier.wishes =
+    c.as_slice-wishes.ensures ∙ ap (λ (d : DossierRows). d.wishes) (c.dossier.view_is ∙ same ∙ sym c.loop-place.invariant.on_way.dossier) in
+    let valid : IsValid c.args.self.now.dossier = subst IsValid (c.dossier.view_is ∙ same) c.dossier.invariant in
+    let step : IsStep c.args.change c.args.stamp c.loop-place.self c.set_mark.new.self (slice_index c.args.own.now c.loop-place.place-index) c.changed_by-mark.result c.set_mark.result = record {
+      mark = c.changed_by-mark.ensures ∙ rw (c.wish_at.ensures, c.mark.ensures, wishes) refl;
+      state = c.set_mark.ensures.state;
+      freed = c.set_mark.ensures.freed;
+    } in
+    (counted_step c.args.change c.args.stamp c.args.candidate c.args.own.now c.args.self.now c.loop-place.self c.set_mark.new.self c.loop-place.freed c.set_mark.result c.loop-place.place-index c.changed_by-mark.result valid long c.requires c.loop-place.invariant c.loop-place-test.true step).beds_fit
+
+pub loop-place-preserved : goal.loop-place-preserved
+loop-place-preserved c =
+    let long : length c.args.self.now.marks ≡ length c.args.self.now.dossier.wishes = subst IsWhole c.self.view_is c.self.invariant.marks in
+    let same : c.self.inside.dossier.now ≡ c.args.self.now.dossier = ap (λ (s : State). s.dossier) c.self.view_is in
+    let wishes : c.as_slice-wishes.result.now ≡ c.loop-place.self.dossier.wishes =
+    c.as_slice-wishes.ensures ∙ ap (λ (d : DossierRows). d.wishes) (c.dossier.view_is ∙ same ∙ sym c.loop-place.invariant.on_way.dossier) in
+    let valid : IsValid c.args.self.now.dossier = subst IsValid (c.dossier.view_is ∙ same) c.dossier.invariant in
+    let step : IsStep c.args.change c.args.stamp c.loop-place.self c.set_mark.new.self (slice_index c.args.own.now c.loop-place.place-index) c.changed_by-mark.result c.set_mark.result = record {
+      mark = c.changed_by-mark.ensures ∙ rw (c.wish_at.ensures, c.mark.ensures, wishes) refl;
+      state = c.set_mark.ensures.state;
+      freed = c.set_mark.ensures.freed;
+    } in
+    rw c.freed_in_all-freed.ensures (changing_more c.args.change c.args.stamp c.args.candidate c.args.own.now c.args.self.now c.loop-place.self c.set_mark.new.self c.loop-place.freed c.set_mark.result c.loop-place.place-index c.changed_by-mark.result valid long c.requires c.loop-place.invariant c.loop-place-test.true step)
+
+pub returns-clause-state : goal.returns-clause-state
+returns-clause-state c =
+    let f = changed_by c.args.change c.args.stamp in
+    let long : length c.args.self.now.marks ≡ length c.args.self.now.dossier.wishes = subst IsWhole c.self.view_is c.self.invariant.marks in
+    on_way_end f c.args.self.now c.loop-place.self c.args.own.now c.args.candidate c.loop-place.place-index long c.requires c.loop-place.invariant.on_way c.loop-place-test.false
+
+pub returns-clause-freed : goal.returns-clause-freed
+returns-clause-freed c = c.loop-place.invariant.so_far.counted

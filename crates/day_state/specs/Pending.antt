@@ -1,2 +1,0 @@
-unfoldable pub IsPending : Type 0
-IsPending = ⊥
