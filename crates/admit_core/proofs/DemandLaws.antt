@@ -73,7 +73,7 @@ not_barred_step false false t = refl
 
 module _ (s : State) (orders : List CallOrder) (lower upper : List ℕ) (at_most : IsAtMost lower upper) where
   -- behind the higher bar is behind the lower one
-  behind_lower : (w : Wish) (school : Option ℕ) → is_behind_bar s upper w school ≡ true → is_behind_bar s lower w school ≡ true
+  pub behind_lower : (w : Wish) (school : Option ℕ) → is_behind_bar s upper w school ≡ true → is_behind_bar s lower w school ≡ true
   behind_lower w None t = t
   behind_lower w (Some h) t =
       let parts = and_parts (not (holds_bed s w.candidate h)) (nat_lt (slice_index upper h) w.board_rank) t in

@@ -46,20 +46,20 @@ tie_with : (a c b : ℕ) → a ≡ c → (b == c) ≡ (not (is_lt (nat_cmp a b))
 tie_with a c b same = rw (← same) (sym (tie_is a b))
 
 -- what a stable sort by a key leaves of one key
-pub stable_own : (key : ℕ → ℕ) (xs ys : List ℕ) → IsPermutation xs ys → IsStableByKey key nat_cmp xs ys → (c : ℕ)
-    → filter (λ k. key k == c) ys ≡ filter (λ k. key k == c) xs
-stable_own key xs ys moved stable c =
-    let p = λ (k : ℕ). key k == c in
+pub stable_own : {X : Type 0} (key : X → ℕ) (xs ys : List X) → IsPermutation xs ys → IsStableByKey key nat_cmp xs ys → (c : ℕ)
+    → filter (λ x. key x == c) ys ≡ filter (λ x. key x == c) xs
+stable_own {X} key xs ys moved stable c =
+    let p = λ (x : X). key x == c in
     elim (cases_Bool (list_any p xs)) [
       | inl found ↦
           let (k, x, within, at, passes) = Any-from_list_any p xs found in
           let same = eqb-true (key x) c passes in
-          let tie = λ (y : ℕ). not (is_lt (nat_cmp (key x) (key y))) && not (is_lt (nat_cmp (key y) (key x))) in
-          let by : (y : ℕ) → p y ≡ tie y = λ y. tie_with (key x) c (key y) same in
+          let tie = λ (y : X). not (is_lt (nat_cmp (key x) (key y))) && not (is_lt (nat_cmp (key y) (key x))) in
+          let by : (y : X) → p y ≡ tie y = λ y. tie_with (key x) c (key y) same in
           filter_by p tie by ys ∙ stable x ∙ sym (filter_by p tie by xs)
       | inr none ↦
           let all = none_found p xs none in
-          filter_none p ys (All-permutation (λ k. p k ≡ false) xs ys moved all) ∙ sym (filter_none p xs all)
+          filter_none p ys (All-permutation (λ x. p x ≡ false) xs ys moved all) ∙ sym (filter_none p xs all)
     ]
 
 pub index_from : (ws : List Wish) (order : List ℕ) → IsPermutation (range_with_len 0 (length ws)) order

@@ -1,10 +1,11 @@
 //! One pass.
-ghost use Rattle.std.specs.Prelude.{◌≡◌, ◌++◌, ◌<◌, length, IfOk, OnErr};
+ghost use Rattle.std.specs.Prelude.{◌≡◌, ◌++◌, ◌<◌, ◌≤◌, length, IfOk, OnOk, OnErr};
 ghost use Rattle.admit_core.specs.CallOrder.{AreCallOrders};
 ghost use Rattle.admit_core.specs.Boarding.{boarding};
 ghost use Rattle.admit_core.specs.Days.{IsPass, offered};
 ghost use Rattle.bar_law.specs.Runs.{schools_of};
 ghost use Rattle.bar_fixpoint.specs.Chosen.{AreChosen};
+ghost use Rattle.round.specs.PassLaws.{FitsSeats, FitsBeds, LowersForBeds, waiting_boarders};
 
 use crate::bars::bars_of;
 use admit_core::{CallOrders, OutOfMemory, PassRecord, Sequence, Stamp, Steps};
@@ -37,9 +38,17 @@ pub fn pass(
     ensures chosen { IfOk result (λ found. AreChosen (boarding state.old orders.now.orders ceilings.now) (choice picker.old) (told picker.old) ceilings.now found.falls) }
     ensures choice { choice picker.new ≡ choice picker.old }
 
+    // No programme takes in more than its seats or its call limit, and no school more than its beds.
+    ensures seats { OnOk result (FitsSeats state.old state.new) }
+    ensures beds { OnOk result (FitsBeds state.old state.new) }
+    ensures lowered { IfOk result (λ found. LowersForBeds state.old state.new ceilings.now found.bars) }
+    ensures few { IfOk result (λ found. length found.falls ≤ waiting_boarders state.old) }
+
     // The picker may have told of schools by then.
     ensures refused { OnErr result (state.new ≡ state.old) }
 {
+    let dossier = state.dossier();
+    let _ = &dossier.wishes; // learns that the dossier is valid
     let found = find::<Brand>(alloc, Blank::new(1), state, orders, ceilings, picker)?;
     state.offer_all(found.offers.as_slice(), stamp);
     Ok(found)

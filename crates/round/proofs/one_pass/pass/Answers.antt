@@ -1,7 +1,12 @@
-use Rattle.std.proofs.Common.{◌≡◌, ◌<◌, ◌∙◌, ℕ, List, length, subst}
+use Rattle.std.proofs.Common.{rules, ◌≡◌, ◌<◌, ◌∙◌, ℕ, List, length, subst}
 use Rattle.std.specs.Prelude.{All}
+use Rattle.admit_core.specs.Validity.{IsValid}
+use Rattle.admit_core.specs.State.{State}
+use Rattle.admit_core.specs.DossierRows.{DossierRows}
 use Rattle.admit_core.specs.Proposals.{proposed}
+use Rattle.admit_core.specs.Days.{offered}
 use Rattle.round.proofs.Offering.{proposed_are_wishes, offers_recorded}
+use Rattle.round.proofs.PassClauses.{seats_kept, beds_kept, bars_lowered, few_falls}
 use Rattle.round.proofs.one_pass.pass.Goals as goal
 
 pub offer_all-requires : goal.offer_all-requires
@@ -10,8 +15,25 @@ offer_all-requires g c =
     let offers : c.as_slice.result.now ≡ proposed s c.args.orders.now.orders c.in_ok-found.found.bars = c.as_slice.ensures ∙ c.in_ok-found.ensures.pass.offers in
     rw offers (proposed_are_wishes s c.args.orders.now.orders c.in_ok-found.found.bars)
 
-pub returns-clause-state : goal.returns-clause-state
-returns-clause-state g c =
+pub returns : goal.returns
+returns g c =
     let s = c.args.state.now in
-    offers_recorded s c.offer_all.new.self c.args.orders.now.orders c.in_ok-found.found.bars c.as_slice.result.now c.args.stamp (c.as_slice.ensures ∙ c.in_ok-found.ensures.pass.offers)
-    c.offer_all.ensures.offered c.offer_all.ensures.marks
+    let orders = c.args.orders.now.orders in
+    let found = c.in_ok-found.found in
+    let is_pass = c.in_ok-found.ensures.pass in
+    let made : c.offer_all.new.self ≡ offered s orders found.bars c.args.stamp =
+    offers_recorded s c.offer_all.new.self orders found.bars c.as_slice.result.now c.args.stamp (c.as_slice.ensures ∙ is_pass.offers) c.offer_all.ensures.offered
+    c.offer_all.ensures.marks in
+    let valid : IsValid s.dossier = subst IsValid (c.dossier.view_is ∙ c.dossier-dossier.ensures) c.dossier.invariant in
+    record {
+      pass = is_pass;
+      state = made;
+      told = c.in_ok-found.ensures.told;
+      chosen = c.in_ok-found.ensures.chosen;
+      choice = c.find.ensures.choice;
+      seats = seats_kept s c.offer_all.new.self orders c.args.ceilings.now c.args.stamp found is_pass made valid c.requires.orders;
+      beds = beds_kept s c.offer_all.new.self orders c.args.ceilings.now c.args.stamp found is_pass made valid c.requires.ceilings;
+      lowered = bars_lowered s c.offer_all.new.self orders c.args.ceilings.now c.args.stamp found is_pass made valid;
+      few = few_falls s c.offer_all.new.self orders c.args.ceilings.now c.args.stamp found is_pass made valid;
+      refused = search rules;
+    }

@@ -1,0 +1,7 @@
+use Rattle.std.proofs.Common.{rules}
+use Rattle.std.proofs.lemmas.Fn.{dedup_same}
+use Rattle.demand.specs.Demands.{same_rank}
+use Rattle.demand.proofs.demands.keep_firsts.Goals as goal
+
+pub returns : goal.returns
+returns c = dedup_same _ same_rank _ (λ x y b f' x' y' k. search rules) _ _ c.dedup_by_key.ensures.filtered

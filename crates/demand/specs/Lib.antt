@@ -1,0 +1,5 @@
+pub mod Flags
+pub mod Open
+pub mod Called
+pub mod Proposed
+pub mod Demands

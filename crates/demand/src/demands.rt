@@ -1,0 +1,96 @@
+//! The demanded ranks of a school, with the wishes that demand them.
+ghost use Rattle.std.specs.Prelude.{◌≡◌, ℕ, ◌<◌, length, List, map, filter, All, IfOk, OnOk};
+ghost use Rattle.std.specs.List.{dedup};
+ghost use Rattle.std.specs.List.Sorted.{IsPermutation, IsNonDecreasingBy, IsStableByKey};
+ghost use Rattle.std.specs.Ordering.{nat_cmp};
+ghost use Rattle.admit_core.specs.declared.ranking.CallOrder.{CallOrder};
+ghost use Rattle.admit_core.specs.Proposals.{proposed};
+ghost use Rattle.demand.specs.Demands.{demands_of, needs_bed, demand_in, same_rank};
+
+use crate::open::wish_at;
+use admit_core::OutOfMemory;
+use day_state::DayState;
+use std::alloc::{AllocError, Global};
+
+/// A demanded rank, and the least place of a wish that demands it.
+#[derive(Clone, Copy, Debug, PartialEq, Eq)]
+pub struct Demand {
+    pub rank: u32,
+    pub wish: u32,
+}
+
+/// Whether the wish at a place has a school in which its candidate has a rank and no bed.
+fn needs_bed(state: &DayState<'_>, school: u32, place: u32) -> bool
+    requires { place < length state.now.dossier.wishes }
+    ensures { result ≡ needs_bed state.now school place }
+{
+    let wish = wish_at(state, place);
+    wish.school == Some(school)
+        && wish.board_rank > 0
+        && !state.is_live_in_school(wish.candidate, school)
+}
+
+/// The rank of the wish at a place, with the place.
+fn demand_at(state: &DayState<'_>, place: u32) -> Demand
+    requires { place < length state.now.dossier.wishes }
+    ensures { result ≡ demand_in state.now.dossier.wishes place }
+{
+    Demand {
+        rank: wish_at(state, place).board_rank,
+        wish: place,
+    }
+}
+
+/// The demands of those of these wishes that need a bed of a school, in their order.
+fn demands_by_place(
+    alloc: Global,
+    state: &DayState<'_>,
+    places: &[u32],
+    school: u32,
+) -> Result<Vec<Demand>, OutOfMemory>
+    requires { All (λ k. k < length state.now.dossier.wishes) places.now }
+    ensures { IfOk result (λ v. v.items ≡ map (demand_in state.now.dossier.wishes) (filter (needs_bed state.now school) places.now)) }
+{
+    let mut demands = Vec::new(alloc);
+    for place in places {
+        if needs_bed(state, school, *place) {
+            demands.push(demand_at(state, *place))?;
+        }
+    }
+    Ok(demands)
+}
+
+/// Puts demands in order by rank; those of one rank keep their order.
+fn sort_demands(demands: &mut Vec<Demand>) -> Result<(), AllocError>
+    ensures moved { IsPermutation demands.old.items demands.new.items }
+    ensures rises { OnOk result (IsNonDecreasingBy (λ x. x.rank) demands.new.items) }
+    ensures stable { OnOk result (IsStableByKey (λ x. x.rank) nat_cmp demands.old.items demands.new.items) }
+{
+    demands.sort_by_key(|demand| demand.rank)?;
+    Ok(())
+}
+
+/// Keeps the first of each run of demands of one rank.
+fn keep_firsts(demands: &mut Vec<Demand>)
+    ensures { demands.new.items ≡ dedup same_rank demands.old.items }
+{
+    demands.dedup_by_key(|demand| demand.rank);
+}
+
+/// The demanded ranks of a school with their names, from the least rank, where these are the places
+/// of the proposed wishes.
+pub fn demands_of(
+    alloc: Global,
+    state: &DayState<'_>,
+    places: &[u32],
+    school: u32,
+) -> Result<Vec<Demand>, OutOfMemory>
+    requires { All (λ k. k < length state.now.dossier.wishes) places.now }
+    ensures { IfOk result (λ v. (orders : List CallOrder) (bars : List ℕ) → places.now ≡ proposed state.now orders bars → v.items ≡ demands_of state.now orders bars school) }
+{
+    let _ = state.marks(); // one for each wish
+    let mut demands = demands_by_place(alloc, state, places, school)?;
+    sort_demands(&mut demands)?;
+    keep_firsts(&mut demands);
+    Ok(demands)
+}

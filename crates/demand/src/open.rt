@@ -1,0 +1,95 @@
+//! Which wishes are open under bars.
+ghost use Rattle.std.specs.Prelude.{◌≡◌, ◌<◌, ◌&&◌, length, All};
+ghost use Rattle.std.specs.Option.{ForSome};
+ghost use Rattle.std.specs.List.{list_any};
+ghost use Rattle.admit_core.specs.State.{is_waiting};
+ghost use Rattle.admit_core.specs.OwnWishes.{own_places};
+ghost use Rattle.admit_core.specs.Proposals.{is_behind_bar, is_open, has_open_wish};
+ghost use Rattle.day_state.specs.Kept.{mark_in, wish_in};
+ghost use Rattle.demand.specs.Open.{is_open_at};
+
+use admit_core::{Mark, Status, Wish};
+use day_state::DayState;
+
+/// Whether a mark is that of a waiting wish.
+fn is_waiting(mark: Mark) -> bool
+    ensures { result ≡ is_waiting mark }
+{
+    matches!(mark.status, Status::Waiting)
+}
+
+/// The wish at a place.
+pub fn wish_at(state: &DayState<'_>, place: u32) -> Wish
+    requires { place < length state.now.dossier.wishes }
+    ensures wish { result ≡ wish_in state.now.dossier.wishes place }
+    ensures school { ForSome result.school (λ h. h < length state.now.dossier.schools) }
+{
+    let dossier = state.dossier();
+    dossier.wishes.as_slice()[place as usize]
+}
+
+/// The mark at a place.
+fn mark_at(state: &DayState<'_>, place: u32) -> Mark
+    requires { place < length state.now.dossier.wishes }
+    ensures { result ≡ mark_in state.now.marks place }
+{
+    state.marks()[place as usize]
+}
+
+/// Whether the candidate of a wish, where he has no bed in its school, ranks there behind the bar.
+fn is_behind_bar(state: &DayState<'_>, bars: &[u32], wish: &Wish) -> bool
+    requires { ForSome wish.now.school (λ h. h < length bars.now) }
+    ensures { result ≡ is_behind_bar state.now bars.now wish.now wish.now.school }
+{
+    match wish.school {
+        None => false,
+        Some(school) => {
+            bars[school as usize] < wish.board_rank
+                && !state.is_live_in_school(wish.candidate, school)
+        }
+    }
+}
+
+/// Whether the wish at a place is open: it waits, and is not barred.
+fn is_open(state: &DayState<'_>, bars: &[u32], place: u32) -> bool
+    requires place { place < length state.now.dossier.wishes }
+    requires bars { length bars.now ≡ length state.now.dossier.schools }
+    ensures { result ≡ is_open state.now bars.now (wish_in state.now.dossier.wishes place) (mark_in state.now.marks place) }
+{
+    is_waiting(mark_at(state, place)) && !is_behind_bar(state, bars, &wish_at(state, place))
+}
+
+/// Whether the wish at a place is an open one in a programme.
+pub fn is_open_at(state: &DayState<'_>, bars: &[u32], programme: u32, place: u32) -> bool
+    requires place { place < length state.now.dossier.wishes }
+    requires bars { length bars.now ≡ length state.now.dossier.schools }
+    ensures { result ≡ is_open_at state.now bars.now programme place }
+{
+    wish_at(state, place).programme == programme && is_open(state, bars, place)
+}
+
+/// Whether one of these wishes is an open one in a programme.
+fn any_open(state: &DayState<'_>, bars: &[u32], programme: u32, own: &[u32]) -> bool
+    requires own { All (λ k. k < length state.now.dossier.wishes) own.now }
+    requires bars { length bars.now ≡ length state.now.dossier.schools }
+    ensures { result ≡ list_any (is_open_at state.now bars.now programme) own.now }
+{
+    own.iter()
+        .any(|place| is_open_at(state, bars, programme, *place))
+}
+
+/// Whether a candidate has an open wish in a programme; `own` has the places of his wishes.
+pub fn has_open_wish(
+    state: &DayState<'_>,
+    bars: &[u32],
+    programme: u32,
+    candidate: u32,
+    own: &[u32],
+) -> bool
+    requires own { own.now ≡ own_places state.now.dossier candidate }
+    requires bars { length bars.now ≡ length state.now.dossier.schools }
+    ensures { result ≡ has_open_wish state.now bars.now programme candidate }
+{
+    let _ = state.marks(); // one for each wish
+    any_open(state, bars, programme, own)
+}
