@@ -5,3 +5,5 @@ pub mod PassesSoFar
 pub mod DaysAnswers
 pub mod OnePass
 pub mod MarkPairs
+pub mod LatestCeilings
+pub mod LastBars

@@ -2,3 +2,5 @@ pub mod AnswersOn
 pub mod Changes
 pub mod DayPasses
 pub mod DeskStates
+pub mod Ceilings
+pub mod CampaignDays

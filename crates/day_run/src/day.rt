@@ -40,6 +40,7 @@ pub fn run_day(
     ensures unfit { IfErr result (IsUnfitOf desk.old.present.dossier day (unfit_on None day desk.old.present)) }
     ensures restored { OnErr result (desk.new.present ≡ desk.old.present) }
     ensures evening { desk.new.evening ≡ desk.old.present }
+    ensures dossier { desk.new.present.dossier ≡ desk.old.present.dossier }
 
     ensures told { IfOk result (λ done. told picker.new ≡ told picker.old ++ schools_of_passes done.passes) }
     ensures untold { IfErr result (TellsNoneUnfit (told picker.old) (told picker.new)) }
@@ -71,6 +72,7 @@ pub fn run_dated_day(
     ensures unfit { IfErr result (IsUnfitOf desk.old.present.dossier day (unfit_on (Some terms.now) day desk.old.present)) }
     ensures restored { OnErr result (desk.new.present ≡ desk.old.present) }
     ensures evening { desk.new.evening ≡ desk.old.present }
+    ensures dossier { desk.new.present.dossier ≡ desk.old.present.dossier }
 
     ensures told { IfOk result (λ done. told picker.new ≡ told picker.old ++ schools_of_passes done.passes) }
     ensures untold { IfErr result (TellsNoneUnfit (told picker.old) (told picker.new)) }
@@ -102,6 +104,7 @@ pub(crate) fn run_with(
     ensures unfit { IfErr result (IsUnfitOf desk.old.present.dossier day (unfit_on (option_copied terms.entry) day desk.old.present)) }
     ensures restored { OnErr result (desk.new.present ≡ desk.old.present) }
     ensures evening { desk.new.evening ≡ desk.old.present }
+    ensures dossier { desk.new.present.dossier ≡ desk.old.present.dossier }
 
     ensures told { IfOk result (λ done. told picker.new ≡ told picker.old ++ schools_of_passes done.passes) }
     ensures untold { IfErr result (TellsNoneUnfit (told picker.old) (told picker.new)) }

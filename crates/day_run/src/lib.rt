@@ -2,7 +2,10 @@
 #![tactic(auto)]
 
 mod answers_on;
+mod campaign;
+mod ceilings;
 mod changes;
+mod course;
 mod day;
 mod desk;
 mod evening;
@@ -10,6 +13,8 @@ mod lapses;
 mod passes;
 mod refusal;
 
+pub use campaign::{Campaign, NoRoom};
+pub use course::Course;
 pub use day::{run_dated_day, run_day};
 pub use desk::Desk;
 pub use refusal::DayRefusal;
