@@ -11,3 +11,4 @@ mod tests;
 
 pub use day::{DayState, UnfitAnswer, UnfitAt};
 pub use laws::candidates_stand_apart;
+pub use mark::{lapses, offer_day};

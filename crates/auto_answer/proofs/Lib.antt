@@ -1,0 +1,6 @@
+pub mod OwnMarks
+pub mod Once
+pub mod Bounds
+pub mod Answering
+pub mod LawsOfAnswers
+pub mod Freeing

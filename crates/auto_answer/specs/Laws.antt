@@ -1,0 +1,45 @@
+-- Laws of automatic answers.
+use Rattle.std.specs.Prelude.{◌≡◌, ◌≢◌, ℕ, ◌<◌, true, false, length}
+use Rattle.admit_core.specs.declared.state.Stamp.{Stamp}
+use Rattle.admit_core.specs.declared.state.Status.TheVariants.{AutoRefused}
+use Rattle.admit_core.specs.State.{State, is_live}
+use Rattle.admit_core.specs.Answers.{mark_at, status_at, candidate_at}
+use Rattle.admit_core.specs.AutoAnswer.{auto_one, auto_all, freed}
+use Rattle.admit_core.specs.Days.{frees_nothing}
+
+-- each wish has a mark
+abbrev pub IsMarked : State → Type 0
+IsMarked s = length s.marks ≡ length s.dossier.wishes
+
+-- two states of one dossier in which a candidate's own wishes have the same marks
+pub record SameOwnMarks (c : ℕ) (s t : State) : Type 0 where
+  pub dossier : t.dossier ≡ s.dossier
+  pub each : (place : ℕ) → place < length s.dossier.wishes → candidate_at s place ≡ c → mark_at s place ≡ mark_at t place
+
+-- what becomes of a candidate's wishes depends on his own wishes alone
+abbrev pub OwnWishesDecide : Type 0
+OwnWishesDecide =
+    (c : ℕ) (s t : State) (stamp : Stamp) → IsMarked s → IsMarked t
+    → SameOwnMarks c s t → SameOwnMarks c (auto_all s stamp) (auto_all t stamp)
+
+-- the automatic answers of two candidates may be exchanged
+abbrev pub MayBeExchanged : Type 0
+MayBeExchanged =
+    (c d : ℕ) (s : State) (stamp : Stamp) → IsMarked s → c ≢ d
+    → auto_one (auto_one s c stamp) d stamp ≡ auto_one (auto_one s d stamp) c stamp
+
+-- the automatic answers of all do to each candidate's wishes what his own alone does
+abbrev pub AllIsEachAlone : Type 0
+AllIsEachAlone = (c : ℕ) (s : State) (stamp : Stamp) → IsMarked s → SameOwnMarks c (auto_one s c stamp) (auto_all s stamp)
+
+-- a live wish that was automatically refused
+pub record IsRefusedAt (old new : State) (place : ℕ) : Type 0 where
+  pub in_range : place < length old.dossier.wishes
+  pub lived : is_live (mark_at old place) ≡ true
+  pub refused : status_at new place ≡ AutoRefused
+
+-- automatic answers that free a seat or a bed refuse a live wish
+abbrev pub FreeingRefuses : Type 0
+FreeingRefuses =
+    (s : State) (stamp : Stamp) → IsMarked s → frees_nothing (freed s (auto_all s stamp)) ≡ false
+    → (place : ℕ) × IsRefusedAt s (auto_all s stamp) place

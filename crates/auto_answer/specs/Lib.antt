@@ -1,0 +1,2 @@
+pub mod LastWish
+pub mod Laws

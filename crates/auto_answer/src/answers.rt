@@ -1,0 +1,58 @@
+//! The automatic answers.
+ghost use Rattle.std.specs.Prelude.{◌≡◌, ◌<◌, ◌+◌, ◌^◌, length, not, drop, map, slice_get, filter, nat_eq, ◌==◌};
+ghost use Rattle.std.specs.List.{range_with_len};
+ghost use Rattle.admit_core.specs.AutoAnswer.{auto_one, auto_all, freed_by, freed};
+ghost use Rattle.admit_core.specs.DossierRows.{candidate_of};
+ghost use Rattle.admit_core.specs.Lists.{is_among};
+ghost use Rattle.admit_core.specs.OwnWishes.{own_places};
+ghost use Rattle.auto_answer.specs.LastWish.{wishers};
+
+use admit_core::{Freed, Stamp};
+use day_state::DayState;
+
+/// Answers for a candidate who ranks his wishes; nothing changes for one who doesn't.
+pub fn auto_one(state: &mut DayState<'_>, candidate: u32, stamp: Stamp) -> Freed
+    ensures state { state.new ≡ auto_one state.old candidate stamp }
+    ensures freed { result ≡ freed_by state.old state.new candidate }
+{
+    state.answer_automatically(candidate, stamp)
+}
+
+/// Answers for all candidates who rank their wishes.
+pub fn auto_all(state: &mut DayState<'_>, stamp: Stamp) -> Freed
+    ensures state { state.new ≡ auto_all state.old stamp }
+    ensures freed { result ≡ freed state.old state.new }
+{
+    let _ = state.marks(); // one for each wish
+    let mut all = Freed { seats: 0, beds: 0 };
+    let wishes = state.dossier().wishes.as_slice();
+    for (place, wish) in wishes.iter().enumerate() {
+        if is_last_wish(state, place as u32, wish.candidate) {
+            let own = state.answer_automatically(wish.candidate, stamp);
+            all = together(all, own);
+        }
+    }
+    all
+}
+
+/// The sums of what was freed twice.
+fn together(one: Freed, other: Freed) -> Freed
+    requires seats { one.seats + other.seats < 2 ^ 32 }
+    requires beds { one.beds + other.beds < 2 ^ 32 }
+    ensures seats { result.seats ≡ one.seats + other.seats }
+    ensures beds { result.beds ≡ one.beds + other.beds }
+{
+    Freed {
+        seats: one.seats + other.seats,
+        beds: one.beds + other.beds,
+    }
+}
+
+/// Whether no later wish is of the same candidate, so that each candidate is answered for once.
+fn is_last_wish(state: &DayState<'_>, place: u32, candidate: u32) -> bool
+    requires place { place < length state.now.dossier.wishes }
+    requires candidate { candidate ≡ candidate_of state.now.dossier place }
+    ensures { result ≡ not (is_among candidate (drop (place + 1) (wishers state.now.dossier))) }
+{
+    state.own_wishes(candidate).last().copied() == Some(place)
+}

@@ -1,0 +1,26 @@
+-- The bars of a day's last pass.
+use Rattle.std.proofs.Common.{ℕ, ◌+◌, ◌≡◌, List, [], ◌∷◌, map, length, arith, ◌∙◌}
+use Rattle.std.specs.List.{enumerate_from}
+use Rattle.std.proofs.lemmas.List.{length-map}
+use Rattle.std.proofs.lemmas.List.FromFn.{length-enumerate_from}
+use Rattle.admit_core.specs.declared.ranking.CallOrder.{CallOrder}
+use Rattle.admit_core.specs.declared.dossier.School.{School}
+use Rattle.admit_core.specs.declared.records.PassEnd.{PassEnd}
+use Rattle.admit_core.specs.DossierRows.{DossierRows}
+use Rattle.admit_core.specs.State.{State}
+use Rattle.admit_core.specs.Days.{Passes, closing, ceiling_on, ceilings_of}
+use Rattle.day_run.specs.DayPasses.{last_bars}
+use Rattle.day_run.proofs.PassesSoFar.{stamp_of}
+
+-- there is one bar for each ceiling
+pub last_bars_long : (orders : List CallOrder) (ceilings : List ℕ) (day k : ℕ) (s evening : State) (passes : List PassEnd) → Passes orders ceilings day k s passes evening
+    → length (last_bars passes) ≡ length ceilings
+last_bars_long orders ceilings day k s evening [] are = absurd are
+last_bars_long orders ceilings day k s evening (pass ∷ []) are = are.0.pass.greatest.fits.under_ceilings.as_many
+last_bars_long orders ceilings day k s evening (pass ∷ next ∷ rest) are =
+    last_bars_long orders ceilings day (k + 1) (closing s orders pass.pass.bars (stamp_of day k)) evening (next ∷ rest) are.2
+
+-- and one ceiling for each school
+pub length-ceilings_of : (d : DossierRows) (day : ℕ) → length (ceilings_of d day) ≡ length d.schools
+length-ceilings_of d day =
+    length-map (enumerate_from 0 d.schools) (λ (x : ℕ × School). ceiling_on d day x.0 x.1) ∙ length-enumerate_from 0 d.schools

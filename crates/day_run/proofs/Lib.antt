@@ -1,0 +1,9 @@
+pub mod Listed
+pub mod ChangedMarks
+pub mod LapsedOffers
+pub mod PassesSoFar
+pub mod DaysAnswers
+pub mod OnePass
+pub mod MarkPairs
+pub mod LatestCeilings
+pub mod LastBars

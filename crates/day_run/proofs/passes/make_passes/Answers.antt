@@ -1,0 +1,61 @@
+use Rattle.std.proofs.Common.{◌≡◌, ◌∙◌, ◌<◌, ◌≤◌, ap, sym, List, length, refl, arith, not, true, ◌++◌}
+use Rattle.std.specs.Prelude.{IsTrue}
+use Rattle.std.proofs.lemmas.Bool.{not_from_false}
+use Rattle.std.proofs.lemmas.List.{append-nil}
+use Rattle.admit_core.specs.declared.state.Mark.{Mark}
+use Rattle.admit_core.specs.DossierRows.{DossierRows}
+use Rattle.admit_core.specs.Days.{frees_nothing}
+use Rattle.day_run.specs.DayPasses.{open_wishes, schools_of_passes}
+use Rattle.day_run.proofs.OnePass.{open_at_most}
+use Rattle.day_run.proofs.PassesSoFar.{so_far_none, so_far_more, so_far_end, told_more}
+use Rattle.day_run.proofs.passes.make_passes.Goals as goal
+
+pub passes-init : goal.passes-init
+passes-init g c =
+    let s = c.args.state.now in
+    let long : length s.marks ≡ length s.dossier.wishes = ap (λ (ms : List Mark). length ms) (sym c.marks.ensures.marks) ∙ c.marks.ensures.one_each in
+    let first = goal.Picker-dyn g c.args.picker.now in
+    record {
+      so_far = so_far_none c.args.orders.now.orders c.args.ceilings.now c.args.day s c.new-ends.result.items c.new-ends.ensures.items long (open_at_most s long);
+      opening = c.requires.same;
+      told = sym (ap (λ l. first.told c.args.picker.now.1 ++ schools_of_passes l) c.new-ends.ensures.items ∙ append-nil (first.told c.args.picker.now.1));
+      choice = refl;
+    }
+
+pub passes-smaller : goal.passes-smaller
+passes-smaller g c = c.in_ok-end.ensures.fewer (not_from_false (frees_nothing c.in_ok-end.end.freed) (sym c.frees_nothing.ensures ∙ c.if-frees_nothing.false))
+
+pub passes-preserved : goal.passes-preserved
+passes-preserved g c =
+    let some : IsTrue (not (frees_nothing c.in_ok-end.end.freed)) = not_from_false (frees_nothing c.in_ok-end.end.freed) (sym c.frees_nothing.ensures ∙ c.if-frees_nothing.false) in
+    record {
+      so_far = so_far_more c.args.orders.now.orders c.args.ceilings.now c.args.day c.passes.number c.args.state.now c.passes.state c.make_pass.new.state c.passes.ends.items c.push.new.self.items c.in_ok-end.end
+          c.passes.invariant.so_far c.in_ok-end.ensures.end some c.in_ok-end.ensures.state (c.in_ok-end.ensures.fewer some) c.in_ok-end.ensures.marks c.in_ok-end.ensures.dossier c.in_ok-push.ensures.items;
+      opening = ap (λ s. s.dossier) c.make_pass.ensures.opening ∙ c.passes.invariant.so_far.dossier;
+      told = told_more _ _ _ c.passes.ends.items c.push.new.self.items c.in_ok-end.end c.passes.invariant.told c.in_ok-end.ensures.told c.in_ok-push.ensures.items;
+      choice = c.make_pass.ensures.choice ∙ c.passes.invariant.choice;
+    }
+
+pub overflow_add-number : goal.overflow_add-number
+overflow_add-number g c =
+    let wishes = ap (λ (d : DossierRows). length d.wishes) (c.behind-state.view_is ∙ c.dossier.ensures) in
+    omega (arith, c.passes.invariant.so_far.open_ones, c.behind-state.invariant.size.wishes, wishes)
+
+pub returns-then-frees_nothing-clause-passes : goal.returns-then-frees_nothing-clause-passes
+returns-then-frees_nothing-clause-passes g c =
+    (so_far_end c.args.orders.now.orders c.args.ceilings.now c.args.day c.passes.number c.args.state.now c.passes.state c.make_pass.new.state c.passes.ends.items c.push.new.self.items c.in_ok-end.end
+    c.passes.invariant.so_far c.in_ok-end.ensures.end (sym c.frees_nothing.ensures ∙ c.if-frees_nothing.true) c.in_ok-end.ensures.state c.in_ok-push.ensures.items).0
+
+pub returns-then-frees_nothing-clause-opening : goal.returns-then-frees_nothing-clause-opening
+returns-then-frees_nothing-clause-opening g c =
+    c.make_pass.ensures.opening
+    ∙ sym (so_far_end c.args.orders.now.orders c.args.ceilings.now c.args.day c.passes.number c.args.state.now c.passes.state c.make_pass.new.state c.passes.ends.items c.push.new.self.items c.in_ok-end.end
+    c.passes.invariant.so_far c.in_ok-end.ensures.end (sym c.frees_nothing.ensures ∙ c.if-frees_nothing.true) c.in_ok-end.ensures.state c.in_ok-push.ensures.items).1
+
+pub returns-then-frees_nothing-clause-few : goal.returns-then-frees_nothing-clause-few
+returns-then-frees_nothing-clause-few g c =
+    (so_far_end c.args.orders.now.orders c.args.ceilings.now c.args.day c.passes.number c.args.state.now c.passes.state c.make_pass.new.state c.passes.ends.items c.push.new.self.items c.in_ok-end.end
+    c.passes.invariant.so_far c.in_ok-end.ensures.end (sym c.frees_nothing.ensures ∙ c.if-frees_nothing.true) c.in_ok-end.ensures.state c.in_ok-push.ensures.items).2
+
+pub returns-then-frees_nothing-clause-told : goal.returns-then-frees_nothing-clause-told
+returns-then-frees_nothing-clause-told g c = told_more _ _ _ c.passes.ends.items c.push.new.self.items c.in_ok-end.end c.passes.invariant.told c.in_ok-end.ensures.told c.in_ok-push.ensures.items

@@ -1,0 +1,18 @@
+use Rattle.std.proofs.Common.{◌≡◌, ◌++◌}
+use Rattle.day_run.proofs.PassesSoFar.{SoFar}
+use Rattle.day_run.specs.DayPasses.{open_wishes, schools_of_passes}
+use Rattle.day_run.proofs.passes.make_passes.Given as goal
+
+abbrev pub invariant-passes : goal.invariant-passes
+invariant-passes g l =
+    let first = goal.Picker-dyn g l.fn.picker.now in
+    let now = goal.Picker-dyn g l.picker.now in
+    record {
+      so_far : SoFar l.orders.orders l.ceilings l.day l.number l.fn.state l.state l.ends.items;
+      opening : l.opening.dossier ≡ l.fn.state.dossier;
+      told : now.told l.picker.now.1 ≡ first.told l.fn.picker.now.1 ++ schools_of_passes l.ends.items;
+      choice : now.choice l.picker.now.1 ≡ first.choice l.fn.picker.now.1;
+    }
+
+abbrev pub decreases-passes : goal.decreases-passes
+decreases-passes g l = open_wishes l.state

@@ -1,0 +1,167 @@
+//! How far a campaign has come.
+ghost use Rattle.std.specs.Prelude.{◌≡◌, ◌++◌, ◌<◌, ◌+◌, length, IfOk, IfErr, OnErr, None, Some, false};
+ghost use Rattle.std.specs.Option.{ForSome};
+ghost use Rattle.admit_core.specs.CallOrder.{AreCallOrders};
+ghost use Rattle.admit_core.specs.Days.{first_evening, unfit_on};
+ghost use Rattle.day_run.specs.AnswersOn.{IsUnfitOf, TellsNoneUnfit};
+ghost use Rattle.day_run.specs.CampaignDays.{RunsDay, StaysAt, SameCampaign};
+ghost use Rattle.day_run.specs.DayPasses.{schools_of_passes, last_bars};
+
+use crate::ceilings::{ceilings_on, own_ceilings};
+use crate::day::run_with;
+use crate::desk::Desk;
+use crate::refusal::DayRefusal;
+use admit_core::{CallOrders, DayRecord, Dossier, OutOfMemory, PassEnd, Terms};
+use bar_fixpoint::Picker;
+use day_state::DayState;
+use std::alloc::Global;
+use std::marker::Model;
+
+/// The days of a campaign, without the picker.
+#[derive(Drop)]
+pub struct Course<'d> {
+    desk: Desk<'d>,
+    orders: &'d CallOrders,
+    terms: Option<Terms>,
+    day: u32,
+    has_day: bool,
+    bars: Vec<u32>,
+    ceilings: Vec<u32>,
+}
+
+impl<'d> Model for Course<'d> {
+    ghost use Rattle.day_run.specs.CampaignDays.{Progress, IsProgress};
+
+    ghost Value = { Progress };
+
+    ghost view = { λ s. record { orders = s.orders.now.orders; terms = s.terms; day = s.day; has_day = s.has_day; present = s.desk.present; opening = s.desk.opening; bars = s.bars.items; ceilings = s.ceilings.items } };
+
+    ghost invariant = { λ s. IsProgress (record { orders = s.orders.now.orders; terms = s.terms; day = s.day; has_day = s.has_day; present = s.desk.present; opening = s.desk.opening; bars = s.bars.items; ceilings = s.ceilings.items }) };
+}
+
+impl<'d> Course<'d> {
+    /// No day was run.
+    pub(crate) fn begin(
+        alloc: Global,
+        dossier: &'d Dossier,
+        orders: &'d CallOrders,
+        terms: Option<Terms>,
+    ) -> Result<Course<'d>, OutOfMemory>
+        requires orders { AreCallOrders dossier.now.groups orders.now.orders }
+        requires before { ForSome terms (λ t. length t.before ≡ length dossier.now.wishes) }
+        ensures orders { IfOk result (λ course. course.orders ≡ orders.now.orders) }
+        ensures terms { IfOk result (λ course. course.terms ≡ terms) }
+        ensures day { IfOk result (λ course. course.day ≡ 0) }
+        ensures has_day { IfOk result (λ course. course.has_day ≡ false) }
+        ensures present { IfOk result (λ course. course.present ≡ first_evening dossier.now) }
+    {
+        let desk = Desk::begin(alloc, dossier)?;
+        let bars = own_ceilings(alloc, dossier)?;
+        let ceilings = own_ceilings(alloc, dossier)?;
+        Ok(Course {
+            desk,
+            orders,
+            terms,
+            day: 0,
+            has_day: false,
+            bars,
+            ceilings,
+        })
+    }
+
+    /// Runs the next day under its ceilings.
+    pub(crate) fn next_day(
+        &mut self,
+        alloc: Global,
+        picker: &mut dyn Picker,
+    ) -> Result<DayRecord, DayRefusal>
+        requires { self.old.day < 366 }
+
+        ensures runs { IfOk result (RunsDay self.old self.new) }
+        ensures unfit { IfErr result (IsUnfitOf self.old.present.dossier (self.old.day + 1) (unfit_on self.old.terms (self.old.day + 1) self.old.present)) }
+        ensures stays { OnErr result (StaysAt self.old self.new) }
+        ensures same { SameCampaign self.old self.new }
+
+        ensures told { IfOk result (λ done. told picker.new ≡ told picker.old ++ schools_of_passes done.passes) }
+        ensures untold { IfErr result (TellsNoneUnfit (told picker.old) (told picker.new)) }
+        ensures choice { choice picker.new ≡ choice picker.old }
+    {
+        self.has_day = false;
+        let day = self.day + 1;
+        let ceilings = ceilings_on(alloc, self.desk.now().dossier(), day)?;
+        let done = run_with(
+            alloc,
+            &mut self.desk,
+            self.orders,
+            ceilings.as_slice(),
+            self.terms.as_ref(),
+            day,
+            picker,
+        )?;
+        keep_bars(&mut self.bars, done.passes.as_slice());
+        self.ceilings = ceilings;
+        self.day = day;
+        self.has_day = true;
+        Ok(done)
+    }
+
+    /// The number of days that were run.
+    pub fn day(&self) -> u32
+        ensures { result ≡ self.now.day }
+    {
+        self.day
+    }
+
+    /// Whether the last day that was tried came about.
+    pub fn has_day(&self) -> bool
+        ensures { result ≡ self.now.has_day }
+    {
+        self.has_day
+    }
+
+    /// The present state.
+    pub fn state(&self) -> &DayState<'d>
+        ensures { result.now ≡ self.now.present }
+    {
+        self.desk.now()
+    }
+
+    /// The state in which the last pass began.
+    pub fn opening(&self) -> &DayState<'d>
+        ensures { result.now ≡ self.now.opening }
+    {
+        self.desk.opening()
+    }
+
+    /// The bars of the last pass, by school; before the first day they are the schools' own ceilings.
+    pub fn bars(&self) -> &[u32]
+        ensures { result.now ≡ self.now.bars }
+    {
+        self.bars.as_slice()
+    }
+
+    /// The ceilings of the last day, by school.
+    pub fn ceilings(&self) -> &[u32]
+        ensures { result.now ≡ self.now.ceilings }
+    {
+        self.ceilings.as_slice()
+    }
+
+    /// The call orders.
+    pub fn orders(&self) -> &CallOrders
+        ensures { result.now.orders ≡ self.now.orders }
+    {
+        self.orders
+    }
+}
+
+/// Keeps the bars of the last pass.
+fn keep_bars(bars: &mut Vec<u32>, passes: &[PassEnd])
+    requires { length bars.old.items ≡ length (last_bars passes.now) }
+    ensures { bars.new.items ≡ last_bars passes.now }
+{
+    if let Some(last) = passes.last() {
+        bars.as_mut_slice()
+            .copy_from_slice(last.pass.bars.as_slice());
+    }
+}

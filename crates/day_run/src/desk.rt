@@ -1,0 +1,67 @@
+//! The states that a day needs.
+ghost use Rattle.std.specs.Prelude.{◌≡◌, IfOk};
+ghost use Rattle.admit_core.specs.Days.{first_evening};
+ghost use Rattle.day_run.specs.DeskStates.{DeskStates};
+
+use admit_core::{Dossier, OutOfMemory};
+use day_state::DayState;
+use std::alloc::Global;
+use std::marker::Model;
+
+/// The present state of a dossier's wishes, the state in which its last day began, and the opening of
+/// the last pass.
+#[derive(Drop)]
+pub struct Desk<'d> {
+    pub(crate) present: DayState<'d>,
+    pub(crate) evening: DayState<'d>,
+    pub(crate) opening: DayState<'d>,
+}
+
+impl<'d> Model for Desk<'d> {
+    ghost use Rattle.day_run.specs.DeskStates.{DeskStates, AreOfOne};
+
+    ghost Value = { DeskStates };
+
+    ghost view = { λ s. record { present = s.present; evening = s.evening; opening = s.opening } };
+
+    ghost invariant = { λ s. AreOfOne (record { present = s.present; evening = s.evening; opening = s.opening }) };
+}
+
+impl<'d> Desk<'d> {
+    /// All three states are those that the dossier comes in with.
+    pub fn begin(alloc: Global, dossier: &'d Dossier) -> Result<Desk<'d>, OutOfMemory>
+        ensures present { IfOk result (λ desk. desk.present ≡ first_evening dossier.now) }
+        ensures evening { IfOk result (λ desk. desk.evening ≡ first_evening dossier.now) }
+        ensures opening { IfOk result (λ desk. desk.opening ≡ first_evening dossier.now) }
+    {
+        let present = DayState::begin(alloc, dossier)?;
+        let evening = present.copy(alloc)?;
+        let opening = present.copy(alloc)?;
+        Ok(Desk {
+            present,
+            evening,
+            opening,
+        })
+    }
+
+    /// The present state.
+    pub fn now(&self) -> &DayState<'d>
+        ensures { result.now ≡ self.now.present }
+    {
+        &self.present
+    }
+
+    /// The state in which the last day began: that of the evening before.
+    pub fn evening(&self) -> &DayState<'d>
+        ensures { result.now ≡ self.now.evening }
+    {
+        &self.evening
+    }
+
+    /// The state in which the last pass began.
+    pub fn opening(&self) -> &DayState<'d>
+        ensures { result.now ≡ self.now.opening }
+    {
+        &self.opening
+    }
+}

@@ -1,0 +1,20 @@
+//! Days and campaigns: answers, passes until the automatic answers free nothing, and the evening.
+#![tactic(auto)]
+
+mod answers_on;
+mod campaign;
+mod ceilings;
+mod changes;
+mod course;
+mod day;
+mod desk;
+mod evening;
+mod lapses;
+mod passes;
+mod refusal;
+
+pub use campaign::{Campaign, NoRoom};
+pub use course::Course;
+pub use day::{run_dated_day, run_day};
+pub use desk::Desk;
+pub use refusal::DayRefusal;

@@ -1,0 +1,101 @@
+//! The passes of a day.
+ghost use Rattle.std.specs.Prelude.{◌≡◌, ◌≤◌, ◌<◌, ◌+◌, ◌++◌, length, not, IfOk, IsTrue};
+ghost use Rattle.admit_core.specs.CallOrder.{AreCallOrders};
+ghost use Rattle.admit_core.specs.Days.{IsPassEnd, Passes, closing, frees_nothing};
+ghost use Rattle.bar_law.specs.Runs.{schools_of};
+ghost use Rattle.day_run.specs.DayPasses.{schools_of_passes, last_opening, open_wishes};
+
+use crate::changes::answered_changes;
+use admit_core::{CallOrders, Freed, OutOfMemory, PassEnd, Sequence, Stamp};
+use auto_answer::auto_all;
+use bar_fixpoint::Picker;
+use day_state::DayState;
+use round::pass;
+use std::alloc::Global;
+
+/// Makes passes from the present state on, up to the first whose automatic answers free nothing.
+///
+/// A pass that is not the last refuses a live wish, and none comes back to life: so there are at
+/// most as many passes as wishes, and one more.
+pub(crate) fn make_passes<'d>(
+    alloc: Global,
+    opening: &mut DayState<'d>,
+    state: &mut DayState<'d>,
+    orders: &CallOrders,
+    ceilings: &[u32],
+    day: u32,
+    picker: &mut dyn Picker,
+) -> Result<Vec<PassEnd>, OutOfMemory>
+    requires same { opening.old.dossier ≡ state.old.dossier }
+    requires orders { AreCallOrders state.old.dossier.groups orders.now.orders }
+    requires ceilings { length ceilings.now ≡ length state.old.dossier.schools }
+
+    ensures passes { IfOk result (λ ends. Passes orders.now.orders ceilings.now day 1 state.old ends.items state.new) }
+    ensures opening { IfOk result (λ ends. opening.new ≡ last_opening orders.now.orders day 1 state.old ends.items) }
+    ensures few { IfOk result (λ ends. length ends.items ≤ length state.old.dossier.wishes + 1) }
+
+    ensures told { IfOk result (λ ends. told picker.new ≡ told picker.old ++ schools_of_passes ends.items) }
+    ensures choice { choice picker.new ≡ choice picker.old }
+
+    ensures dossier { state.new.dossier ≡ state.old.dossier }
+    ensures opening_dossier { opening.new.dossier ≡ state.old.dossier }
+{
+    let _ = state.marks(); // one for each wish
+    let _ = state.dossier().wishes.len(); // at most 16,000,000
+    let mut ends = Vec::new(alloc);
+    let mut number = 1;
+    'passes: loop {
+        let stamp = Stamp { day, pass: number };
+        let end = make_pass(alloc, opening, state, orders, ceilings, stamp, picker)?;
+        let freed = end.freed;
+        ends.push(end)?;
+        if frees_nothing(freed) {
+            return Ok(ends);
+        }
+        number += 1;
+    }
+}
+
+/// Whether nothing was freed.
+fn frees_nothing(freed: Freed) -> bool
+    ensures { result ≡ frees_nothing freed }
+{
+    freed.seats == 0 && freed.beds == 0
+}
+
+/// Makes a pass, and the automatic answers of all that follow it. The opening becomes that of the pass.
+fn make_pass<'d>(
+    alloc: Global,
+    opening: &mut DayState<'d>,
+    state: &mut DayState<'d>,
+    orders: &CallOrders,
+    ceilings: &[u32],
+    stamp: Stamp,
+    picker: &mut dyn Picker,
+) -> Result<PassEnd, OutOfMemory>
+    requires same { opening.old.dossier ≡ state.old.dossier }
+    requires orders { AreCallOrders state.old.dossier.groups orders.now.orders }
+    requires ceilings { length ceilings.now ≡ length state.old.dossier.schools }
+
+    ensures end { IfOk result (λ end. IsPassEnd state.old orders.now.orders ceilings.now stamp end) }
+    ensures state { IfOk result (λ end. state.new ≡ closing state.old orders.now.orders end.pass.bars stamp) }
+    ensures opening { opening.new ≡ state.old }
+    ensures fewer { IfOk result (λ end. IsTrue (not (frees_nothing end.freed)) → open_wishes state.new < open_wishes state.old) }
+    ensures marks { IfOk result (λ _. length state.new.marks ≡ length state.new.dossier.wishes) }
+
+    ensures told { IfOk result (λ end. told picker.new ≡ told picker.old ++ schools_of end.pass.falls) }
+    ensures choice { choice picker.new ≡ choice picker.old }
+
+    ensures dossier { state.new.dossier ≡ state.old.dossier }
+{
+    let _ = state.marks(); // one for each wish
+    opening.set_from(state);
+    let pass = pass(alloc, state, orders, ceilings, stamp, picker)?;
+    let freed = auto_all(state, stamp);
+    let autos = answered_changes(alloc, opening, state)?;
+    Ok(PassEnd {
+        pass,
+        autos: Sequence::from_vec(autos),
+        freed,
+    })
+}
