@@ -13,7 +13,7 @@ use Rattle.admit_core.specs.CallOrder.{remaining, bound_after, may_be_called, Is
 use Rattle.admit_core.specs.Validity.{IsRanking}
 use Rattle.admit_core.proofs.LeastFirst.{RisesBy}
 use Rattle.admit_core.proofs.NextCalls.{next_some}
-use Rattle.admit_core.proofs.OrderPermutes.{nat_eq_turn, take_next, call_at}
+use Rattle.admit_core.proofs.OrderPermutes.{nat_eq_turn, all_by_key, take_next, call_at}
 
 -- ---- rows of a list
 abbrev pub IsIn : {X : Type 0} → X → List X → Type 0
@@ -70,12 +70,7 @@ all_in P x (y ∷ ys) all has =
     ]
 
 all_keys_in : {X : Type 0} (key : X → ℕ) (P : ℕ → Type 0) (x : X) (xs : List X) → AllByRecursion P (map key xs) → IsIn x xs → P (key x)
-all_keys_in key P x [] all has = absurd has
-all_keys_in key P x (y ∷ ys) all has =
-    elim has [
-      | inl same ↦ rw (← same) all.0
-      | inr later ↦ all_keys_in key P x ys all.1 later
-    ]
+all_keys_in {X = X} key P x xs all has = all_in (λ (y : X). P (key y)) x xs (all_by_key key P xs all) has
 
 -- where keys differ, a key has one row
 pub same_row : {X : Type 0} (key : X → ℕ) (x y : X) (xs : List X) → IsDistinct nat_eq (map key xs) → IsIn x xs → IsIn y xs → key x ≡ key y → x ≡ y

@@ -74,19 +74,22 @@ pub record IsCalled (g : RankGroup) (before : List ℕ) (c : ℕ) (b : Bound) (r
 abbrev call_of : Bound → Ranked → ℕ × Bound
 call_of bound r = (r.candidate, bound)
 
-called_as : (bound : Bound) (o : Option Ranked) (c : ℕ) (b : Bound) → option_map (call_of bound) o ≡ Some (c, b)
-    → (r : Ranked) × (o ≡ Some r) × (r.candidate ≡ c) × (bound ≡ b)
-called_as bound None c b e = absurd (cc)
-called_as bound (Some r) c b e =
-    let pair : call_of bound r ≡ (c, b) = (cc) in
-    (r, refl, ap (λ (x : ℕ × Bound). x.0) pair, ap (λ (x : ℕ × Bound). x.1) pair)
+-- what a mapped option holds comes of what the option holds
+pub mapped_some : {X Y : Type 0} (f : X → Y) (o : Option X) (y : Y) → option_map f o ≡ Some y → (x : X) × (o ≡ Some x) × (f x ≡ y)
+mapped_some f None y e = absurd (cc)
+mapped_some f (Some x) y e = (x, refl, (cc))
 
 pub next_some : (g : RankGroup) (before : List ℕ) (c : ℕ) (b : Bound) → IsStrictlyIncreasing (map (λ (r : Ranked). r.rank) g.list) → next_after g before ≡ Some (c, b)
     → (r : Ranked) × IsCalled g before c b r
 next_some g before c b rising e =
     let bound = bound_after g before in
-    let (r, found, candidate, is) = called_as bound (find (may_be_called bound) (remaining g before)) c b (sym (next_is_first g before rising) ∙ e) in
-    (r, record { bound = is; first = ap (λ under. find (may_be_called under) (remaining g before)) (sym is) ∙ found; candidate = candidate })
+    let (r, found, is) = mapped_some (call_of bound) (find (may_be_called bound) (remaining g before)) (c, b) (sym (next_is_first g before rising) ∙ e) in
+    let under = ap (λ (x : ℕ × Bound). x.1) is in
+    (r, record {
+      bound = under;
+      first = ap (λ now. find (may_be_called now) (remaining g before)) (sym under) ∙ found;
+      candidate = ap (λ (x : ℕ × Bound). x.0) is;
+    })
 
 filter_twice : {X : Type 0} (p q both : X → Bool) → ((x : X) → both x ≡ (p x && q x)) → (xs : List X) → filter both xs ≡ filter q (filter p xs)
 filter_twice p q both h [] = refl

@@ -17,7 +17,7 @@ use Rattle.admit_core.specs.Lists.{is_among}
 use Rattle.admit_core.specs.CallOrder.{remaining, may_be_called, next_after, IsCallOrder}
 use Rattle.admit_core.specs.CallOrderLaws.{ranked_candidates, OrdersPermuteRankings, OrdersAreWhole, NobodyIsCalledTwice, ExactlyTheRankedAreCalled}
 use Rattle.admit_core.specs.Validity.{IsRanking}
-use Rattle.admit_core.proofs.LeastFirst.{found_has}
+use Rattle.admit_core.proofs.LeastFirst.{found_has, all_filter}
 use Rattle.admit_core.proofs.NextCalls.{next_none, next_some, remaining_push, remaining_first}
 
 pub nat_eq_turn : (x y : ℕ) → nat_eq x y ≡ nat_eq y x
@@ -32,9 +32,14 @@ pub all_stay : {X : Type 0} (key : X → ℕ) (c : ℕ) (xs : List X) → AllByR
 all_stay key c [] all = refl
 all_stay key c (x ∷ xs) all = rw (nat_eq_turn (key x) c, all.0) (ap (λ ys. x ∷ ys) (all_stay key c xs all.1))
 
-all_by_key : {X : Type 0} (key : X → ℕ) (P : ℕ → Type 0) (xs : List X) → AllByRecursion P (map key xs) → AllByRecursion (λ x. P (key x)) xs
+-- what all keys have, as a fact on the rows, and back
+pub all_by_key : {X : Type 0} (key : X → ℕ) (P : ℕ → Type 0) (xs : List X) → AllByRecursion P (map key xs) → AllByRecursion (λ x. P (key x)) xs
 all_by_key key P [] all = tt
 all_by_key key P (x ∷ xs) all = (all.0, all_by_key key P xs all.1)
+
+all_of_keys : {X : Type 0} (key : X → ℕ) (P : ℕ → Type 0) (xs : List X) → AllByRecursion (λ x. P (key x)) xs → AllByRecursion P (map key xs)
+all_of_keys key P [] all = tt
+all_of_keys key P (x ∷ xs) all = (all.0, all_of_keys key P xs all.1)
 
 -- where keys differ, what is found has another key than the first, if that fails the test
 pub later_key : {X : Type 0} (key : X → ℕ) (test : X → Bool) (y : X) (ys : List X) (x : X) → IsDistinct nat_eq (map key (y ∷ ys)) → find test ys ≡ Some x → nat_eq (key y) (key x) ≡ false
@@ -64,23 +69,17 @@ permutation_without {X = X} key test (y ∷ ys) x apart e =
           (IsPermutation-middle (y ∷ []) x (filter others ys)))
     ]
 
-all_filter : {X : Type 0} (P : ℕ → Type 0) (key : X → ℕ) (test : X → Bool) (xs : List X) → AllByRecursion P (map key xs) → AllByRecursion P (map key (filter test xs))
-all_filter P key test [] all = tt
-all_filter P key test (x ∷ xs) all =
-    elim (cases_Bool (test x)) [
-      | inl passes ↦ rw passes (all.0, all_filter P key test xs all.1)
-      | inr fails ↦ rw fails (all_filter P key test xs all.1)
-    ]
-
 -- keys that differ still do after a filter
 pub distinct_filter : {X : Type 0} (key : X → ℕ) (test : X → Bool) (xs : List X) → IsDistinct nat_eq (map key xs) → IsDistinct nat_eq (map key (filter test xs))
 distinct_filter key test [] apart = apart
-distinct_filter key test (x ∷ xs) apart =
+distinct_filter {X = X} key test (x ∷ xs) apart =
+    let other = λ (k : ℕ). nat_eq (key x) k ≡ false in
+    let all = all_by_key key other xs (IsDistinct-head nat_eq (key x) (map key xs) apart) in
     let later = distinct_filter key test xs (IsDistinct-tail nat_eq (key x) (map key xs) apart) in
     elim (cases_Bool (test x)) [
       | inl passes ↦
           rw passes
-          (IsDistinct-cons nat_eq (key x) (map key (filter test xs)) (all_filter _ key test xs (IsDistinct-head nat_eq (key x) (map key xs) apart)) later)
+          (IsDistinct-cons nat_eq (key x) (map key (filter test xs)) (all_of_keys key other (filter test xs) (all_filter (λ (y : X). other (key y)) test xs all)) later)
       | inr fails ↦ rw fails later
     ]
 

@@ -11,7 +11,7 @@ use Rattle.admit_core.specs.declared.ranking.Bound.{Bound}
 use Rattle.admit_core.specs.Lists.{is_among}
 use Rattle.admit_core.specs.CallOrder.{called, remaining, bound_after, may_be_called, next_after, IsCallOrder}
 use Rattle.admit_core.proofs.LeastFirst.{next_is_first}
-use Rattle.admit_core.proofs.NextCalls.{find_passes, next_none, mapped_none, remaining_push, remaining_first}
+use Rattle.admit_core.proofs.NextCalls.{find_passes, next_none, mapped_none, mapped_some, remaining_push, remaining_first}
 use Rattle.admit_core.proofs.OrderPermutes.{distinct_filter}
 use Rattle.admit_core.proofs.CalledCounts.{count_called_push, length-parts}
 use Rattle.admit_core.proofs.Calls.{CallsSoFar, calls_none, calls_push, calls_done}
@@ -60,12 +60,6 @@ queued_none g rs e =
 abbrev with_bound : Bound → Ranked → Ranked × Bound
 with_bound bound r = (r, bound)
 
-called_with : (bound : Bound) (o : Option Ranked) (r : Ranked) (b : Bound) → option_map (with_bound bound) o ≡ Some (r, b) → (o ≡ Some r) × (bound ≡ b)
-called_with bound None r b e = absurd (cc)
-called_with bound (Some x) r b e =
-    let pair : with_bound bound x ≡ (r, b) = (cc) in
-    (ap Some (ap (λ (y : Ranked × Bound). y.0) pair), ap (λ (y : Ranked × Bound). y.1) pair)
-
 -- what is called by the tally and by those who remain is the next one of the rule
 call_is : (g : RankGroup) (list : List ℕ) (trace : List Bound) (tally : Tally) (rs : List Ranked) → QueuedSoFar g list trace tally rs
     → call_by (rates_of g) tally rs ≡ option_map (with_bound (bound_after g list)) (find (may_be_called (bound_after g list)) (remaining g list))
@@ -95,7 +89,10 @@ pub queued_push : {g : RankGroup} {list : List ℕ} {trace : List Bound} {tally 
 queued_push {g} {list} {trace} {tally} {rs} {r} {b} so_far queued e =
     let key = λ (x : Ranked). x.candidate in
     let here = remaining g list in
-    let (first, bound) = called_with (bound_after g list) (find (may_be_called (bound_after g list)) here) r b (sym (call_is g list trace tally rs so_far) ∙ e) in
+    let under = bound_after g list in
+    let (x, at_first, is) = mapped_some (with_bound under) (find (may_be_called under) here) (r, b) (sym (call_is g list trace tally rs so_far) ∙ e) in
+    let bound = ap (λ (y : Ranked × Bound). y.1) is in
+    let first = at_first ∙ ap Some (ap (λ (y : Ranked × Bound). y.0) is) in
     let found : find (may_be_called b) here ≡ Some r = ap (λ under. find (may_be_called under) here) (sym bound) ∙ first in
     let may = find_passes (may_be_called b) here r found in
     let next : next_after g list ≡ Some (r.candidate, b) = next_is_first g list queued.ranks ∙ rw first (rw bound refl) in

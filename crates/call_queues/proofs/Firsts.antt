@@ -10,15 +10,6 @@ use Rattle.std.proofs.lemmas.List.{drop-drop}
 use Rattle.std.proofs.lemmas.Map.Keys.{IsStrictlyIncreasing-from_sorted, sorted_from_strictly_increasing}
 use Rattle.call_queues.specs.Kinds.{without_first}
 
--- what is found passes
-pub find_passes : {X : Type 0} (test : X → Bool) (xs : List X) (x : X) → find test xs ≡ Some x → test x ≡ true
-find_passes test [] x e = absurd (cc)
-find_passes test (y ∷ ys) x e =
-    elim (cases_Bool (test y)) [
-      | inl passes ↦ let same : y ≡ x = let found = rw passes at e in (cc) in rw (← same) passes
-      | inr fails ↦ find_passes test ys x (rw fails at e)
-    ]
-
 -- the first from the first place on stands there
 pub find-drop-position : {X : Type 0} (test : X → Bool) (xs : List X) → find test (drop (position_or_len test xs) xs) ≡ slice_get xs (position_or_len test xs)
 find-drop-position test [] = refl

@@ -11,7 +11,8 @@ use Rattle.call_queues.specs.declared.heads.Heads.{Heads}
 use Rattle.call_queues.specs.Kinds.{has_flags, kind_by, kind_of, is_of, head_of, without_head, next_place}
 use Rattle.call_queues.specs.QueueLists.{QueueLists}
 use Rattle.call_queues.specs.Heads.{place_of, moved, remaining_of, AreHeads}
-use Rattle.call_queues.proofs.Firsts.{find_passes, find-drop-position, find-drop-next, length-without_first, rises_without_first}
+use Rattle.admit_core.proofs.NextCalls.{find_passes}
+use Rattle.call_queues.proofs.Firsts.{find-drop-position, find-drop-next, length-without_first, rises_without_first}
 use Rattle.call_queues.proofs.Standing.{find-standing, Moves, standing-moves, standing-all}
 
 -- two flags are those of their kind, and of no other
