@@ -1,0 +1,3 @@
+pub mod Words
+pub mod Ids
+pub mod OrderText
