@@ -2,8 +2,19 @@
 //! for byte. A text is made whole in memory.
 #![tactic(auto)]
 
+mod date;
+mod day;
+mod explanation;
+mod final_state;
 mod ids;
 mod order;
+mod refusal;
+mod sample;
 mod words;
 
+pub use day::{dated_day_text, day_text};
+pub use explanation::explain_text;
+pub use final_state::{final_dated_text, final_text};
 pub use order::order_text;
+pub use refusal::refusal_text;
+pub use sample::sample_text;
