@@ -1,1 +1,2 @@
+pub mod DateWords
 pub mod LineLemmas

@@ -20,10 +20,17 @@ append_nil [] = refl
 append_nil (x ∷ xs) = ap (λ ys. x ∷ ys) (append_nil xs)
 
 -- the lines of numbered items, after one more of them
-pub lines_more : {X : Type 0} (lines : ℕ × X → List ℕ) (n : ℕ) (xs : List X) (i j : ℕ) (x : X) → i < length xs → n + i ≡ j → x ≡ get_or xs i x
-    → flat_map lines (enumerate_from n (take (i + 1) xs)) ≡ flat_map lines (enumerate_from n (take i xs)) ++ lines (j, x)
-lines_more lines n xs i j x lt e is =
+pub lines_more : {X : Type 0} (lines : ℕ × X → List ℕ) (n : ℕ) (xs : List X) (i j : ℕ) (d : X) → i < length xs → n + i ≡ j
+    → flat_map lines (enumerate_from n (take (i + 1) xs)) ≡ flat_map lines (enumerate_from n (take i xs)) ++ lines (j, get_or xs i d)
+lines_more lines n xs i j d lt e =
     let front = take i xs in
+    let x = get_or xs i d in
     let long : n + length front ≡ j = rw (length-take-le i xs (omega (arith, lt))) e in
-    rw (take_more xs i x lt, ← is, enumerate_from-push n front x j long, flat_map-append lines (enumerate_from n front) ((j, x) ∷ []))
+    rw (take_more xs i d lt, enumerate_from-push n front x j long, flat_map-append lines (enumerate_from n front) ((j, x) ∷ []))
     (ap (λ ys. flat_map lines (enumerate_from n front) ++ ys) (append_nil (lines (j, x))))
+
+-- the same where the item is known by its place
+pub lines_more_item : {X : Type 0} (lines : ℕ × X → List ℕ) (n : ℕ) (xs : List X) (i j : ℕ) (x : X) → i < length xs → n + i ≡ j → x ≡ get_or xs i x
+    → flat_map lines (enumerate_from n (take (i + 1) xs)) ≡ flat_map lines (enumerate_from n (take i xs)) ++ lines (j, x)
+lines_more_item lines n xs i j x lt e is =
+    lines_more lines n xs i j x lt e ∙ ap (λ y. flat_map lines (enumerate_from n (take i xs)) ++ lines (j, y)) (sym is)
