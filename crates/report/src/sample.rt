@@ -1,7 +1,7 @@
 //! The summary of a sample.
-ghost use Rattle.std.specs.Prelude.{◌≡◌, ◌++◌, IfOk, OnOk, flat_map, string_bytes, sum_by};
-ghost use Rattle.admit_core.specs.State.{is_live, is_waiting};
-ghost use Rattle.report.specs.SampleText.{day_summary, falls_in, is_gone, offers_in, sample_text, wishes_with};
+ghost use Rattle.std.specs.Prelude.{◌≡◌, ◌<◌, ◌+◌, ◌++◌, if◌then◌else◌, IfOk, OnOk, flat_map, string_bytes, sum_by};
+ghost use Rattle.admit_core.specs.State.{is_live, is_live_status, is_waiting, is_waiting_status};
+ghost use Rattle.report.specs.SampleText.{day_summary, falls_in, is_gone, is_gone_status, offers_in, sample_text, wishes_with};
 
 use admit_core::{DayRecord, OutOfMemory, PassEnd, Status};
 use day_state::DayState;
@@ -36,6 +36,24 @@ struct WishCounts {
     gone: usize,
 }
 
+impl WishCounts {
+    /// The counts with one more wish, which has this status.
+    fn with(mut self, status: Status) -> WishCounts
+        requires { self.live + self.waiting + self.gone < usize.MAX }
+        ensures live { result.live ≡ self.live + (if is_live_status status then 1 else 0) }
+        ensures waiting { result.waiting ≡ self.waiting + (if is_waiting_status status then 1 else 0) }
+        ensures gone { result.gone ≡ self.gone + (if is_gone_status status then 1 else 0) }
+        ensures total { result.live + result.waiting + result.gone ≡ self.live + self.waiting + self.gone + 1 }
+    {
+        match status {
+            Status::Offered | Status::Accepted => self.live += 1,
+            Status::Waiting => self.waiting += 1,
+            _ => self.gone += 1,
+        }
+        self
+    }
+}
+
 fn wish_counts(state: &DayState<'_>) -> WishCounts
     ensures live { result.live ≡ wishes_with is_live state.now }
     ensures waiting { result.waiting ≡ wishes_with is_waiting state.now }
@@ -48,11 +66,7 @@ fn wish_counts(state: &DayState<'_>) -> WishCounts
     };
     let wishes = state.dossier().wishes.len() as u32;
     for wish in 0..wishes {
-        match state.status(wish) {
-            Status::Offered | Status::Accepted => counts.live += 1,
-            Status::Waiting => counts.waiting += 1,
-            _ => counts.gone += 1,
-        }
+        counts = counts.with(state.status(wish));
     }
     counts
 }
