@@ -1,2 +1,3 @@
 pub mod DateWords
 pub mod LineLemmas
+pub mod WorkedCases

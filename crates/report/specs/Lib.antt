@@ -6,3 +6,4 @@ pub mod FinalText
 pub mod ExplainText
 pub mod RefusalText
 pub mod SampleText
+pub mod WorkedTexts

@@ -11,6 +11,7 @@ mod order;
 mod refusal;
 mod sample;
 mod words;
+mod worked;
 
 pub use day::{dated_day_text, day_text};
 pub use explanation::explain_text;
@@ -18,3 +19,4 @@ pub use final_state::{final_dated_text, final_text};
 pub use order::order_text;
 pub use refusal::refusal_text;
 pub use sample::sample_text;
+pub use worked::worked_texts;
