@@ -10,6 +10,8 @@ mod ids;
 mod order;
 mod refusal;
 mod sample;
+#[cfg(test)]
+mod tests;
 mod words;
 mod worked;
 
