@@ -7,7 +7,6 @@ use Rattle.admit_core.specs.Lapses.{is_offered, offer_day}
 use Rattle.admit_core.specs.Lines.{status_word}
 use Rattle.admit_core.specs.State.{State}
 use Rattle.admit_core.specs.declared.dossier.Wish.{Wish}
-use Rattle.admit_core.specs.declared.state.Mark.{Mark}
 use Rattle.calendar.specs.Dates.{IsCivil}
 use Rattle.calendar.specs.Texts.{date_text}
 use Rattle.report.specs.DayText.{date_on}

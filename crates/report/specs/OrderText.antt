@@ -1,5 +1,5 @@
 -- The two lines of a group's call order.
-use Rattle.std.specs.Prelude.{ℕ, List, [], ◌∷◌, ◌++◌, codes, map}
+use Rattle.std.specs.Prelude.{ℕ, List, ◌∷◌, ◌++◌, codes, map}
 use Rattle.std.specs.Fmt.{decimal}
 use Rattle.admit_core.specs.Lines.{bound_letter}
 use Rattle.admit_core.specs.declared.ranking.CallOrder.{CallOrder}

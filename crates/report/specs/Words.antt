@@ -1,6 +1,5 @@
 -- Lines of words.
-use Rattle.std.specs.Prelude.{◌≡◌, ℕ, List, [], ◌∷◌, ◌++◌, codes, Option, Some}
-use Rattle.std.specs.Fmt.{decimal}
+use Rattle.std.specs.Prelude.{◌≡◌, ℕ, List, [], ◌∷◌, ◌++◌, Option, Some}
 
 -- the further words of a line, each after the byte that parts them, and the line feed
 abbrev pub further : ℕ → List (List ℕ) → List ℕ

@@ -2,20 +2,16 @@
 use Rattle.std.specs.Prelude.{◌≡◌, ℕ, ℤ, pos, negsuc, List, [], ◌∷◌, codes, flat_map}
 use Rattle.admit_core.specs.DossierRows.{DossierRows}
 use Rattle.admit_core.specs.State.{State}
-use Rattle.admit_core.specs.WorkedRows.{better_waits, boarder, cascade, last_marks, limit_state, marked, nothing_freed, old_offer, order, programme, realistic, realistic_days, realistic_order, rows, school, terms, two_offers, wish}
+use Rattle.admit_core.specs.WorkedRows.{better_waits, boarder, cascade, last_marks, limit_state, marked, nothing_freed, old_offer, order, programme, realistic, realistic_days, rows, school, terms, two_offers, wish}
 use Rattle.admit_core.specs.declared.explanation.BarCause.TheVariants.{Ceiling, Full}
 use Rattle.admit_core.specs.declared.explanation.Explanation.TheVariants.{Barred, Gone, Live, NoSeat}
 use Rattle.admit_core.specs.declared.ranking.Bound.TheVariants.{Alone, Both, Free, Resident, Scholar}
 use Rattle.admit_core.specs.declared.records.DayRecord.{DayRecord}
 use Rattle.admit_core.specs.declared.records.Fall.{Fall}
-use Rattle.admit_core.specs.declared.records.Lapse.{Lapse}
-use Rattle.admit_core.specs.declared.records.PassEnd.{PassEnd}
 use Rattle.admit_core.specs.declared.refusal.Reason.{Reason}
 use Rattle.admit_core.specs.declared.refusal.Reason.TheVariants.{DayFalls, FieldCount, Header, NoBoardingRank, NotDate, NotFlag, NotNumber, NotWord, OutOfRange, PreferenceMixed, PreferenceTaken, RankTaken, Repeat, TooLarge, TooManyRows, TwoAccepted, UnfitAnswer, Unknown, Unranked}
-use Rattle.admit_core.specs.declared.refusal.Refusal.{Refusal}
 use Rattle.admit_core.specs.declared.slot.Slot.{Slot}
 use Rattle.admit_core.specs.declared.slot.Slot.TheVariants.{Answers, Groups, Programmes, Rankings, State as StateSlot, Wishes}
-use Rattle.admit_core.specs.declared.state.Change.{Change}
 use Rattle.admit_core.specs.declared.state.Stamp.{Stamp}
 use Rattle.admit_core.specs.declared.state.Status.TheVariants.{Accepted, AutoRefused, AutoWithdrawn, Lapsed, Offered, Refused, Waiting}
 use Rattle.report.specs.DayText.{dated_day_text, day_text}

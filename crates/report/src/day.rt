@@ -70,7 +70,12 @@ fn push_pass(
     let (seats, beds) = (end.freed.seats, end.freed.beds);
     writeln!(text, "pass {number}")?;
     push_falls(text, dossier, pass.falls.as_slice())?;
-    push_numbers(text, "bar", dossier.schools.as_slice(), pass.bars.as_slice())?;
+    push_numbers(
+        text,
+        "bar",
+        dossier.schools.as_slice(),
+        pass.bars.as_slice(),
+    )?;
     push_offers(text, dossier, pass.offers.as_slice())?;
     push_autos(text, dossier, end.autos.as_slice())?;
     writeln!(text, "freed {seats} {beds}")?;
@@ -92,17 +97,23 @@ fn push_passes(text: &mut String, dossier: &Dossier, passes: &[PassEnd]) -> Resu
 fn push_evening(text: &mut String, dossier: &Dossier, day: &DayRecord) -> Result<(), AllocError>
     ensures { OnOk result (string_bytes text.new ≡ string_bytes text.old ++ evening_text dossier.now day.now) }
 {
-    push_numbers(text, "left", dossier.programmes.as_slice(), day.left.as_slice())?;
-    push_numbers(text, "free", dossier.schools.as_slice(), day.free.as_slice())?;
+    push_numbers(
+        text,
+        "left",
+        dossier.programmes.as_slice(),
+        day.left.as_slice(),
+    )?;
+    push_numbers(
+        text,
+        "free",
+        dossier.schools.as_slice(),
+        day.free.as_slice(),
+    )?;
     Ok(())
 }
 
 /// The lines of a day: its passes, and the seats and beds that are left in the evening.
-pub fn day_text(
-    alloc: Global,
-    dossier: &Dossier,
-    day: &DayRecord,
-) -> Result<Vec<u8>, OutOfMemory>
+pub fn day_text(alloc: Global, dossier: &Dossier, day: &DayRecord) -> Result<Vec<u8>, OutOfMemory>
     requires { All (IsPassOf dossier.now) day.now.passes }
     ensures { IfOk result (λ text. text.items ≡ day_text dossier.now day.now) }
 {

@@ -36,10 +36,14 @@ fn explanation_line(
             let school = school_id(dossier, school);
             match cause {
                 BarCause::Ceiling => {
-                    format!(in alloc; "wish {id} barred school {school} rank {rank} bar {bar} ceiling\n")
+                    format!(in alloc;
+                        "wish {id} barred school {school} rank {rank} bar {bar} ceiling\n"
+                    )
                 }
                 BarCause::Full { beds } => {
-                    format!(in alloc; "wish {id} barred school {school} rank {rank} bar {bar} full {beds}\n")
+                    format!(in alloc;
+                        "wish {id} barred school {school} rank {rank} bar {bar} full {beds}\n"
+                    )
                 }
             }
         }
@@ -52,7 +56,9 @@ fn explanation_line(
             if limit == 0 {
                 format!(in alloc; "wish {id} noseat ahead {ahead} left {left}\n")
             } else {
-                format!(in alloc; "wish {id} noseat ahead {ahead} left {left} position {position} limit {limit}\n")
+                format!(in alloc;
+                    "wish {id} noseat ahead {ahead} left {left} position {position} limit {limit}\n"
+                )
             }
         }
     }

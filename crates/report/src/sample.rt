@@ -79,7 +79,10 @@ fn push_days(text: &mut String, days: &[DayRecord]) -> Result<(), AllocError>
         let number = day.day;
         let passes = day.passes.len();
         let PassSums { falls, offers } = pass_sums(day.passes.as_slice());
-        writeln!(text, "day {number} passes {passes} falls {falls} offers {offers}")?;
+        writeln!(
+            text,
+            "day {number} passes {passes} falls {falls} offers {offers}"
+        )?;
     }
     Ok(())
 }

@@ -10,8 +10,8 @@ use super::{
 };
 use admit_core::{
     Answer, AnswerKind, BarCause, Bound, CallOrder, CeilingChange, Change, DayRecord, Dossier,
-    Explanation, Fall, Freed, Lapse, OutOfMemory, PassEnd, PassRecord, Programme, RankGroup, Ranked,
-    Reason, Refusal, School, Sequence, Slot, Stamp, Status, Terms, Wish,
+    Explanation, Fall, Freed, Lapse, OutOfMemory, PassEnd, PassRecord, Programme, RankGroup,
+    Ranked, Reason, Refusal, School, Sequence, Slot, Stamp, Status, Terms, Wish,
 };
 use calendar::civil_of;
 use day_state::DayState;
@@ -260,12 +260,32 @@ fn texts(rt: HostRuntime) -> Result<(), Fail> {
     let alloc = rt.alloc();
     worked_texts();
     assert!(rt; order_has(alloc, "order 7: 11\nrule 7: s\n")?);
-    assert!(rt; day_has(alloc, "day 3\npass 1\nfall 5 9 3 1\nbar 5 3\noffer 1\nauto 1 accepted\nfreed 1 2\nleft 10 4\nfree 5 6\n")?);
-    assert!(rt; dated_day_has(alloc, "day 3\nlapse 1 2025-06-03\npass 1\nfall 5 9 3 1\nbar 5 3\noffer 1\nauto 1 accepted\nfreed 1 2\nleft 10 4\nfree 5 6\n")?);
+    assert!(rt;
+        day_has(
+            alloc,
+            "day 3\npass 1\nfall 5 9 3 1\nbar 5 3\noffer 1\nauto 1 accepted\nfreed 1 2\nleft 10 4\nfree 5 6\n"
+        )?
+    );
+    assert!(rt;
+        dated_day_has(
+            alloc,
+            "day 3\nlapse 1 2025-06-03\npass 1\nfall 5 9 3 1\nbar 5 3\noffer 1\nauto 1 accepted\nfreed 1 2\nleft 10 4\nfree 5 6\n"
+        )?
+    );
     assert!(rt; final_has(alloc, "final\nwish,status\n1,waiting\n")?);
     assert!(rt; dated_final_has(alloc, "final\nwish,status,since\n1,offered,2025-06-04\n")?);
     assert!(rt; explanation_has(alloc, "wish 1 barred school 5 rank 1 bar 0 full 3\n")?);
-    assert!(rt; refusal_has(alloc, "refused answers row 4 reason 18 UnfitAnswer waiting\n")?);
-    assert!(rt; sample_has(alloc, "sample 1 wishes 1\nday 3 passes 1 falls 1 offers 1\nlive 0 waiting 1 gone 0\n")?);
+    assert!(rt;
+        refusal_has(
+            alloc,
+            "refused answers row 4 reason 18 UnfitAnswer waiting\n"
+        )?
+    );
+    assert!(rt;
+        sample_has(
+            alloc,
+            "sample 1 wishes 1\nday 3 passes 1 falls 1 offers 1\nlive 0 waiting 1 gone 0\n"
+        )?
+    );
     Ok(())
 }

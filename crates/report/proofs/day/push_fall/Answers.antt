@@ -1,4 +1,4 @@
-use Rattle.std.proofs.Common.{length, arith, append_assoc}
+use Rattle.std.proofs.Common.{arith, append_assoc}
 use Rattle.std.specs.Fmt.{decimal}
 use Rattle.std.proofs.lemmas.List.{take_all}
 use Rattle.report.specs.Ids.{wish_id}

@@ -1,4 +1,4 @@
-use Rattle.std.proofs.Common.{◌+◌, None, arith, append_assoc}
+use Rattle.std.proofs.Common.{None, arith, append_assoc}
 use Rattle.admit_core.specs.declared.dossier.Wish.{Wish}
 use Rattle.report.specs.FinalText.{status_row}
 use Rattle.report.proofs.LineLemmas.{lines_more}

@@ -1,4 +1,4 @@
-use Rattle.std.proofs.Common.{◌++◌, [], ◌∷◌, ◌≤◌, length, flat_map, string_bytes, take, arith, append_assoc}
+use Rattle.std.proofs.Common.{[], ◌∷◌, flat_map, string_bytes, arith, append_assoc}
 use Rattle.std.proofs.lemmas.List.{take_all}
 use Rattle.report.proofs.LineLemmas.{further-map}
 use Rattle.report.proofs.words.push_words.Goals as goal

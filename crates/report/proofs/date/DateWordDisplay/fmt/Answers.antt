@@ -1,4 +1,4 @@
-use Rattle.std.proofs.Common.{◌∙◌, ap, arith, sym, subst, List, ℕ}
+use Rattle.std.proofs.Common.{◌∙◌, ap, subst, List, ℕ}
 use Rattle.std.specs.Fmt.{HasWritten}
 use Rattle.calendar.specs.Texts.{text_of}
 use Rattle.calendar.proofs.TextLaws.{short}
