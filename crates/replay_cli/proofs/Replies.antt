@@ -1,5 +1,5 @@
 -- What a run answers where it stops, and what it has written where it is cut off.
-use Rattle.std.proofs.Common.{◌≡◌, ◌⊎◌, ◌↔◌, ℕ, List, Option, Some, Result, Ok, Err, IfErr, IfOk, IsErr, IsErrAnd, IsTrue, MatchResult, inl, inr, refl, subst}
+use Rattle.std.proofs.Common.{◌≡◌, ◌⊎◌, ◌↔◌, ℕ, List, Option, Result, Ok, Err, IfErr, IfOk, IsErr, IsErrAnd, IsTrue, MatchResult, inl, inr, refl, subst}
 use Rattle.std.proofs.lemmas.Bool.{false≢true}
 use Rattle.admit_core.specs.DossierRows.{DossierRows}
 use Rattle.admit_core.specs.declared.refusal.InFault.{InFault}
@@ -11,7 +11,7 @@ use Rattle.shelf_io.specs.Bytes.{AppendsPrefix}
 use Rattle.dossier_check.specs.Outcome.{AnswersFault}
 use Rattle.replay_cli.specs.Input.{HasCause, Stopped, standing}
 use Rattle.replay_cli.specs.Outcome.{GivesText, IsEnd, IsOutcome, IsStoppedBy, NamesFault, WritesPart, is_answer}
-use Rattle.replay_cli.specs.Stops.{exit_of, stop_of, stop_text}
+use Rattle.replay_cli.specs.Stops.{stop_of}
 use Rattle.replay_cli.specs.Words.{mode_of}
 use Rattle.replay_cli.specs.declared.exit.Exit.{Exit}
 use Rattle.replay_cli.specs.declared.exit.Exit.TheVariants as exits

@@ -1,0 +1,3 @@
+pub mod DateWords
+pub mod LineLemmas
+pub mod WorkedCases

@@ -1,0 +1,181 @@
+//! The lines of a day.
+ghost use Rattle.std.specs.Prelude.{◌≡◌, ◌<◌, ◌++◌, All, IfOk, OnOk, flat_map, length, string_bytes};
+ghost use Rattle.report.specs.DayText.{IsFallOf, IsLapseOf, IsPassOf, auto_line, dated_day_text, day_text, evening_text, fall_line, lapse_line, offer_line, pass_text, passes_text};
+
+use crate::date::DateWord;
+use crate::ids::{push_numbers, school_id, wish_id};
+use admit_core::{Change, DayRecord, Dossier, Fall, Lapse, OutOfMemory, PassEnd, Terms};
+use calendar::{Civil, deadline, on_day};
+use std::alloc::{AllocError, Global};
+
+/// Adds the line of a fall.
+fn push_fall(text: &mut String, dossier: &Dossier, fall: &Fall) -> Result<(), AllocError>
+    requires { IsFallOf dossier.now fall.now }
+    ensures { OnOk result (string_bytes text.new ≡ string_bytes text.old ++ fall_line dossier.now fall.now) }
+{
+    let (from, to) = (fall.from, fall.to);
+    write!(text, "fall {} {from} {to}", school_id(dossier, fall.school))?;
+    for wish in fall.wishes.as_slice() {
+        write!(text, " {}", wish_id(dossier, *wish))?;
+    }
+    text.push_str("\n")?;
+    Ok(())
+}
+
+/// Adds the lines of falls.
+fn push_falls(text: &mut String, dossier: &Dossier, falls: &[Fall]) -> Result<(), AllocError>
+    requires { All (IsFallOf dossier.now) falls.now }
+    ensures { OnOk result (string_bytes text.new ≡ string_bytes text.old ++ flat_map (fall_line dossier.now) falls.now) }
+{
+    for fall in falls {
+        push_fall(text, dossier, fall)?;
+    }
+    Ok(())
+}
+
+/// Adds the lines of the offers of wishes.
+fn push_offers(text: &mut String, dossier: &Dossier, offers: &[u32]) -> Result<(), AllocError>
+    requires { All (λ w. w < length dossier.now.wishes) offers.now }
+    ensures { OnOk result (string_bytes text.new ≡ string_bytes text.old ++ flat_map (offer_line dossier.now) offers.now) }
+{
+    for wish in offers {
+        writeln!(text, "offer {}", wish_id(dossier, *wish))?;
+    }
+    Ok(())
+}
+
+/// Adds the lines of the changes that automatic answers made.
+fn push_autos(text: &mut String, dossier: &Dossier, autos: &[Change]) -> Result<(), AllocError>
+    requires { All (λ c. c.wish < length dossier.now.wishes) autos.now }
+    ensures { OnOk result (string_bytes text.new ≡ string_bytes text.old ++ flat_map (auto_line dossier.now) autos.now) }
+{
+    for change in autos {
+        let status = change.status;
+        writeln!(text, "auto {} {status}", wish_id(dossier, change.wish))?;
+    }
+    Ok(())
+}
+
+/// Adds the lines of a pass with its number.
+fn push_pass(
+    text: &mut String,
+    dossier: &Dossier,
+    number: usize,
+    end: &PassEnd,
+) -> Result<(), AllocError>
+    requires { IsPassOf dossier.now end.now }
+    ensures { OnOk result (string_bytes text.new ≡ string_bytes text.old ++ pass_text dossier.now (number, end.now)) }
+{
+    let pass = &end.pass;
+    let (seats, beds) = (end.freed.seats, end.freed.beds);
+    writeln!(text, "pass {number}")?;
+    push_falls(text, dossier, pass.falls.as_slice())?;
+    push_numbers(
+        text,
+        "bar",
+        dossier.schools.as_slice(),
+        pass.bars.as_slice(),
+    )?;
+    push_offers(text, dossier, pass.offers.as_slice())?;
+    push_autos(text, dossier, end.autos.as_slice())?;
+    writeln!(text, "freed {seats} {beds}")?;
+    Ok(())
+}
+
+/// Adds the lines of a day's passes, numbered from 1.
+fn push_passes(text: &mut String, dossier: &Dossier, passes: &[PassEnd]) -> Result<(), AllocError>
+    requires { All (IsPassOf dossier.now) passes.now }
+    ensures { OnOk result (string_bytes text.new ≡ string_bytes text.old ++ passes_text dossier.now passes.now) }
+{
+    for (index, pass) in passes.iter().enumerate() {
+        push_pass(text, dossier, index + 1, pass)?;
+    }
+    Ok(())
+}
+
+/// Adds the lines of the seats and the beds that are left in the evening.
+fn push_evening(text: &mut String, dossier: &Dossier, day: &DayRecord) -> Result<(), AllocError>
+    ensures { OnOk result (string_bytes text.new ≡ string_bytes text.old ++ evening_text dossier.now day.now) }
+{
+    push_numbers(
+        text,
+        "left",
+        dossier.programmes.as_slice(),
+        day.left.as_slice(),
+    )?;
+    push_numbers(
+        text,
+        "free",
+        dossier.schools.as_slice(),
+        day.free.as_slice(),
+    )?;
+    Ok(())
+}
+
+/// The lines of a day: its passes, and the seats and beds that are left in the evening.
+pub fn day_text(alloc: Global, dossier: &Dossier, day: &DayRecord) -> Result<Vec<u8>, OutOfMemory>
+    requires { All (IsPassOf dossier.now) day.now.passes }
+    ensures { IfOk result (λ text. text.items ≡ day_text dossier.now day.now) }
+{
+    let mut text = String::new(alloc);
+    let number = day.day;
+    writeln!(text, "day {number}")?;
+    push_passes(&mut text, dossier, day.passes.as_slice())?;
+    push_evening(&mut text, dossier, day)?;
+    Ok(text.into_bytes())
+}
+
+/// Adds the line of a lapsed offer.
+fn push_lapse(
+    text: &mut String,
+    dossier: &Dossier,
+    lapse: Lapse,
+    start: Civil,
+    term: u32,
+) -> Result<(), AllocError>
+    requires { IsLapseOf dossier.now start term lapse }
+    ensures { OnOk result (string_bytes text.new ≡ string_bytes text.old ++ lapse_line dossier.now start term lapse) }
+{
+    let last = DateWord(deadline(on_day(start, lapse.offered), term));
+    writeln!(text, "lapse {} {last}", wish_id(dossier, lapse.wish))?;
+    Ok(())
+}
+
+/// Adds the lines of lapsed offers, each with the deadline that has passed.
+fn push_lapses(
+    text: &mut String,
+    dossier: &Dossier,
+    lapses: &[Lapse],
+    start: Civil,
+    term: u32,
+) -> Result<(), AllocError>
+    requires { All (IsLapseOf dossier.now start term) lapses.now }
+    ensures { OnOk result (string_bytes text.new ≡ string_bytes text.old ++ flat_map (lapse_line dossier.now start term) lapses.now) }
+{
+    for lapse in lapses {
+        push_lapse(text, dossier, *lapse, start, term)?;
+    }
+    Ok(())
+}
+
+/// The lines of a day where offers have dates, of which `start` is that of day 1: those of `day_text`,
+/// with the lapses after the first.
+pub fn dated_day_text(
+    alloc: Global,
+    dossier: &Dossier,
+    day: &DayRecord,
+    start: Civil,
+    terms: &Terms,
+) -> Result<Vec<u8>, OutOfMemory>
+    requires passes { All (IsPassOf dossier.now) day.now.passes }
+    requires lapses { All (IsLapseOf dossier.now start terms.now.term) day.now.lapsed }
+    ensures { IfOk result (λ text. text.items ≡ dated_day_text dossier.now day.now start terms.now.term) }
+{
+    let mut text = String::new(alloc);
+    let number = day.day;
+    writeln!(text, "day {number}")?;
+    push_lapses(&mut text, dossier, day.lapsed.as_slice(), start, terms.term)?;
+    push_passes(&mut text, dossier, day.passes.as_slice())?;
+    push_evening(&mut text, dossier, day)?;
+    Ok(text.into_bytes())
+}

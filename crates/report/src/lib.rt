@@ -1,0 +1,24 @@
+//! The texts of the report: call orders, days, final states, explanations, refusals and samples, byte
+//! for byte. A text is made whole in memory.
+#![tactic(auto)]
+
+mod date;
+mod day;
+mod explanation;
+mod final_state;
+mod ids;
+mod order;
+mod refusal;
+mod sample;
+#[cfg(test)]
+mod tests;
+mod words;
+mod worked;
+
+pub use day::{dated_day_text, day_text};
+pub use explanation::explain_text;
+pub use final_state::{final_dated_text, final_text};
+pub use order::order_text;
+pub use refusal::refusal_text;
+pub use sample::sample_text;
+pub use worked::worked_texts;
