@@ -1,16 +1,15 @@
 -- Reading slots in their order.
-use Rattle.std.proofs.Common.{◌≡◌, ◌≢◌, ◌∙◌, ◌⊎◌, ℕ, ◌+◌, ◌<◌, ◌≤◌, List, [], ◌∷◌, ◌++◌, AllPairs, Contains, Option, Some, Result, Ok, Err, IfErr, IsErrAnd, IsOk, arith, ap, drop, inl, inr, length, refl, slice_index_or, subst, sym, take}
+use Rattle.std.proofs.Common.{◌≡◌, ◌≢◌, ◌∙◌, ℕ, ◌+◌, ◌<◌, ◌≤◌, List, [], ◌∷◌, ◌++◌, AllPairs, Contains, Option, Some, Result, Ok, Err, IfErr, IsErrAnd, arith, ap, drop, inl, inr, length, refl, slice_index_or, subst, sym, take}
 use Rattle.std.proofs.lemmas.Bool.{cases_lt}
 use Rattle.std.proofs.lemmas.List.{get_or_default, take-append-drop, take_all, take_more}
 use Rattle.admit_core.specs.declared.refusal.InFault.{InFault}
 use Rattle.admit_core.specs.declared.refusal.InFault.TheVariants as faults
-use Rattle.admit_core.specs.declared.refusal.Refusal.{Refusal}
 use Rattle.admit_core.specs.declared.slot.Slot.{Slot}
 use Rattle.admit_core.specs.declared.tables.Tables.{Tables}
 use Rattle.admit_core.specs.Ranges.{AreTables}
 use Rattle.shelf_io.specs.Bytes.{OthersKept}
-use Rattle.shelf_io.specs.Faults.{NoneFell, Rose}
-use Rattle.dossier_csv.specs.Shape.{Answers, Refuses}
+use Rattle.shelf_io.specs.Faults.{NoneFell}
+use Rattle.dossier_csv.specs.Shape.{Refuses}
 use Rattle.replay_cli.specs.Input.{FaultsAt, HasCause, IsFaultAt, Tells, no_rows, sized, tables_in, with_rows, with_slots}
 use Rattle.replay_cli.specs.Stops.{◌>>=◌, Gives, Stopped, refused_as, stop_of}
 use Rattle.replay_cli.specs.declared.stop.Stop.{Stop}

@@ -1,5 +1,5 @@
 -- What a run answers where it stops, and what it has written where it is cut off.
-use Rattle.std.proofs.Common.{◌≡◌, ◌⊎◌, ◌↔◌, ℕ, List, Option, Some, Result, Ok, Err, IfErr, IfOk, IsErr, IsErrAnd, IsTrue, MatchResult, inl, inr, refl, subst}
+use Rattle.std.proofs.Common.{◌≡◌, ◌⊎◌, ◌↔◌, ℕ, List, Option, Result, Ok, Err, IfErr, IfOk, IsErr, IsErrAnd, IsTrue, MatchResult, inl, inr, refl, subst}
 use Rattle.std.proofs.lemmas.Bool.{false≢true}
 use Rattle.admit_core.specs.declared.refusal.InFault.{InFault}
 use Rattle.admit_core.specs.declared.refusal.InFault.TheVariants as faults
@@ -9,10 +9,10 @@ use Rattle.admit_core.specs.declared.tables.Tables.{Tables}
 use Rattle.shelf_io.specs.Bytes.{AppendsPrefix}
 use Rattle.dossier_check.specs.Outcome.{AnswersFault}
 use Rattle.replay_cli.specs.Input.{HasCause, faultless}
-use Rattle.replay_cli.specs.Modes.{slots_of, slots_read}
+use Rattle.replay_cli.specs.Modes.{slots_of}
 use Rattle.replay_cli.specs.Outcome.{GivesText, IsEnd, IsOutcome, IsStoppedBy, Job, NamesFault, WritesPart, is_answer}
 use Rattle.replay_cli.specs.Request.{request_of}
-use Rattle.replay_cli.specs.Stops.{◌>>=◌, IsOfWords, Stopped, exit_of, stop_of, stop_text}
+use Rattle.replay_cli.specs.Stops.{◌>>=◌, IsOfWords, Stopped, stop_of}
 use Rattle.replay_cli.specs.declared.exit.Exit.{Exit}
 use Rattle.replay_cli.specs.declared.exit.Exit.TheVariants as exits
 use Rattle.replay_cli.specs.declared.request.Request.{Request}

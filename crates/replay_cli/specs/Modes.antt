@@ -1,7 +1,7 @@
 -- What each mode reads.
 use Rattle.std.specs.Prelude.{List, [], ◌∷◌, Contains, Result, Ok, Err}
 use Rattle.admit_core.specs.declared.slot.Slot.{Slot}
-use Rattle.admit_core.specs.declared.slot.Slot.TheVariants.{Groups, Programmes, Schools, Rankings, Boarding, Wishes, State, Ceilings, Answers}
+use Rattle.admit_core.specs.declared.slot.Slot.TheVariants.{Groups, Rankings}
 use Rattle.replay_cli.specs.declared.request.Mode.{Mode}
 use Rattle.replay_cli.specs.declared.request.Mode.TheVariants.{Order}
 use Rattle.replay_cli.specs.declared.request.Request.{Request}

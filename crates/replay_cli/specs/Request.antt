@@ -1,7 +1,6 @@
 -- What the words after the program's name ask for.
 use Rattle.std.specs.Prelude.{ℕ, ◌&&◌, List, [], ◌∷◌, Option, Some, None, Result, Ok, Err, codes, nat_le, option_map, unwrap_or, if◌then◌else◌, ℤ}
 use Rattle.std.specs.Option.{ok_or, option_and_then}
-use Rattle.std.specs.Str.{bytes_eq}
 use Rattle.admit_core.specs.declared.dossier.TheConstants.{MAX_DAY, MAX_NUMBER}
 use Rattle.calendar.specs.Dates.{date_of}
 use Rattle.calendar.specs.Texts.{date_in}

@@ -1,6 +1,6 @@
-use Rattle.std.proofs.Common.{◌++◌, ◌∷◌, [], take, ◌<◌, ◌≤◌, ◌≡◌, length, arith, sym}
+use Rattle.std.proofs.Common.{take, ◌<◌, length, arith}
 use Rattle.std.proofs.lemmas.List.{take_more, take_all}
-use Rattle.admit_core.specs.CallOrder.{AreCallOrders, IsCallOrder}
+use Rattle.admit_core.specs.CallOrder.{IsCallOrder}
 use Rattle.replay_cli.proofs.Zips.{AllZip-push}
 use Rattle.replay_cli.proofs.orders.call_orders.Goals as goal
 
