@@ -1,2 +1,4 @@
+pub mod Parses
+pub mod ReadOrder
 pub mod Replies
 pub mod Zips

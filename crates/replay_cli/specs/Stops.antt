@@ -1,5 +1,5 @@
 -- Why a run ends before its text is made, and the line that is written then.
-use Rattle.std.specs.Prelude.{ℕ, List, [], ◌∷◌, ◌++◌, Result, Ok, Err, codes}
+use Rattle.std.specs.Prelude.{◌≡◌, ℕ, List, [], ◌∷◌, ◌++◌, Result, Ok, Err, codes, ⊤}
 use Rattle.admit_core.specs.Lines.{refusal_text, slot_name}
 use Rattle.admit_core.specs.declared.refusal.InFault.{InFault}
 use Rattle.admit_core.specs.declared.refusal.InFault.TheVariants as faults
@@ -37,3 +37,21 @@ stop_text stops.BadWords = codes "bad words" ++ 10 ∷ []
 stop_text (stops.Refused refusal) = refusal_text refusal ++ 10 ∷ []
 stop_text (stops.ReadFault slot) = codes "read fault " ++ slot_name slot ++ 10 ∷ []
 stop_text stops.OutOfMemory = []
+
+-- an answer is what is expected, but for a fault of the shelf and want of memory, which nothing is said of here
+abbrev pub Stopped : {Y : Type 0} → Stop → Result Y Stop → Type 0
+Stopped stops.OutOfMemory expected = ⊤
+Stopped (stops.ReadFault slot) expected = ⊤
+Stopped stops.BadWords expected = expected ≡ Err stops.BadWords
+Stopped (stops.Refused refusal) expected = expected ≡ Err (stops.Refused refusal)
+
+abbrev pub Gives : {X Y : Type 0} → (X → Y) → Result X Stop → Result Y Stop → Type 0
+Gives view (Ok x) expected = expected ≡ Ok (view x)
+Gives view (Err stop) expected = Stopped stop expected
+
+-- what the reading of the words stops with
+abbrev pub IsOfWords : Stop → Type 0
+IsOfWords stops.BadWords = ⊤
+IsOfWords stops.OutOfMemory = ⊤
+IsOfWords (stops.Refused refusal) = ⊥
+IsOfWords (stops.ReadFault slot) = ⊥

@@ -2,8 +2,10 @@
 //! writes to standard output.
 #![tactic(auto)]
 
+mod command;
 mod exit;
 mod orders;
+mod request;
 mod run;
 mod stop;
 mod tables;

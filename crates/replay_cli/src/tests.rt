@@ -1,8 +1,11 @@
 //! Whole runs in memory.
 
 use crate::exit::Exit;
+use crate::request::{Deadlines, Mode, PickerChoice, Request};
 use crate::run::run;
+use crate::words::read_request;
 use admit_core::Slot;
+use calendar::civil_of;
 use shelf_io::{MemShelf, MemSink};
 use std::alloc::Global;
 use std::test::Fail;
@@ -42,6 +45,15 @@ fn small_rate() -> Case {
     )
 }
 
+/// The words of a line.
+fn words_of(alloc: Global, line: &str) -> Result<Vec<String>, Fail> {
+    let mut words = Vec::new(alloc);
+    for word in line.split_whitespace() {
+        words.push(String::from_str(alloc, word)?)?;
+    }
+    Ok(words)
+}
+
 /// Runs the case, and answers whether the exit and the text are as they are to be.
 fn holds(alloc: Global, case: &Case) -> Result<bool, Fail> {
     let mut shelf = MemShelf::new(alloc);
@@ -56,10 +68,7 @@ fn holds(alloc: Global, case: &Case) -> Result<bool, Fail> {
     if let Some(call) = case.failing_read {
         shelf.fail_at(call).map_err(|_| "no memory")?;
     }
-    let mut words = Vec::new(alloc);
-    for word in case.words.split_whitespace() {
-        words.push(String::from_str(alloc, word)?)?;
-    }
+    let words = words_of(alloc, case.words)?;
     let mut sink = MemSink::new(alloc, case.room);
     let exit = run(alloc, &words, &mut shelf, &mut sink);
     Ok(exit == case.exit && sink.bytes() == case.text.as_bytes())
@@ -206,6 +215,97 @@ fn refusals_and_faults(rt: HostRuntime) -> Result<(), Fail> {
     ];
     for case in &cases {
         assert!(rt; holds(rt.alloc(), case)?, "{}", case.text);
+    }
+    Ok(())
+}
+
+/// A run with these words over a small rate, which is done exactly where the words are good.
+fn named(words: &'static str, is_good: bool) -> Case {
+    if is_good {
+        Case {
+            words,
+            ..small_rate()
+        }
+    } else {
+        Case {
+            words,
+            exit: Exit::BadWords,
+            text: "bad words\n",
+            ..small_rate()
+        }
+    }
+}
+
+#[test]
+fn options_are_tested(rt: HostRuntime) -> Result<(), Fail> {
+    let cases = [
+        ("order --days=366 --picker each", true),
+        ("--picker=last --wish 2000000000 order", true),
+        ("order --start 1901-01-01 --term 366", true),
+        ("--start=2298-12-31 --term=0 order --school 1", true),
+        ("order --number 1000000 --days 0000000001", true),
+        ("--help", false),
+        ("order --days", false),
+        ("order --days 0", false),
+        ("order --days 367", false),
+        ("order --days 1 --days 1", false),
+        ("order --wish 0", false),
+        ("order --school 2000000001", false),
+        ("order --number 1000001", false),
+        ("order --picker best", false),
+        ("order --start 2025-06-02", false),
+        ("order --term 1", false),
+        ("order --start 2025-06-02 --term 367", false),
+        ("order --start 1900-12-31 --term 1", false),
+        ("order --start 2299-01-01 --term 1", false),
+        ("order --start 2023-02-29 --term 1", false),
+        ("order --beds 2", false),
+        ("order -d 2", false),
+    ];
+    for (words, is_good) in &cases {
+        assert!(rt; holds(rt.alloc(), &named(words, *is_good))?, "{words}");
+    }
+    Ok(())
+}
+
+/// Whether the words ask for the request.
+fn asks(alloc: Global, words: &str, request: &Request) -> Result<bool, Fail> {
+    match read_request(alloc, &words_of(alloc, words)?) {
+        Ok(read) => Ok(read == *request),
+        Err(_) => Ok(false),
+    }
+}
+
+#[test]
+fn words_are_read(rt: HostRuntime) -> Result<(), Fail> {
+    let start = civil_of(2025, 6, 2).ok_or("no date")?;
+    let plain = Request {
+        mode: Mode::Order,
+        days: 1,
+        wish: None,
+        school: None,
+        picker: PickerChoice::First,
+        number: None,
+        deadlines: None,
+    };
+    let full = Request {
+        mode: Mode::Order,
+        days: 3,
+        wish: Some(7),
+        school: Some(5),
+        picker: PickerChoice::Turn,
+        number: Some(100),
+        deadlines: Some(Deadlines { start, term: 30 }),
+    };
+    let cases = [
+        ("order", plain),
+        (
+            "--term 30 order --days 3 --wish 7 --school=5 --picker turn --number 100 --start=2025-06-02",
+            full,
+        ),
+    ];
+    for (words, request) in &cases {
+        assert!(rt; asks(rt.alloc(), words, request)?, "{words}");
     }
     Ok(())
 }

@@ -1,25 +1,218 @@
 //! The words after the program's name.
-ghost use Rattle.std.specs.Prelude.{◌≡◌, map, string_bytes, IfErr};
-ghost use Rattle.replay_cli.specs.Words.{mode_of};
+ghost use Rattle.std.specs.Prelude.{◌≡◌, ◌≢◌, IfErr, IfOk, codes, map, option_map, string_bytes};
+ghost use Rattle.clap.specs.Words.{first_of, found_of, rows_of};
+ghost use Rattle.dossier_csv.specs.Columns.{number_of};
+ghost use Rattle.calendar.specs.Texts.{date_in};
+ghost use Rattle.replay_cli.specs.Request.{between, deadlines_option, deadlines_with, in_start_years, mode_named, mode_option, named_words, number_option, picker_named, picker_option, request_in, request_of, request_of_named, start_option};
+ghost use Rattle.replay_cli.specs.Stops.{Gives, IsOfWords};
 
+use crate::command::parse;
+use crate::request::{Deadlines, Mode, PickerChoice, Request};
 use crate::stop::Stop;
+use admit_core::{MAX_DAY, MAX_NUMBER};
+use calendar::{Civil, parts, read_date};
+use clap::ArgMatches;
+use clap::error::ErrorKind;
+use dossier_csv::number_of;
+use std::alloc::{AllocError, Global};
 
-/// What a run is to do.
-#[derive(Clone, Copy, Debug, PartialEq, Eq)]
-pub enum Mode {
-    /// Writes the call orders of all groups.
-    Order,
+/// The mode of a word; only modes that are built have one.
+fn mode_named(text: &str) -> Option<Mode>
+    ensures { result ≡ mode_named text.now }
+{
+    match text {
+        "order" => Some(Mode::Order),
+        _ => None,
+    }
 }
 
-/// The mode that the words name.
-#[tactic(auto, unfolding(crate::specs::Words::mode_of))]
-pub(crate) fn mode_of(words: &[String]) -> Result<Mode, Stop>
-    ensures mode { result ≡ mode_of (map string_bytes words.now) }
-    ensures bad { IfErr result (λ stop. stop ≡ Stop.BadWords) }
+/// The picker of a word.
+fn picker_named(text: &str) -> Option<PickerChoice>
+    ensures { result ≡ picker_named text.now }
 {
-    if words.len() == 1 && words[0].as_str() == "order" {
-        Ok(Mode::Order)
+    match text {
+        "first" => Some(PickerChoice::First),
+        "last" => Some(PickerChoice::Last),
+        "turn" => Some(PickerChoice::Turn),
+        "each" => Some(PickerChoice::Each),
+        _ => None,
+    }
+}
+
+/// The number that a text writes, where it is in the range.
+fn number_between(text: &str, least: u32, most: u32) -> Option<u32>
+    ensures { result ≡ between least most (number_of text.now) }
+{
+    let number = number_of(text.as_bytes())?;
+    if u64::from(least) <= number && number <= u64::from(most) {
+        Some(number as u32)
     } else {
-        Err(Stop::BadWords)
+        None
+    }
+}
+
+/// The date that a text names, of a year from 1901 to 2298.
+fn start_date(text: &str) -> Option<Civil>
+    ensures { result ≡ in_start_years (date_in text.now) }
+{
+    let date = read_date(text.as_bytes())?;
+    let (year, _, _) = parts(date);
+    if 1901 <= year && year <= 2298 {
+        Some(date)
+    } else {
+        None
+    }
+}
+
+/// The value of an argument, where it is given.
+fn value_of<'a>(matches: &ArgMatches<'a>, id: &str) -> Option<&'a str>
+    ensures { option_map (λ s. s.now) result ≡ first_of id.now (rows_of (found_of matches.now)) }
+{
+    matches.get_str(id)
+}
+
+/// The mode, which is required.
+#[tactic(auto, unfolding(crate::specs::Request::mode_option))]
+fn mode_option(matches: &ArgMatches<'_>) -> Result<Mode, Stop>
+    ensures value { result ≡ mode_option (rows_of (found_of matches.now)) }
+    ensures kinds { IfErr result IsOfWords }
+{
+    match value_of(matches, "mode") {
+        None => Err(Stop::BadWords),
+        Some(text) => mode_named(text).ok_or(Stop::BadWords),
+    }
+}
+
+/// The number of an option, where it is given.
+#[tactic(auto, unfolding(crate::specs::Request::number_option))]
+fn number_option(
+    matches: &ArgMatches<'_>,
+    id: &str,
+    least: u32,
+    most: u32,
+) -> Result<Option<u32>, Stop>
+    ensures value { result ≡ number_option id.now least most (rows_of (found_of matches.now)) }
+    ensures kinds { IfErr result IsOfWords }
+{
+    match value_of(matches, id) {
+        None => Ok(None),
+        Some(text) => match number_between(text, least, most) {
+            None => Err(Stop::BadWords),
+            number => Ok(number),
+        },
+    }
+}
+
+/// The picker, which is the first where none is given.
+#[tactic(auto, unfolding(crate::specs::Request::picker_option))]
+fn picker_option(matches: &ArgMatches<'_>) -> Result<PickerChoice, Stop>
+    ensures value { result ≡ picker_option (rows_of (found_of matches.now)) }
+    ensures kinds { IfErr result IsOfWords }
+{
+    match value_of(matches, "picker") {
+        None => Ok(PickerChoice::First),
+        Some(text) => picker_named(text).ok_or(Stop::BadWords),
+    }
+}
+
+/// The date of day 1, where it is given.
+#[tactic(auto, unfolding(crate::specs::Request::start_option))]
+fn start_option(matches: &ArgMatches<'_>) -> Result<Option<Civil>, Stop>
+    ensures value { result ≡ start_option (rows_of (found_of matches.now)) }
+    ensures kinds { IfErr result IsOfWords }
+{
+    match value_of(matches, "start") {
+        None => Ok(None),
+        Some(text) => match start_date(text) {
+            None => Err(Stop::BadWords),
+            start => Ok(start),
+        },
+    }
+}
+
+/// The date of day 1 and the term of offers, which are given together or not at all.
+fn deadlines_with(start: Option<Civil>, term: Option<u32>) -> Result<Option<Deadlines>, Stop>
+    ensures value { result ≡ deadlines_with start term }
+    ensures kinds { IfErr result IsOfWords }
+{
+    match (start, term) {
+        (None, None) => Ok(None),
+        (Some(start), Some(term)) => Ok(Some(Deadlines { start, term })),
+        _ => Err(Stop::BadWords),
+    }
+}
+
+#[tactic(auto, unfolding(crate::specs::Request::deadlines_option))]
+fn deadlines_option(matches: &ArgMatches<'_>) -> Result<Option<Deadlines>, Stop>
+    ensures value { result ≡ deadlines_option (rows_of (found_of matches.now)) }
+    ensures kinds { IfErr result IsOfWords }
+{
+    let start = start_option(matches)?;
+    let term = number_option(matches, "term", 0, MAX_DAY)?;
+    deadlines_with(start, term)
+}
+
+/// The most candidates of a sample.
+const MAX_SAMPLE: u32 = 1_000_000;
+
+/// What the matches of the command ask for.
+#[tactic(auto, unfolding(crate::specs::Request::request_in))]
+fn request_in(matches: &ArgMatches<'_>) -> Result<Request, Stop>
+    ensures value { result ≡ request_in (rows_of (found_of matches.now)) }
+    ensures kinds { IfErr result IsOfWords }
+{
+    Ok(Request {
+        mode: mode_option(matches)?,
+        days: number_option(matches, "days", 1, MAX_DAY)?.unwrap_or(1),
+        wish: number_option(matches, "wish", 1, MAX_NUMBER)?,
+        school: number_option(matches, "school", 1, MAX_NUMBER)?,
+        picker: picker_option(matches)?,
+        number: number_option(matches, "number", 1, MAX_SAMPLE)?,
+        deadlines: deadlines_option(matches)?,
+    })
+}
+
+/// Bad words, but for want of memory.
+fn stop_of(kind: ErrorKind) -> Stop
+    ensures bad { result ≡ Stop.BadWords → kind ≢ ErrorKind.OutOfMemory }
+    ensures kinds { IsOfWords result }
+{
+    match kind {
+        ErrorKind::OutOfMemory => Stop::OutOfMemory,
+        _ => Stop::BadWords,
+    }
+}
+
+/// What the words ask for, the program's name first.
+fn read_named(alloc: Global, words: &[&str]) -> Result<Request, Stop>
+    ensures value { Gives (λ request. request) result (request_of_named (map (λ s. s.now) words.now)) }
+    ensures kinds { IfErr result IsOfWords }
+{
+    match parse(alloc, words) {
+        Ok(matches) => request_in(&matches),
+        Err(error) => Err(stop_of(error.kind())),
+    }
+}
+
+/// The words with the program's name before them.
+fn with_name<'a>(alloc: Global, words: &'a [String]) -> Result<Vec<&'a str>, AllocError>
+    ensures { IfOk result (λ all. map (λ s. s.now) all.items ≡ named_words (map string_bytes words.entry.now)) }
+{
+    let mut all: Vec<&'a str> = Vec::new(alloc);
+    all.push("parcours")?;
+    for word in words {
+        all.push(word.as_str())?;
+    }
+    Ok(all)
+}
+
+/// What the words ask for: they are bad where the command refuses them or a value fails its test.
+pub(crate) fn read_request(alloc: Global, words: &[String]) -> Result<Request, Stop>
+    ensures value { Gives (λ request. request) result (request_of (map string_bytes words.now)) }
+    ensures kinds { IfErr result IsOfWords }
+{
+    match with_name(alloc, words) {
+        Ok(all) => read_named(alloc, all.as_slice()),
+        Err(_) => Err(Stop::OutOfMemory),
     }
 }

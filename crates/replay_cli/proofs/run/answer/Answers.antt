@@ -1,3 +1,4 @@
+use Rattle.std.proofs.Common.{ℕ, Vec, Global}
 use Rattle.replay_cli.proofs.Replies.{stopped_bad, stopped_kind, stopped_outcome}
 use Rattle.replay_cli.proofs.run.answer.Goals as goal
 
@@ -7,8 +8,8 @@ returns-in-Err-clause-outcome g c =
 
 pub returns-in-Err-clause-kinds : goal.returns-in-Err-clause-kinds
 returns-in-Err-clause-kinds g c =
-    stopped_kind _ _ _ _ _ (λ p. p.exit) (λ p. p.text.items) c.stopped.result _ c.in-Err.stop c.in-Err.ensures.stops c.stopped.ensures
+    stopped_kind (Vec ℕ Global) _ _ _ _ (λ p. p.exit) (λ p. p.text.items) c.stopped.result _ c.in-Err.stop c.in-Err.ensures.stops c.stopped.ensures
 
 pub returns-in-Err-clause-bad_words : goal.returns-in-Err-clause-bad_words
 returns-in-Err-clause-bad_words g c =
-    stopped_bad _ _ _ _ _ (λ p. p.exit) (λ p. p.text.items) c.stopped.result _ c.in-Err.stop c.in-Err.ensures.stops c.stopped.ensures
+    stopped_bad (Vec ℕ Global) _ _ _ _ (λ p. p.exit) (λ p. p.text.items) c.stopped.result _ c.in-Err.stop c.in-Err.ensures.stops c.stopped.ensures

@@ -1,0 +1,50 @@
+//! What the words after the program's name ask for.
+
+use calendar::Civil;
+
+/// What a run is to do.
+#[derive(Clone, Copy, Debug, PartialEq, Eq)]
+pub enum Mode {
+    /// Writes the call orders of all groups.
+    Order,
+}
+
+/// Which picker chooses the school that falls.
+#[derive(Clone, Copy, Debug, PartialEq, Eq)]
+pub enum PickerChoice {
+    /// The overfilled school of least place, on each day.
+    First,
+    /// The one of greatest place, on each day.
+    Last,
+    /// The next one after the school that fell before, on each day.
+    Turn,
+    /// The first, the last and the next in turn, from day to day.
+    Each,
+}
+
+/// When offers lapse.
+#[derive(Clone, Copy, Debug, PartialEq, Eq)]
+pub struct Deadlines {
+    /// The date of day 1, of a year from 1901 to 2298.
+    pub start: Civil,
+    /// For how many days after its own an offer stands, from 0 to 366.
+    pub term: u32,
+}
+
+/// A mode and its options. An option that the mode does not use is tested too.
+#[derive(Clone, Copy, Debug, PartialEq, Eq)]
+pub struct Request {
+    pub mode: Mode,
+    /// How many days are run, from 1 to 366; 1 where it is not given.
+    pub days: u32,
+    /// A wish's id.
+    pub wish: Option<u32>,
+    /// A school's id.
+    pub school: Option<u32>,
+    /// The first picker where none is given.
+    pub picker: PickerChoice,
+    /// How many candidates a sample has, from 1 to 1,000,000.
+    pub number: Option<u32>,
+    /// None where offers do not lapse.
+    pub deadlines: Option<Deadlines>,
+}
