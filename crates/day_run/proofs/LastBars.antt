@@ -1,5 +1,6 @@
 -- The bars of a day's last pass.
-use Rattle.std.proofs.Common.{ℕ, ◌+◌, ◌≡◌, List, [], ◌∷◌, map, length, arith, ◌∙◌}
+use Rattle.std.proofs.Common.{ℕ, zero, suc, ◌+◌, ◌-◌, ◌≡◌, List, [], ◌∷◌, map, length, arith, ap, sym, ◌∙◌, Some}
+use Rattle.std.specs.Prelude.{slice_get}
 use Rattle.std.specs.List.{enumerate_from}
 use Rattle.std.proofs.lemmas.List.{length-map}
 use Rattle.std.proofs.lemmas.List.FromFn.{length-enumerate_from}
@@ -24,3 +25,16 @@ last_bars_long orders ceilings day k s evening (pass ∷ next ∷ rest) are =
 pub length-ceilings_of : (d : DossierRows) (day : ℕ) → length (ceilings_of d day) ≡ length d.schools
 length-ceilings_of d day =
     length-map (enumerate_from 0 d.schools) (λ (x : ℕ × School). ceiling_on d day x.0 x.1) ∙ length-enumerate_from 0 d.schools
+
+some_same : (x y : PassEnd) → Some x ≡ Some y → x ≡ y
+some_same x y e = (cc)
+
+-- they are those of the pass that stands last
+pub last_bars_are : (passes : List PassEnd) (last : PassEnd) → Some last ≡ slice_get passes (length passes - 1) → last_bars passes ≡ last.pass.bars
+last_bars_are [] last e = absurd (cc)
+last_bars_are (pass ∷ []) last e =
+    let at : length (pass ∷ []) - 1 ≡ zero = omega arith in
+    ap (λ (p : PassEnd). p.pass.bars) (sym (some_same last pass (e ∙ ap (slice_get (pass ∷ [])) at)))
+last_bars_are (pass ∷ next ∷ rest) last e =
+    let at : length (pass ∷ next ∷ rest) - 1 ≡ suc (length (next ∷ rest) - 1) = omega arith in
+    last_bars_are (next ∷ rest) last (e ∙ ap (slice_get (pass ∷ next ∷ rest)) at)

@@ -39,7 +39,7 @@ by_school day h (c ∷ cs) xs lt =
       | inl by ↦
           let rest = by_school day h cs (set xs c.school c.ceiling) (omega (arith, length-set xs c.school c.ceiling)) in
           rw by (rest ∙ elim (cases_eq c.school h) [
-            | inl same ↦ rw (same, eq-eqb h h refl, by) (ap (one_changed day h cs) (get_or-set_same xs h c.ceiling 0 lt))
+            | inl same ↦ rw (same, eq-eqb h h refl) (ap (one_changed day h cs) (get_or-set_same xs h c.ceiling 0 lt))
             | inr other ↦ rw (ne_eqb c.school h other) (ap (one_changed day h cs) (get_or-set_other xs c.school h c.ceiling 0 (λ e. other (sym e))))
           ])
       | inr after ↦
@@ -64,20 +64,20 @@ later_from (c ∷ cs) each = (
   later_from cs (λ i j d lt j_lt same. each (suc i) (suc j) d (omega arith) (omega arith) same),
 )
 
+lesser_has : (key : CeilingChange → ℕ) (P : CeilingChange → Type 0) (x : CeilingChange) (o : Option CeilingChange) (y : CeilingChange)
+    → P x → ((z : CeilingChange) → o ≡ Some z → P z) → Some (lesser key x o) ≡ Some y → P y
+lesser_has key P x None y here rest e = let same : x ≡ y = (cc) in rw (← same) here
+lesser_has key P x (Some z) y here rest e =
+    elim (cases_Bool (nat_le (key x) (key z))) [
+      | inl first ↦ let h = rw first at e in let same : x ≡ y = (cc) in rw (← same) here
+      | inr later ↦ let h = rw later at e in let same : z ≡ y = (cc) in rw (← same) (rest z refl)
+    ]
+
 -- what all have, the one of least key has
 least_has : (key : CeilingChange → ℕ) (P : CeilingChange → Type 0) (xs : List CeilingChange) (y : CeilingChange) → All P xs → least_by key xs ≡ Some y → P y
 least_has key P [] y all e = absurd (cc)
-least_has key P (x ∷ xs) y all e = go (least_by key xs) refl e
-  where
-    rest : (z : CeilingChange) → least_by key xs ≡ Some z → P z
-    rest z f = least_has key P xs z (λ k d lt. all (suc k) d (omega arith)) f
-    go : (o : Option CeilingChange) → least_by key xs ≡ o → Some (lesser key x o) ≡ Some y → P y
-    go None f g = let same : x ≡ y = (cc) in rw (← same) (all zero x (omega arith))
-    go (Some z) f g =
-        elim (cases_Bool (nat_le (key x) (key z))) [
-          | inl first ↦ let same : x ≡ y = let h = rw first at g in (cc) in rw (← same) (all zero x (omega arith))
-          | inr later ↦ let same : z ≡ y = let h = rw later at g in (cc) in rw (← same) (rest z f)
-        ]
+least_has key P (x ∷ xs) y all e =
+    lesser_has key P x (least_by key xs) y (all zero x (omega arith)) (λ z f. least_has key P xs z (λ k d lt. all (suc k) d (omega arith)) f) e
 
 step : (day h : ℕ) (c : CeilingChange) (kept : List CeilingChange) → counts day h c ≡ true
     → All (λ y. counts day h y ≡ true) kept → All (λ y. y.school ≡ c.school → c.day < y.day) kept

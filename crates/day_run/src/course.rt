@@ -161,7 +161,13 @@ fn keep_bars(bars: &mut Vec<u32>, passes: &[PassEnd])
     ensures { bars.new.items ≡ last_bars passes.now }
 {
     if let Some(last) = passes.last() {
-        bars.as_mut_slice()
-            .copy_from_slice(last.pass.bars.as_slice());
+        copy_bars(bars, last.pass.bars.as_slice());
     }
+}
+
+fn copy_bars(bars: &mut Vec<u32>, from: &[u32])
+    requires { length bars.old.items ≡ length from.now }
+    ensures { bars.new.items ≡ from.now }
+{
+    bars.as_mut_slice().copy_from_slice(from);
 }
