@@ -84,12 +84,14 @@ pub next_some : (g : RankGroup) (before : List ℕ) (c : ℕ) (b : Bound) → Is
 next_some g before c b rising e =
     let bound = bound_after g before in
     let (r, found, is) = mapped_some (call_of bound) (find (may_be_called bound) (remaining g before)) (c, b) (sym (next_is_first g before rising) ∙ e) in
-    let under = ap (λ (x : ℕ × Bound). x.1) is in
-    (r, record {
-      bound = under;
-      first = ap (λ now. find (may_be_called now) (remaining g before)) (sym under) ∙ found;
-      candidate = ap (λ (x : ℕ × Bound). x.0) is;
-    })
+    let under = ap (λ (x : ℕ × Bound). x.1) is in (
+      r,
+      record {
+        bound = under;
+        first = ap (λ now. find (may_be_called now) (remaining g before)) (sym under) ∙ found;
+        candidate = ap (λ (x : ℕ × Bound). x.0) is;
+      },
+    )
 
 filter_twice : {X : Type 0} (p q both : X → Bool) → ((x : X) → both x ≡ (p x && q x)) → (xs : List X) → filter both xs ≡ filter q (filter p xs)
 filter_twice p q both h [] = refl

@@ -1,5 +1,5 @@
 -- The first of a list that passes a test, and the list without it.
-use Rattle.std.proofs.Common.{ℕ, zero, suc, ◌+◌, ◌≡◌, Bool, true, List, [], ◌∷◌, length, drop, map, inl, inr, refl, ap, arith, Some, None, nat_cmp, zero-add}
+use Rattle.std.proofs.Common.{ℕ, zero, suc, ◌+◌, ◌≡◌, Bool, List, [], ◌∷◌, length, drop, map, inl, inr, refl, ap, arith, Some, None, nat_cmp, zero-add}
 use Rattle.std.specs.Prelude.{find, slice_get}
 use Rattle.std.specs.List.{position_or_len, AllByRecursion}
 use Rattle.std.specs.List.Sorted.{IsStrictlyIncreasing, IsStrictlySortedBy}
