@@ -1,5 +1,5 @@
 -- Every candidate who has a wish is called.
-use Rattle.std.proofs.Common.{ℕ, zero, suc, ◌<◌, ◌≡◌, true, List, [], ◌∷◌, map, length, refl, ◌∙◌, ap, arith}
+use Rattle.std.proofs.Common.{ℕ, zero, suc, ◌≡◌, true, List, [], ◌∷◌, map, length, refl, ◌∙◌, ap, arith}
 use Rattle.std.specs.Prelude.{option_map, unwrap_or, slice_get, All}
 use Rattle.admit_core.specs.declared.ranking.RankGroup.{RankGroup}
 use Rattle.admit_core.specs.declared.ranking.CallOrder.{CallOrder}

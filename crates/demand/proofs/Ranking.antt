@@ -1,6 +1,6 @@
 -- The first of each rank in a list put in order by rank: the demanded ranks with their names.
 use Rattle.std.proofs.Common.{ℕ, zero, suc, ◌+◌, ◌≤◌, ◌<◌, ◌≡◌, Bool, true, false, cond, not, ◌&&◌, ◌||◌, List, [], ◌∷◌, map, length, get_or, take, ◌++◌, inl, inr, refl, sym, ◌∙◌, ap, arith, nat_eq, filter, Option, Some, None, nat_lt, add-zero, zero-add}
-use Rattle.std.specs.Prelude.{◌==◌, option_map, unwrap_or, zip, find}
+use Rattle.std.specs.Prelude.{◌==◌, option_map, unwrap_or, find}
 use Rattle.std.specs.List.{list_any, enumerate_from, dedup, dedup_from, AllByRecursion}
 use Rattle.std.specs.List.Sorted.{IsNonDecreasingBy, IsPermutation, IsStableByKey}
 use Rattle.std.specs.Ordering.{nat_cmp}
@@ -11,13 +11,12 @@ use Rattle.std.proofs.lemmas.List.FromFn.{get_or-map-range_with_len}
 use Rattle.admit_core.specs.declared.dossier.Wish.{Wish}
 use Rattle.admit_core.specs.declared.state.Mark.{Mark}
 use Rattle.admit_core.specs.declared.ranking.CallOrder.{CallOrder}
-use Rattle.admit_core.specs.Lists.{is_among, ascending}
+use Rattle.admit_core.specs.Lists.{is_among}
 use Rattle.admit_core.specs.State.{State, entries, has_school, holds_bed}
 use Rattle.admit_core.specs.Proposals.{is_proposed, proposed, demands_bed, demanded_ranks}
 use Rattle.admit_core.specs.Boarding.{name_of}
 use Rattle.admit_core.proofs.Tests.{Ascends, same_members, ascends_ascending, among-ascending}
 use Rattle.day_state.proofs.Ordering.{stable_own}
-use Rattle.day_state.proofs.Places.{any-map}
 use Rattle.demand.specs.declared.demands.Demand.{Demand}
 use Rattle.day_state.specs.Kept.{wish_in}
 use Rattle.day_state.proofs.Places.{entry_in, entries_by_place}

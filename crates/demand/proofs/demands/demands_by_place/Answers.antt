@@ -1,4 +1,4 @@
-use Rattle.std.proofs.Common.{◌≡◌, List, [], ◌∷◌, ◌++◌, map, filter, take, length, sym, ◌∙◌, ap, arith}
+use Rattle.std.proofs.Common.{List, [], ◌∷◌, ◌++◌, map, filter, take, sym, ◌∙◌, ap, arith}
 use Rattle.demand.specs.declared.demands.Demand.{Demand}
 use Rattle.demand.specs.Demands.{needs_bed, demand_in}
 use Rattle.demand.proofs.Ranking.{picked, passed_over}

@@ -1,4 +1,4 @@
-use Rattle.std.proofs.Common.{◌≡◌, ℕ, List, subst, ◌∙◌, ap}
+use Rattle.std.proofs.Common.{◌≡◌, ℕ, List, subst, ◌∙◌}
 use Rattle.std.specs.Prelude.{IfOk}
 use Rattle.demand.proofs.Listed.{flagged_proposed}
 use Rattle.demand.proofs.walk.proposed_places.Goals as goal

@@ -1,4 +1,4 @@
-use Rattle.std.proofs.Common.{◌≡◌, true, false, ◌||◌, sym, ◌∙◌}
+use Rattle.std.proofs.Common.{◌≡◌, true, ◌||◌, sym, ◌∙◌}
 use Rattle.std.proofs.lemmas.Bool.{or_left, or_right}
 use Rattle.admit_core.specs.State.{holds_seat}
 use Rattle.day_state.proofs.Change.{own_within}
