@@ -1,23 +1,22 @@
 -- Candidates are answered for one after another, each at his last wish.
-use Rattle.std.proofs.Common.{ℕ, zero, suc, ◌+◌, ◌≤◌, ◌<◌, ◌≡◌, Bool, true, false, not, cond, ◌&&◌, ◌||◌, List, [], ◌∷◌, map, length, drop, get_or, inl, inr, refl, sym, ◌∙◌, ap, arith, nat_eq, sum, sum_by, count_by}
+use Rattle.std.proofs.Common.{ℕ, zero, suc, ◌+◌, ◌≤◌, ◌<◌, ◌≡◌, Bool, true, false, not, cond, ◌&&◌, List, [], ◌∷◌, map, length, drop, get_or, inl, inr, refl, sym, ◌∙◌, ap, arith, nat_eq, sum, count_by}
 use Rattle.std.specs.Prelude.{◌==◌, if◌then◌else◌}
-use Rattle.std.specs.List.{list_any, range_with_len}
-use Rattle.std.proofs.lemmas.Bool.{cases_Bool, cases_eq, eqb-true, eqb-false, eq-eqb, ne_eqb, or_left, or_right, or_parts, or_from, false≢true, not-true, not-false}
+use Rattle.std.specs.List.{range_with_len}
+use Rattle.std.proofs.lemmas.Bool.{cases_Bool, cases_eq, eq-eqb, ne_eqb, or_left, or_right, or_from, false≢true, not-true, not-false}
 use Rattle.std.proofs.lemmas.List.{length-map, drop_more, drop_all, get_or-map}
-use Rattle.std.proofs.lemmas.List.Sums.{sum_by-cons, sum-map}
+use Rattle.std.proofs.lemmas.List.Sums.{sum_by-cons}
 use Rattle.admit_core.specs.declared.dossier.Wish.{Wish}
 use Rattle.admit_core.specs.declared.state.Mark.{Mark}
 use Rattle.admit_core.specs.declared.state.Stamp.{Stamp}
 use Rattle.admit_core.specs.declared.state.Freed.{Freed}
 use Rattle.admit_core.specs.DossierRows.{DossierRows, candidate_of}
 use Rattle.admit_core.specs.Lists.{is_among, distinct}
-use Rattle.admit_core.specs.State.{State, with_marks, is_live, has_school, holds_seat, holds_bed}
+use Rattle.admit_core.specs.State.{State, has_school, holds_seat, holds_bed}
 use Rattle.admit_core.specs.AutoAnswer.{auto_mark, best_live, auto_one, auto_all, seats_freed, beds_freed, freed_by, freed}
-use Rattle.day_state.specs.Kept.{mark_in, wish_in, holds_one}
+use Rattle.day_state.specs.Kept.{mark_in, wish_in}
 use Rattle.day_state.proofs.Along.{mark_in-with_marks, length-with_marks, same_state, same_marks}
 use Rattle.day_state.proofs.Independence.{Agrees, agrees_self}
 use Rattle.day_state.proofs.OneAccepted.{who}
-use Rattle.day_state.proofs.Places.{candidate_in}
 use Rattle.auto_answer.specs.LastWish.{wishers}
 use Rattle.auto_answer.proofs.OwnMarks.{own_holds, own_best}
 use Rattle.auto_answer.proofs.Once.{total_again, total_new, total_at_most}
@@ -55,7 +54,7 @@ one_other c d s t stamp differ a = record {
   same = λ k lt own.
       mark_in-with_marks (one_mark s d stamp) s a.long k (omega (arith, a.long))
       ∙ ap (λ b. if b then auto_mark stamp (best_live s d) (wish_in s.dossier.wishes k) (mark_in s.marks k) else mark_in s.marks k)
-        (ne_eqb (who s k) d (λ e. differ (sym e ∙ own)))
+      (ne_eqb (who s k) d (λ e. differ (sym e ∙ own)))
       ∙ a.same k lt own;
 }
 
@@ -109,11 +108,11 @@ same_count p q same (k ∷ ks) =
 pub same_freed : (c : ℕ) (s t u v : State) → Agrees c s u → Agrees c t v → freed_by s t c ≡ freed_by u v c
 same_freed c s t u v before after =
     let seats = same_count (λ p. holds_seat s c p && not (holds_seat t c p)) (λ p. holds_seat u c p && not (holds_seat v c p))
-        (λ p. rw (own_holds (λ (w : Wish). w.programme == p) c s u before, own_holds (λ (w : Wish). w.programme == p) c t v after) refl)
-        (range_with_len 0 (length s.dossier.programmes)) in
+    (λ p. rw (own_holds (λ (w : Wish). w.programme == p) c s u before, own_holds (λ (w : Wish). w.programme == p) c t v after) refl)
+    (range_with_len 0 (length s.dossier.programmes)) in
     let beds = same_count (λ h. holds_bed s c h && not (holds_bed t c h)) (λ h. holds_bed u c h && not (holds_bed v c h))
-        (λ h. rw (own_holds (λ (w : Wish). has_school w h) c s u before, own_holds (λ (w : Wish). has_school w h) c t v after) refl)
-        (range_with_len 0 (length s.dossier.schools)) in
+    (λ h. rw (own_holds (λ (w : Wish). has_school w h) c s u before, own_holds (λ (w : Wish). has_school w h) c t v after) refl)
+    (range_with_len 0 (length s.dossier.schools)) in
     rw (seats, beds, before.dossier) refl
 
 -- the candidates from a place on
@@ -239,14 +238,13 @@ room_here start now stamp i all so_far lt last =
     let rest = later d (i + 1) in
     let next = next_is d i lt in
     let end = auto_all start stamp in
-    let long = length-map d.wishes (λ (w : Wish). w.candidate) in
-    (
+    let long = length-map d.wishes (λ (w : Wish). w.candidate) in (
       let sum_is = ap (seats_of_all start end) next ∙ total_new (seats_freed start end) x rest last in
-      let most = total_at_most (seats_freed start end) (wishers d) (λ c. few_seats start end c) in
-      omega (arith, so_far.seats, sum_is, most, long),
+          let most = total_at_most (seats_freed start end) (wishers d) (λ c. few_seats start end c) in
+          omega (arith, so_far.seats, sum_is, most, long),
       let sum_is = ap (beds_of_all start end) next ∙ total_new (beds_freed start end) x rest last in
-      let most = total_at_most (beds_freed start end) (wishers d) (λ c. few_beds start end c) in
-      omega (arith, so_far.beds, sum_is, most, long),
+          let most = total_at_most (beds_freed start end) (wishers d) (λ c. few_beds start end c) in
+          omega (arith, so_far.beds, sum_is, most, long),
     )
 
 abbrev numbers : ℕ → ℕ → Freed
@@ -273,10 +271,9 @@ answered_all start now stamp i all so_far le =
     let each = λ (c : ℕ). so_far.done c (ap (is_among c) none) in
     let a = each 0 in
     let seats : all.seats ≡ seats_of_all start end (wishers d) = let sum_is = ap (seats_of_all start end) none in omega (arith, so_far.seats, sum_is) in
-    let beds : all.beds ≡ beds_of_all start end (wishers d) = let sum_is = ap (beds_of_all start end) none in omega (arith, so_far.beds, sum_is) in
-    (
+    let beds : all.beds ≡ beds_of_all start end (wishers d) = let sum_is = ap (beds_of_all start end) none in omega (arith, so_far.beds, sum_is) in (
       same_state now end (sym a.dossier)
-      (same_marks now.marks end.marks (a.long ∙ sym a.long_too) (λ k lt. (each (who now k)).same k (omega (arith, a.long)) refl)),
+          (same_marks now.marks end.marks (a.long ∙ sym a.long_too) (λ k lt. (each (who now k)).same k (omega (arith, a.long)) refl)),
       same_numbers all (freed start end) seats beds,
     )
 

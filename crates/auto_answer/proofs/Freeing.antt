@@ -1,19 +1,17 @@
 -- Where automatic answers free something, a live wish is refused.
-use Rattle.std.proofs.Common.{ℕ, zero, suc, ◌+◌, ◌≤◌, ◌<◌, ◌≡◌, Bool, true, false, not, cond, ◌&&◌, ◌||◌, List, [], ◌∷◌, map, length, inl, inr, refl, sym, ◌∙◌, ap, arith, nat_eq, sum, sum_by, count_by, zip, Option, Some, None, ◌⊎◌}
-use Rattle.std.specs.Prelude.{◌==◌, if◌then◌else◌}
+use Rattle.std.proofs.Common.{ℕ, zero, suc, ◌<◌, ◌≡◌, Bool, true, false, not, cond, ◌&&◌, List, [], ◌∷◌, length, inl, inr, refl, sym, ◌∙◌, ap, arith, nat_eq, sum_by, count_by, zip, Option, Some, None}
+use Rattle.std.specs.Prelude.{◌==◌}
 use Rattle.std.specs.List.{list_any, range_with_len}
-use Rattle.std.proofs.lemmas.Bool.{cases_Bool, cases_eq, eqb-true, eq-eqb, ne_eqb, and_parts, and_from, and_cases, or_left, or_right, or_cases, false≢true, false_from_ne_true, not-true}
+use Rattle.std.proofs.lemmas.Bool.{cases_Bool, cases_eq, eq-eqb, and_parts, and_from, and_cases, or_left, or_right, or_cases, false≢true, false_from_ne_true, not-true}
 use Rattle.std.proofs.lemmas.List.Sums.{sum_by-cons, sum-map}
 use Rattle.admit_core.specs.declared.dossier.Wish.{Wish}
 use Rattle.admit_core.specs.declared.state.Status.{Status}
 use Rattle.admit_core.specs.declared.state.Status.TheVariants.{Waiting, Offered, Accepted, Refused, Withdrawn, Quit, AutoRefused, AutoWithdrawn, Lapsed}
 use Rattle.admit_core.specs.declared.state.Mark.{Mark}
 use Rattle.admit_core.specs.declared.state.Stamp.{Stamp}
-use Rattle.admit_core.specs.declared.state.Freed.{Freed}
-use Rattle.admit_core.specs.DossierRows.{DossierRows, candidates_of}
-use Rattle.admit_core.specs.State.{State, entries, is_live, is_live_status, has_school, holds_seat, holds_bed, changed_to}
+use Rattle.admit_core.specs.DossierRows.{candidates_of}
+use Rattle.admit_core.specs.State.{State, is_live, is_live_status, has_school, holds_seat, holds_bed, changed_to}
 use Rattle.admit_core.specs.AutoAnswer.{auto_mark, best_live, auto_all, seats_freed, beds_freed, freed}
-use Rattle.admit_core.specs.Days.{frees_nothing}
 use Rattle.day_state.specs.Kept.{mark_in, wish_in, holds_one}
 use Rattle.day_state.proofs.Along.{mark_in-with_marks, length-with_marks}
 use Rattle.auto_answer.specs.Laws.{IsRefusedAt, FreeingRefuses}
@@ -110,8 +108,8 @@ refused_of test s stamp c long held lost =
     let in_end : k < length end.marks = omega (arith, length-with_marks (all_mark s stamp) s long) in
     let mark_is : mark_in end.marks k ≡ auto_mark stamp (best_live s w.candidate) w m = mark_in-with_marks (all_mark s stamp) s long k in_marks in
     let gone : is_live (mark_in end.marks k) ≡ false = false_from_ne_true (is_live (mark_in end.marks k)) (λ live.
-        false≢true (sym lost ∙ place_passes (holds test c) s.dossier.wishes end.marks k in_wishes in_end
-        (and_from (is_live (mark_in end.marks k) && (w.candidate == c)) (test w) (and_from (is_live (mark_in end.marks k)) (w.candidate == c) live inner.1) outer.1))) in
+    false≢true (sym lost ∙ place_passes (holds test c) s.dossier.wishes end.marks k in_wishes in_end
+    (and_from (is_live (mark_in end.marks k) && (w.candidate == c)) (test w) (and_from (is_live (mark_in end.marks k)) (w.candidate == c) live inner.1) outer.1))) in
     (k, record { in_range = in_wishes; lived = inner.0; refused = ap (λ (n : Mark). n.status) mark_is ∙ live_no_longer stamp (best_live s w.candidate) w m inner.0 (rw mark_is at gone) })
 
 -- what was freed counts a place where he was live and no longer is

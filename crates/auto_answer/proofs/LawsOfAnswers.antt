@@ -1,13 +1,9 @@
 -- The laws of automatic answers.
-use Rattle.std.proofs.Common.{ℕ, zero, suc, ◌+◌, ◌≤◌, ◌<◌, ◌≡◌, Bool, true, false, not, cond, ◌&&◌, ◌||◌, List, [], ◌∷◌, map, length, inl, inr, refl, sym, ◌∙◌, ap, arith, nat_eq}
-use Rattle.std.specs.Prelude.{◌==◌, if◌then◌else◌}
-use Rattle.std.proofs.lemmas.Bool.{cases_Bool, cases_eq}
-use Rattle.admit_core.specs.declared.state.Stamp.{Stamp}
+use Rattle.std.proofs.Common.{ℕ, ◌≡◌, length, inl, inr, refl, sym, ◌∙◌, ap, arith}
+use Rattle.std.proofs.lemmas.Bool.{cases_eq}
 use Rattle.admit_core.specs.DossierRows.{DossierRows}
-use Rattle.admit_core.specs.State.{State, is_live}
-use Rattle.admit_core.specs.Answers.{mark_at, candidate_at}
-use Rattle.admit_core.specs.AutoAnswer.{auto_one, auto_all, freed}
-use Rattle.day_state.specs.Kept.{mark_in, wish_in}
+use Rattle.admit_core.specs.State.{State}
+use Rattle.admit_core.specs.AutoAnswer.{auto_one, auto_all}
 use Rattle.day_state.proofs.Along.{length-with_marks, same_state, same_marks}
 use Rattle.day_state.proofs.Independence.{Agrees, agrees_self}
 use Rattle.day_state.proofs.OneAccepted.{who}

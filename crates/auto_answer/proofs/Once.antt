@@ -1,8 +1,8 @@
 -- Each candidate once: what is summed over the candidates of a list, and where a candidate's last wish stands.
-use Rattle.std.proofs.Common.{ℕ, zero, suc, ◌+◌, ◌-◌, ◌≤◌, ◌<◌, ◌≡◌, Bool, true, false, not, cond, ◌&&◌, ◌||◌, List, [], ◌∷◌, ◌++◌, map, length, drop, get_or, inl, inr, refl, sym, ◌∙◌, ap, arith, nat_eq, filter, sum, sum_by, count_by, Some, Option}
+use Rattle.std.proofs.Common.{ℕ, zero, suc, ◌+◌, ◌-◌, ◌≤◌, ◌<◌, ◌≡◌, Bool, true, false, not, cond, ◌||◌, List, [], ◌∷◌, map, length, drop, inl, inr, refl, sym, ◌∙◌, ap, arith, nat_eq, filter, sum, sum_by, count_by, Some, Option}
 use Rattle.std.specs.Prelude.{◌==◌, slice_get, slice_index}
 use Rattle.std.specs.List.{list_any, range_with_len}
-use Rattle.std.proofs.lemmas.Bool.{cases_Bool, cases_eq, eqb-true, eqb-false, eq-eqb, ne_eqb, or_parts, false≢true}
+use Rattle.std.proofs.lemmas.Bool.{cases_Bool, cases_eq, eqb-true, eq-eqb, ne_eqb, or_parts, false≢true}
 use Rattle.std.proofs.lemmas.List.Sums.{sum_by-cons, sum-map, sum_by-le-sum_by}
 use Rattle.std.proofs.lemmas.List.{length-map, drop_more, drop_all}
 use Rattle.std.specs.Option.{option_eq}
@@ -137,7 +137,7 @@ some_passes q place a (suc n) le lt here =
       | inl same ↦ rw (rw (← same) at here) (omega arith)
       | inr differ ↦
           let rest = some_passes q place (a + 1) n (omega arith) (omega arith) here in
-          elim (cases_Bool (q a)) [ | inl first ↦ rw first (omega arith) | inr other ↦ rw other rest ]
+          elim (cases_Bool (q a)) [ inl first ↦ rw first (omega arith) | inr other ↦ rw other rest ]
     ]
 
 is_last_in : (q : ℕ → Bool) (place a n : ℕ) → a ≤ place → place < a + n → q place ≡ true

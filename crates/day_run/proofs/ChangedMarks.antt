@@ -1,8 +1,8 @@
 -- What the automatic answers after a pass changed can be told from the pass's opening.
-use Rattle.std.proofs.Common.{ℕ, zero, suc, ◌+◌, ◌≤◌, ◌<◌, ◌≡◌, Bool, true, false, not, cond, ◌&&◌, ◌||◌, List, [], ◌∷◌, map, length, get_or, inl, inr, refl, sym, ◌∙◌, ap, arith, filter, zip, Option, Some, None, nat_lt, nat_eq}
+use Rattle.std.proofs.Common.{ℕ, ◌+◌, ◌≡◌, Bool, true, false, not, cond, ◌&&◌, List, [], ◌∷◌, map, inl, inr, refl, sym, ◌∙◌, ap, filter, zip, Option, Some, None, nat_lt, nat_eq}
 use Rattle.std.specs.Prelude.{◌==◌, if◌then◌else◌}
 use Rattle.std.specs.List.{enumerate_from}
-use Rattle.std.proofs.lemmas.Bool.{cases_Bool, eqb-true, eq-eqb, and_parts}
+use Rattle.std.proofs.lemmas.Bool.{cases_Bool, eqb-true, eq-eqb}
 use Rattle.admit_core.specs.declared.ranking.CallOrder.{CallOrder}
 use Rattle.admit_core.specs.declared.dossier.Wish.{Wish}
 use Rattle.admit_core.specs.declared.state.Status.{Status}
@@ -10,11 +10,10 @@ use Rattle.admit_core.specs.declared.state.Status.TheVariants.{Waiting, Offered,
 use Rattle.admit_core.specs.declared.state.Mark.{Mark}
 use Rattle.admit_core.specs.declared.state.Stamp.{Stamp}
 use Rattle.admit_core.specs.declared.state.Change.{Change}
-use Rattle.admit_core.specs.State.{State, entries, with_marks, is_live, is_waiting, is_live_status, is_waiting_status, status_number, changed_to}
-use Rattle.admit_core.specs.Proposals.{is_proposed, is_barred, needs_no_seat, ahead, is_open}
-use Rattle.admit_core.specs.AutoAnswer.{auto_mark, best_live, auto_all}
+use Rattle.admit_core.specs.State.{State, is_live, is_waiting, is_live_status, is_waiting_status, status_number, changed_to}
+use Rattle.admit_core.specs.Proposals.{is_proposed}
+use Rattle.admit_core.specs.AutoAnswer.{auto_mark, best_live}
 use Rattle.admit_core.specs.Days.{offered, closing, changes}
-use Rattle.admit_core.specs.Lapses.{is_offered}
 use Rattle.day_run.specs.Changes.{is_answered_change, answered_changes}
 
 -- statuses with one number are one

@@ -1,10 +1,10 @@
 -- The answers of a day stand together in the dossier.
-use Rattle.std.proofs.Common.{ℕ, zero, suc, ◌+◌, ◌-◌, ◌≤◌, ◌<◌, ◌≡◌, Bool, true, false, cond, List, [], ◌∷◌, map, length, take, drop, get_or, inl, inr, refl, sym, ◌∙◌, ap, arith, filter, ltb, leb, Option, Some, None, Result, Ok, Err}
-use Rattle.std.specs.Prelude.{◌==◌, slice_index, All}
+use Rattle.std.proofs.Common.{ℕ, zero, suc, ◌+◌, ◌-◌, ◌≤◌, ◌<◌, ◌≡◌, Bool, true, false, List, [], ◌∷◌, map, length, take, drop, get_or, inl, inr, refl, sym, ◌∙◌, ap, arith, filter, ltb, leb, Option, Some, None, Ok, Err}
+use Rattle.std.specs.Prelude.{◌==◌, slice_index}
 use Rattle.std.specs.List.{enumerate_from}
 use Rattle.std.specs.List.Sorted.{IsPartitionPoint, IsNonDecreasingBy}
 use Rattle.std.specs.Option.{IsSomeAnd}
-use Rattle.std.proofs.lemmas.Bool.{cases_Bool, cases_lt, ltb-true, ltb-false, leb-true, leb-false, lt-ltb, le-leb, eq-eqb, ne_eqb, both_ways}
+use Rattle.std.proofs.lemmas.Bool.{cases_Bool, cases_lt, ltb-true, ltb-false, leb-true, leb-false, le-leb, eq-eqb, ne_eqb, both_ways}
 use Rattle.std.proofs.lemmas.List.{length-map, length-take, length-drop, get_or-map, get_or-take, get_or-drop}
 use Rattle.std.proofs.lemmas.List.Elements.{All-filter}
 use Rattle.std.proofs.lemmas.List.FromFn.{length-enumerate_from, get_or-enumerate_from}
@@ -16,11 +16,10 @@ use Rattle.admit_core.specs.DossierRows.{DossierRows}
 use Rattle.admit_core.specs.State.{State}
 use Rattle.admit_core.specs.Answers.{after, after_all, fits, first_unfit, status_at}
 use Rattle.admit_core.specs.Days.{answers_of}
-use Rattle.admit_core.specs.Validity.{IsTarget, IsValid, IsValidAnswer}
+use Rattle.admit_core.specs.Validity.{IsTarget, IsValid}
 use Rattle.day_state.specs.declared.day.UnfitAt.{UnfitAt}
 use Rattle.day_state.specs.Applied.{refused_at, after_fitting_front}
 use Rattle.day_state.proofs.Answering.{dossier_after}
-use Rattle.day_state.proofs.Independence.{dossier_after_all}
 use Rattle.day_run.specs.AnswersOn.{places_on, AreAnswersOn, IsApplied, unfit_refusal, refusal_at, answers_stamp}
 use Rattle.day_run.specs.declared.refusal.DayRefusal.{DayRefusal}
 use Rattle.day_run.specs.declared.refusal.DayRefusal.TheVariants as refusals
@@ -182,8 +181,7 @@ pub fit_applied : (s t : State) (day first : ℕ) (answers : List Answer) → Ar
     → t ≡ after_fitting_front s (answers_stamp day) answers
     → IsApplied s day (Ok tt) t
 fit_applied s t day first answers are e end =
-    let none = none_refused (first_unfit 0 s (answers_stamp day) answers) e in
-    (
+    let none = none_refused (first_unfit 0 s (answers_stamp day) answers) e in (
       ap (λ (l : List Answer). first_unfit 0 s (answers_stamp day) l) (sym are.all) ∙ none,
       end ∙ front_all 0 s (answers_stamp day) answers none ∙ ap (λ (l : List Answer). after_all s (answers_stamp day) l) are.all,
     )

@@ -1,8 +1,8 @@
 -- Changes in the order of their days leave the latest ceiling of each school.
-use Rattle.std.proofs.Common.{ℕ, zero, suc, ◌+◌, ◌-◌, ◌≤◌, ◌<◌, ◌≡◌, Bool, true, false, cond, ◌&&◌, List, [], ◌∷◌, map, length, set, get_or, drop, inl, inr, refl, sym, ◌∙◌, ap, arith, filter, nat_eq, Option, Some, None}
+use Rattle.std.proofs.Common.{ℕ, zero, suc, ◌+◌, ◌-◌, ◌≤◌, ◌<◌, ◌≡◌, Bool, true, false, ◌&&◌, List, [], ◌∷◌, map, length, set, get_or, inl, inr, refl, sym, ◌∙◌, ap, arith, filter, Option, Some, None}
 use Rattle.std.specs.Prelude.{◌==◌, nat_le, slice_index, All, unwrap_or, option_map, if◌then◌else◌}
 use Rattle.std.specs.List.{enumerate_from}
-use Rattle.std.proofs.lemmas.Bool.{cases_Bool, cases_eq, eqb-true, eq-eqb, ne_eqb, and_parts, leb-true, lt-leb, and_left}
+use Rattle.std.proofs.lemmas.Bool.{cases_Bool, cases_eq, eqb-true, eq-eqb, ne_eqb, and_parts, leb-true, lt-leb}
 use Rattle.std.proofs.lemmas.List.{length-map, length-set, get_or-map, get_or-set_same, get_or-set_other, same_lists, get_or_default}
 use Rattle.std.proofs.lemmas.List.Elements.{All-filter, filter_passes}
 use Rattle.std.proofs.lemmas.List.FromFn.{length-enumerate_from, get_or-enumerate_from}
@@ -10,8 +10,8 @@ use Rattle.admit_core.specs.declared.dossier.School.{School}
 use Rattle.admit_core.specs.declared.dossier.CeilingChange.{CeilingChange}
 use Rattle.admit_core.specs.DossierRows.{DossierRows}
 use Rattle.admit_core.specs.Lists.{lesser, least_by}
-use Rattle.admit_core.specs.Days.{changes_until, ceiling_on, ceilings_of}
-use Rattle.admit_core.specs.Validity.{IsValid, IsValidCeiling, NotSameDay}
+use Rattle.admit_core.specs.Days.{ceiling_on, ceilings_of}
+use Rattle.admit_core.specs.Validity.{IsValid}
 use Rattle.day_run.specs.Ceilings.{changed}
 
 -- whether a change counts for a school on a day

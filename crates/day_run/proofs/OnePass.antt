@@ -1,7 +1,7 @@
 -- A pass and the automatic answers that follow it.
-use Rattle.std.proofs.Common.{ℕ, zero, suc, ◌+◌, ◌≤◌, ◌<◌, ◌≡◌, Bool, true, false, not, cond, ◌||◌, List, [], ◌∷◌, length, inl, inr, refl, sym, ◌∙◌, ap, arith, count_by, Option, Some, None, nat_lt}
+use Rattle.std.proofs.Common.{ℕ, zero, suc, ◌+◌, ◌≤◌, ◌<◌, ◌≡◌, Bool, true, false, not, cond, ◌||◌, List, [], ◌∷◌, length, refl, sym, ◌∙◌, ap, arith, count_by, Option, Some, None, nat_lt}
 use Rattle.std.specs.Prelude.{◌==◌, if◌then◌else◌, IsTrue}
-use Rattle.std.proofs.lemmas.Bool.{cases_Bool, cases_eq, not-true}
+use Rattle.std.proofs.lemmas.Bool.{not-true}
 use Rattle.std.proofs.lemmas.List.Sums.{sum_by-cons, count_by-le-length}
 use Rattle.admit_core.specs.declared.ranking.CallOrder.{CallOrder}
 use Rattle.admit_core.specs.declared.dossier.Wish.{Wish}
@@ -12,7 +12,7 @@ use Rattle.admit_core.specs.declared.state.Stamp.{Stamp}
 use Rattle.admit_core.specs.declared.state.Change.{Change}
 use Rattle.admit_core.specs.declared.state.Freed.{Freed}
 use Rattle.admit_core.specs.declared.records.PassRecord.{PassRecord}
-use Rattle.admit_core.specs.State.{State, with_marks, is_live, is_waiting, is_live_status, is_waiting_status, changed_to}
+use Rattle.admit_core.specs.State.{State, is_live, is_waiting, is_live_status, is_waiting_status, changed_to}
 use Rattle.admit_core.specs.Proposals.{is_proposed}
 use Rattle.admit_core.specs.AutoAnswer.{auto_mark, best_live, auto_all, freed}
 use Rattle.admit_core.specs.Days.{IsPass, IsPassEnd, offered, closing, frees_nothing}
@@ -124,6 +124,7 @@ fewer_open s off close orders bars stamp all long off_is close_is all_is some =
   where
     first : State
     first = offered s orders bars stamp
+
     fewer : frees_nothing (freed (offered s orders bars stamp) (auto_all (offered s orders bars stamp) stamp)) ≡ false → open_wishes (auto_all (offered s orders bars stamp) stamp) < open_wishes s
     fewer e =
         let o = offered s orders bars stamp in
@@ -133,14 +134,14 @@ fewer_open s off close orders bars stamp all long off_is close_is all_is some =
         let c_long : length c.marks ≡ length o.marks = length-with_marks (all_mark o stamp) o (o_long ∙ long) in
         let found = freeing_refuses o stamp (o_long ∙ long) e in
         let offer_at : (k : ℕ) → k < length s.marks → is_open (mark_in o.marks k) ≡ is_open (mark_in s.marks k) = λ k lt.
-            ap is_open (mark_in-with_marks f s long k lt)
-            ∙ offer_open stamp (mark_in s.marks k) (is_proposed s orders bars (wish_in s.dossier.wishes k) (mark_in s.marks k)) (proposed_waits s orders bars (wish_in s.dossier.wishes k) (mark_in s.marks k)) in
+        ap is_open (mark_in-with_marks f s long k lt)
+        ∙ offer_open stamp (mark_in s.marks k) (is_proposed s orders bars (wish_in s.dossier.wishes k) (mark_in s.marks k)) (proposed_waits s orders bars (wish_in s.dossier.wishes k) (mark_in s.marks k)) in
         let at : (k : ℕ) → k < length c.marks → one (is_open (mark_in c.marks k)) ≤ one (is_open (mark_in s.marks k)) = λ k lt.
-            let in_o : k < length o.marks = omega (arith, c_long) in
-            let auto_at = ap (λ (m : Mark). one (is_open m)) (mark_in-with_marks (all_mark o stamp) o (o_long ∙ long) k in_o) in
-            let less = auto_open stamp (best_live o (wish_in o.dossier.wishes k).candidate) (wish_in o.dossier.wishes k) (mark_in o.marks k) in
-            let same = ap one (offer_at k (omega (arith, o_long))) in
-            omega (arith, auto_at, less, same) in
+        let in_o : k < length o.marks = omega (arith, c_long) in
+        let auto_at = ap (λ (m : Mark). one (is_open m)) (mark_in-with_marks (all_mark o stamp) o (o_long ∙ long) k in_o) in
+        let less = auto_open stamp (best_live o (wish_in o.dossier.wishes k).candidate) (wish_in o.dossier.wishes k) (mark_in o.marks k) in
+        let same = ap one (offer_at k (omega (arith, o_long))) in
+        omega (arith, auto_at, less, same) in
         let k = found.0 in
         let is = found.1 in
         let in_c : k < length c.marks = omega (arith, is.in_range, c_long, o_long, long) in

@@ -1,5 +1,5 @@
 -- What the automatic answers after a pass changed, seen from the pass's opening.
-use Rattle.std.specs.Prelude.{ℕ, Bool, not, ◌&&◌, List, map, filter, zip, ◌==◌}
+use Rattle.std.specs.Prelude.{Bool, not, ◌&&◌, List, map, filter, zip, ◌==◌}
 use Rattle.std.specs.List.{enumerate_from}
 use Rattle.admit_core.specs.declared.state.Status.{Status}
 use Rattle.admit_core.specs.declared.state.Change.{Change}

@@ -3,7 +3,6 @@ use Rattle.admit_core.specs.declared.dossier.Wish.{Wish}
 use Rattle.admit_core.specs.declared.state.Mark.{Mark}
 use Rattle.admit_core.specs.DossierRows.{DossierRows, candidate_of}
 use Rattle.admit_core.specs.Lists.{is_among}
-use Rattle.admit_core.specs.State.{State}
 use Rattle.auto_answer.proofs.Answering.{later, answered_none, answered_later, answered_all, step_last, step_room, test_last, test_later, wisher_here, same_dossier}
 use Rattle.auto_answer.proofs.answers.auto_all.Goals as goal
 use Rattle.auto_answer.proofs.answers.auto_all.Goals.{then-is_last_wish, else-is_last_wish}
@@ -35,7 +34,7 @@ together-all-requires c =
     let here = (get_or c.as_slice-wishes.result.now i no_wish).candidate in
     let last : is_among here (later d (i + 1)) ≡ false = test_last c.args.state.now c.loop-place.state c.args.stamp i here c.loop-place.all c.is_last_wish.result c.loop-place.invariant c.is_last_wish.ensures c.if-is_last_wish.true in
     let room = step_room c.args.state.now c.loop-place.state c.answer_automatically-own.new.self c.args.stamp i here c.loop-place.all c.answer_automatically-own.result c.loop-place.invariant lt
-        (wisher_here d c.as_slice-wishes.result.now i no_wish wishes c.loop-place-test.true) last c.answer_automatically-own.ensures.state c.answer_automatically-own.ensures.freed in
+    (wisher_here d c.as_slice-wishes.result.now i no_wish wishes c.loop-place-test.true) last c.answer_automatically-own.ensures.state c.answer_automatically-own.ensures.freed in
     record { seats = omega (arith, room.0, few, c.behind-state.invariant.size.wishes); beds = omega (arith, room.1, few, c.behind-state.invariant.size.wishes) }
 
 pub loop-place-preserved : goal.loop-place-preserved

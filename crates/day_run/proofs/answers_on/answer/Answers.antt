@@ -1,6 +1,4 @@
-use Rattle.std.proofs.Common.{◌≡◌, ◌∙◌, ◌≤◌, ap, subst, sym, arith}
-use Rattle.admit_core.specs.DossierRows.{DossierRows}
-use Rattle.day_run.specs.AnswersOn.{AreAnswersOn}
+use Rattle.std.proofs.Common.{◌∙◌, ap, sym, arith}
 use Rattle.day_run.proofs.DaysAnswers.{unfit_applied, fit_applied, front_dossier}
 use Rattle.day_run.proofs.answers_on.answer.Goals as goal
 

@@ -1,7 +1,4 @@
-use Rattle.std.proofs.Common.{◌≡◌, ◌∙◌, ◌≤◌, ◌<◌, ap, subst, sym, ℕ, length, get_or, arith, List, inl, inr}
-use Rattle.std.specs.List.Sorted.{IsNonDecreasingBy}
-use Rattle.std.proofs.lemmas.List.{length-map, get_or-map}
-use Rattle.admit_core.specs.declared.dossier.Answer.{Answer}
+use Rattle.std.proofs.Common.{◌≡◌, ◌∙◌, ap, subst}
 use Rattle.admit_core.specs.DossierRows.{DossierRows}
 use Rattle.admit_core.specs.Validity.{IsValid}
 use Rattle.day_run.proofs.DaysAnswers.{answers_found, in_order, by_day}

@@ -1,11 +1,8 @@
-use Rattle.std.proofs.Common.{◌≡◌, ◌∙◌, ap, subst, sym, map, length, arith}
+use Rattle.std.proofs.Common.{◌∙◌, ap, subst}
 use Rattle.std.proofs.lemmas.List.{length-map}
 use Rattle.admit_core.specs.declared.dossier.School.{School}
-use Rattle.admit_core.specs.declared.dossier.CeilingChange.{CeilingChange}
-use Rattle.std.specs.Prelude.{List}
 use Rattle.admit_core.specs.DossierRows.{DossierRows}
 use Rattle.admit_core.specs.Validity.{IsValid}
-use Rattle.day_run.specs.Ceilings.{changed}
 use Rattle.day_run.proofs.LatestCeilings.{ceilings_changed, schools_in}
 use Rattle.day_run.proofs.ceilings.ceilings_on.Goals as goal
 

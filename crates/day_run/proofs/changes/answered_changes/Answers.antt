@@ -1,4 +1,4 @@
-use Rattle.std.proofs.Common.{◌≡◌, ◌∙◌, ◌<◌, ◌≤◌, ℕ, ap, sym, length, get_or, arith, zip, List, List, true, false}
+use Rattle.std.proofs.Common.{◌∙◌, ◌<◌, ap, sym, length, arith, zip, List, List}
 use Rattle.std.specs.List.{enumerate_from}
 use Rattle.admit_core.specs.declared.state.Mark.{Mark}
 use Rattle.admit_core.specs.DossierRows.{DossierRows}
@@ -33,11 +33,11 @@ loop-wish-preserved c =
       | then-is_answered_change+in_ok-push w ↦
           rw w.changes-is (w.in_ok-push.ensures.items
           ∙ changed_here c.args.opening.now.marks c.args.closing.now.marks c.loop-wish.wish c.status.result c.status-status.result c.loop-wish.changes.items c.loop-wish.invariant lt lt_too c.status.ensures c.status-status.ensures
-            (sym c.is_answered_change.ensures ∙ w.if-is_answered_change.true))
+          (sym c.is_answered_change.ensures ∙ w.if-is_answered_change.true))
       | else-is_answered_change w ↦
           rw w.changes-is
           (unchanged_here c.args.opening.now.marks c.args.closing.now.marks c.loop-wish.wish c.status.result c.status-status.result c.loop-wish.changes.items c.loop-wish.invariant lt lt_too c.status.ensures c.status-status.ensures
-            (sym c.is_answered_change.ensures ∙ w.if-is_answered_change.false))
+          (sym c.is_answered_change.ensures ∙ w.if-is_answered_change.false))
     ]
 
 pub returns : goal.returns
@@ -46,4 +46,4 @@ returns c =
     let open_long = ap (λ (ms : List Mark). length ms) c.marks.ensures.marks in
     c.loop-wish.invariant
     ∙ listed_all change_of is_answered (enumerate_from 0 (zip c.args.opening.now.marks c.args.closing.now.marks)) c.loop-wish.wish
-      (omega (arith, pairs_long c.args.opening.now.marks c.args.closing.now.marks, c.len-count.ensures, wishes, c.loop-wish-test.false, open_long, c.marks.ensures.one_each))
+    (omega (arith, pairs_long c.args.opening.now.marks c.args.closing.now.marks, c.len-count.ensures, wishes, c.loop-wish-test.false, open_long, c.marks.ensures.one_each))

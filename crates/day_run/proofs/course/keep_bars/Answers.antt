@@ -1,5 +1,4 @@
-use Rattle.std.proofs.Common.{◌≡◌, ◌∙◌, ap, sym, ℕ, List, length}
-use Rattle.day_run.specs.DayPasses.{last_bars}
+use Rattle.std.proofs.Common.{◌∙◌, ap, sym, ℕ, List, length}
 use Rattle.day_run.proofs.LastBars.{last_bars_are}
 use Rattle.day_run.proofs.course.keep_bars.Goals as goal
 

@@ -1,4 +1,4 @@
-use Rattle.std.proofs.Common.{◌≡◌, ◌∙◌, ◌<◌, ◌≤◌, ap, sym, List, length, refl, arith, get_or, zip, []}
+use Rattle.std.proofs.Common.{◌≡◌, ◌∙◌, ◌<◌, ap, sym, List, length, refl, arith, get_or, zip, []}
 use mir.Val.{to_z, of_z}
 use mir.Syntax.{w32}
 use Rattle.std.specs.Prelude.{pos, ◌≤ℤ◌}
@@ -49,7 +49,7 @@ loop-place-preserved c =
           let narrowed : offered ≡ w.offer_day.result = omega (arith, ints, w.narrow-offered.ensures, w.offer_day.ensures.low, high) in
           rw w.lapsed-is (w.in_ok-push.ensures.items
           ∙ lapsed_here c.args.terms.now.term c.args.day before ms k (get_or before k (pos 0)) mark offered c.loop-place.lapsed.items c.loop-place.invariant lt lt_too refl mark_is
-            (sym c.lapses.ensures ∙ w.if-lapses.true) (narrowed ∙ w.offer_day.ensures.day))
+          (sym c.lapses.ensures ∙ w.if-lapses.true) (narrowed ∙ w.offer_day.ensures.day))
       | else-lapses w ↦
           rw w.lapsed-is
           (kept_here c.args.terms.now.term c.args.day before ms k (get_or before k (pos 0)) mark c.loop-place.lapsed.items c.loop-place.invariant lt lt_too refl mark_is (sym c.lapses.ensures ∙ w.if-lapses.false))
@@ -59,4 +59,4 @@ pub returns : goal.returns
 returns c =
     c.loop-place.invariant
     ∙ listed_all lapse_of (is_lapse c.args.terms.now.term c.args.day) (enumerate_from 0 (zip c.args.terms.now.before c.args.state.now.marks)) c.loop-place.place
-      (omega (arith, pairs_long c.args.terms.now.before c.args.state.now.marks, c.requires.before, c.marks-mark-items.ensures.one_each, c.loop-place-test.false))
+    (omega (arith, pairs_long c.args.terms.now.before c.args.state.now.marks, c.requires.before, c.marks-mark-items.ensures.one_each, c.loop-place-test.false))

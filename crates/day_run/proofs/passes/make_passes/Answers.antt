@@ -1,11 +1,11 @@
-use Rattle.std.proofs.Common.{◌≡◌, ◌∙◌, ◌<◌, ◌≤◌, ap, sym, List, length, refl, arith, not, true, ◌++◌}
+use Rattle.std.proofs.Common.{◌≡◌, ◌∙◌, ap, sym, List, length, refl, arith, not, ◌++◌}
 use Rattle.std.specs.Prelude.{IsTrue}
 use Rattle.std.proofs.lemmas.Bool.{not_from_false}
 use Rattle.std.proofs.lemmas.List.{append-nil}
 use Rattle.admit_core.specs.declared.state.Mark.{Mark}
 use Rattle.admit_core.specs.DossierRows.{DossierRows}
 use Rattle.admit_core.specs.Days.{frees_nothing}
-use Rattle.day_run.specs.DayPasses.{open_wishes, schools_of_passes}
+use Rattle.day_run.specs.DayPasses.{schools_of_passes}
 use Rattle.day_run.proofs.OnePass.{open_at_most}
 use Rattle.day_run.proofs.PassesSoFar.{so_far_none, so_far_more, so_far_end, told_more}
 use Rattle.day_run.proofs.passes.make_passes.Goals as goal

@@ -1,4 +1,4 @@
-use Rattle.std.proofs.Common.{◌≡◌, ◌∙◌, ap, sym, ℕ, List, length}
+use Rattle.std.proofs.Common.{◌∙◌, ap, sym, ℕ, List, length}
 use Rattle.std.proofs.lemmas.List.{length-map}
 use Rattle.admit_core.specs.declared.dossier.School.{School}
 use Rattle.admit_core.specs.State.{State}
