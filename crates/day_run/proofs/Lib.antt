@@ -7,3 +7,4 @@ pub mod OnePass
 pub mod MarkPairs
 pub mod LatestCeilings
 pub mod LastBars
+pub mod SameDays

@@ -4,3 +4,4 @@ pub mod DayPasses
 pub mod DeskStates
 pub mod Ceilings
 pub mod CampaignDays
+pub mod DayLaws

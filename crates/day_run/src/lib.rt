@@ -10,6 +10,7 @@ mod day;
 mod desk;
 mod evening;
 mod lapses;
+mod laws;
 mod passes;
 mod refusal;
 
@@ -17,4 +18,5 @@ pub use campaign::{Campaign, NoRoom};
 pub use course::Course;
 pub use day::{run_dated_day, run_day};
 pub use desk::Desk;
+pub use laws::laws_of_days;
 pub use refusal::DayRefusal;

@@ -1,0 +1,32 @@
+-- What holds of every day.
+use Rattle.std.specs.Prelude.{◌≡◌, ℕ, List, Option}
+use Rattle.std.specs.List.{AllZip}
+use Rattle.admit_core.specs.declared.ranking.CallOrder.{CallOrder}
+use Rattle.admit_core.specs.declared.records.PassEnd.{PassEnd}
+use Rattle.admit_core.specs.declared.records.DayRecord.{DayRecord}
+use Rattle.admit_core.specs.declared.records.Terms.{Terms}
+use Rattle.admit_core.specs.State.{State}
+use Rattle.admit_core.specs.Days.{IsDay}
+
+-- two passes with the same bars, offers, automatic answers and freed numbers
+pub record SameButFalls (one other : PassEnd) : Type 0 where
+  pub bars : one.pass.bars ≡ other.pass.bars
+  pub offers : one.pass.offers ≡ other.pass.offers
+  pub autos : one.autos ≡ other.autos
+  pub freed : one.freed ≡ other.freed
+
+-- two days with the same lapses, passes that differ in their falls alone, and the same evening numbers
+pub record SameDayButFalls (one other : DayRecord) : Type 0 where
+  pub lapsed : one.lapsed ≡ other.lapsed
+  pub passes : AllZip SameButFalls one.passes other.passes
+  pub left : one.left ≡ other.left
+  pub free : one.free ≡ other.free
+
+-- whichever schools were picked, days of one number from one evening lead to one evening, and differ in their falls alone
+abbrev pub OnlyFallsDiffer : Type 0
+OnlyFallsDiffer =
+    (terms : Option Terms) (orders : List CallOrder) (ceilings : List ℕ) (old : State) (one other : DayRecord) (evening night : State)
+    → one.day ≡ other.day
+    → IsDay terms orders ceilings old one evening
+    → IsDay terms orders ceilings old other night
+    → (evening ≡ night) × SameDayButFalls one other

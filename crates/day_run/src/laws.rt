@@ -1,0 +1,7 @@
+//! The laws of days, over definitions alone.
+ghost use Rattle.day_run.specs.DayLaws.{OnlyFallsDiffer};
+
+/// The laws of days. The call does nothing.
+pub fn laws_of_days()
+    ensures { OnlyFallsDiffer }
+{}
