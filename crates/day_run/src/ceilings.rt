@@ -7,7 +7,7 @@ use admit_core::{CeilingChange, Dossier, OutOfMemory};
 use std::alloc::Global;
 
 /// The ceilings of a day, by school: that of its latest change by then, or its own.
-pub(crate) fn ceilings_on(
+pub fn ceilings_on(
     alloc: Global,
     dossier: &Dossier,
     day: u32,
