@@ -1,0 +1,9 @@
+//! Made-up dossiers of any size, to try the engine on: their tables follow from the number of
+//! candidates alone, and have no fault.
+#![tactic(auto)]
+
+mod choices;
+mod rows;
+mod slots;
+
+pub use slots::{MAX_CANDIDATES, sample};
