@@ -75,7 +75,7 @@ fn add_choices(
 /// The choices of all candidates, by candidate.
 pub(crate) fn choices_of(alloc: Global, candidates: u32) -> Result<Vec<Choice>, OutOfMemory>
     requires { candidates ≤ 1000000 }
-    ensures exact { IfOk result (λ choices. choices.items ≡ choices_of candidates) }
+    ensures { IfOk result (λ choices. choices.items ≡ choices_of candidates) }
 {
     let programmes = programmes_of(candidates);
     let mut choices = Vec::new(alloc);

@@ -89,16 +89,10 @@ fn wishes(alloc: Global, choices: &[Choice]) -> Result<Vec<WishRow>, OutOfMemory
     Ok(rows)
 }
 
-/// The tables of a sample, of 1 to 1,000,000 candidates.
-///
-/// Three choices of programmes each, and every second candidate wishes for the programmes' boarding
-/// schools as well.
-pub fn sample(alloc: Global, number: u32) -> Result<Tables, OutOfMemory>
-    requires some { 1 ≤ number }
-    requires at_most { number ≤ MAX_CANDIDATES }
-    ensures tables { IfOk result (λ tables. tables ≡ sample_tables number) }
-    ensures ranges { IfOk result AreTables }
-    ensures faultless { IfOk result (λ tables. first_fault tables ≡ None) }
+/// All slots; those of the state, the ceilings and the answers have no rows.
+fn tables_of(alloc: Global, number: u32) -> Result<Tables, OutOfMemory>
+    requires { number ≤ MAX_CANDIDATES }
+    ensures { IfOk result (λ tables. tables ≡ sample_tables number) }
 {
     let choices = choices_of(alloc, number)?;
     let count = programmes_of(number);
@@ -119,4 +113,18 @@ pub fn sample(alloc: Global, number: u32) -> Result<Tables, OutOfMemory>
         ceilings: Sequence::new(alloc),
         answers: Sequence::new(alloc),
     })
+}
+
+/// The tables of a sample.
+///
+/// Each candidate has three choices of programmes, and every second one wishes for the boarding
+/// schools of his programmes as well.
+pub fn sample(alloc: Global, number: u32) -> Result<Tables, OutOfMemory>
+    requires some { 1 ≤ number }
+    requires at_most { number ≤ MAX_CANDIDATES }
+    ensures tables { IfOk result (λ tables. tables ≡ sample_tables number) }
+    ensures ranges { IfOk result AreTables }
+    ensures faultless { IfOk result (λ tables. first_fault tables ≡ None) }
+{
+    tables_of(alloc, number)
 }
