@@ -1,2 +1,3 @@
 pub mod ByKinds
 pub mod QueuedSoFar
+pub mod Zips

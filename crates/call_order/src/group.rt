@@ -1,13 +1,13 @@
-//! The call order of a ranking group.
-ghost use Rattle.std.specs.Prelude.{◌≡◌, ◌<◌, length, nat_eq, IfOk};
+//! The call orders of ranking groups.
+ghost use Rattle.std.specs.Prelude.{◌≡◌, ◌<◌, length, nat_eq, All, IfOk};
 ghost use Rattle.std.specs.List.{IsDistinct};
 ghost use Rattle.std.specs.List.Sorted.{IsPermutation};
-ghost use Rattle.admit_core.specs.CallOrder.{IsCallOrder};
+ghost use Rattle.admit_core.specs.CallOrder.{AreCallOrders, IsCallOrder};
 ghost use Rattle.admit_core.specs.CallOrderLaws.{ranked_candidates, CallsResidentScholarsFirst, KeepsScholarRate, KeepsResidentRate, IsLeastByScholars, IsLeastByResidents};
 ghost use Rattle.admit_core.specs.Validity.{IsRanking};
 
 use crate::queued::call_order_queued;
-use admit_core::{CallOrder, OutOfMemory, RankGroup, Steps};
+use admit_core::{CallOrder, CallOrders, OutOfMemory, RankGroup, Sequence, Steps};
 use call_queues::Queues;
 use std::alloc::Global;
 use std::marker::Brand;
@@ -50,4 +50,18 @@ pub fn call_order(alloc: Global, group: &RankGroup) -> Result<CallOrder, OutOfMe
     ensures least_by_residents { IfOk result (IsLeastByResidents group.now) }
 {
     counted::<Brand>(alloc, Blank::new(1), group)
+}
+
+/// The call order of each group, in the order of the groups.
+pub fn call_orders(alloc: Global, groups: &[RankGroup]) -> Result<CallOrders, OutOfMemory>
+    requires { All IsRanking groups.now }
+    ensures { IfOk result (λ called. AreCallOrders groups.now called.orders) }
+{
+    let mut orders = Vec::new(alloc);
+    for group in groups {
+        orders.push(call_order(alloc, group)?)?;
+    }
+    Ok(CallOrders {
+        orders: Sequence::from_vec(orders),
+    })
 }

@@ -1,4 +1,3 @@
 pub mod Parses
 pub mod ReadOrder
 pub mod Replies
-pub mod Zips

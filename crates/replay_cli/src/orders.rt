@@ -1,27 +1,11 @@
 //! The lines of the call orders.
-ghost use Rattle.std.specs.Prelude.{◌≡◌, IfOk, All};
-ghost use Rattle.admit_core.specs.CallOrder.{AreCallOrders};
-ghost use Rattle.admit_core.specs.Validity.{IsRanking};
+ghost use Rattle.std.specs.Prelude.{◌≡◌, IfOk};
 ghost use Rattle.replay_cli.specs.OrderText.{IsOrdersText, orders_text};
 
-use admit_core::{CallOrder, CallOrders, Dossier, OutOfMemory, RankGroup, Sequence};
-use call_order::call_order;
+use admit_core::{CallOrder, Dossier, OutOfMemory, RankGroup};
+use call_order::call_orders;
 use report::order_text;
 use std::alloc::Global;
-
-/// The call order of each group.
-fn call_orders(alloc: Global, groups: &[RankGroup]) -> Result<CallOrders, OutOfMemory>
-    requires { All IsRanking groups.now }
-    ensures { IfOk result (λ called. AreCallOrders groups.now called.orders) }
-{
-    let mut orders = Vec::new(alloc);
-    for group in groups {
-        orders.push(call_order(alloc, group)?)?;
-    }
-    Ok(CallOrders {
-        orders: Sequence::from_vec(orders),
-    })
-}
 
 /// The lines of all groups, in file order.
 fn orders_text(

@@ -1,8 +1,8 @@
 use Rattle.std.proofs.Common.{take, ◌<◌, length, arith}
 use Rattle.std.proofs.lemmas.List.{take_more, take_all}
 use Rattle.admit_core.specs.CallOrder.{IsCallOrder}
-use Rattle.replay_cli.proofs.Zips.{AllZip-push}
-use Rattle.replay_cli.proofs.orders.call_orders.Goals as goal
+use Rattle.call_order.proofs.Zips.{AllZip-push}
+use Rattle.call_order.proofs.group.call_orders.Goals as goal
 
 pub loop-group-preserved : goal.loop-group-preserved
 loop-group-preserved c =
