@@ -10,7 +10,7 @@ use Rattle.admit_core.specs.declared.records.PassEnd.{PassEnd}
 use Rattle.admit_core.specs.DossierRows.{DossierRows}
 use Rattle.admit_core.specs.State.{State}
 use Rattle.admit_core.specs.Days.{Passes, closing, ceiling_on, ceilings_of}
-use Rattle.day_run.specs.DayPasses.{last_bars}
+use Rattle.admit_core.specs.EveningLaws.{last_bars}
 use Rattle.day_run.proofs.PassesSoFar.{stamp_of}
 
 -- there is one bar for each ceiling

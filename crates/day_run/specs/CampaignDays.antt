@@ -7,7 +7,8 @@ use Rattle.admit_core.specs.declared.records.Terms.{Terms}
 use Rattle.admit_core.specs.CallOrder.{AreCallOrders}
 use Rattle.admit_core.specs.State.{State}
 use Rattle.admit_core.specs.Days.{IsDay, morning, ceilings_of}
-use Rattle.day_run.specs.DayPasses.{last_opening, last_bars}
+use Rattle.admit_core.specs.EveningLaws.{last_bars}
+use Rattle.day_run.specs.DayPasses.{last_opening}
 
 -- the orders and the terms of a campaign, the days that were run, and whether the last one came about; the present state,
 -- the opening of the last pass, its bars, and the ceilings of its day

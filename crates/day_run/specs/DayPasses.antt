@@ -18,12 +18,6 @@ last_opening orders day k s (pass ∷ []) = s
 last_opening orders day k s (pass ∷ next ∷ rest) =
     last_opening orders day (k + 1) (closing s orders pass.pass.bars (record { day = day; pass = k })) (next ∷ rest)
 
--- the bars of the last pass
-abbrev pub last_bars : List PassEnd → List ℕ
-last_bars [] = []
-last_bars (pass ∷ []) = pass.pass.bars
-last_bars (pass ∷ next ∷ rest) = last_bars (next ∷ rest)
-
 -- how many wishes are live or wait
 abbrev pub open_wishes : State → ℕ
 open_wishes s = count_by (λ m. is_live m || is_waiting m) s.marks

@@ -7,11 +7,7 @@ use admit_core::{CeilingChange, Dossier, OutOfMemory};
 use std::alloc::Global;
 
 /// The ceilings of a day, by school: that of its latest change by then, or its own.
-pub(crate) fn ceilings_on(
-    alloc: Global,
-    dossier: &Dossier,
-    day: u32,
-) -> Result<Vec<u32>, OutOfMemory>
+pub fn ceilings_on(alloc: Global, dossier: &Dossier, day: u32) -> Result<Vec<u32>, OutOfMemory>
     ensures { IfOk result (λ v. v.items ≡ ceilings_of dossier.now day) }
 {
     let mut ceilings = own_ceilings(alloc, dossier)?;

@@ -5,7 +5,8 @@ ghost use Rattle.admit_core.specs.CallOrder.{AreCallOrders};
 ghost use Rattle.admit_core.specs.Days.{first_evening, unfit_on};
 ghost use Rattle.day_run.specs.AnswersOn.{IsUnfitOf, TellsNoneUnfit};
 ghost use Rattle.day_run.specs.CampaignDays.{RunsDay, StaysAt, SameCampaign};
-ghost use Rattle.day_run.specs.DayPasses.{schools_of_passes, last_bars};
+ghost use Rattle.admit_core.specs.EveningLaws.{last_bars};
+ghost use Rattle.day_run.specs.DayPasses.{schools_of_passes};
 
 use crate::ceilings::{ceilings_on, own_ceilings};
 use crate::day::run_with;

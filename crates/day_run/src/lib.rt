@@ -15,6 +15,7 @@ mod passes;
 mod refusal;
 
 pub use campaign::{Campaign, NoRoom};
+pub use ceilings::ceilings_on;
 pub use course::Course;
 pub use day::{run_dated_day, run_day};
 pub use desk::Desk;

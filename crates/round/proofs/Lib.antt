@@ -1,6 +1,5 @@
 pub mod BedLaw
 pub mod FewFalls
-pub mod LoweredBars
 pub mod Members
 pub mod NewHolders
 pub mod Offering

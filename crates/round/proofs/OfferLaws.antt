@@ -11,7 +11,7 @@ use Rattle.admit_core.proofs.DemandLaws.{boarding_is_lawful}
 use Rattle.round.specs.PassLaws.{OffersFitSeats, OffersFitBeds, GreatestBarsAreLoweredForBeds}
 use Rattle.round.proofs.SeatLaw.{seats_suffice}
 use Rattle.round.proofs.BedLaw.{length-new_bed_holders}
-use Rattle.round.proofs.LoweredBars.{lowered_is_full}
+use Rattle.admit_core.proofs.FullBeds.{full_below}
 
 -- the free beds of the system are those of the state
 free_at : (s : State) (ceilings : List ℕ) (h : ℕ) → h < length ceilings → slice_index (map (free_beds s) (range_with_len 0 (length ceilings))) h ≡ free_beds s h
@@ -33,5 +33,5 @@ lowered_for_beds s orders ceilings bars stamp valid greatest h lower =
       | inr past ↦ absurd (omega (arith, lower, get_or_past ceilings h 0 past))
     ] in
     length-new_bed_holders s orders bars stamp valid h
-    ∙ lowered_is_full (boarding s orders ceilings) (boarding_is_lawful s orders ceilings) bars greatest h lower
+    ∙ full_below (boarding s orders ceilings) (boarding_is_lawful s orders ceilings) bars greatest h lower
     ∙ free_at s ceilings h in_ceilings

@@ -2,7 +2,7 @@ use Rattle.std.proofs.Common.{◌∙◌, ap, sym, ℕ, ◌+◌, List, length}
 use Rattle.admit_core.specs.declared.records.PassEnd.{PassEnd}
 use Rattle.admit_core.specs.DossierRows.{DossierRows}
 use Rattle.admit_core.specs.State.{State}
-use Rattle.day_run.specs.DayPasses.{last_bars}
+use Rattle.admit_core.specs.EveningLaws.{last_bars}
 use Rattle.day_run.proofs.LastBars.{last_bars_long, length-ceilings_of}
 use Rattle.day_run.proofs.course.Course.next_day.Goals as goal
 
