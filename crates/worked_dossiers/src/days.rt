@@ -4,12 +4,11 @@ ghost use Rattle.admit_core.specs.CallOrder.{AreCallOrders};
 
 mod cases;
 
-use crate::dossiers;
 use crate::records::{DaySeen, is_day};
 use crate::slots::{Slots, call_orders_of, dossier_of};
 use admit_core::{CallOrders, Dossier, MAX_DAY, OutOfMemory, Refusal, Sequence, Status, Terms};
-use bar_fixpoint::{FirstPicker, LastPicker, Picker, TiredPicker, TurnPicker};
-use cases::{FIRST_FULL, LAST_FULL, answered_cases, lapse_cases, plain_cases};
+use bar_fixpoint::{FirstPicker, Picker};
+use cases::{answered_cases, lapse_cases, plain_cases};
 use day_run::{Campaign, DayRefusal};
 use std::alloc::Global;
 use std::test::Fail;
@@ -112,49 +111,10 @@ fn all_go(alloc: Global, cases: &[Case]) -> Result<bool, Fail> {
     Ok(true)
 }
 
-/// Whether pickers that are swapped between the days come back with what each of them told.
-fn swaps_pickers(alloc: Global) -> Result<bool, Fail> {
-    let dossier = dossier_of(alloc, &dossiers::TWO_FULL_SCHOOLS)?;
-    let orders = call_orders_of(alloc, &dossier)?;
-    let first = Box::new(alloc, FirstPicker::new(alloc))?;
-    let last = Box::new(alloc, LastPicker::new(alloc))?;
-    let turn = Box::new(alloc, TurnPicker::new(alloc))?;
-    let mut campaign = begin(alloc, &dossier, &orders, None, first)?;
-    let one = runs(alloc, &mut campaign, &[FIRST_FULL]);
-    let first = campaign.set_picker(last);
-    let two = runs(alloc, &mut campaign, &[LAST_FULL]);
-    let last = campaign.set_picker(turn);
-    let turn = campaign.into_picker();
-    Ok(
-        one && two
-            && first.told_list() == [0, 1].as_slice()
-            && last.told_list() == [1, 0].as_slice()
-            && turn.told_list().is_empty(),
-    )
-}
-
-/// Whether a day that was refused in its midst can be tried again.
-fn tries_again(alloc: Global) -> Result<bool, Fail> {
-    let dossier = dossier_of(alloc, &dossiers::TWO_FULL_SCHOOLS)?;
-    let orders = call_orders_of(alloc, &dossier)?;
-    let tired = Box::new(alloc, TiredPicker::new(alloc, 2))?;
-    let mut campaign = begin(alloc, &dossier, &orders, None, tired)?;
-    let refused = runs(alloc, &mut campaign, &[Seen::OutOfMemory]);
-    let stays = campaign.day() == 0
-        && !campaign.has_day()
-        && has_statuses(&campaign, &[Status::Waiting, Status::Waiting]);
-    let done = runs(alloc, &mut campaign, &[FIRST_FULL]);
-    let again = campaign.day() == 1 && campaign.has_day();
-    let tired = campaign.into_picker();
-    Ok(refused && stays && done && again && tired.told_list() == [0, 0, 1].as_slice())
-}
-
 #[test]
 fn worked_days(rt: HostRuntime) -> Result<(), Fail> {
     assert!(rt; all_go(rt.alloc(), &plain_cases())?);
     assert!(rt; all_go(rt.alloc(), &answered_cases())?);
     assert!(rt; all_go(rt.alloc(), &lapse_cases())?);
-    assert!(rt; swaps_pickers(rt.alloc())?);
-    assert!(rt; tries_again(rt.alloc())?);
     Ok(())
 }

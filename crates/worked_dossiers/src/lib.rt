@@ -9,8 +9,6 @@ mod demands;
 #[cfg(test)]
 mod dossiers;
 #[cfg(test)]
-mod passes;
-#[cfg(test)]
 mod records;
 #[cfg(test)]
 mod slots;
