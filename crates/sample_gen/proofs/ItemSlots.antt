@@ -1,8 +1,8 @@
 -- The groups, programmes and schools of a sample have no fault, and which ids are there.
-use Rattle.std.proofs.Common.{◌≡◌, ℕ, ◌+◌, ◌-◌, ◌<◌, ◌≤◌, suc, Bool, true, false, ◌&&◌, ◌||◌, nat_eq, List, [], ◌∷◌, ◌++◌, Option, Some, None, map, filter, get_or, length, min, refl, sym, ◌∙◌, ap, subst, arith}
+use Rattle.std.proofs.Common.{◌≡◌, ℕ, ◌+◌, ◌-◌, ◌<◌, ◌≤◌, suc, Bool, true, false, ◌&&◌, ◌||◌, nat_eq, List, [], ◌∷◌, ◌++◌, Option, Some, None, map, filter, get_or, length, min, refl, sym, ◌∙◌, ap, subst, arith, ⊎_elim}
 use Prim.Native.Nat.{zero}
 use Rattle.std.specs.List.{All, AllPairs, list_any, range_with_len, flat_map, find}
-use Rattle.std.proofs.lemmas.Bool.{ne_eqb, eq-eqb, eqb-true, cases_Bool}
+use Rattle.std.proofs.lemmas.Bool.{ne_eqb, eq-eqb, eqb-true, eqb-false, cases_Bool, cond-true, cond-false}
 use Rattle.std.proofs.lemmas.List.Folds.{list_any_at}
 use Rattle.std.proofs.lemmas.List.Elements.{All-map}
 use Rattle.std.proofs.lemmas.List.FromFn.{length-range_with_len, get_or-range_with_len}
@@ -41,7 +41,20 @@ module _ {R : Type 0} (id : R → ℕ) (row : ℕ → R) (is : (i : ℕ) → id 
 -- the row with an id
 pub find_row : {R : Type 0} (id : R → ℕ) (row : ℕ → R) (is : (i : ℕ) → id (row i) ≡ i) (a k i : ℕ) → a ≤ i → i < a + k
     → find (λ r. nat_eq i (id r)) (map row (range_with_len a k)) ≡ Some (row i)
-find_row id row is a k i low high = ?
+find_row id row is a zero i low high = absurd (omega arith)
+find_row id row is a (suc k) i low high =
+    let rest = find (λ r. nat_eq i (id r)) (map row (range_with_len (a + 1) k)) in
+    let test : Bool = nat_eq i (id (row a)) in
+    ⊎_elim (λ t. cond-true test (Some (row a)) rest t ∙ ap (λ j. Some (row j)) (sym (eqb-true i (id (row a)) t ∙ is a)))
+    (λ f. cond-false test (Some (row a)) rest f
+      ∙ find_row id row is (a + 1) k i (above a i low (λ e. eqb-false i (id (row a)) f (e ∙ sym (is a)))) (further a k i high))
+    (cases_Bool test)
+  where
+    above : (a i : ℕ) → a ≤ i → (i ≡ a → ⊥) → a + 1 ≤ i
+    above a i le ne = omega arith
+
+    further : (a k i : ℕ) → i < a + suc k → i < a + 1 + k
+    further a k i lt = omega arith
 
 pub groups_fine : (n : ℕ) → first_in slots.Groups group_tests (sample_tables n).groups ≡ None
 groups_fine n =

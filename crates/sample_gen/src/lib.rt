@@ -7,3 +7,6 @@ mod rows;
 mod slots;
 
 pub use slots::{MAX_CANDIDATES, sample};
+
+#[cfg(test)]
+mod tests;
