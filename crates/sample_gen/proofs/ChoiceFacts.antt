@@ -49,27 +49,27 @@ module _ (n : ℕ) where
   across c d lt =
       All-map (λ x. All (Precedes x) (own_choices (programmes_of n) d)) (choice_at (programmes_of n) c) (range_with_len 0 (min (programmes_of n) 3))
       (All-range (λ i. All (Precedes (choice_at (programmes_of n) c i)) (own_choices (programmes_of n) d)) 0 (min (programmes_of n) 3)
-        (λ i i_lt. All-map (Precedes (choice_at (programmes_of n) c (0 + i))) (choice_at (programmes_of n) d) (range_with_len 0 (min (programmes_of n) 3))
-          (before_all c d i lt i_lt)))
+      (λ i i_lt. All-map (Precedes (choice_at (programmes_of n) c (0 + i))) (choice_at (programmes_of n) d) (range_with_len 0 (min (programmes_of n) 3))
+      (before_all c d i lt i_lt)))
 
   pub choices_precede : AllPairs Precedes (choices_of n)
   choices_precede =
       AllPairs-flat_map Precedes (own_choices (programmes_of n)) (numbers n)
       (All-range (λ c. AllPairs Precedes (own_choices (programmes_of n) c)) 1 n (λ k lt. own_precede (1 + k)))
       (AllPairs-range (λ c d. All (λ x. All (Precedes x) (own_choices (programmes_of n) d)) (own_choices (programmes_of n) c)) 1 n
-        (λ i j lt within. across (1 + i) (1 + j) (omega arith)))
+      (λ i j lt within. across (1 + i) (1 + j) (omega arith)))
 
   own_length : (c : ℕ) → length (own_choices (programmes_of n) c) ≤ 3
   own_length c =
       let is : length (own_choices (programmes_of n) c) ≡ min (programmes_of n) 3 =
-          length-map (range_with_len 0 (min (programmes_of n) 3)) (choice_at (programmes_of n) c) ∙ length-range_with_len 0 (min (programmes_of n) 3) in
+      length-map (range_with_len 0 (min (programmes_of n) 3)) (choice_at (programmes_of n) c) ∙ length-range_with_len 0 (min (programmes_of n) 3) in
       omega arith
 
   pub choices_length : length (choices_of n) ≤ 3 * n
   choices_length =
       let le : length (choices_of n) ≤ 3 * length (numbers n) =
-          length-flat_map-le (own_choices (programmes_of n)) 3 (numbers n)
-          (All-range (λ c. length (own_choices (programmes_of n) c) ≤ 3) 1 n (λ k lt. own_length (1 + k))) in
+      length-flat_map-le (own_choices (programmes_of n)) 3 (numbers n)
+      (All-range (λ c. length (own_choices (programmes_of n) c) ≤ 3) 1 n (λ k lt. own_length (1 + k))) in
       subst (λ k. length (choices_of n) ≤ 3 * k) (length-range_with_len 1 n) le
 
 -- a choice's programme and school are there
@@ -119,7 +119,7 @@ small_choices n le = All-weaker (IsChoice n) IsSmall (small_choice n le) (choice
 pub other_programme : (n : ℕ) (x y : Choice) → IsChoice n x → IsChoice n y → Precedes x y → y.candidate ≡ x.candidate → y.programme ≡ x.programme → ⊥
 other_programme n x y is_x is_y before same programme =
     let rest : (x.candidate + x.place) % programmes_of n ≡ (x.candidate + y.place) % programmes_of n =
-        remainders (is_y.programme ∙ ap (λ c. chosen (programmes_of n) c y.place) same) in
+    remainders (is_y.programme ∙ ap (λ c. chosen (programmes_of n) c y.place) same) in
     let place : x.place ≡ y.place = same_place (programmes_of n) x.candidate x.place y.place is_x.within is_y.within rest in
     omega arith
   where

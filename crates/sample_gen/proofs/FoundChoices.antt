@@ -26,9 +26,9 @@ any-filter {X} p q (x ∷ xs) =
     let more : List X = x ∷ filter q xs in
     ⊎_elim
     (λ t. ap (list_any p) (cond-true (q x) more (filter q xs) t) ∙ ap (λ b. b || list_any p (filter q xs)) (sym (ap (λ b. b && p x) t))
-      ∙ ap (λ b. (q x && p x) || b) (any-filter p q xs))
+    ∙ ap (λ b. (q x && p x) || b) (any-filter p q xs))
     (λ f. ap (list_any p) (cond-false (q x) more (filter q xs) f) ∙ ap (λ b. b || list_any p (filter q xs)) (sym (and_left (q x) (p x) f))
-      ∙ ap (λ b. (q x && p x) || b) (any-filter p q xs))
+    ∙ ap (λ b. (q x && p x) || b) (any-filter p q xs))
     (cases_Bool (q x))
 
 any_in_range : {X : Type 0} (p : X → Bool) (f : ℕ → List X) (a n c : ℕ) → a ≤ c → c < a + n → list_any p (f c) ≡ true
@@ -37,10 +37,10 @@ any_in_range p f a zero c low high here = absurd (omega arith)
 any_in_range p f a (suc n) c low high here =
     list_any-append p (f a) (flat_map f (range_with_len (a + 1) n))
     ∙ ⊎_elim
-      (λ e. or_left (list_any p (f a)) (list_any p (flat_map f (range_with_len (a + 1) n))) (ap (λ d. list_any p (f d)) e ∙ here))
-      (λ ne. or_right (list_any p (f a)) (list_any p (flat_map f (range_with_len (a + 1) n)))
-        (any_in_range p f (a + 1) n c (above a c low ne) (further a n c high) here))
-      (cases_eq a c)
+    (λ e. or_left (list_any p (f a)) (list_any p (flat_map f (range_with_len (a + 1) n))) (ap (λ d. list_any p (f d)) e ∙ here))
+    (λ ne. or_right (list_any p (f a)) (list_any p (flat_map f (range_with_len (a + 1) n)))
+    (any_in_range p f (a + 1) n c (above a c low ne) (further a n c high) here))
+    (cases_eq a c)
   where
     above : (a c : ℕ) → a ≤ c → (a ≡ c → ⊥) → a + 1 ≤ c
     above a c le ne = omega arith
@@ -56,19 +56,19 @@ found_choice n p c i low high i_lt within here =
     let at : get_or places i 0 ≡ i = get_or-range_with_len 0 (min (programmes_of n) 3) i 0 lt ∙ (let e : 0 + i ≡ i = omega arith in e) in
     any_in_range p (own_choices (programmes_of n)) 1 n c low (omega arith)
     (any-map p (choice_at (programmes_of n) c) places
-      ∙ list_any_at (λ j. p (choice_at (programmes_of n) c j)) places i 0 (subst (λ k. i < k) (sym (length-range_with_len 0 (min (programmes_of n) 3))) lt)
-        (subst (λ j. p (choice_at (programmes_of n) c j) ≡ true) (sym at) here))
+    ∙ list_any_at (λ j. p (choice_at (programmes_of n) c j)) places i 0 (subst (λ k. i < k) (sym (length-range_with_len 0 (min (programmes_of n) 3))) lt)
+    (subst (λ j. p (choice_at (programmes_of n) c j) ≡ true) (sym at) here))
 
 -- the candidate of a choice is ranked in the group of its programme
 pub choice_is_ranked : (n : ℕ) (x : Choice) → IsChoice n x → is_ranked (sample_tables n) x.programme x.candidate ≡ true
 choice_is_ranked n x is =
     ap (λ (o : Option ProgrammeRow). option_map_or (λ (p : ProgrammeRow). is_in_group (sample_tables n) x.candidate p.group) o false)
     (find_row (λ p. p.id) programme_row (λ i. refl) 1 (programmes_of n) x.programme (programme_from_one n x is)
-      (let le : x.programme ≤ programmes_of n = programme_at_most n x is in omega arith))
+    (let le : x.programme ≤ programmes_of n = programme_at_most n x is in omega arith))
     ∙ any-map (λ r. nat_eq x.programme r.group && nat_eq x.candidate r.candidate) rank_row (choices_of n)
     ∙ found_choice n (λ y. nat_eq x.programme y.programme && nat_eq x.candidate y.candidate) x.candidate x.place is.from_one is.at_most is.place is.within
-      (and_from (nat_eq x.programme (chosen (programmes_of n) x.candidate x.place)) (nat_eq x.candidate x.candidate)
-        (eq-eqb x.programme (chosen (programmes_of n) x.candidate x.place) is.programme) (eq-eqb x.candidate x.candidate refl))
+    (and_from (nat_eq x.programme (chosen (programmes_of n) x.candidate x.place)) (nat_eq x.candidate x.candidate)
+    (eq-eqb x.programme (chosen (programmes_of n) x.candidate x.place) is.programme) (eq-eqb x.candidate x.candidate refl))
 
 -- no number below j has the value h
 abbrev IsNew : (ℕ → ℕ) → ℕ → ℕ → Type 0
@@ -94,9 +94,9 @@ module _ (s : ℕ → ℕ) (h : ℕ) where
   new_or_first (suc j) =
       ⊎_elim
       (λ new. ⊎_elim
-        (λ t. inr (record { place = j; below = omega arith; same = eqb-true (s j) h t; new = new }))
-        (λ f. inl (one_more j new f))
-        (cases_Bool (nat_eq (s j) h)))
+      (λ t. inr (record { place = j; below = omega arith; same = eqb-true (s j) h t; new = new }))
+      (λ f. inl (one_more j new f))
+      (cases_Bool (nat_eq (s j) h)))
       (λ first. inr (record { place = first.place; below = let lt : first.place < j = first.below in omega arith; same = first.same; new = first.new }))
       (new_or_first j)
 
@@ -118,8 +118,8 @@ choice_is_boarded n x is boards =
     any-map has board_row (filter (has_board_row m) (choices_of n))
     ∙ any-filter (λ y. has (board_row y)) (has_board_row m) (choices_of n)
     ∙ found_choice n (λ y. has_board_row m y && has (board_row y)) x.candidate first.place is.from_one is.at_most
-      (let place : x.place < 3 = is.place in omega arith)
-      (let within : x.place < programmes_of n = is.within in omega arith)
-      (and_from (has_board_row m own) (has (board_row own))
-        (and_from (is_boarder own) (is_first_at_school m own) boards (subst (λ k. IsNew schools k first.place) (sym first.same) first.new))
-        (and_from (nat_eq x.school own.school) (nat_eq x.candidate own.candidate) (eq-eqb x.school own.school (sym first.same)) (eq-eqb x.candidate x.candidate refl)))
+    (let place : x.place < 3 = is.place in omega arith)
+    (let within : x.place < programmes_of n = is.within in omega arith)
+    (and_from (has_board_row m own) (has (board_row own))
+    (and_from (is_boarder own) (is_first_at_school m own) boards (subst (λ k. IsNew schools k first.place) (sym first.same) first.new))
+    (and_from (nat_eq x.school own.school) (nat_eq x.candidate own.candidate) (eq-eqb x.school own.school (sym first.same)) (eq-eqb x.candidate x.candidate refl)))

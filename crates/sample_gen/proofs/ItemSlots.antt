@@ -47,7 +47,7 @@ find_row id row is a (suc k) i low high =
     let test : Bool = nat_eq i (id (row a)) in
     ⊎_elim (λ t. cond-true test (Some (row a)) rest t ∙ ap (λ j. Some (row j)) (sym (eqb-true i (id (row a)) t ∙ is a)))
     (λ f. cond-false test (Some (row a)) rest f
-      ∙ find_row id row is (a + 1) k i (above a i low (λ e. eqb-false i (id (row a)) f (e ∙ sym (is a)))) (further a k i high))
+    ∙ find_row id row is (a + 1) k i (above a i low (λ e. eqb-false i (id (row a)) f (e ∙ sym (is a)))) (further a k i high))
     (cases_Bool test)
   where
     above : (a i : ℕ) → a ≤ i → (i ≡ a → ⊥) → a + 1 ≤ i
@@ -82,7 +82,7 @@ programmes_fine n =
     let rows = map programme_row (numbers (programmes_of n)) in
     none_in slots.Programmes (programme_tests (sample_tables n)) rows
     (and_then (differ (λ row r. nat_eq row.id r.id) Repeat rows (rows_apart (λ p. p.id) programme_row (λ i. refl) (programmes_of n)))
-      (and_then (all_known (λ row. is_among row.group (group_ids (sample_tables n))) (Unknown 2) rows
-        (All-map (λ row. is_among row.group (group_ids (sample_tables n)) ≡ true) programme_row (numbers (programmes_of n))
-          (All-range (λ i. is_among i (group_ids (sample_tables n)) ≡ true) 1 (programmes_of n) (λ k lt. group_known n (1 + k) (omega arith) (omega arith)))))
-        no_tests))
+    (and_then (all_known (λ row. is_among row.group (group_ids (sample_tables n))) (Unknown 2) rows
+    (All-map (λ row. is_among row.group (group_ids (sample_tables n)) ≡ true) programme_row (numbers (programmes_of n))
+    (All-range (λ i. is_among i (group_ids (sample_tables n)) ≡ true) 1 (programmes_of n) (λ k lt. group_known n (1 + k) (omega arith) (omega arith)))))
+    no_tests))

@@ -40,7 +40,7 @@ module _ {R : Type 0} (slot : Slot) (tests : List (Test R)) where
       no_refusal (λ reason. record { slot = slot; row = row_number (length before); reason = reason }) (first_reason tests before row)
       (first_after slot tests (before ++ row ∷ []) rows) here
       (none_after (before ++ row ∷ []) rows
-        (λ k d lt. subst (λ b. first_reason tests b (get_or rows k d) ≡ None) (sym (append_assoc before (row ∷ []) (take k rows))) (fine (suc k) d (omega arith))))
+      (λ k d lt. subst (λ b. first_reason tests b (get_or rows k d) ≡ None) (sym (append_assoc before (row ∷ []) (take k rows))) (fine (suc k) d (omega arith))))
 
   -- then the slot has no fault
   pub none_in : (rows : List R) → PassesAll tests rows → first_in slot tests rows ≡ None
@@ -82,8 +82,8 @@ differ_when when same reason rows pairs =
     record {
       at = λ k d lt. if_not (when (get_or rows k d)) (option_map reason (first_row (same (get_or rows k d)) (take k rows)))
           (λ is. ap (option_map reason)
-            (first_row-none (same (get_or rows k d)) (take k rows) d
-              (λ j j_lt. before_row (λ row r. when row ≡ true → same row r ≡ false) rows pairs k d lt j j_lt is)));
+          (first_row-none (same (get_or rows k d)) (take k rows) d
+          (λ j j_lt. before_row (λ row r. when row ≡ true → same row r ≡ false) rows pairs k d lt j j_lt is)));
     }
 
 if_known : (b : Bool) (reason : Reason) → b ≡ true → (if b then None else Some reason) ≡ None

@@ -26,6 +26,6 @@ divides_factor (suc k) d h e is =
     let even : d ≡ 2 * (2 ^ k * e - d * h) = half_of d (d * h) (2 ^ k * e) (double_first d h (2 ^ k * e) (2 ^ suc k * e) is (power_twice k e)) in
     let half : ℕ = 2 ^ k * e - d * h in
     let less : half * (2 * h + 1) ≡ 2 ^ k * e =
-        halves (half * (2 * h + 1)) (2 ^ k * e) (sym (twice_product d half h even) ∙ is ∙ power_twice k e) in
+    halves (half * (2 * h + 1)) (2 ^ k * e) (sym (twice_product d half h even) ∙ is ∙ power_twice k e) in
     let found = divides_factor k half h e less in
     (found.0, even ∙ ap (λ x. 2 * x) found.1 ∙ sym (power_twice k found.0))

@@ -41,29 +41,29 @@ module _ (n : ℕ) (high : n ≤ 1000000) where
   ranks_once =
       AllPairs-map (λ r row. (nat_eq row.group r.group && nat_eq row.candidate r.candidate) ≡ false) rank_row (choices_of n)
       (AllPairs-from (IsChoice n) Precedes (λ x y. (nat_eq y.programme x.programme && nat_eq y.candidate x.candidate) ≡ false) (choices_of n)
-        (λ x y is_x is_y before. not_both y.programme x.programme y.candidate x.candidate
-          (λ one same. other_programme n x y is_x is_y before same one))
-        (are_choices n) (choices_precede n))
+      (λ x y is_x is_y before. not_both y.programme x.programme y.candidate x.candidate
+      (λ one same. other_programme n x y is_x is_y before same one))
+      (are_choices n) (choices_precede n))
 
   ranks_differ : AllPairs (λ r row. (nat_eq row.group r.group && nat_eq row.rank r.rank) ≡ false) (map rank_row (choices_of n))
   ranks_differ =
       AllPairs-map (λ r row. (nat_eq row.group r.group && nat_eq row.rank r.rank) ≡ false) rank_row (choices_of n)
       (AllPairs-from (IsChoice n) Precedes (λ x y. (nat_eq y.programme x.programme && nat_eq (rank_row y).rank (rank_row x).rank) ≡ false) (choices_of n)
-        (λ x y is_x is_y before. not_both y.programme x.programme (rank_row y).rank (rank_row x).rank
-          (λ one same. other_programme n x y is_x is_y before
-            (same_in_list 500000 x.programme y.programme x.candidate y.candidate (small x is_x) (small y is_y) one same) one))
-        (are_choices n) (choices_precede n))
+      (λ x y is_x is_y before. not_both y.programme x.programme (rank_row y).rank (rank_row x).rank
+      (λ one same. other_programme n x y is_x is_y before
+      (same_in_list 500000 x.programme y.programme x.candidate y.candidate (small x is_x) (small y is_y) one same) one))
+      (are_choices n) (choices_precede n))
 
   pub rankings_fine : first_in slots.Rankings (ranking_tests (sample_tables n)) (sample_tables n).rankings ≡ None
   rankings_fine =
       let rows = map rank_row (choices_of n) in
       none_in slots.Rankings (ranking_tests (sample_tables n)) rows
       (and_then (differ (λ row r. nat_eq row.group r.group && nat_eq row.candidate r.candidate) Repeat rows ranks_once)
-        (and_then (all_known (λ row. is_among row.group (group_ids (sample_tables n))) (Unknown 1) rows
-          (All-map (λ row. is_among row.group (group_ids (sample_tables n)) ≡ true) rank_row (choices_of n)
-            (All-weaker (IsChoice n) (λ x. is_among x.programme (group_ids (sample_tables n)) ≡ true)
-              (λ x is. group_known n x.programme (programme_from_one n x is) (programme_at_most n x is)) (choices_of n) (are_choices n))))
-        (and_then (differ (λ row r. nat_eq row.group r.group && nat_eq row.rank r.rank) RankTaken rows ranks_differ) no_tests)))
+      (and_then (all_known (λ row. is_among row.group (group_ids (sample_tables n))) (Unknown 1) rows
+      (All-map (λ row. is_among row.group (group_ids (sample_tables n)) ≡ true) rank_row (choices_of n)
+      (All-weaker (IsChoice n) (λ x. is_among x.programme (group_ids (sample_tables n)) ≡ true)
+      (λ x is. group_known n x.programme (programme_from_one n x is) (programme_at_most n x is)) (choices_of n) (are_choices n))))
+      (and_then (differ (λ row r. nat_eq row.group r.group && nat_eq row.rank r.rank) RankTaken rows ranks_differ) no_tests)))
 
 -- a choice at which its candidate has a rank in the school
 record HasBoardRow (n : ℕ) (x : Choice) : Type 0 where
@@ -78,12 +78,12 @@ other_school n x y is_x has_y before same school =
     let new : list_all test (range_with_len 0 y.place) ≡ true = (and_parts (is_boarder y) (is_first_at_school (programmes_of n) y) has_y.has).1 in
     let at : get_or (range_with_len 0 y.place) x.place 0 ≡ x.place = get_or-range_with_len 0 y.place x.place 0 earlier ∙ (let e : 0 + x.place ≡ x.place = omega arith in e) in
     let there : school_of (chosen (programmes_of n) y.candidate x.place) ≡ y.school =
-        ap (λ c. school_of (chosen (programmes_of n) c x.place)) same ∙ sym is_x.school ∙ sym school in
+    ap (λ c. school_of (chosen (programmes_of n) c x.place)) same ∙ sym is_x.school ∙ sym school in
     let fails : test x.place ≡ false = not_from_true (nat_eq (school_of (chosen (programmes_of n) y.candidate x.place)) y.school)
-        (eq-eqb (school_of (chosen (programmes_of n) y.candidate x.place)) y.school there) in
+    (eq-eqb (school_of (chosen (programmes_of n) y.candidate x.place)) y.school there) in
     true≢false (sym new
-      ∙ list_all_at test (range_with_len 0 y.place) x.place 0 (subst (λ k. x.place < k) (sym (length-range_with_len 0 y.place)) earlier)
-        (subst (λ i. test i ≡ false) (sym at) fails))
+    ∙ list_all_at test (range_with_len 0 y.place) x.place 0 (subst (λ k. x.place < k) (sym (length-range_with_len 0 y.place)) earlier)
+    (subst (λ i. test i ≡ false) (sym at) fails))
 
 module _ (n : ℕ) (high : n ≤ 1000000) where
   have_rows : All (HasBoardRow n) (filter (has_board_row (programmes_of n)) (choices_of n))
@@ -102,10 +102,10 @@ module _ (n : ℕ) (high : n ≤ 1000000) where
       AllPairs-map (λ r row. (nat_eq row.school r.school && nat_eq row.candidate r.candidate) ≡ false) board_row
       (filter (has_board_row (programmes_of n)) (choices_of n))
       (AllPairs-from (HasBoardRow n) Precedes (λ x y. (nat_eq y.school x.school && nat_eq y.candidate x.candidate) ≡ false)
-        (filter (has_board_row (programmes_of n)) (choices_of n))
-        (λ x y has_x has_y before. not_both y.school x.school y.candidate x.candidate
-          (λ one same. other_school n x y has_x.is has_y before same one))
-        have_rows kept_precede)
+      (filter (has_board_row (programmes_of n)) (choices_of n))
+      (λ x y has_x has_y before. not_both y.school x.school y.candidate x.candidate
+      (λ one same. other_school n x y has_x.is has_y before same one))
+      have_rows kept_precede)
 
   boards_differ : AllPairs (λ r row. (nat_eq row.school r.school && nat_eq row.rank r.rank) ≡ false)
       (map board_row (filter (has_board_row (programmes_of n)) (choices_of n)))
@@ -113,21 +113,21 @@ module _ (n : ℕ) (high : n ≤ 1000000) where
       AllPairs-map (λ r row. (nat_eq row.school r.school && nat_eq row.rank r.rank) ≡ false) board_row
       (filter (has_board_row (programmes_of n)) (choices_of n))
       (AllPairs-from (HasBoardRow n) Precedes (λ x y. (nat_eq y.school x.school && nat_eq (board_row y).rank (board_row x).rank) ≡ false)
-        (filter (has_board_row (programmes_of n)) (choices_of n))
-        (λ x y has_x has_y before. not_both y.school x.school (board_row y).rank (board_row x).rank
-          (λ one same. other_school n x y has_x.is has_y before
-            (same_in_list 1000000 x.school y.school x.candidate y.candidate (small n high x has_x.is) (small n high y has_y.is) one same) one))
-        have_rows kept_precede)
+      (filter (has_board_row (programmes_of n)) (choices_of n))
+      (λ x y has_x has_y before. not_both y.school x.school (board_row y).rank (board_row x).rank
+      (λ one same. other_school n x y has_x.is has_y before
+      (same_in_list 1000000 x.school y.school x.candidate y.candidate (small n high x has_x.is) (small n high y has_y.is) one same) one))
+      have_rows kept_precede)
 
   pub boarding_fine : first_in slots.Boarding (boarding_tests (sample_tables n)) (sample_tables n).boarding ≡ None
   boarding_fine =
       let rows = map board_row (filter (has_board_row (programmes_of n)) (choices_of n)) in
       none_in slots.Boarding (boarding_tests (sample_tables n)) rows
       (and_then (differ (λ row r. nat_eq row.school r.school && nat_eq row.candidate r.candidate) Repeat rows boards_once)
-        (and_then (all_known (λ row. is_among row.school (school_ids (sample_tables n))) (Unknown 1) rows
-          (All-map (λ row. is_among row.school (school_ids (sample_tables n)) ≡ true) board_row
-            (filter (has_board_row (programmes_of n)) (choices_of n))
-            (All-weaker (HasBoardRow n) (λ x. is_among x.school (school_ids (sample_tables n)) ≡ true)
-              (λ x has. school_known n x.school (school_from_one n x has.is) (school_at_most n x has.is))
-              (filter (has_board_row (programmes_of n)) (choices_of n)) have_rows)))
-        (and_then (differ (λ row r. nat_eq row.school r.school && nat_eq row.rank r.rank) RankTaken rows boards_differ) no_tests)))
+      (and_then (all_known (λ row. is_among row.school (school_ids (sample_tables n))) (Unknown 1) rows
+      (All-map (λ row. is_among row.school (school_ids (sample_tables n)) ≡ true) board_row
+      (filter (has_board_row (programmes_of n)) (choices_of n))
+      (All-weaker (HasBoardRow n) (λ x. is_among x.school (school_ids (sample_tables n)) ≡ true)
+      (λ x has. school_known n x.school (school_from_one n x has.is) (school_at_most n x has.is))
+      (filter (has_board_row (programmes_of n)) (choices_of n)) have_rows)))
+      (and_then (differ (λ row r. nat_eq row.school r.school && nat_eq row.rank r.rank) RankTaken rows boards_differ) no_tests)))

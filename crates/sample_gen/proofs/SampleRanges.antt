@@ -129,7 +129,7 @@ module _ (n : ℕ) (high : n ≤ 1000000) where
             let le : length (choices_of n) ≤ 3 * n = choices_length n in omega arith;
         each = All-map IsBoardRow board_row kept
             (All-filter (has_board_row (programmes_of n)) (λ x. IsBoardRow (board_row x)) (choices_of n)
-              (of_choices (λ x. IsBoardRow (board_row x)) (λ x is small. board_fine x small (school_from_one n x is))));
+            (of_choices (λ x. IsBoardRow (board_row x)) (λ x is small. board_fine x small (school_from_one n x is))));
       }
 
   own_wishes_fine : (x : Choice) → IsChoice n x → IsSmall x → All IsWishRow (wish_rows x)
@@ -142,7 +142,7 @@ module _ (n : ℕ) (high : n ≤ 1000000) where
   wishes_fine =
       record {
         size = let twice : length (flat_map wish_rows (choices_of n)) ≤ 2 * length (choices_of n) =
-              length-flat_map-le wish_rows 2 (choices_of n) (of_choices (λ x. length (wish_rows x) ≤ 2) (λ x is small. wish_count x)) in
+            length-flat_map-le wish_rows 2 (choices_of n) (of_choices (λ x. length (wish_rows x) ≤ 2) (λ x is small. wish_count x)) in
             let le : length (choices_of n) ≤ 3 * n = choices_length n in omega arith;
         each = All-flat_map IsWishRow wish_rows (choices_of n) (of_choices (λ x. All IsWishRow (wish_rows x)) own_wishes_fine);
       }

@@ -43,7 +43,7 @@ unmixed rows pairs =
     record {
       at = λ k d lt. ap (option_map PreferenceMixed)
           (none_mixed (get_or rows k d) (take k rows) d 2
-            (before_row (λ row r. nat_eq row.candidate r.candidate ≡ true → are_mixed row r ≡ false) rows pairs k d lt));
+          (before_row (λ row r. nat_eq row.candidate r.candidate ≡ true → are_mixed row r ≡ false) rows pairs k d lt));
     }
 
 -- what the tests ask of two wishes
@@ -115,7 +115,7 @@ answers_of : (x : Choice) (boards : Bool) → nat_lt 0 (preference_of x boards) 
 answers_of x boards some =
     ⊎_elim (λ has. has)
     (λ none. let e : preference_of x boards ≡ 0 = no_preference x boards none in
-      let low : 0 < preference_of x boards = ltb-true 0 (preference_of x boards) some in absurd (omega arith))
+    let low : 0 < preference_of x boards = ltb-true 0 (preference_of x boards) some in absurd (omega arith))
     (cases_Bool (has_answers x))
 
 ids_differ : (c d i j p q : ℕ) → 1 ≤ c → 1 ≤ d → 3 * c + i < 3 * d + j → p ≤ 2 → 1 ≤ q → 6 * (d - 1) + 2 * j + q ≡ 6 * (c - 1) + 2 * i + p → ⊥
@@ -130,15 +130,15 @@ apart_across n x y is_x is_y before s t =
     record {
       ids = ne_eqb (wish_row y t).id (wish_row x s).id
           (ids_differ x.candidate y.candidate x.place y.place (if is_some s then 2 else 1) (if is_some t then 2 else 1) is_x.from_one is_y.from_one before
-            (two_or_one (is_some s)).1 (two_or_one (is_some t)).0);
+          (two_or_one (is_some s)).1 (two_or_one (is_some t)).0);
       wishes = and_left (nat_eq y.candidate x.candidate && nat_eq y.programme x.programme) (same_school t s)
           (not_both y.candidate x.candidate y.programme x.programme (λ same one. other_programme n x y is_x is_y before same one));
       unmixed = not_mixed x y s t;
       preferences = λ some. not_both y.candidate x.candidate (preference_of y (is_some t)) (preference_of x (is_some s))
           (λ same equal.
-            let has : has_answers y ≡ true = answers_of y (is_some t) some in
-            earlier_is_less x.candidate y.candidate x.place y.place (preference_of x (is_some s)) (preference_of y (is_some t)) before same equal
-              (preference_high x (is_some s) (sym (ap (λ c. nat_eq (c % 4) 0) same) ∙ has)) (preference_low y (is_some t) has));
+          let has : has_answers y ≡ true = answers_of y (is_some t) some in
+          earlier_is_less x.candidate y.candidate x.place y.place (preference_of x (is_some s)) (preference_of y (is_some t)) before same equal
+          (preference_high x (is_some s) (sym (ap (λ c. nat_eq (c % 4) 0) same) ∙ has)) (preference_low y (is_some t) has));
     }
 
 one_less : (i p q : ℕ) → p ≡ 2 * i + 1 → q ≡ 2 * i + 2 → p ≡ q → ⊥
@@ -156,8 +156,8 @@ apart_within x =
       unmixed = not_mixed x x None (Some x.school);
       preferences = λ some. not_both x.candidate x.candidate (preference_of x true) (preference_of x false)
           (λ same equal.
-            let has : has_answers x ≡ true = answers_of x true some in
-            one_less x.place (preference_of x true) (preference_of x false) (preference_is x true has) (preference_is x false has) equal);
+          let has : has_answers x ≡ true = answers_of x true some in
+          one_less x.place (preference_of x true) (preference_of x false) (preference_is x true has) (preference_is x false has) equal);
     }
 
 own_pairs : (x : Choice) → AllPairs AreApart (wish_rows x)
@@ -166,9 +166,9 @@ own_pairs x =
     let boarding = wish_row x (Some x.school) in
     AllPairs-cons AreApart alone _
     (cond_both (is_boarder x) (boarding ∷ []) [] (λ (ys : List WishRow). All (AreApart alone) ys)
-      (λ e. All-cons (AreApart alone) boarding [] (apart_within x) (All-nil (AreApart alone))) (λ e. All-nil (AreApart alone)))
+    (λ e. All-cons (AreApart alone) boarding [] (apart_within x) (All-nil (AreApart alone))) (λ e. All-nil (AreApart alone)))
     (cond_both (is_boarder x) (boarding ∷ []) [] (λ (ys : List WishRow). AllPairs AreApart ys)
-      (λ e. AllPairs-cons AreApart boarding [] (All-nil (AreApart boarding)) (AllPairs-nil AreApart)) (λ e. AllPairs-nil AreApart))
+    (λ e. AllPairs-cons AreApart boarding [] (All-nil (AreApart boarding)) (AllPairs-nil AreApart)) (λ e. AllPairs-nil AreApart))
 
 module _ (n : ℕ) where
   wishes_apart : AllPairs AreApart (flat_map wish_rows (choices_of n))
@@ -176,8 +176,8 @@ module _ (n : ℕ) where
       AllPairs-flat_map AreApart wish_rows (choices_of n)
       (All-weaker (IsChoice n) (λ x. AllPairs AreApart (wish_rows x)) (λ x is. own_pairs x) (choices_of n) (are_choices n))
       (AllPairs-from (IsChoice n) Precedes (λ x y. All (λ a. All (AreApart a) (wish_rows y)) (wish_rows x)) (choices_of n)
-        (λ x y is_x is_y before. All-wish (λ a. All (AreApart a) (wish_rows y)) x (to_all x y is_x is_y before None) (λ e. to_all x y is_x is_y before (Some x.school)))
-        (are_choices n) (choices_precede n))
+      (λ x y is_x is_y before. All-wish (λ a. All (AreApart a) (wish_rows y)) x (to_all x y is_x is_y before None) (λ e. to_all x y is_x is_y before (Some x.school)))
+      (are_choices n) (choices_precede n))
     where
       to_all : (x y : Choice) → IsChoice n x → IsChoice n y → Precedes x y → (s : Option ℕ) → All (AreApart (wish_row x s)) (wish_rows y)
       to_all x y is_x is_y before s =
@@ -197,17 +197,17 @@ module _ (n : ℕ) where
       (and_then (differ (λ row r. nat_eq row.id r.id) Repeat rows (λ i j d lt within. (wishes_apart i j d lt within).ids))
       (and_then (differ same_wish Repeat rows (λ i j d lt within. (wishes_apart i j d lt within).wishes))
       (and_then (all_known (λ row. is_among row.programme (programme_ids t)) (Unknown 3) rows
-        (each_wish (λ row. is_among row.programme (programme_ids t) ≡ true)
-          (λ x is. programme_known n x.programme (programme_from_one n x is) (programme_at_most n x is))
-          (λ x is e. programme_known n x.programme (programme_from_one n x is) (programme_at_most n x is))))
+      (each_wish (λ row. is_among row.programme (programme_ids t) ≡ true)
+      (λ x is. programme_known n x.programme (programme_from_one n x is) (programme_at_most n x is))
+      (λ x is e. programme_known n x.programme (programme_from_one n x is) (programme_at_most n x is))))
       (and_then (all_known (λ row. option_map_or (λ h. is_among h (school_ids t)) row.school true) (Unknown 4) rows
-        (each_wish (λ row. option_map_or (λ h. is_among h (school_ids t)) row.school true ≡ true) (λ x is. refl)
-          (λ x is e. school_known n x.school (school_from_one n x is) (school_at_most n x is))))
+      (each_wish (λ row. option_map_or (λ h. is_among h (school_ids t)) row.school true ≡ true) (λ x is. refl)
+      (λ x is e. school_known n x.school (school_from_one n x is) (school_at_most n x is))))
       (and_then (all_known (λ row. is_ranked t row.programme row.candidate) Unranked rows
-        (each_wish (λ row. is_ranked t row.programme row.candidate ≡ true) (λ x is. choice_is_ranked n x is) (λ x is e. choice_is_ranked n x is)))
+      (each_wish (λ row. is_ranked t row.programme row.candidate ≡ true) (λ x is. choice_is_ranked n x is) (λ x is e. choice_is_ranked n x is)))
       (and_then (all_known (λ row. option_map_or (λ h. is_boarded t h row.candidate) row.school true) NoBoardingRank rows
-        (each_wish (λ row. option_map_or (λ h. is_boarded t h row.candidate) row.school true ≡ true) (λ x is. refl) (choice_is_boarded n)))
+      (each_wish (λ row. option_map_or (λ h. is_boarded t h row.candidate) row.school true ≡ true) (λ x is. refl) (choice_is_boarded n)))
       (and_then (unmixed rows (λ i j d lt within. (wishes_apart i j d lt within).unmixed))
       (and_then (differ_when (λ row. nat_lt 0 row.preference) (λ row r. nat_eq row.candidate r.candidate && nat_eq row.preference r.preference) PreferenceTaken rows
-        (λ i j d lt within. (wishes_apart i j d lt within).preferences))
+      (λ i j d lt within. (wishes_apart i j d lt within).preferences))
       no_tests))))))))

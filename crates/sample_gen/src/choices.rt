@@ -99,7 +99,7 @@ impl Choice {
         requires small { IsSmall self }
         ensures { result ≡ is_first_at_school programmes self }
     {
-        (0..self.place)
-            .all(|place| school_of(chosen(programmes, self.candidate, place)) != self.school)
+        (0..self.place).all(|place| school_of(chosen(programmes, self.candidate, place))
+            != self.school)
     }
 }

@@ -115,10 +115,10 @@ fn tables_of(alloc: Global, number: u32) -> Result<Tables, OutOfMemory>
     })
 }
 
-/// The tables of a sample.
+/// The tables of a sample of 1 to `MAX_CANDIDATES` candidates.
 ///
-/// Each candidate has three choices of programmes, and every second one wishes for the boarding
-/// schools of his programmes as well.
+/// Each candidate chooses three programmes, or as many as there are, and every second one wishes
+/// for their boarding schools as well. Nothing is drawn at random: the number tells every row.
 pub fn sample(alloc: Global, number: u32) -> Result<Tables, OutOfMemory>
     requires some { 1 ≤ number }
     requires at_most { number ≤ MAX_CANDIDATES }
