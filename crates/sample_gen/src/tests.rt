@@ -102,6 +102,7 @@ fn small_samples(rt: HostRuntime) -> Result<(), Fail> {
 
 /// A number of candidates, and how many programmes, schools, rankings, boarding ranks and wishes
 /// their sample has.
+#[derive(Clone, Copy)]
 struct Counted {
     candidates: u32,
     rows: [usize; 5],
