@@ -1,5 +1,5 @@
 -- Which choices are found among those of a sample, in its rankings and among its boarding ranks.
-use Rattle.std.proofs.Common.{◌≡◌, ℕ, ◌+◌, ◌-◌, ◌<◌, ◌≤◌, suc, Bool, true, false, not, ◌&&◌, ◌||◌, nat_eq, List, [], ◌∷◌, ◌++◌, Option, Some, map, filter, get_or, length, min, refl, sym, ◌∙◌, ap, subst, arith, ⊎_elim, ◌⊎◌, inl, inr}
+use Rattle.std.proofs.Common.{◌≡◌, ℕ, ◌+◌, ◌<◌, ◌≤◌, suc, Bool, true, false, not, ◌&&◌, ◌||◌, nat_eq, List, [], ◌∷◌, Option, map, filter, get_or, min, refl, sym, ◌∙◌, ap, subst, arith, ⊎_elim, ◌⊎◌, inl, inr}
 use Prim.Native.Nat.{zero}
 use Rattle.std.specs.List.{list_any, list_all, range_with_len, flat_map}
 use Rattle.std.specs.Option.{option_map_or}
@@ -10,7 +10,7 @@ use Rattle.admit_core.specs.declared.tables.BoardRow.{BoardRow}
 use Rattle.admit_core.specs.declared.tables.ProgrammeRow.{ProgrammeRow}
 use Rattle.admit_core.specs.Relations.{is_in_group, is_ranked, is_boarded}
 use Rattle.sample_gen.specs.declared.choices.Choice.{Choice}
-use Rattle.sample_gen.specs.Choices.{numbers, programmes_of, school_of, chosen, choice_at, own_choices, choices_of, is_boarder, is_first_at_school}
+use Rattle.sample_gen.specs.Choices.{programmes_of, school_of, chosen, choice_at, own_choices, choices_of, is_boarder, is_first_at_school}
 use Rattle.sample_gen.specs.Samples.{programme_row, rank_row, board_row, has_board_row, sample_tables}
 use Rattle.sample_gen.proofs.Lists.{range_more}
 use Rattle.sample_gen.proofs.ItemSlots.{find_row}

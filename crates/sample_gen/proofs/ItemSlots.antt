@@ -1,7 +1,7 @@
 -- The groups, programmes and schools of a sample have no fault, and which ids are there.
-use Rattle.std.proofs.Common.{◌≡◌, ℕ, ◌+◌, ◌-◌, ◌<◌, ◌≤◌, suc, Bool, true, false, ◌&&◌, ◌||◌, nat_eq, List, [], ◌∷◌, ◌++◌, Option, Some, None, map, filter, get_or, length, min, refl, sym, ◌∙◌, ap, subst, arith, ⊎_elim}
+use Rattle.std.proofs.Common.{◌≡◌, ℕ, ◌+◌, ◌-◌, ◌<◌, ◌≤◌, suc, Bool, true, false, nat_eq, List, [], ◌∷◌, Some, None, map, get_or, refl, sym, ◌∙◌, ap, subst, arith, ⊎_elim}
 use Prim.Native.Nat.{zero}
-use Rattle.std.specs.List.{All, AllPairs, list_any, range_with_len, flat_map, find}
+use Rattle.std.specs.List.{AllPairs, range_with_len, find}
 use Rattle.std.proofs.lemmas.Bool.{ne_eqb, eq-eqb, eqb-true, eqb-false, cases_Bool, cond-true, cond-false}
 use Rattle.std.proofs.lemmas.List.Folds.{list_any_at}
 use Rattle.std.proofs.lemmas.List.Elements.{All-map}
@@ -14,7 +14,7 @@ use Rattle.admit_core.specs.Relations.{group_ids, programme_ids, school_ids, gro
 use Rattle.sample_gen.specs.Choices.{numbers, programmes_of, school_of}
 use Rattle.sample_gen.specs.Samples.{group_row, programme_row, school_row, sample_tables}
 use Rattle.sample_gen.proofs.Pairs.{All-range, AllPairs-map, AllPairs-range}
-use Rattle.sample_gen.proofs.NoFaults.{PassesAll, no_tests, and_then, none_in, differ, all_known}
+use Rattle.sample_gen.proofs.NoFaults.{no_tests, and_then, none_in, differ, all_known}
 
 among_numbers : (n i : ℕ) → 1 ≤ i → i ≤ n → is_among i (numbers n) ≡ true
 among_numbers n i low high =

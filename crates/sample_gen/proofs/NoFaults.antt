@@ -1,8 +1,6 @@
 -- How it is shown that no test stands at rows.
-use Rattle.std.proofs.Common.{◌≡◌, ℕ, ◌+◌, ◌<◌, ◌≤◌, suc, Bool, true, false, not, ◌&&◌, ◌||◌, nat_lt, nat_eq, List, ◌∷◌, [], ◌++◌, if◌then◌else◌, length, get_or, take, option_map, Option, Some, None, refl, sym, ◌∙◌, ap, subst, arith, append_assoc, All, AllPairs, position}
-use Prim.Native.Nat.{zero}
-use Rattle.std.specs.List.{find, enumerate_from}
-use Rattle.std.specs.Option.{option_or, option_map_or}
+use Rattle.std.proofs.Common.{◌≡◌, ℕ, ◌<◌, suc, Bool, true, false, List, ◌∷◌, [], ◌++◌, if◌then◌else◌, length, get_or, take, option_map, Option, Some, None, refl, sym, ◌∙◌, ap, subst, arith, append_assoc, All, AllPairs, position}
+use Rattle.std.specs.Option.{option_or}
 use Rattle.std.proofs.lemmas.List.{append-nil, length-take-le, get_or-take}
 use Rattle.std.proofs.lemmas.List.Sums.{position_or_len_is}
 use Rattle.admit_core.specs.declared.slot.Slot.{Slot}

@@ -1,7 +1,7 @@
 -- An odd multiple in a ring of a power of two numbers tells its factor.
-use Rattle.std.proofs.Common.{◌≡◌, ℕ, ◌+◌, ◌-◌, ◌*◌, ◌/◌, ◌%◌, ◌^◌, ◌<◌, ◌≤◌, suc, refl, sym, ◌∙◌, arith, subst, ap, ◌⊎◌, inl, inr}
+use Rattle.std.proofs.Common.{◌≡◌, ℕ, ◌+◌, ◌-◌, ◌*◌, ◌^◌, suc, sym, ◌∙◌, arith, ap}
 use Prim.Native.Nat.{zero}
-use Rattle.std.proofs.Math.Nat.{div-add-mod, mul-add, mul_comm, mul_assoc, mul-le-mul_left, pow-suc}
+use Rattle.std.proofs.Math.Nat.{mul_comm, mul_assoc, pow-suc}
 
 -- an even number of the form d + 2 * x has an even d
 half_of : (d x y : ℕ) → d + 2 * x ≡ 2 * y → d ≡ 2 * (y - x)

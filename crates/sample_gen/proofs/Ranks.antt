@@ -1,7 +1,7 @@
 -- Candidates of a list have different ranks, and choices of a candidate different programmes.
-use Rattle.std.proofs.Common.{◌≡◌, ℕ, ◌+◌, ◌-◌, ◌*◌, ◌/◌, ◌%◌, ◌^◌, ◌<◌, ◌≤◌, suc, refl, sym, ◌∙◌, arith, subst, ap, ⊎_elim}
+use Rattle.std.proofs.Common.{◌≡◌, ℕ, ◌+◌, ◌-◌, ◌*◌, ◌/◌, ◌%◌, ◌^◌, ◌<◌, ◌≤◌, suc, sym, ◌∙◌, arith, ap, ⊎_elim}
 use Prim.Native.Nat.{zero}
-use Rattle.std.proofs.Math.Nat.{div-add-mod, mul-sub, mul_comm, mul-le-mul_right}
+use Rattle.std.proofs.Math.Nat.{div-add-mod, mul-sub, mul_comm}
 use Rattle.std.proofs.lemmas.Bool.{cases_lt}
 use Rattle.sample_gen.specs.Samples.{rank_in}
 use Rattle.sample_gen.proofs.OddMultiples.{divides_factor}

@@ -1,5 +1,5 @@
 -- The wishes of a sample have no fault.
-use Rattle.std.proofs.Common.{◌≡◌, ℕ, ◌+◌, ◌-◌, ◌*◌, ◌%◌, ◌<◌, ◌≤◌, suc, Bool, true, false, not, ◌&&◌, ◌||◌, if◌then◌else◌, nat_eq, nat_lt, List, [], ◌∷◌, Option, Some, None, is_some, option_map, get_or, length, take, refl, sym, ◌∙◌, ap, subst, arith, ⊎_elim, lit≤}
+use Rattle.std.proofs.Common.{◌≡◌, ℕ, ◌+◌, ◌-◌, ◌*◌, ◌%◌, ◌<◌, ◌≤◌, suc, Bool, true, false, not, ◌&&◌, ◌||◌, if◌then◌else◌, nat_eq, nat_lt, List, [], ◌∷◌, Option, Some, None, is_some, option_map, get_or, length, take, refl, sym, ◌∙◌, ap, arith, ⊎_elim, lit≤}
 use Rattle.std.specs.List.{All, AllPairs, flat_map, find, enumerate_from}
 use Rattle.std.specs.Option.{option_map_or}
 use Rattle.std.proofs.lemmas.Bool.{ne_eqb, eqb-true, ltb-true, and_left, and_right, or_from, cases_Bool, cond_both, cond-true, cond-false}
@@ -9,10 +9,10 @@ use Rattle.admit_core.specs.declared.slot.Slot.TheVariants as slots
 use Rattle.admit_core.specs.declared.refusal.Reason.TheVariants.{Repeat, Unknown, Unranked, NoBoardingRank, PreferenceMixed, PreferenceTaken}
 use Rattle.admit_core.specs.declared.tables.WishRow.{WishRow}
 use Rattle.admit_core.specs.Lists.{is_among}
-use Rattle.admit_core.specs.Faults.{Test, first_in}
+use Rattle.admit_core.specs.Faults.{first_in}
 use Rattle.admit_core.specs.Relations.{programme_ids, school_ids, same_school, same_wish, is_ranked, is_boarded, are_mixed, mixed_with, preference_mixed, wish_tests}
 use Rattle.sample_gen.specs.declared.choices.Choice.{Choice}
-use Rattle.sample_gen.specs.Choices.{programmes_of, choices_of, is_boarder}
+use Rattle.sample_gen.specs.Choices.{choices_of, is_boarder}
 use Rattle.sample_gen.specs.Samples.{preference_of, wish_row, wish_rows, sample_tables}
 use Rattle.sample_gen.proofs.Pairs.{All-flat_map, AllPairs-nil, AllPairs-flat_map, AllPairs-from}
 use Rattle.sample_gen.proofs.ChoiceFacts.{IsChoice, Precedes, are_choices, choices_precede, other_programme, programme_from_one, programme_at_most, school_from_one, school_at_most}

@@ -1,5 +1,5 @@
 -- The choices of a sample's candidates.
-use Rattle.std.specs.Prelude.{ℕ, ◌+◌, ◌-◌, ◌/◌, ◌%◌, ◌<◌, ◌≤◌, Bool, not, ◌&&◌, List, map, min, nat_eq}
+use Rattle.std.specs.Prelude.{ℕ, ◌+◌, ◌-◌, ◌/◌, ◌%◌, ◌<◌, ◌≤◌, Bool, not, List, map, min, nat_eq}
 use Rattle.std.specs.List.{flat_map, list_all, range_with_len}
 use Rattle.sample_gen.specs.declared.choices.Choice.{Choice}
 

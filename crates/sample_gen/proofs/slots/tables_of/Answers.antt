@@ -1,5 +1,5 @@
-use Rattle.std.proofs.Common.{◌≡◌, List, subst, sym, ◌∙◌, All}
-use Rattle.sample_gen.specs.Choices.{choices_of, IsSmall}
+use Rattle.std.proofs.Common.{List, subst, sym, ◌∙◌, All}
+use Rattle.sample_gen.specs.Choices.{IsSmall}
 use Rattle.sample_gen.specs.declared.choices.Choice.{Choice}
 use Rattle.sample_gen.proofs.ChoiceFacts.{small_choices}
 use Rattle.sample_gen.proofs.slots.tables_of.Goals as goal
