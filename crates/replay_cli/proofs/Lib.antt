@@ -1,4 +1,6 @@
+pub mod DayPlaces
 pub mod Parses
+pub mod PlayedDays
 pub mod ReadOrder
 pub mod Replies
 pub mod Zips

@@ -10,7 +10,7 @@ use report::order_text;
 use std::alloc::Global;
 
 /// The call order of each group.
-fn call_orders(alloc: Global, groups: &[RankGroup]) -> Result<CallOrders, OutOfMemory>
+pub(crate) fn call_orders(alloc: Global, groups: &[RankGroup]) -> Result<CallOrders, OutOfMemory>
     requires { All IsRanking groups.now }
     ensures { IfOk result (λ called. AreCallOrders groups.now called.orders) }
 {
@@ -24,7 +24,7 @@ fn call_orders(alloc: Global, groups: &[RankGroup]) -> Result<CallOrders, OutOfM
 }
 
 /// The lines of all groups, in file order.
-fn orders_text(
+pub(crate) fn orders_text(
     alloc: Global,
     groups: &[RankGroup],
     orders: &[CallOrder],
