@@ -28,7 +28,7 @@ use Rattle.replay_cli.proofs.PlayedDays.{dossier_after_lapse}
 
 -- a day has a ceiling for each school
 pub length-ceilings_of : (d : DossierRows) (day : ℕ) → length (ceilings_of d day) ≡ length d.schools
-length-ceilings_of d day = length-map (λ x. ceiling_on d day x.0 x.1) (enumerate_from 0 d.schools) ∙ length-enumerate_from 0 d.schools
+length-ceilings_of d day = length-map (enumerate_from 0 d.schools) (λ x. ceiling_on d day x.0 x.1) ∙ length-enumerate_from 0 d.schools
 
 places_in : {X : Type 0} (n : ℕ) (xs : List X) → length xs ≤ n → All (λ (x : ℕ × X). x.0 < n) (enumerate_from 0 xs)
 places_in {X} n xs le k d lt =
@@ -44,8 +44,8 @@ first_found : {X : Type 0} (n : ℕ) (test : ℕ × X → Bool) (ys : List (ℕ 
 first_found n test [] all some = some
 first_found {X} n test (y ∷ ys) all some =
     elim (cases_Bool (test y)) [
-      | inl yes ↦ rw yes (All-head (λ (y : ℕ × X). y.0 < n) y ys all)
-      | inr no ↦ rw no (first_found n test ys (All-tail (λ (y : ℕ × X). y.0 < n) y ys all) some)
+      | inl passes ↦ rw passes (All-head (λ (y : ℕ × X). y.0 < n) y ys all)
+      | inr fails ↦ rw fails (first_found n test ys (All-tail (λ (y : ℕ × X). y.0 < n) y ys all) some)
     ]
 
 -- the places by which ranks are named; where nothing is listed there is no rank
@@ -84,7 +84,8 @@ falls_in s orders ceilings bars (f ∷ fs) same are =
 
 few_offered : (s : State) (orders : List CallOrder) (bars : List ℕ) (stamp : Stamp) (new : List Mark) → length (zip (offered s orders bars stamp).marks new) ≤ length s.dossier.wishes
 few_offered s orders bars stamp new =
-    omega (arith, length-zip (offered s orders bars stamp).marks new, length-map _ (entries s), few_entries s)
+    let as_many : length (offered s orders bars stamp).marks ≡ length (entries s) = length-map (entries s) _ in
+    omega (arith, length-zip (offered s orders bars stamp).marks new, few_entries s)
 
 pass_in : (s : State) (orders : List CallOrder) (ceilings : List ℕ) (stamp : Stamp) (end : PassEnd) → length ceilings ≡ length s.dossier.schools
     → IsPassEnd s orders ceilings stamp end → IsPassOf s.dossier end

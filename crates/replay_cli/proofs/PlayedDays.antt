@@ -1,6 +1,7 @@
 -- One more day of a campaign.
 use Rattle.std.proofs.Common.{◌≡◌, ◌∙◌, ℕ, ◌+◌, Bool, List, [], ◌∷◌, ◌++◌, Option, None, Some, ap, append_assoc, arith, filter, flat_map, length, map, refl, subst, sym}
 use Rattle.std.proofs.lemmas.Grind.{flat_map-append}
+use Rattle.std.proofs.lemmas.List.{append-nil}
 use Rattle.std.proofs.lemmas.List.Elements.{filter-append}
 use Rattle.admit_core.specs.Days.{Days, IsDay, Passes, after_lapse, answers_of, ceilings_of, closing, morning}
 use Rattle.admit_core.specs.Lapses.{lapse}
@@ -17,6 +18,7 @@ use Rattle.replay_cli.specs.Played.{ArePlayed, Standing}
 use Rattle.replay_cli.specs.Replay.{day_lines}
 use Rattle.replay_cli.specs.declared.request.PickerChoice.{PickerChoice}
 use Rattle.replay_cli.specs.declared.request.PickerName.{PickerName}
+use Rattle.replay_cli.specs.declared.request.PickerName.TheVariants.{First, Last, Turn}
 use Rattle.replay_cli.specs.declared.request.Request.{Request}
 
 -- a day leaves the dossier
@@ -53,7 +55,7 @@ days_more terms orders d old [] mid day new same number is =
     let at : d + 0 ≡ d = omega arith in
     (new, number ∙ at, subst (λ (s : State). P d s) (sym same) (subst (λ (n : ℕ). P n mid) at is), refl)
 days_more terms orders d old (first ∷ days) mid day new run number is =
-    let at : d + (length days + 1) ≡ d + 1 + length days = omega arith in
+    let at : d + length (first ∷ days) ≡ d + 1 + length days = omega arith in
     (run.0, run.1, run.2, days_more terms orders (d + 1) run.0 days mid day new run.3 (number ∙ at) (subst (λ (n : ℕ). IsDay terms orders (ceilings_of mid.dossier n) mid day new) at is))
 
 picked_by-append : (choice : PickerChoice) (name : PickerName) (xs ys : List DayRecord) → picked_by choice name (xs ++ ys) ≡ picked_by choice name xs ++ picked_by choice name ys
@@ -62,16 +64,19 @@ picked_by-append choice name xs ys =
     let schools : DayRecord → List ℕ = λ day. schools_of_passes day.passes in
     ap (flat_map schools) (filter-append on xs ys) ∙ flat_map-append schools (filter on xs) (filter on ys)
 
+grown : (a b c p q r : List ℕ) → r ≡ p ++ q → b ≡ a ++ p → c ≡ b ++ q → c ≡ a ++ r
+grown a b c p q r whole first then = rw (then, first, whole) (append_assoc a p q)
+
 told_more : (choice : PickerChoice) (days : List DayRecord) (day : DayRecord) (before mid after : Picks) → Told before mid (picks_of choice days) → Told mid after (picks_of choice (day ∷ []))
     → Told before after (picks_of choice (days ++ day ∷ []))
 told_more choice days day before mid after one two = record {
-  first = grown (picked_by-append choice _ days (day ∷ [])) one.first two.first;
-  last = grown (picked_by-append choice _ days (day ∷ [])) one.last two.last;
-  turn = grown (picked_by-append choice _ days (day ∷ [])) one.turn two.turn;
+  first = grown before.first mid.first after.first (picked_by choice First days) (picked_by choice First (day ∷ [])) _ (picked_by-append choice First days (day ∷ [])) one.first two.first;
+  last = grown before.last mid.last after.last (picked_by choice Last days) (picked_by choice Last (day ∷ [])) _ (picked_by-append choice Last days (day ∷ [])) one.last two.last;
+  turn = grown before.turn mid.turn after.turn (picked_by choice Turn days) (picked_by choice Turn (day ∷ [])) _ (picked_by-append choice Turn days (day ∷ [])) one.turn two.turn;
 }
-where
-  grown : {a b c p q r : List ℕ} → r ≡ p ++ q → b ≡ a ++ p → c ≡ b ++ q → c ≡ a ++ r
-  grown {a} {b} {c} {p} {q} {r} whole first then = then ∙ ap (λ x. x ++ q) first ∙ append_assoc ∙ ap (λ x. a ++ x) (sym whole)
+
+last_line : (lines : DayRecord → List ℕ) (xs : List DayRecord) (x : DayRecord) → flat_map lines (xs ++ x ∷ []) ≡ flat_map lines xs ++ lines x
+last_line lines xs x = flat_map-append lines xs (x ∷ []) ∙ ap (λ l. flat_map lines xs ++ l) (append-nil (lines x))
 
 -- one more day that came about, with its picks and its lines
 pub played_more : (request : Request) (terms : Option Terms) (orders : List CallOrder) (days : List DayRecord) (day : DayRecord) (old mid new : Standing)
@@ -83,8 +88,5 @@ played_more request terms orders days day old mid new so_far number is told text
   picked = told_more request.picker days day old.told mid.told new.told so_far.picked told;
   is_text =
     let lines : DayRecord → List ℕ = day_lines old.state.dossier request.deadlines in
-    text ∙ ap (λ x. x ++ lines day) so_far.is_text ∙ append_assoc ∙ ap (λ x. old.text ++ x) (last_line lines days day);
+    grown old.text mid.text new.text (flat_map lines days) (lines day) (flat_map lines (days ++ day ∷ [])) (last_line lines days day) so_far.is_text text;
 }
-where
-  last_line : (lines : DayRecord → List ℕ) (xs : List DayRecord) (x : DayRecord) → flat_map lines xs ++ lines x ≡ flat_map lines (xs ++ x ∷ [])
-  last_line lines xs x = grind (flat_map-append, append_assoc)
