@@ -140,14 +140,14 @@ module _ (request : Request) (orders : List CallOrder) (before : Picks) (front t
       }), plays.1.picked)
 
   -- the same of the dossier that the tables stand for
-  pub ends_done : (t : Tables) (d : DossierRows) → d ≡ dossier_of t → AreCallOrders d.groups orders → front ≡ orders_text d.groups orders → PlaysDays request None orders (began d) new (Ok tt)
-      → text ≡ new.text ++ final_text new.state → Ends t exits.Done
-  ends_done t d same called front_is plays is =
+  pub ends_done : (t : Tables) (d : DossierRows) (start : State) → d ≡ dossier_of t → AreCallOrders d.groups orders → front ≡ orders_text d.groups orders → start ≡ first_evening d
+      → PlaysDays request None orders (record { state = start; told = before; text = front }) new (Ok tt) → text ≡ new.text ++ final_text new.state → Ends t exits.Done
+  ends_done t d start same called front_is begun plays is =
       done_at t (subst (λ (x : DossierRows). AreCallOrders x.groups orders) same called) (subst (λ (x : DossierRows). front ≡ orders_text x.groups orders) same front_is)
-      (subst (λ (x : DossierRows). PlaysDays request None orders (began x) new (Ok tt)) same plays) is
+      (subst (λ (s : State). PlaysDays request None orders (record { state = s; told = before; text = front }) new (Ok tt)) (begun ∙ ap first_evening same) plays) is
 
-  pub ends_cut : (t : Tables) (d : DossierRows) (refusal : Refusal) → d ≡ dossier_of t → AreCallOrders d.groups orders → front ≡ orders_text d.groups orders
-      → PlaysDays request None orders (began d) new (Err (refusals.Unfit refusal)) → text ≡ new.text ++ refusal_line refusal → Ends t exits.Refused
-  ends_cut t d refusal same called front_is plays is =
+  pub ends_cut : (t : Tables) (d : DossierRows) (start : State) (refusal : Refusal) → d ≡ dossier_of t → AreCallOrders d.groups orders → front ≡ orders_text d.groups orders → start ≡ first_evening d
+      → PlaysDays request None orders (record { state = start; told = before; text = front }) new (Err (refusals.Unfit refusal)) → text ≡ new.text ++ refusal_line refusal → Ends t exits.Refused
+  ends_cut t d start refusal same called front_is begun plays is =
       cut_at t refusal (subst (λ (x : DossierRows). AreCallOrders x.groups orders) same called) (subst (λ (x : DossierRows). front ≡ orders_text x.groups orders) same front_is)
-      (subst (λ (x : DossierRows). PlaysDays request None orders (began x) new (Err (refusals.Unfit refusal))) same plays) is
+      (subst (λ (s : State). PlaysDays request None orders (record { state = s; told = before; text = front }) new (Err (refusals.Unfit refusal))) (begun ∙ ap first_evening same) plays) is

@@ -3,6 +3,8 @@ use Rattle.std.proofs.Common.{◌≡◌, ◌⊎◌, ◌↔◌, ◌∙◌, ℕ, L
 use Rattle.std.specs.Io.KnownBytes.{Appends}
 use Rattle.std.proofs.lemmas.Bool.{false≢true}
 use Rattle.std.proofs.lemmas.List.{append-nil}
+use Rattle.admit_core.specs.DossierRows.{DossierRows}
+use Rattle.admit_core.specs.Standing.{dossier_of}
 use Rattle.admit_core.specs.declared.refusal.InFault.{InFault}
 use Rattle.admit_core.specs.declared.refusal.InFault.TheVariants as faults
 use Rattle.admit_core.specs.declared.refusal.Refusal.{Refusal}
@@ -12,12 +14,14 @@ use Rattle.shelf_io.specs.Bytes.{AppendsPrefix}
 use Rattle.dossier_check.specs.Outcome.{AnswersFault}
 use Rattle.replay_cli.specs.Input.{HasCause, faultless}
 use Rattle.replay_cli.specs.Modes.{slots_of}
+use Rattle.replay_cli.specs.OrderText.{IsOrdersText}
 use Rattle.replay_cli.specs.Outcome.{GivesReply, IsEnd, IsEndOf, IsEnding, IsOutcome, IsStoppedBy, IsWhole, NamesFault, TellsNone, WritesPart, asks_nobody, is_answer}
 use Rattle.replay_cli.specs.Picks.{Picks, Told, no_picks, three}
 use Rattle.replay_cli.specs.Replay.{Job}
 use Rattle.replay_cli.specs.Stops.{◌>>=◌, IsOfWords, Stopped, exit_of, stop_of, stop_text}
 use Rattle.replay_cli.specs.declared.exit.Exit.{Exit}
 use Rattle.replay_cli.specs.declared.exit.Exit.TheVariants as exits
+use Rattle.replay_cli.specs.declared.request.Mode.TheVariants as modes
 use Rattle.replay_cli.specs.declared.request.Request.{Request}
 use Rattle.replay_cli.specs.declared.stop.Stop.{Stop}
 use Rattle.replay_cli.specs.declared.stop.Stop.TheVariants as stops
@@ -29,6 +33,19 @@ told_none before after same = record {
   last = ap (λ p. p.last) same ∙ sym (append-nil before.last);
   turn = ap (λ p. p.turn) same ∙ sym (append-nil before.turn);
 }
+
+-- the mode `order` asks no picker
+pub order_ends : (request : Request) (t : Tables) (d : DossierRows) (before : Picks) (text : List ℕ) → request.mode ≡ modes.Order → d ≡ dossier_of t → IsOrdersText d.groups text
+    → (picks : Picks) × IsEndOf request.mode (record { request = request; tables = t }) exits.Done picks text × Told before before picks
+order_ends request t d before text is same orders =
+    rw is (no_picks, (refl, refl, subst (λ (x : DossierRows). IsOrdersText x.groups text) same orders), told_none before before refl)
+
+-- the mode `replay`
+pub replay_ends : {X E : Type 0} (exit : X → Exit) (text : X → List ℕ) (AreTold : Picks → Type 0) (request : Request) (job : Job) (r : Result X E) → request.mode ≡ modes.Replay
+    → IfOk r (λ x. (picks : Picks) × IsEndOf modes.Replay job (exit x) picks (text x) × AreTold picks)
+    → IfOk r (λ x. (picks : Picks) × IsEndOf request.mode job (exit x) picks (text x) × AreTold picks)
+replay_ends exit text AreTold request job (Ok x) is ends = rw is ends
+replay_ends exit text AreTold request job (Err e) is ends = tt
 
 -- the first fault of tables is what a run over them stops with
 pub stops_at_fault : (A : Type 0) {X : Type 0} (exit : X → Exit) (text : X → List ℕ) (AreTold : Picks → Type 0) (fault : InFault) (tables : Tables) (job : Tables → Result Job Stop)

@@ -1,11 +1,13 @@
 //! One run of the program, over any shelf and any sink.
 ghost use Rattle.std.specs.Prelude.{◌≡◌, ◌≢◌, ◌⊎◌, ◌↔◌, ◌≤◌, ℕ, Contains, List, [], IsErr, IsErrAnd, IsOk, IfErr, IfOk, IsSome, IsTrue, MatchResult, OnErr, OnOk, Some, map, option_map, string_bytes};
 ghost use Rattle.std.specs.Io.KnownBytes.{Appends};
+ghost use Rattle.admit_core.specs.Standing.{dossier_of};
 ghost use Rattle.admit_core.specs.declared.slot.Slot.{Slot};
+ghost use Rattle.admit_core.specs.declared.tables.Tables.{Tables};
 ghost use Rattle.shelf_io.specs.Faults.{NoneFell, Rose};
 ghost use Rattle.replay_cli.specs.Input.{HasCause, Tells};
 ghost use Rattle.replay_cli.specs.Modes.{IsRead, slots_of};
-ghost use Rattle.replay_cli.specs.Outcome.{GivesReply, IsEnding, IsOutcome, IsStoppedBy, IsWhole, NamesFault, RunsNoDay, TellsNone, WritesPart, accepted, asks_nobody, is_answer, job_of};
+ghost use Rattle.replay_cli.specs.Outcome.{GivesReply, IsEndOf, IsEnding, IsOutcome, IsStoppedBy, IsWhole, NamesFault, RunsNoDay, TellsNone, WritesPart, accepted, asks_nobody, is_answer, job_of};
 ghost use Rattle.replay_cli.specs.Picks.{Picks, Told, three, three_of};
 ghost use Rattle.replay_cli.specs.Request.{IsRequest, request_of};
 ghost use Rattle.replay_cli.specs.Stops as Stops;
@@ -21,11 +23,36 @@ use crate::request::{Mode, Request};
 use crate::stop::Stop;
 use crate::tables::read_tables;
 use crate::words::read_request;
-use admit_core::OutOfMemory;
+use admit_core::{Dossier, OutOfMemory};
 use bar_fixpoint::Picker;
 use dossier_check::check;
 use shelf_io::{IoRefusal, Shelf, Sink, write_all};
 use std::alloc::Global;
+
+/// Does what the mode says.
+fn run_mode(
+    alloc: Global,
+    request: &Request,
+    dossier: &Dossier,
+    first: &mut dyn Picker,
+    last: &mut dyn Picker,
+    turn: &mut dyn Picker,
+) -> Result<Reply, OutOfMemory>
+    requires { IsRequest request.now }
+    ensures ending { IfOk result (λ reply. IsEnding reply.exit) }
+    ensures ends { (t : Tables) → dossier.now ≡ dossier_of t → IfOk result (λ reply. (picks : Picks)
+        × IsEndOf request.now.mode (record { request = request.now; tables = t }) reply.exit picks reply.text.items
+        × Told (three (told first.old) (told last.old) (told turn.old)) (three (told first.new) (told last.new) (told turn.new)) picks) }
+    ensures no_day { request.now.mode ≡ modes.Order → (three (told first.new) (told last.new) (told turn.new)) ≡ (three (told first.old) (told last.old) (told turn.old)) }
+{
+    match request.mode {
+        Mode::Order => Ok(Reply {
+            exit: Exit::Done,
+            text: order_report(alloc, dossier)?,
+        }),
+        Mode::Replay => replay(alloc, dossier, request, first, last, turn),
+    }
+}
 
 /// Reads the slots that are asked for, checks their tables, and does what the mode says.
 #[tactic(auto, unfolding(crate::specs::Input::accepted_tables))]
@@ -51,13 +78,14 @@ fn run_request<S: Shelf>(
 {
     let tables = read_tables(alloc, shelf, request.mode)?;
     let checked = check(alloc, &tables)?;
-    match request.mode {
-        Mode::Order => Ok(Reply {
-            exit: Exit::Done,
-            text: order_report(alloc, &checked.dossier)?,
-        }),
-        Mode::Replay => Ok(replay(alloc, &checked.dossier, request, first, last, turn)?),
-    }
+    Ok(run_mode(
+        alloc,
+        request,
+        &checked.dossier,
+        first,
+        last,
+        turn,
+    )?)
 }
 
 /// What a run answers, or why it stops before.
