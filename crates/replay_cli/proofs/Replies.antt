@@ -1,5 +1,6 @@
 -- What a run answers where it stops, and what it has written where it is cut off.
 use Rattle.std.proofs.Common.{◌≡◌, ◌⊎◌, ◌↔◌, ◌∙◌, ℕ, List, Option, Some, Result, Ok, Err, IfErr, IfOk, IsErr, IsErrAnd, IsOkAnd, IsTrue, MatchResult, ap, inl, inr, refl, subst, sym}
+use Rattle.std.specs.Prelude.{⊤}
 use Rattle.std.specs.Io.KnownBytes.{Appends}
 use Rattle.std.proofs.lemmas.Bool.{false≢true}
 use Rattle.std.proofs.lemmas.List.{append-nil}
@@ -133,6 +134,11 @@ ending_asks exits.WriteFault is t = is
 ending_asks exits.NoMemory is t = is
 ending_asks exits.NotProved is t = is
 ending_asks exits.NoSuchWish is t = is
+
+-- a job comes about of good words alone
+pub ending_bad : (Untouched : Type 0) (request : Result Request Stop) (exit : Exit) → IsEnding exit → MatchResult request (λ _. ⊤) (λ _. ⊥ × Untouched) → (exit ≡ exits.BadWords) ↔ IsErr request
+ending_bad Untouched (Ok request) exit ends good = (λ e. absurd (subst IsEnding e ends), λ t. absurd (false≢true t))
+ending_bad Untouched (Err bad) exit ends good = absurd good.0
 
 -- what a run stops with: what has its cause, or that its words are bad, and then nothing was touched
 abbrev pub StopsBy : {X : Type 0} → Result X Stop → Result Request Stop → (Slot → Option (List ℕ)) → (Slot → ℕ) → (Slot → ℕ) → Type 0 → Type 0
