@@ -1,5 +1,5 @@
 -- What a run answers where it stops, and what it has written where it is cut off.
-use Rattle.std.proofs.Common.{◌≡◌, ◌⊎◌, ◌↔◌, ◌∙◌, ℕ, List, Option, Some, Result, Ok, Err, IfErr, IfOk, IsErr, IsErrAnd, IsOkAnd, IsTrue, MatchResult, ap, inl, inr, refl, subst, sym}
+use Rattle.std.proofs.Common.{◌≡◌, ◌⊎◌, ◌↔◌, ◌∙◌, ℕ, List, [], Option, Some, Result, Ok, Err, IfErr, IfOk, IsErr, IsErrAnd, IsOkAnd, IsTrue, MatchResult, ap, inl, inr, refl, subst, sym}
 use Rattle.std.specs.Prelude.{⊤}
 use Rattle.std.specs.Io.KnownBytes.{Appends}
 use Rattle.std.proofs.lemmas.Bool.{false≢true}
@@ -207,3 +207,32 @@ whole_of_reply words slots before after exit text bytes old new outcome same wri
     let P : List ℕ → Type 0 = λ line. Appends old new line in
     let o = outcome answers in
     (o.0, text, o.1, o.2, subst P same written)
+
+-- the same of pickers that are named otherwise
+pub outcome_told : (words : List (List ℕ)) (slots : Slot → List ℕ) (exit : Exit) (old new : Option (List ℕ)) (before after before' after' : Picks)
+    → (picks : Picks) × (text : List ℕ) × IsOutcome words slots exit picks text × Told before after picks × Appends old new text
+    → before ≡ before' → after ≡ after'
+    → (picks : Picks) × (text : List ℕ) × IsOutcome words slots exit picks text × Told before' after' picks × Appends old new text
+outcome_told words slots exit old new before after before' after' fact one two =
+    let P : Picks → Picks → Type 0 = λ p q. (picks : Picks) × (text : List ℕ) × IsOutcome words slots exit picks text × Told p q picks × Appends old new text in
+    subst (λ p. P p after') one (subst (λ q. P before q) two fact)
+
+pub part_told : (words : List (List ℕ)) (slots : Slot → List ℕ) (IsFaultLine : List ℕ → Type 0) (old new : Option (List ℕ)) (before after before' after' : Picks)
+    → WritesPart old new (IsWhole words slots IsFaultLine (Told before after)) → before ≡ before' → after ≡ after'
+    → WritesPart old new (IsWhole words slots IsFaultLine (Told before' after'))
+part_told words slots IsFaultLine old new before after before' after' fact one two =
+    let P : Picks → Picks → Type 0 = λ p q. WritesPart old new (IsWhole words slots IsFaultLine (Told p q)) in
+    subst (λ p. P p after') one (subst (λ q. P before q) two fact)
+
+pub memory_told : (words : List (List ℕ)) (slots : Slot → List ℕ) (IsFaultLine : List ℕ → Type 0) (old new : Option (List ℕ)) (before after before' after' : Picks)
+    → Appends old new [] ⊎ WritesPart old new (IsWhole words slots IsFaultLine (Told before after)) → before ≡ before' → after ≡ after'
+    → Appends old new [] ⊎ WritesPart old new (IsWhole words slots IsFaultLine (Told before' after'))
+memory_told words slots IsFaultLine old new before after before' after' fact one two =
+    let P : Picks → Picks → Type 0 = λ p q. Appends old new [] ⊎ WritesPart old new (IsWhole words slots IsFaultLine (Told p q)) in
+    subst (λ p. P p after') one (subst (λ q. P before q) two fact)
+
+pub along : {A : Type 0} (x y : A) → x ≡ y → (f : A → List ℕ) → f x ≡ f y
+along x y same f = ap f same
+
+pub three_same : (a b c a' b' c' : List ℕ) → a ≡ a' → b ≡ b' → c ≡ c' → three a b c ≡ three a' b' c'
+three_same a b c a' b' c' one two other = ap (λ x. three x b c) one ∙ ap (λ x. three a' x c) two ∙ ap (λ x. three a' b' x) other
