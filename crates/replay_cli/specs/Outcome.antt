@@ -85,7 +85,7 @@ asks_nobody BadWords = true
 asks_nobody ReadFault = true
 asks_nobody WriteFault = false
 asks_nobody NoMemory = false
-asks_nobody NotProved = false
+asks_nobody NotProved = true
 asks_nobody NoSuchWish = true
 
 -- the modes that run no day
