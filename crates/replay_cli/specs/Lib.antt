@@ -3,5 +3,8 @@ pub mod Input
 pub mod Modes
 pub mod OrderText
 pub mod Outcome
+pub mod Picks
+pub mod Played
+pub mod Replay
 pub mod Request
 pub mod Stops

@@ -1,5 +1,5 @@
 -- What the words after the program's name ask for.
-use Rattle.std.specs.Prelude.{ℕ, ◌&&◌, List, [], ◌∷◌, Option, Some, None, Result, Ok, Err, codes, nat_le, option_map, unwrap_or, if◌then◌else◌, ℤ}
+use Rattle.std.specs.Prelude.{ℕ, ◌&&◌, List, [], ◌∷◌, ◌≡◌, ◌≤◌, Bool, true, false, Option, Some, None, Result, Ok, Err, codes, nat_le, option_map, unwrap_or, if◌then◌else◌, ℤ}
 use Rattle.std.specs.Option.{ok_or, option_and_then}
 use Rattle.admit_core.specs.declared.dossier.TheConstants.{MAX_DAY, MAX_NUMBER}
 use Rattle.calendar.specs.Dates.{date_of}
@@ -10,18 +10,19 @@ use Rattle.replay_cli.specs.Command.{parcours}
 use Rattle.replay_cli.specs.Stops.{◌>>=◌}
 use Rattle.replay_cli.specs.declared.request.Deadlines.{Deadlines}
 use Rattle.replay_cli.specs.declared.request.Mode.{Mode}
-use Rattle.replay_cli.specs.declared.request.Mode.TheVariants.{Order}
+use Rattle.replay_cli.specs.declared.request.Mode.TheVariants.{Order, Replay}
 use Rattle.replay_cli.specs.declared.request.PickerChoice.{PickerChoice}
-use Rattle.replay_cli.specs.declared.request.PickerChoice.TheVariants.{First, Last, Turn, Each}
+use Rattle.replay_cli.specs.declared.request.PickerChoice.TheVariants.{Same, Each}
+use Rattle.replay_cli.specs.declared.request.PickerName.TheVariants.{First, Last, Turn}
 use Rattle.replay_cli.specs.declared.request.Request.{Request}
 use Rattle.replay_cli.specs.declared.stop.Stop.{Stop}
 use Rattle.replay_cli.specs.declared.stop.Stop.TheVariants.{BadWords}
 
 abbrev pub mode_named : Text → Option Mode
-mode_named = choice ((codes "order", Order) ∷ [])
+mode_named = choice ((codes "order", Order) ∷ (codes "replay", Replay) ∷ [])
 
 abbrev pub picker_named : Text → Option PickerChoice
-picker_named = choice ((codes "first", First) ∷ (codes "last", Last) ∷ (codes "turn", Turn) ∷ (codes "each", Each) ∷ [])
+picker_named = choice ((codes "first", Same First) ∷ (codes "last", Same Last) ∷ (codes "turn", Same Turn) ∷ (codes "each", Each) ∷ [])
 
 -- a number within limits
 abbrev pub between : ℕ → ℕ → Option ℕ → Option ℕ
@@ -47,7 +48,7 @@ number_option name least most rows = given (λ text. between least most (number_
 unfoldable pub picker_option : List Row → Result PickerChoice Stop
 picker_option rows = do
   picker ← given picker_named (first_of (codes "picker") rows)
-  Ok (unwrap_or picker First)
+  Ok (unwrap_or picker (Same First))
 
 unfoldable pub start_option : List Row → Result (Option ℤ) Stop
 start_option rows = given (λ text. in_start_years (date_in text)) (first_of (codes "start") rows)
@@ -64,6 +65,20 @@ deadlines_option rows = do
   term ← number_option (codes "term") 0 MAX_DAY rows
   deadlines_with start term
 
+-- days of offers that lapse are not run yet: the mode `replay` takes no deadlines
+abbrev pub is_run : Mode → Option Deadlines → Bool
+is_run Order deadlines = true
+is_run Replay None = true
+is_run Replay (Some deadlines) = false
+
+abbrev pub if_run : Request → Result Request Stop
+if_run request = if is_run request.mode request.deadlines then Ok request else Err BadWords
+
+-- what is known of a request that was read
+pub record IsRequest (request : Request) : Type 0 where
+  pub days : request.days ≤ MAX_DAY
+  pub undated : request.mode ≡ Replay → request.deadlines ≡ None
+
 -- each value is tested, whether or not the mode uses its option
 unfoldable pub request_in : List Row → Result Request Stop
 request_in rows = do
@@ -74,7 +89,7 @@ request_in rows = do
   picker ← picker_option rows
   number ← number_option (codes "number") 1 1000000 rows
   deadlines ← deadlines_option rows
-  Ok (record { mode = mode; days = unwrap_or days 1; wish = wish; school = school; picker = picker; number = number; deadlines = deadlines })
+  if_run (record { mode = mode; days = unwrap_or days 1; wish = wish; school = school; picker = picker; number = number; deadlines = deadlines })
 
 -- the words are bad where the command has a fault to name
 abbrev pub where_sound : {A : Type 0} → Kinds → Result A Stop → Result A Stop

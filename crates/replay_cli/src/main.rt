@@ -5,6 +5,9 @@
 mod command;
 mod exit;
 mod orders;
+mod pickers;
+mod replay;
+mod reply;
 mod request;
 mod run;
 mod stop;
@@ -14,6 +17,8 @@ mod tests;
 mod words;
 
 use crate::exit::Exit;
+use crate::pickers::Pickers;
+use bar_fixpoint::{FirstPicker, LastPicker, TurnPicker};
 use shelf_io::{DirShelf, StdSink};
 use std::alloc::AllocError;
 use std::process::ExitCode;
@@ -38,15 +43,25 @@ fn words_of(rt: &HostRuntime) -> Result<Vec<String>, AllocError> {
     Ok(words)
 }
 
-fn main(rt: HostRuntime) -> ExitCode {
-    let exit = match words_of(&rt) {
-        Ok(words) => run::run(
-            rt.alloc(),
-            &words,
-            &mut DirShelf::new(rt),
-            &mut StdSink::new(rt),
-        ),
-        Err(_) => Exit::NoMemory,
+/// Runs the program with the words that it was given, and three new pickers.
+fn start(rt: HostRuntime) -> Result<Exit, AllocError> {
+    let alloc = rt.alloc();
+    let words = words_of(&rt)?;
+    let mut pickers = Pickers {
+        first: Some(Box::new(alloc, FirstPicker::new(alloc))?),
+        last: Some(Box::new(alloc, LastPicker::new(alloc))?),
+        turn: Some(Box::new(alloc, TurnPicker::new(alloc))?),
     };
+    Ok(run::run(
+        alloc,
+        &words,
+        &mut DirShelf::new(rt),
+        &mut StdSink::new(rt),
+        &mut pickers,
+    ))
+}
+
+fn main(rt: HostRuntime) -> ExitCode {
+    let exit = start(rt).unwrap_or(Exit::NoMemory);
     ExitCode::from(exit as u8)
 }

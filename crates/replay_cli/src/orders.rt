@@ -8,7 +8,7 @@ use report::order_text;
 use std::alloc::Global;
 
 /// The lines of all groups, in file order.
-fn orders_text(
+pub(crate) fn orders_text(
     alloc: Global,
     groups: &[RankGroup],
     orders: &[CallOrder],

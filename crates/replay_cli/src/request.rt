@@ -7,17 +7,26 @@ use calendar::Civil;
 pub enum Mode {
     /// Writes the call orders of all groups.
     Order,
+    /// Writes the call orders, the days that are run, and the final state.
+    Replay,
 }
 
-/// Which picker chooses the school that falls.
+/// A picker, which chooses the overfilled school that falls.
+#[derive(Clone, Copy, Debug, PartialEq, Eq)]
+pub enum PickerName {
+    /// Chooses the school of least place.
+    First,
+    /// Chooses the school of greatest place.
+    Last,
+    /// Chooses the next school after the one that fell before.
+    Turn,
+}
+
+/// Which picker each day has.
 #[derive(Clone, Copy, Debug, PartialEq, Eq)]
 pub enum PickerChoice {
-    /// The overfilled school of least place, on each day.
-    First,
-    /// The one of greatest place, on each day.
-    Last,
-    /// The next one after the school that fell before, on each day.
-    Turn,
+    /// The same on all days.
+    Same(PickerName),
     /// The first, the last and the next in turn, from day to day.
     Each,
 }

@@ -26,6 +26,17 @@ fn slots_of(mode: Mode) -> &'static [Slot]
 {
     match mode {
         Mode::Order => &[Slot::Groups, Slot::Rankings],
+        Mode::Replay => &[
+            Slot::Groups,
+            Slot::Programmes,
+            Slot::Schools,
+            Slot::Rankings,
+            Slot::Boarding,
+            Slot::Wishes,
+            Slot::State,
+            Slot::Ceilings,
+            Slot::Answers,
+        ],
     }
 }
 

@@ -1,13 +1,13 @@
 //! The words after the program's name.
-ghost use Rattle.std.specs.Prelude.{◌≡◌, ◌≢◌, IfErr, IfOk, codes, map, option_map, string_bytes};
+ghost use Rattle.std.specs.Prelude.{◌≡◌, ◌≢◌, ◌≤◌, IfErr, IfOk, IfSome, codes, map, option_map, string_bytes, unwrap_or};
 ghost use Rattle.clap.specs.Words.{first_of, found_of, rows_of};
 ghost use Rattle.dossier_csv.specs.Columns.{number_of};
 ghost use Rattle.calendar.specs.Texts.{date_in};
-ghost use Rattle.replay_cli.specs.Request.{between, deadlines_option, deadlines_with, in_start_years, mode_named, mode_option, named_words, number_option, picker_named, picker_option, request_in, request_of, request_of_named, start_option};
+ghost use Rattle.replay_cli.specs.Request.{IsRequest, between, deadlines_option, deadlines_with, if_run, in_start_years, is_run, mode_named, mode_option, named_words, number_option, picker_named, picker_option, request_in, request_of, request_of_named, start_option};
 ghost use Rattle.replay_cli.specs.Stops.{Gives, IsOfWords};
 
 use crate::command::parse;
-use crate::request::{Deadlines, Mode, PickerChoice, Request};
+use crate::request::{Deadlines, Mode, PickerChoice, PickerName, Request};
 use crate::stop::Stop;
 use admit_core::{MAX_DAY, MAX_NUMBER};
 use calendar::{Civil, parts, read_date};
@@ -22,6 +22,7 @@ fn mode_named(text: &str) -> Option<Mode>
 {
     match text {
         "order" => Some(Mode::Order),
+        "replay" => Some(Mode::Replay),
         _ => None,
     }
 }
@@ -31,9 +32,9 @@ fn picker_named(text: &str) -> Option<PickerChoice>
     ensures { result ≡ picker_named text.now }
 {
     match text {
-        "first" => Some(PickerChoice::First),
-        "last" => Some(PickerChoice::Last),
-        "turn" => Some(PickerChoice::Turn),
+        "first" => Some(PickerChoice::Same(PickerName::First)),
+        "last" => Some(PickerChoice::Same(PickerName::Last)),
+        "turn" => Some(PickerChoice::Same(PickerName::Turn)),
         "each" => Some(PickerChoice::Each),
         _ => None,
     }
@@ -41,7 +42,8 @@ fn picker_named(text: &str) -> Option<PickerChoice>
 
 /// The number that a text writes, where it is in the range.
 fn number_between(text: &str, least: u32, most: u32) -> Option<u32>
-    ensures { result ≡ between least most (number_of text.now) }
+    ensures value { result ≡ between least most (number_of text.now) }
+    ensures range { IfSome result (λ number. number ≤ most) }
 {
     let number = number_of(text.as_bytes())?;
     if u64::from(least) <= number && number <= u64::from(most) {
@@ -92,6 +94,7 @@ fn number_option(
     most: u32,
 ) -> Result<Option<u32>, Stop>
     ensures value { result ≡ number_option id.now least most (rows_of (found_of matches.now)) }
+    ensures range { IfOk result (λ number. IfSome number (λ n. n ≤ most)) }
     ensures kinds { IfErr result IsOfWords }
 {
     match value_of(matches, id) {
@@ -110,7 +113,7 @@ fn picker_option(matches: &ArgMatches<'_>) -> Result<PickerChoice, Stop>
     ensures kinds { IfErr result IsOfWords }
 {
     match value_of(matches, "picker") {
-        None => Ok(PickerChoice::First),
+        None => Ok(PickerChoice::Same(PickerName::First)),
         Some(text) => picker_named(text).ok_or(Stop::BadWords),
     }
 }
@@ -155,15 +158,53 @@ fn deadlines_option(matches: &ArgMatches<'_>) -> Result<Option<Deadlines>, Stop>
 /// The most candidates of a sample.
 const MAX_SAMPLE: u32 = 1_000_000;
 
+/// Whether the mode runs with these deadlines: days of offers that lapse are not run yet.
+fn is_run(mode: Mode, deadlines: Option<Deadlines>) -> bool
+    ensures { result ≡ is_run mode deadlines }
+{
+    match (mode, deadlines) {
+        (Mode::Order, _) => true,
+        (Mode::Replay, None) => true,
+        (Mode::Replay, Some(_)) => false,
+    }
+}
+
+/// The request, where it can be run.
+fn if_run(request: Request) -> Result<Request, Stop>
+    requires { request.days ≤ 366 }
+    ensures value { result ≡ if_run request }
+    ensures known { IfOk result IsRequest }
+    ensures kinds { IfErr result IsOfWords }
+{
+    if is_run(request.mode, request.deadlines) {
+        Ok(request)
+    } else {
+        Err(Stop::BadWords)
+    }
+}
+
+/// How many days are run; 1 where it is not given.
+fn days_of(days: Option<u32>) -> u32
+    requires { IfSome days (λ n. n ≤ 366) }
+    ensures value { result ≡ unwrap_or days 1 }
+    ensures range { result ≤ 366 }
+{
+    match days {
+        Some(days) => days,
+        None => 1,
+    }
+}
+
 /// What the matches of the command ask for.
 #[tactic(auto, unfolding(crate::specs::Request::request_in))]
 fn request_in(matches: &ArgMatches<'_>) -> Result<Request, Stop>
     ensures value { result ≡ request_in (rows_of (found_of matches.now)) }
+    ensures known { IfOk result IsRequest }
     ensures kinds { IfErr result IsOfWords }
 {
-    Ok(Request {
+    if_run(Request {
         mode: mode_option(matches)?,
-        days: number_option(matches, "days", 1, MAX_DAY)?.unwrap_or(1),
+        days: days_of(number_option(matches, "days", 1, MAX_DAY)?),
         wish: number_option(matches, "wish", 1, MAX_NUMBER)?,
         school: number_option(matches, "school", 1, MAX_NUMBER)?,
         picker: picker_option(matches)?,
@@ -186,6 +227,7 @@ fn stop_of(kind: ErrorKind) -> Stop
 /// What the words ask for, the program's name first.
 fn read_named(alloc: Global, words: &[&str]) -> Result<Request, Stop>
     ensures value { Gives (λ request. request) result (request_of_named (map (λ s. s.now) words.now)) }
+    ensures known { IfOk result IsRequest }
     ensures kinds { IfErr result IsOfWords }
 {
     match parse(alloc, words) {
@@ -209,6 +251,7 @@ fn with_name<'a>(alloc: Global, words: &'a [String]) -> Result<Vec<&'a str>, All
 /// What the words ask for: they are bad where the command refuses them or a value fails its test.
 pub(crate) fn read_request(alloc: Global, words: &[String]) -> Result<Request, Stop>
     ensures value { Gives (λ request. request) result (request_of (map string_bytes words.now)) }
+    ensures known { IfOk result IsRequest }
     ensures kinds { IfErr result IsOfWords }
 {
     match with_name(alloc, words) {

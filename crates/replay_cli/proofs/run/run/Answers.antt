@@ -1,15 +1,27 @@
-use Rattle.std.proofs.Common.{inr}
-use Rattle.replay_cli.proofs.Replies.{part_of_reply}
+use Rattle.std.proofs.Common.{refl}
+use Rattle.replay_cli.proofs.Replies.{along, memory_told, outcome_told, part_told, three_same}
 use Rattle.replay_cli.proofs.run.run.Goals as goal
 
-pub returns-in-Err-Failed-clause-cut_off : goal.returns-in-Err-Failed-clause-cut_off
-returns-in-Err-Failed-clause-cut_off g c =
-    λ slots tells _.
-    let reply = c.in-Ok.reply in
-    part_of_reply _ _ _ _ slots reply.exit reply.text.items c.deref.result.now _ _ (c.in-Ok.ensures.outcome slots tells) c.in-Ok.ensures.kinds c.deref.ensures.value c.in-Err-Failed.ensures.prefix
+pub returns-clause-outcome : goal.returns-clause-outcome
+returns-clause-outcome g c =
+    λ slots tells is.
+    rw (← c.in-Some.ensures.value, ← c.in-Some-take.ensures.value, ← c.in-Some-take-2.ensures.value)
+    (outcome_told _ slots _ _ _ _ _ _ _ (c.run_lent-exit.ensures.outcome slots tells is)
+    (three_same _ _ _ _ _ _ (along _ _ c.deref_box_mut-1.ensures.value.1 (λ v. (goal.Picker-dyn g v).told v.1)) (along _ _ c.deref_box_mut-2.ensures.value.1 (λ v. (goal.Picker-dyn g v).told v.1))
+    (along _ _ c.deref_box_mut-3.ensures.value.1 (λ v. (goal.Picker-dyn g v).told v.1))) refl)
+
+pub returns-clause-cut_off : goal.returns-clause-cut_off
+returns-clause-cut_off g c =
+    λ slots tells is.
+    rw (← c.in-Some.ensures.value, ← c.in-Some-take.ensures.value, ← c.in-Some-take-2.ensures.value)
+    (part_told _ slots _ _ _ _ _ _ _ (c.run_lent-exit.ensures.cut_off slots tells is)
+    (three_same _ _ _ _ _ _ (along _ _ c.deref_box_mut-1.ensures.value.1 (λ v. (goal.Picker-dyn g v).told v.1)) (along _ _ c.deref_box_mut-2.ensures.value.1 (λ v. (goal.Picker-dyn g v).told v.1))
+    (along _ _ c.deref_box_mut-3.ensures.value.1 (λ v. (goal.Picker-dyn g v).told v.1))) refl)
 
 pub returns-clause-no_memory : goal.returns-clause-no_memory
 returns-clause-no_memory g c =
-    λ slots tells _.
-    let reply = c.in-Ok.reply in
-    inr (part_of_reply _ _ _ _ slots reply.exit reply.text.items c.deref.result.now _ _ (c.in-Ok.ensures.outcome slots tells) c.in-Ok.ensures.kinds c.deref.ensures.value c.in-Err-OutOfMemory.ensures.prefix)
+    λ slots tells is.
+    rw (← c.in-Some.ensures.value, ← c.in-Some-take.ensures.value, ← c.in-Some-take-2.ensures.value)
+    (memory_told _ slots _ _ _ _ _ _ _ (c.run_lent-exit.ensures.no_memory slots tells is)
+    (three_same _ _ _ _ _ _ (along _ _ c.deref_box_mut-1.ensures.value.1 (λ v. (goal.Picker-dyn g v).told v.1)) (along _ _ c.deref_box_mut-2.ensures.value.1 (λ v. (goal.Picker-dyn g v).told v.1))
+    (along _ _ c.deref_box_mut-3.ensures.value.1 (λ v. (goal.Picker-dyn g v).told v.1))) refl)
