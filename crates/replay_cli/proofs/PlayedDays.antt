@@ -67,7 +67,7 @@ picked_by-append choice name xs ys =
 grown : (a b c p q r : List ℕ) → r ≡ p ++ q → b ≡ a ++ p → c ≡ b ++ q → c ≡ a ++ r
 grown a b c p q r whole first then = rw (then, first, whole) (append_assoc a p q)
 
-told_more : (choice : PickerChoice) (days : List DayRecord) (day : DayRecord) (before mid after : Picks) → Told before mid (picks_of choice days) → Told mid after (picks_of choice (day ∷ []))
+pub told_more : (choice : PickerChoice) (days : List DayRecord) (day : DayRecord) (before mid after : Picks) → Told before mid (picks_of choice days) → Told mid after (picks_of choice (day ∷ []))
     → Told before after (picks_of choice (days ++ day ∷ []))
 told_more choice days day before mid after one two = record {
   first = grown before.first mid.first after.first (picked_by choice First days) (picked_by choice First (day ∷ [])) _ (picked_by-append choice First days (day ∷ [])) one.first two.first;
