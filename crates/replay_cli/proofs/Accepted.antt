@@ -3,7 +3,6 @@ use Rattle.std.proofs.Common.{◌≡◌, ◌≢◌, ◌∙◌, ℕ, List, [], Op
 use Rattle.admit_core.specs.DossierRows.{DossierRows}
 use Rattle.admit_core.specs.Relations.{first_fault}
 use Rattle.admit_core.specs.Standing.{answer_of_row, dossier_of}
-use Rattle.admit_core.specs.declared.refusal.Refusal.{Refusal}
 use Rattle.admit_core.specs.declared.slot.Slot.{Slot}
 use Rattle.admit_core.specs.declared.tables.Tables.{Tables}
 use Rattle.sample_gen.specs.Samples.{sample_tables}

@@ -155,11 +155,7 @@ fn read_slots<S: Shelf>(alloc: Global, shelf: &mut S, order: &[Slot]) -> Result<
 }
 
 /// The tables of the slots that a mode reads.
-fn read_tables<S: Shelf>(
-    alloc: Global,
-    shelf: &mut S,
-    mode: Mode,
-) -> Result<Tables, Stop>
+fn read_tables<S: Shelf>(alloc: Global, shelf: &mut S, mode: Mode) -> Result<Tables, Stop>
     ensures value { (slots : Slot → List ℕ) → Tells (S.left shelf.old) slots → Gives (λ tables. tables) result (tables_in (Modes.slots_of mode) slots) }
     ensures ranges { IfOk result AreTables }
     ensures taken { (slots : Slot → List ℕ) → Tells (S.left shelf.old) slots → OnOk result ((slot : Slot) → Contains (Modes.slots_of mode) slot → S.left shelf.new slot ≡ Some []) }

@@ -21,9 +21,9 @@ returns g c =
     λ t same.
     IfOk-weaker c.sample_text.result (λ text. text.items ≡ sample_text number wishes c.as_slice-2.result.now state) _
     (λ text is.
-      summary_is c.args.request.now orders t d _ _ _ _ days number wishes text.items same
-      (subst (λ (gs : List RankGroup). AreCallOrders gs orders) (c.as_slice.ensures ∙ groups) c.in_ok-orders.ensures)
-      c.in_ok-desk.ensures.present c.in_ok-days.ensures.days c.in_ok-days.ensures.picks
-      c.candidates_of-number.ensures.value (c.len-wishes.ensures ∙ ap (λ (x : DossierRows). length x.wishes) c.dossier.view_is)
-      (is ∙ ap (λ (ds : List DayRecord). sample_text number wishes ds state) c.as_slice-2.ensures.value ∙ ap (λ (s : State). sample_text number wishes days s) c.now.ensures))
+    summary_is c.args.request.now orders t d _ _ _ _ days number wishes text.items same
+    (subst (λ (gs : List RankGroup). AreCallOrders gs orders) (c.as_slice.ensures ∙ groups) c.in_ok-orders.ensures)
+    c.in_ok-desk.ensures.present c.in_ok-days.ensures.days c.in_ok-days.ensures.picks
+    c.candidates_of-number.ensures.value (c.len-wishes.ensures ∙ ap (λ (x : DossierRows). length x.wishes) c.dossier.view_is)
+    (is ∙ ap (λ (ds : List DayRecord). sample_text number wishes ds state) c.as_slice-2.ensures.value ∙ ap (λ (s : State). sample_text number wishes days s) c.now.ensures))
     c.sample_text.ensures
