@@ -64,6 +64,13 @@ impl<'d> CandidateIndex<'d> {
         })
     }
 
+    /// The places of all wishes by candidate.
+    pub fn order(&self) -> &[u32]
+        ensures { IsIndex self.now.wishes result.now }
+    {
+        self.order.as_slice()
+    }
+
     /// The places of a candidate's wishes, ascending. It searches for the candidate.
     pub fn of(&self, candidate: u32) -> &[u32]
         ensures { result.now ≡ own_places self.now candidate }

@@ -1,5 +1,5 @@
 use Rattle.day_state.proofs.FourWishes.{four_wishes_valid}
-use Rattle.day_state.proofs.tests.dossier.Goals as goal
+use Rattle.day_state.proofs.small_dossier.dossier.Goals as goal
 
 pub invariant_of-result : goal.invariant_of-result
 invariant_of-result c =
