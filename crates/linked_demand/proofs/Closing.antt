@@ -264,11 +264,6 @@ any_at q [] i x at t = absurd (omega (arith, slice_get_within [] i x at))
 any_at q (y ∷ xs) zero x at t = or_left (q y) (list_any q xs) (ap (λ o. q (unwrap_or o x)) at ∙ t)
 any_at q (y ∷ xs) (suc i) x at t = or_right (q y) (list_any q xs) (any_at q xs i x at t)
 
-pub map_at_place : {X : Type 0} (f : X → Bool) (xs : List X) (i : ℕ) (x : X) (d : Bool) → slice_get xs i ≡ Some x → get_or (map f xs) i d ≡ f x
-map_at_place f [] i x d at = absurd (omega (arith, slice_get_within [] i x at))
-map_at_place f (y ∷ xs) zero x d at = ap (λ o. f (unwrap_or o x)) at
-map_at_place f (y ∷ xs) (suc i) x d at = map_at_place f xs i x d at
-
 module _ {s : State} {orders : List CallOrder} {opens : List Bool} {lines : List LineRow} {claims : List (List (List ℕ))} {places : List ℕ} {sure : List Bool} {i : ℕ} {w : Wish}
     (k : Closes s orders opens lines claims places sure i w) where
   pub waits_in_programme : waits_in s w.programme w.candidate ≡ true

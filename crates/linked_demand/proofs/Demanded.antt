@@ -1,5 +1,5 @@
 -- The ranks that a row tells are the demanded ranks of its school.
-use Rattle.std.proofs.Common.{ℕ, ◌≤◌, ◌<◌, ◌≡◌, Bool, true, false, not, ◌&&◌, ◌||◌, List, [], ◌∷◌, map, inl, inr, refl, sym, ◌∙◌, arith, nat_eq, nat_lt, suc, get_or, filter, Some}
+use Rattle.std.proofs.Common.{ℕ, ◌≤◌, ◌<◌, ◌≡◌, Bool, true, false, not, ◌&&◌, ◌||◌, List, [], ◌∷◌, map, inl, inr, refl, sym, ◌∙◌, arith, nat_eq, nat_lt, suc, get_or, filter, Some, subst}
 use Rattle.std.specs.Prelude.{slice_get}
 use Rattle.std.specs.List.{list_any, AllByRecursion}
 use Rattle.std.proofs.lemmas.Bool.{cases_Bool, false≢true, cases_lt, and_parts, and_from, and_right, or_cases, eqb-true, eq-eqb, eqb-false, ne_eqb, ltb-true, lt-ltb}
@@ -101,7 +101,7 @@ same_bit true b f g = sym (f refl)
 same_bit false true f g = g refl
 same_bit false false f g = refl
 
-abbrev demands_at : State → List CallOrder → List ℕ → ℕ → ℕ → Wish × Mark → Bool
+abbrev pub demands_at : State → List CallOrder → List ℕ → ℕ → ℕ → Wish × Mark → Bool
 demands_at s orders bars h r e = demands_bed s orders bars h e.0 e.1 && nat_eq r e.0.board_rank
 
 module _ (l : LinksRow) (bars : List ℕ) (h : ℕ) (row : List RowWish) (right : IsRow l.state bars h row) (opens_are : l.opens ≡ opens_of l.state bars) where
@@ -112,9 +112,10 @@ module _ (l : LinksRow) (bars : List ℕ) (h : ℕ) (row : List RowWish) (right 
       rw opens_are (flag_map (λ (e : Wish × Mark). is_open l.state bars e.0 e.1) (entries l.state) i (w, m) waits.here) in
       proposed_at_is l i w m waits ∙ rw (flag, opens_are) (proposed_by_bars l.state l.orders bars w m)
 
-  told : (r : ℕ) → list_any (demands_at l.state l.orders bars h r) (entries l.state) ≡ true → (nat_lt 0 r && list_any (passes (is_proposed_at l) r) row) ≡ true
-  told r t =
-      let (k, e, at, both) = any_place (demands_at l.state l.orders bars h r) (entries l.state) t in
+  -- who demands a rank stands in the row, and passes there
+  pub demander : (r k : ℕ) (e : Wish × Mark) → slice_get (entries l.state) k ≡ Some e → demands_at l.state l.orders bars h r e ≡ true
+      → (j : ℕ) × (slice_get row j ≡ Some (record { rank = r; wish = k })) × (is_proposed_at l k ≡ true) × (0 < r)
+  demander r k e at both =
       let w = e.0 in
       let m = e.1 in
       let proposed = is_proposed l.state l.orders bars w m in
@@ -125,22 +126,37 @@ module _ (l : LinksRow) (bars : List ℕ) (h : ℕ) (row : List RowWish) (right 
       let opens = (and_parts (is_open l.state bars w m) (needs_no_seat l.state l.orders w || nat_lt (ahead l.state l.orders bars w) (seats_left l.state w.programme)) outer.1).0 in
       let waiting = (and_parts (is_waiting m) (not (is_barred l.state bars w m)) opens).0 in
       let waits : WaitsAt l.state k w m = record { here = at; waits = waiting } in
-      let x : RowWish = record { rank = w.board_rank; wish = k } in
-      let (j, found) = right.all x w m (record { waits = waits; has = inner.0; no_bed = middle.1; rank = refl }) (open_below l.state bars w m w.school h inner.0 middle.1 opens) in
       let same = eqb-true r w.board_rank demand.1 in
-      and_from (nat_lt 0 r) (list_any (passes (is_proposed_at l) r) row) (rw same inner.1)
-      (any_at (passes (is_proposed_at l) r) row j x found (and_from (is_proposed_at l k) (nat_eq r w.board_rank) (proposed_at_bars k w m waits ∙ outer.1) demand.1))
+      let x : RowWish = record { rank = r; wish = k } in
+      let low = open_below l.state bars w m w.school h inner.0 middle.1 opens in
+      let (j, found) = right.all x w m (record { waits = waits; has = inner.0; no_bed = middle.1; rank = same }) (omega (arith, same, low)) in
+      (j, found, proposed_at_bars k w m waits ∙ outer.1, omega (arith, same, ltb-true 0 w.board_rank inner.1))
+
+  told : (r : ℕ) → list_any (demands_at l.state l.orders bars h r) (entries l.state) ≡ true → (nat_lt 0 r && list_any (passes (is_proposed_at l) r) row) ≡ true
+  told r t =
+      let (k, e, at, both) = any_place (demands_at l.state l.orders bars h r) (entries l.state) t in
+      let (j, found, passed, some) = demander r k e at both in
+      let x : RowWish = record { rank = r; wish = k } in
+      and_from (nat_lt 0 r) (list_any (passes (is_proposed_at l) r) row) (lt-ltb 0 r some)
+      (any_at (passes (is_proposed_at l) r) row j x found (and_from (is_proposed_at l k) (nat_eq r r) passed (eq-eqb r r refl)))
+
+  -- who passes in the row demands the rank
+  pub demands_back : (j : ℕ) (x : RowWish) → slice_get row j ≡ Some x → is_proposed_at l x.wish ≡ true → 0 < x.rank
+      → (e : Wish × Mark) × (slice_get (entries l.state) x.wish ≡ Some e) × (demands_at l.state l.orders bars h x.rank e ≡ true)
+  demands_back j x at passed some =
+      let (w, m, waits) = right.each j x at in
+      let proposed = sym (proposed_at_bars x.wish w m waits.waits) ∙ passed in
+      ((w, m), waits.waits.here, rw (waits.has, waits.no_bed, proposed, eq-eqb x.rank w.board_rank waits.rank, ← waits.rank, lt-ltb 0 x.rank some) refl)
 
   untold : (r : ℕ) → (nat_lt 0 r && list_any (passes (is_proposed_at l) r) row) ≡ true → list_any (demands_at l.state l.orders bars h r) (entries l.state) ≡ true
   untold r t =
       let parts = and_parts (nat_lt 0 r) (list_any (passes (is_proposed_at l) r) row) t in
       let (j, x, at, passed) = any_place (passes (is_proposed_at l) r) row parts.1 in
-      let (w, m, waits) = right.each j x at in
       let pass = and_parts (is_proposed_at l x.wish) (nat_eq r x.rank) passed in
-      let rank : r ≡ w.board_rank = eqb-true r x.rank pass.1 ∙ waits.rank in
-      let proposed = sym (proposed_at_bars x.wish w m waits.waits) ∙ pass.0 in
-      any_at (demands_at l.state l.orders bars h r) (entries l.state) x.wish (w, m) waits.waits.here
-      (rw (waits.has, waits.no_bed, proposed, eq-eqb r w.board_rank rank, ← rank, parts.0) refl)
+      let same : r ≡ x.rank = eqb-true r x.rank pass.1 in
+      let (e, there, both) = demands_back j x at pass.0 (omega (arith, same, ltb-true 0 r parts.0)) in
+      let P = λ (n : ℕ). demands_at l.state l.orders bars h n e ≡ true in
+      any_at (demands_at l.state l.orders bars h r) (entries l.state) x.wish e there (subst P (sym same) both)
 
   -- the ranks that the row tells are the demanded ones
   pub ranks_told : counted (is_proposed_at l) 0 row ≡ demanded_ranks l.state l.orders bars h

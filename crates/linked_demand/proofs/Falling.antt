@@ -178,6 +178,7 @@ module _ (s : State) (bars : List ℕ) (h to : ℕ) (row kept : List RowWish) (a
       λ k x at. in_front row cut.end k x (rw is at at) in
       record {
         rises = λ j k x y jk a b. right.rises j k x y jk (was j x a).1 (was k y b).1;
+        in_order = λ j k x y jk a b same. right.in_order j k x y jk (was j x a).1 (was k y b).1 same;
         each = λ k x at. right.each k x (was k x at).1;
         below = λ k x at.
             rw now (elim (slice_get_cases row (cut.end - 1)).1 [
@@ -201,6 +202,7 @@ row_stays s bars h to g row other right =
     let kept : slice_index (slice_set bars h to) g ≡ slice_index bars g = get_or-set_other bars h g to 0 other in
     record {
       rises = right.rises;
+      in_order = right.in_order;
       each = right.each;
       below = λ k x at. omega (arith, kept, right.below k x at);
       all = λ x w m waits low. right.all x w m waits (omega (arith, kept, low));

@@ -3,7 +3,8 @@ use Rattle.std.proofs.Common.{ℕ, zero, suc, ◌+◌, ◌≤◌, ◌<◌, ◌�
 use Rattle.std.specs.Prelude.{◌⊎◌, slice_get, slice_index, All, if◌then◌else◌}
 use Rattle.std.specs.Option.{is_some}
 use Rattle.std.specs.List.{range_with_len, AllByRecursion}
-use Rattle.std.specs.List.Sorted.{IsPermutation, IsNonDecreasingBy}
+use Rattle.std.specs.List.Sorted.{IsPermutation, IsNonDecreasingBy, IsStableByKey}
+use Rattle.std.specs.Ordering.{nat_cmp}
 use Rattle.std.specs.declared.alloc.Global.{Global}
 use Rattle.std.proofs.Math.ListN.{set}
 use Rattle.std.proofs.lemmas.Bool.{cases_Bool, cases_eq, false≢true, eqb-true, eq-eqb, ne_eqb, and_parts, and_from, leb-true, le-leb, or_cases}
@@ -17,6 +18,8 @@ use Rattle.std.proofs.lemmas.Option.{slice_get_within, slice_get_read}
 use Rattle.admit_core.specs.declared.dossier.Wish.{Wish}
 use Rattle.admit_core.specs.declared.state.Mark.{Mark}
 use Rattle.admit_core.specs.Lists.{is_among}
+use Rattle.admit_core.proofs.Tests.{Ascends}
+use Rattle.day_state.proofs.Ordering.{stable_own}
 use Rattle.admit_core.specs.State.{State, entries, is_waiting, holds_bed, is_school}
 use Rattle.day_state.specs.Kept.{mark_in, wish_in}
 use Rattle.demand.proofs.Ranking.{picked, passed_over}
@@ -26,6 +29,7 @@ use Rattle.linked_demand.specs.Rows.{WaitsFor, IsRow, AreRows}
 use Rattle.linked_demand.specs.Filled.{waits_with_school, row_school, is_in_row, rank_in, row_wish, row_among, AreFilled, IsPutIn, AreEmpty, AreByRank}
 use Rattle.linked_demand.proofs.Closing.{wish_of}
 use Rattle.linked_demand.proofs.Keeping.{add_none}
+use Rattle.linked_demand.proofs.PlaceOrder.{InPlaceOrder, in_order_from, filter_in_order, in_place_order, ascends-filter, ascends-range}
 use Rattle.linked_demand.proofs.Lining.{all_get}
 use Rattle.linked_demand.proofs.RoundFalls.{get_set_here, get_set_other}
 
@@ -133,6 +137,16 @@ some_school : (o : Option ℕ) (h : ℕ) → is_school o h ≡ true → is_some 
 some_school None h t = absurd (false≢true t)
 some_school (Some g) h t = refl
 
+-- places in order by rank: those of one rank ascend
+by_place : (s : State) (places : List ℕ) → AreByRank s places → InPlaceOrder (rank_in s.dossier.wishes) places
+by_place s places by_rank =
+    let n = length s.dossier.wishes in
+    let waiting = filter (waits_with_school s) (range_with_len 0 n) in
+    in_order_from (rank_in s.dossier.wishes) places (λ r.
+    let P = λ (ks : List ℕ). Ascends ks in
+    subst P (sym (stable_own (rank_in s.dossier.wishes) waiting places by_rank.same by_rank.stable r))
+    (ascends-filter (λ k. nat_eq (rank_in s.dossier.wishes k) r) waiting (ascends-filter (waits_with_school s) (range_with_len 0 n) (ascends-range 0 n))))
+
 -- the row of a school that is filled in order by rank
 row_right : (s : State) (bars : List ℕ) (h : ℕ) (places : List ℕ) → length s.marks ≡ length s.dossier.wishes → AreByRank s places → IsRow s bars h (row_among s bars places h)
 row_right s bars h places long by_rank =
@@ -148,6 +162,12 @@ row_right s bars h places long by_rank =
           let (j_in, j_is) = map_read (row_wish ws) ys j x a in
           let (k_in, k_is) = map_read (row_wish ws) ys k y b in
           omega (arith, IsNonDecreasingBy-filter (rank_in ws) (is_in_row s bars h) places by_rank.rises j k 0 le k_in, ap (λ (z : RowWish). z.rank) j_is, ap (λ (z : RowWish). z.rank) k_is);
+      in_order = λ j k x y lt a b same.
+          let (j_in, j_is) = map_read (row_wish ws) ys j x a in
+          let (k_in, k_is) = map_read (row_wish ws) ys k y b in
+          let ranks : rank_in ws (get_or ys j 0) ≡ rank_in ws (get_or ys k 0) = ap (λ (z : RowWish). z.rank) j_is ∙ same ∙ sym (ap (λ (z : RowWish). z.rank) k_is) in
+          let below = in_place_order (rank_in ws) ys (filter_in_order (rank_in ws) (is_in_row s bars h) places (by_place s places by_rank)) j k lt k_in ranks in
+          omega (arith, below, ap (λ (z : RowWish). z.wish) j_is, ap (λ (z : RowWish). z.wish) k_is);
       each = λ k x at.
           let (k_in, is) = map_read (row_wish ws) ys k x at in
           let p = get_or ys k 0 in
@@ -271,14 +291,18 @@ filled_more s bars places i p school x rows new lt p_is school_is x_is filled pu
 
 -- places in order by rank
 pub by_rank : (s : State) (wishes : List Wish) (places sorted : List ℕ) → wishes ≡ s.dossier.wishes
-    → places ≡ filter (waits_with_school s) (range_with_len 0 (length s.dossier.wishes)) → IsPermutation places sorted → IsNonDecreasingBy (rank_in wishes) sorted → AreByRank s sorted
-by_rank s wishes places sorted wishes_are are moved rises =
+    → places ≡ filter (waits_with_school s) (range_with_len 0 (length s.dossier.wishes)) → IsPermutation places sorted → IsNonDecreasingBy (rank_in wishes) sorted
+    → IsStableByKey (rank_in wishes) nat_cmp places sorted → AreByRank s sorted
+by_rank s wishes places sorted wishes_are are moved rises stable =
     let n = length s.dossier.wishes in
     let P = λ (ks : List ℕ). IsPermutation ks sorted in
     let Q = λ (ws : List Wish). IsNonDecreasingBy (rank_in ws) sorted in
+    let R = λ (ks : List ℕ). IsStableByKey (rank_in wishes) nat_cmp ks sorted in
+    let S = λ (ws : List Wish). IsStableByKey (rank_in ws) nat_cmp (filter (waits_with_school s) (range_with_len 0 n)) sorted in
     let same : IsPermutation (filter (waits_with_school s) (range_with_len 0 n)) sorted = subst P are moved in
     record {
       within = All-permutation (λ k. k < n) (filter (waits_with_school s) (range_with_len 0 n)) sorted same (All-from_recursion (λ k. k < n) (filter (waits_with_school s) (range_with_len 0 n)) (all_below n (waits_with_school s) (range_with_len 0 n) (λ j d lt. omega (arith, get_or-range_with_len 0 n j d (omega (arith, lt, length-range_with_len 0 n)), lt, length-range_with_len 0 n))));
       same = same;
       rises = subst Q wishes_are rises;
+      stable = subst S wishes_are (subst R are stable);
     }

@@ -6,7 +6,9 @@ pub mod Falling
 pub mod Filling
 pub mod Keeping
 pub mod Lining
+pub mod Naming
 pub mod Opens
+pub mod PlaceOrder
 pub mod Putting
 pub mod Reach
 pub mod RoundFalls

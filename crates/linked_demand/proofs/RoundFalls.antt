@@ -14,8 +14,10 @@ use Rattle.linked_demand.specs.Rounds.{Round, IsRound}
 use Rattle.std.proofs.lemmas.List.FromFn.{get_or-map-range_with_len, length-map-range_with_len}
 use Rattle.admit_core.specs.State.{free_beds}
 use Rattle.admit_core.specs.Proposals.{demanded_ranks}
-use Rattle.linked_demand.specs.Demand.{is_proposed_at, counted}
+use Rattle.demand.specs.Demands.{demands_of}
+use Rattle.linked_demand.specs.Demand.{is_proposed_at, counted, firsts}
 use Rattle.linked_demand.proofs.Demanded.{ranks_told}
+use Rattle.linked_demand.proofs.Naming.{demands_told}
 use Rattle.linked_demand.proofs.Falling.{flags_fallen, row_fallen, row_stays}
 
 pub get_set_here : {X : Type 0} (xs : List X) (i : ℕ) (x y : X) → slice_get (set xs i x) i ≡ Some y → x ≡ y
@@ -96,3 +98,11 @@ seen_within links bars free rows ceilings seen right is h lt =
       omega (arith, within, right.rows_each),
       omega (arith, within, right.bars_each, ap length right.free_are, length-map-range_with_len (free_beds links.state) 0 (length links.state.dossier.schools)),
     )
+
+-- what the row tells are the demands of its school
+pub demands_right : (links : LinksRow) (bars free : List ℕ) (rows : List (Vec RowWish Global)) → IsRound links bars free rows
+    → (h : ℕ) → h < length bars → (row : Vec RowWish Global) → row ≡ get_or rows h row → (items : List RowWish) → items ≡ row.items
+    → firsts (is_proposed_at links) 0 items ≡ demands_of links.state links.orders bars h
+demands_right links bars free rows right h within row read items items_is =
+    let found : slice_get rows h ≡ Some row = slice_get_read rows (length rows) h row refl (omega (arith, within, right.rows_each)) read in
+    rw items_is (demands_told links bars h row.items (right.rows_are h row found) right.opens_are)

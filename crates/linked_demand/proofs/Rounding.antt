@@ -45,24 +45,6 @@ opens_by_place s bars n flags long are n_is =
 pub length-opens_of : (s : State) (bars : List ℕ) → length s.marks ≡ length s.dossier.wishes → length (opens_of s bars) ≡ length s.dossier.wishes
 length-opens_of s bars long = length-map (entries s) (λ (e : Wish × Mark). is_open s bars e.0 e.1) ∙ length_entries s.dossier.wishes s.marks long
 
--- a round that is built
-pub round_built : (s : State) (orders : List CallOrder) (links : LinksRow) (ceilings free : List ℕ) (rows : List (Vec RowWish Global))
-    → links ≡ record { state = s; orders = orders; opens = opens_of s ceilings } → length s.marks ≡ length s.dossier.wishes → length ceilings ≡ length s.dossier.schools
-    → free ≡ map (free_beds s) (range_with_len 0 (length s.dossier.schools)) → AreRows s ceilings rows → IsRoundUnder links ceilings ceilings free rows
-round_built s orders links ceilings free rows is long each free_are rows_are =
-    let P = λ (l : LinksRow). IsRoundUnder l ceilings ceilings free rows in
-    subst P (sym is) (record {
-      round = record {
-        marks_each = long;
-        bars_each = each;
-        free_are = free_are;
-        rows_each = rows_are.one_each ∙ sym each;
-        opens_are = refl;
-        rows_are = rows_are.each;
-      };
-      ceilings_each = each;
-    })
-
 module _ (links : LinksRow) (ceilings bars free : List ℕ) (rows : List (Vec RowWish Global)) (seen : Round) (right : IsRoundUnder links ceilings bars free rows)
     (is : record { state = links.state; orders = links.orders; ceilings = ceilings; bars = bars } ≡ seen) where
   as_long : length bars ≡ length ceilings
@@ -145,12 +127,3 @@ module _ (links : LinksRow) (ceilings bars free : List ℕ) (rows : List (Vec Ro
         ∙ ap (is_proposed_by links.state links.orders links.opens w m) flag_is
         ∙ ap (λ (os : List Bool). is_proposed_by links.state links.orders os w m (is_open links.state bars w m)) right.round.opens_are
         ∙ proposed_by_bars links.state links.orders bars w m)
-
-  -- the proposed wishes by place
-  pub proposed_places : filter (is_proposed_in seen) (range_with_len 0 (length seen.state.dossier.wishes)) ≡ proposed seen.state seen.orders seen.bars
-  proposed_places =
-      let t = λ (e : Wish × Mark). is_proposed seen.state seen.orders seen.bars e.0 e.1 in
-      let long : length seen.state.marks ≡ length seen.state.dossier.wishes =
-      let P = λ (r : Round). length r.state.marks ≡ length r.state.dossier.wishes in subst P is right.round.marks_each in
-      sym (numbered t (entry_in seen.state) (length seen.state.dossier.wishes) 0)
-      ∙ ap (λ (es : List (Wish × Mark)). map (λ (x : ℕ × (Wish × Mark)). x.0) (filter (λ (x : ℕ × (Wish × Mark)). t x.1) (enumerate_from 0 es))) (sym (entries_by_place seen.state long))

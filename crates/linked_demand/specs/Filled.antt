@@ -2,7 +2,8 @@
 use Rattle.std.specs.Prelude.{◌≡◌, ℕ, ◌<◌, Bool, not, ◌&&◌, List, [], ◌∷◌, ◌++◌, length, map, filter, nat_le, Option, Some, None, slice_get, slice_index, All, if◌then◌else◌, Vec}
 use Rattle.std.specs.Option.{is_some}
 use Rattle.std.specs.List.{range_with_len}
-use Rattle.std.specs.List.Sorted.{IsPermutation, IsNonDecreasingBy}
+use Rattle.std.specs.List.Sorted.{IsPermutation, IsNonDecreasingBy, IsStableByKey}
+use Rattle.std.specs.Ordering.{nat_cmp}
 use Rattle.std.specs.declared.alloc.Global.{Global}
 use Rattle.day_state.specs.Kept.{mark_in, wish_in}
 use Rattle.admit_core.specs.declared.dossier.Wish.{Wish}
@@ -51,8 +52,9 @@ pub record AreEmpty (n : ℕ) (rows : List (Vec RowWish Global)) : Type 0 where
   pub as_many : length rows ≡ n
   pub each : (h : ℕ) (row : Vec RowWish Global) → slice_get rows h ≡ Some row → row.items ≡ []
 
--- the places of the wishes that wait with a school, in order by rank
+-- the places of the wishes that wait with a school, in order by rank, and those of one rank as before
 pub record AreByRank (s : State) (places : List ℕ) : Type 0 where
   pub within : All (λ k. k < length s.dossier.wishes) places
   pub same : IsPermutation (filter (waits_with_school s) (range_with_len 0 (length s.dossier.wishes))) places
   pub rises : IsNonDecreasingBy (rank_in s.dossier.wishes) places
+  pub stable : IsStableByKey (rank_in s.dossier.wishes) nat_cmp (filter (waits_with_school s) (range_with_len 0 (length s.dossier.wishes))) places

@@ -2,7 +2,8 @@
 ghost use Rattle.std.specs.Prelude.{◌≡◌, ◌<◌, ℕ, length, map, filter, slice_get, Some, All, IfOk, OnOk};
 ghost use Rattle.std.specs.Option.{ForSome};
 ghost use Rattle.std.specs.List.{range_with_len};
-ghost use Rattle.std.specs.List.Sorted.{IsPermutation, IsNonDecreasingBy};
+ghost use Rattle.std.specs.List.Sorted.{IsPermutation, IsNonDecreasingBy, IsStableByKey};
+ghost use Rattle.std.specs.Ordering.{nat_cmp};
 ghost use Rattle.admit_core.specs.State.{free_beds};
 ghost use Rattle.linked_demand.specs.Filled.{waits_with_school, row_school, rank_in, AreFilled, IsPutIn, AreEmpty, AreByRank};
 ghost use Rattle.linked_demand.specs.Rows.{AreRows};
@@ -47,10 +48,11 @@ fn rank_at(wishes: &[Wish], place: u32) -> u32
     }
 }
 
-/// Puts places in order by rank.
+/// Puts places in order by rank; those of one rank keep their order.
 fn sort_by_rank(wishes: &[Wish], places: &mut Vec<u32>) -> Result<(), AllocError>
     ensures moved { IsPermutation places.old.items places.new.items }
     ensures rises { OnOk result (IsNonDecreasingBy (rank_in wishes.now) places.new.items) }
+    ensures stable { OnOk result (IsStableByKey (rank_in wishes.now) nat_cmp places.old.items places.new.items) }
 {
     places.sort_by_key(|place| rank_at(wishes, *place))?;
     Ok(())

@@ -1,20 +1,20 @@
 //! The boarding schools of a state, with the lines of its programmes.
-ghost use Rattle.std.specs.Prelude.{◌≡◌, ◌<◌, length, filter, slice_get, slice_index_or, false, All, IfOk};
+ghost use Rattle.std.specs.Prelude.{◌≡◌, ◌<◌, length, slice_get, IfOk};
 ghost use Rattle.admit_core.specs.State.{free_beds};
 ghost use Rattle.admit_core.specs.CallOrder.{AreCallOrders};
-ghost use Rattle.admit_core.specs.Proposals.{demanded_ranks, proposed};
+ghost use Rattle.admit_core.specs.Proposals.{demanded_ranks};
+ghost use Rattle.admit_core.specs.Boarding.{boarding};
 ghost use Rattle.linked_demand.specs.Rounds.{is_proposed_in};
 
 use crate::cut::close_past;
 use crate::fill::{free_of, rows_of};
 use crate::links::SeatLinks;
-use crate::over::first_over;
+use crate::over::{demands_in, first_over};
 use crate::rows::RowWish;
-use crate::wishes::wish_count;
 use admit_core::{CallOrders, OutOfMemory, Steps};
 use bar_law::Falling;
 use day_state::DayState;
-use demand::{demands_of, names_up_to};
+use demand::names_up_to;
 use std::alloc::Global;
 use std::marker::Model;
 use std::sync::ledger::Ledger;
@@ -53,7 +53,9 @@ impl<'a, 'd> LinkedRound<'a, 'd> {
     ) -> Result<LinkedRound<'a, 'd>, OutOfMemory>
         requires orders { AreCallOrders state.now.dossier.groups orders.now.orders }
         requires ceilings { length ceilings.now ≡ length state.now.dossier.schools }
-        ensures { IfOk result (λ r. r ≡ record { state = state.now; orders = orders.now.orders; ceilings = ceilings.now; bars = ceilings.now }) }
+        ensures round { IfOk result (λ r. r ≡ record { state = state.now; orders = orders.now.orders; ceilings = ceilings.now; bars = ceilings.now }) }
+        ensures system { IfOk result (λ r. ⟦<LinkedRound<'a, 'd> as Falling>⟧.system r ≡ boarding state.now orders.now.orders ceilings.now) }
+        ensures bars { IfOk result (λ r. ⟦<LinkedRound<'a, 'd> as Falling>⟧.bars r ≡ ceilings.now) }
     {
         let _ = state.marks(); // one for each wish
         let links = SeatLinks::build(alloc, state, orders, ceilings)?;
@@ -88,21 +90,6 @@ impl<'a, 'd> LinkedRound<'a, 'd> {
         }
         self.links.is_proposed(wish)
     }
-
-    /// The places of the wishes that are proposed at the present bars, ascending.
-    pub fn proposed(&self, alloc: Global) -> Result<Vec<u32>, OutOfMemory>
-        ensures places { IfOk result (λ v. v.items ≡ proposed self.now.state self.now.orders self.now.bars) }
-        ensures within { IfOk result (λ v. All (λ k. k < length self.now.state.dossier.wishes) v.items) }
-    {
-        let mut places = Vec::new(alloc);
-        let count = wish_count(self.links.state());
-        for place in 0..count {
-            if self.is_proposed(place) {
-                places.push(place)?;
-            }
-        }
-        Ok(places)
-    }
 }
 
 impl Falling for LinkedRound<'_, '_> {
@@ -132,8 +119,7 @@ impl Falling for LinkedRound<'_, '_> {
     }
 
     fn names(&self, alloc: Global, i: u32, upto: u32) -> Result<Vec<u32>, OutOfMemory> {
-        let places = self.proposed(alloc)?;
-        let demands = demands_of(alloc, self.links.state(), &places, i)?;
+        let demands = demands_in(alloc, &self.links, &self.rows[i as usize])?;
         names_up_to(alloc, &demands, upto)
     }
 
