@@ -1,0 +1,17 @@
+pub mod BarEach
+pub mod Closing
+pub mod Cutting
+pub mod Demanded
+pub mod Falling
+pub mod Filling
+pub mod Keeping
+pub mod Lining
+pub mod Naming
+pub mod Opens
+pub mod PlaceOrder
+pub mod Putting
+pub mod Reach
+pub mod RoundFalls
+pub mod Rounding
+pub mod Seating
+pub mod TickLaw

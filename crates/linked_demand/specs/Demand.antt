@@ -1,0 +1,22 @@
+-- The demanded ranks of a school, as its row tells them.
+use Rattle.std.specs.Prelude.{ℕ, Bool, false, ◌&&◌, List, [], ◌∷◌, option_map, unwrap_or, nat_lt, slice_get, slice_index_or, if◌then◌else◌}
+use Rattle.admit_core.specs.State.{entries}
+use Rattle.demand.specs.declared.demands.Demand.{Demand}
+use Rattle.linked_demand.specs.declared.rows.RowWish.{RowWish}
+use Rattle.linked_demand.specs.Links.{LinksRow}
+use Rattle.linked_demand.specs.Opens.{is_proposed_by}
+
+-- whether the wish at a place is proposed, by the flags
+abbrev pub is_proposed_at : LinksRow → ℕ → Bool
+is_proposed_at l i =
+    unwrap_or (option_map (λ e. is_proposed_by l.state l.orders l.opens e.0 e.1 (slice_index_or l.opens i false)) (slice_get (entries l.state) i)) false
+
+-- of those in a row who pass, the first of each rank above a last one
+abbrev pub firsts : (ℕ → Bool) → ℕ → List RowWish → List Demand
+firsts p last [] = []
+firsts p last (x ∷ xs) = if nat_lt last x.rank && p x.wish then (record { rank = x.rank; wish = x.wish } ∷ firsts p x.rank xs) else firsts p last xs
+
+-- the ranks above a last one of those in a row who pass, each once
+abbrev pub counted : (ℕ → Bool) → ℕ → List RowWish → List ℕ
+counted p last [] = []
+counted p last (x ∷ xs) = if nat_lt last x.rank && p x.wish then (x.rank ∷ counted p x.rank xs) else counted p last xs

@@ -1,0 +1,9 @@
+pub mod Demand
+pub mod Filled
+pub mod Line
+pub mod Links
+pub mod Opens
+pub mod Rounds
+pub mod Rows
+pub mod Seats
+pub mod Ticks
