@@ -1,5 +1,5 @@
 //! The small dossier that the tests run on.
-ghost use Rattle.std.specs.Prelude.{◌≡◌, IfOk};
+ghost use Rattle.std.specs.Prelude.{◌≡◌, IfOk, false, None, Some};
 ghost use Rattle.admit_core.specs.WorkedRows.{ranked, programme, wish, boarder};
 ghost use Rattle.day_state.specs.FourWishes.{four_wishes, preference_if};
 
