@@ -30,15 +30,15 @@ same_flags (x ∷ xs) (y ∷ ys) e h =
     let rest : xs ≡ ys = same_flags xs ys (omega arith) (λ i lt. h (suc i) (omega arith)) in
     (cc)
 
-abbrev is_wish_of : ℕ → List RowWish → Bool
+abbrev pub is_wish_of : ℕ → List RowWish → Bool
 is_wish_of i [] = false
 is_wish_of i (x ∷ xs) = nat_eq i x.wish || is_wish_of i xs
 
-length_closed : (xs : List RowWish) (opens : List Bool) → length (closed xs opens) ≡ length opens
+pub length_closed : (xs : List RowWish) (opens : List Bool) → length (closed xs opens) ≡ length opens
 length_closed [] opens = refl
 length_closed (x ∷ xs) opens = length-set (closed xs opens) x.wish false ∙ length_closed xs opens
 
-flag_closed : (xs : List RowWish) (opens : List Bool) (i : ℕ) → i < length opens → get_or (closed xs opens) i false ≡ (get_or opens i false && not (is_wish_of i xs))
+pub flag_closed : (xs : List RowWish) (opens : List Bool) (i : ℕ) → i < length opens → get_or (closed xs opens) i false ≡ (get_or opens i false && not (is_wish_of i xs))
 flag_closed [] opens i lt = and_end (get_or opens i false)
 flag_closed (x ∷ xs) opens i lt =
     elim (cases_Bool (nat_eq i x.wish)) [
@@ -54,7 +54,7 @@ flag_map f (y ∷ es) zero e at = ap (λ (o : Option (Wish × Mark)). f (unwrap_
 flag_map f (y ∷ es) (suc i) e at = flag_map f es i e at
 
 -- what stands behind the end of a row
-found_behind : (row : List RowWish) (end i : ℕ) → is_wish_of i (drop end row) ≡ true
+pub found_behind : (row : List RowWish) (end i : ℕ) → is_wish_of i (drop end row) ≡ true
     → (k : ℕ) × (x : RowWish) × (end ≤ k) × (slice_get row k ≡ Some x) × (i ≡ x.wish)
 found_behind [] zero i t = absurd (false≢true t)
 found_behind [] (suc end) i t = absurd (false≢true t)

@@ -1,5 +1,5 @@
 -- The rows that are filled in order by rank are those of the schools.
-use Rattle.std.proofs.Common.{ℕ, zero, suc, ◌+◌, ◌≤◌, ◌<◌, ◌≡◌, Bool, true, false, not, ◌&&◌, List, [], ◌∷◌, ◌++◌, map, length, take, get_or, inl, inr, refl, sym, ◌∙◌, ap, arith, nat_eq, nat_le, filter, Option, Some, None, unwrap_or, zip, subst, zero-add, Vec}
+use Rattle.std.proofs.Common.{ℕ, zero, suc, ◌+◌, ◌≤◌, ◌<◌, ◌≡◌, Bool, true, not, ◌&&◌, List, [], ◌∷◌, ◌++◌, map, length, take, get_or, inl, inr, refl, sym, ◌∙◌, ap, arith, nat_eq, nat_le, filter, Option, Some, None, unwrap_or, zip, subst, zero-add, Vec}
 use Rattle.std.specs.Prelude.{◌⊎◌, slice_get, slice_index, All, if◌then◌else◌}
 use Rattle.std.specs.Option.{is_some}
 use Rattle.std.specs.List.{range_with_len, AllByRecursion}
@@ -10,7 +10,7 @@ use Rattle.std.proofs.Math.ListN.{set}
 use Rattle.std.proofs.lemmas.Bool.{cases_Bool, cases_eq, false≢true, eqb-true, eq-eqb, ne_eqb, and_parts, and_from, leb-true, le-leb, or_cases}
 use Rattle.std.proofs.lemmas.List.{length-set, length-append}
 use Rattle.std.proofs.lemmas.List.Folds.{list_any_at}
-use Rattle.std.proofs.lemmas.List.FromFn.{length-range_with_len, get_or-range_with_len, filter_of_map_range_with_len_more}
+use Rattle.std.proofs.lemmas.List.FromFn.{length-range_with_len, get_or-range_with_len}
 use Rattle.std.proofs.lemmas.List.Kept.{IsNonDecreasingBy-filter}
 use Rattle.std.proofs.lemmas.List.Sorted.{list_any-IsPermutation, All-permutation}
 use Rattle.std.proofs.lemmas.List.Elements.{All-from_recursion}
@@ -20,11 +20,10 @@ use Rattle.admit_core.specs.declared.state.Mark.{Mark}
 use Rattle.admit_core.specs.Lists.{is_among}
 use Rattle.admit_core.proofs.Tests.{Ascends}
 use Rattle.day_state.proofs.Ordering.{stable_own}
-use Rattle.admit_core.specs.State.{State, entries, is_waiting, holds_bed, is_school}
+use Rattle.admit_core.specs.State.{State, is_waiting, holds_bed, is_school}
 use Rattle.day_state.specs.Kept.{mark_in, wish_in}
 use Rattle.demand.proofs.Ranking.{picked, passed_over}
 use Rattle.linked_demand.specs.declared.rows.RowWish.{RowWish}
-use Rattle.linked_demand.specs.Links.{WaitsAt}
 use Rattle.linked_demand.specs.Rows.{WaitsFor, IsRow, AreRows}
 use Rattle.linked_demand.specs.Filled.{waits_with_school, row_school, is_in_row, rank_in, row_wish, row_among, AreFilled, IsPutIn, AreEmpty, AreByRank}
 use Rattle.linked_demand.proofs.Closing.{wish_of}
@@ -233,13 +232,6 @@ empty_more n rows row are none = record {
     | inl before ↦ are.each h other before
     | inr last ↦ ap (λ (v : Vec RowWish Global). v.items) (sym last) ∙ none
   ];
-}
-
-pub filled_none : (s : State) (bars places : List ℕ) (n : ℕ) (rows : List (Vec RowWish Global)) → AreEmpty n rows → n ≡ length s.dossier.schools
-    → AreFilled s bars (take 0 places) rows
-filled_none s bars places n rows are n_is = record {
-  one_each = are.as_many ∙ n_is;
-  each = λ h row at. are.each h row at;
 }
 
 pub put_nowhere : (x : RowWish) (rows : List (Vec RowWish Global)) → IsPutIn None x rows rows

@@ -1,14 +1,13 @@
 -- The demands that a row tells are the demanded ranks with their names.
-use Rattle.std.proofs.Common.{ℕ, ◌+◌, ◌≤◌, ◌<◌, ◌≡◌, Bool, true, false, ◌&&◌, List, [], ◌∷◌, ◌++◌, map, length, take, drop, get_or, inl, inr, refl, sym, ◌∙◌, ap, arith, nat_eq, nat_lt, zero, suc, Option, Some, None, option_map, unwrap_or, find, subst, zero-add}
-use Rattle.std.specs.Prelude.{slice_get, ◌⊎◌}
+use Rattle.std.proofs.Common.{ℕ, ◌+◌, ◌≤◌, ◌<◌, ◌≡◌, Bool, true, false, ◌&&◌, List, [], ◌∷◌, map, inl, inr, refl, sym, ◌∙◌, ap, arith, nat_eq, nat_lt, zero, suc, Option, Some, option_map, unwrap_or, find, subst, zero-add}
+use Rattle.std.specs.Prelude.{slice_get}
 use Rattle.std.specs.List.{enumerate_from}
-use Rattle.std.proofs.lemmas.Bool.{cases_Bool, cases_order, false≢true, and_parts, and_from, and_right, eqb-true, eq-eqb, ltb-true, lt-ltb}
+use Rattle.std.proofs.lemmas.Bool.{cases_Bool, cases_order, false≢true, and_parts, and_from, eqb-true, eq-eqb, ltb-true, lt-ltb}
 use Rattle.std.proofs.lemmas.Option.{slice_get_within}
 use Rattle.admit_core.specs.declared.dossier.Wish.{Wish}
 use Rattle.admit_core.specs.declared.state.Mark.{Mark}
-use Rattle.admit_core.specs.declared.ranking.CallOrder.{CallOrder}
-use Rattle.admit_core.specs.State.{State, entries}
-use Rattle.admit_core.specs.Proposals.{demands_bed, demanded_ranks}
+use Rattle.admit_core.specs.State.{entries}
+use Rattle.admit_core.specs.Proposals.{demands_bed}
 use Rattle.admit_core.specs.Boarding.{name_of}
 use Rattle.demand.specs.declared.demands.Demand.{Demand}
 use Rattle.demand.specs.Demands.{demands_of}

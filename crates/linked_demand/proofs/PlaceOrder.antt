@@ -1,5 +1,5 @@
 -- Places of which those of one key ascend.
-use Rattle.std.proofs.Common.{ℕ, ◌+◌, ◌≤◌, ◌<◌, ◌≡◌, Bool, true, false, List, [], ◌∷◌, length, get_or, inl, inr, refl, sym, arith, filter, zero, suc, nat_eq}
+use Rattle.std.proofs.Common.{ℕ, ◌+◌, ◌<◌, ◌≡◌, Bool, true, List, [], ◌∷◌, length, get_or, inl, inr, refl, sym, arith, filter, zero, suc, nat_eq}
 use Rattle.std.specs.List.{range_with_len, AllByRecursion}
 use Rattle.std.proofs.lemmas.Bool.{cases_Bool, eq-eqb, both_ways}
 use Rattle.admit_core.proofs.Tests.{Ascends}

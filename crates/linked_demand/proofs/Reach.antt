@@ -56,10 +56,10 @@ reach_within (suc quota) [] = omega arith
 reach_within (suc quota) (true ∷ flags) = omega (arith, reach_within quota flags)
 reach_within (suc quota) (false ∷ flags) = omega (arith, reach_within (suc quota) flags)
 
-count_true : (flags : List Bool) → set_count (true ∷ flags) ≡ 1 + set_count flags
+pub count_true : (flags : List Bool) → set_count (true ∷ flags) ≡ 1 + set_count flags
 count_true flags = omega (arith, length-filter (λ (b : Bool). b) (true ∷ flags), length-filter (λ (b : Bool). b) flags)
 
-count_false : (flags : List Bool) → set_count (false ∷ flags) ≡ 0 + set_count flags
+pub count_false : (flags : List Bool) → set_count (false ∷ flags) ≡ 0 + set_count flags
 count_false flags = omega (arith, length-filter (λ (b : Bool). b) (false ∷ flags), length-filter (λ (b : Bool). b) flags)
 
 few_before : (quota : ℕ) (flags : List Bool) (k : ℕ) → k < reach quota flags → set_count (take k flags) < quota
@@ -166,16 +166,6 @@ module _ (row : LineRow) (quota : ℕ) (flags : List Bool) (k reached : ℕ) (sa
       → (is_reached (record { flags = set flags k false; quota = quota }) j && not (is_reached row j)) ≡ is_answer answer j
   fresh_some now step now_by after after_is answer answer_is j within t =
       rw (answer_is, after_is, old_reached j within, new_reached j now within now_by) (fresh_one (set flags k false) reached now j step t)
-
-  -- what was reached is reached
-  pub grows : (now : ℕ) → reached ≤ now → now ≡ reach quota (set flags k false) → (j : ℕ) → j < length row.flags → is_reached row j ≡ true
-      → is_reached (record { flags = set flags k false; quota = quota }) j ≡ true
-  grows now le now_by j within t =
-      new_reached j now within now_by ∙ lt-ltb j now (omega (arith, le, ltb-true j reached (sym (old_reached j within) ∙ t)))
-
--- the reach is found in one walk
-pub reach_none : (left : ℕ) (flags : List Bool) → left ≡ 0 → reach left flags ≡ 0
-reach_none left flags none = ap (λ n. reach n flags) none
 
 pub reach_past : (left : ℕ) (flags : List Bool) (n : ℕ) → length flags ≤ n → reach left (drop n flags) ≡ 0
 reach_past zero [] zero le = refl

@@ -11,12 +11,8 @@ use Rattle.linked_demand.specs.Links.{LinksRow}
 use Rattle.linked_demand.specs.Opens.{opens_of}
 use Rattle.linked_demand.specs.Rows.{IsRow, CutsAt, AllWait}
 use Rattle.linked_demand.specs.Rounds.{Round, IsRound}
-use Rattle.std.proofs.lemmas.List.FromFn.{get_or-map-range_with_len, length-map-range_with_len}
-use Rattle.admit_core.specs.State.{free_beds}
-use Rattle.admit_core.specs.Proposals.{demanded_ranks}
 use Rattle.demand.specs.Demands.{demands_of}
-use Rattle.linked_demand.specs.Demand.{is_proposed_at, counted, firsts}
-use Rattle.linked_demand.proofs.Demanded.{ranks_told}
+use Rattle.linked_demand.specs.Demand.{is_proposed_at, firsts}
 use Rattle.linked_demand.proofs.Naming.{demands_told}
 use Rattle.linked_demand.proofs.Falling.{flags_fallen, row_fallen, row_stays}
 
@@ -66,38 +62,12 @@ module _ (links : LinksRow) (bars free : List ℕ) (h to : ℕ) (rows : List (Ve
         ]);
       }
 
--- the bars of what a round is seen as are its own
-pub seen_bars : (row : Round) (s : Round) → row ≡ s → (i to : ℕ) → i < length s.bars → to < slice_index s.bars i → (i < length row.bars) × (to < slice_index row.bars i)
-seen_bars row s is i to lt falls = rw is (lt, falls)
-
--- what the scan of a row answers is the demanded rank that has no bed
-pub over_right : (links : LinksRow) (bars free : List ℕ) (rows : List (Vec RowWish Global)) (ceilings : List ℕ) (seen : Round) → IsRound links bars free rows
-    → record { state = links.state; orders = links.orders; ceilings = ceilings; bars = bars } ≡ seen → (h : ℕ) → h < length seen.bars
-    → (row : Vec RowWish Global) → row ≡ get_or rows h row → (items : List RowWish) → items ≡ row.items → (beds : ℕ) → beds ≡ get_or free h beds
-    → slice_get (counted (is_proposed_at links) 0 items) beds ≡ slice_get (demanded_ranks seen.state seen.orders seen.bars h) (free_beds seen.state h)
-over_right links bars free rows ceilings seen right is h lt row read items items_is beds beds_read =
-    let within : h < length bars = rw (← is) at lt in
-    let found : slice_get rows h ≡ Some row = slice_get_read rows (length rows) h row refl (omega (arith, within, right.rows_each)) read in
-    let beds_is : beds ≡ free_beds links.state h =
-    beds_read ∙ ap (λ fs. get_or fs h beds) right.free_are
-    ∙ get_or-map-range_with_len (free_beds links.state) 0 (length links.state.dossier.schools) h h beds (omega (arith, within, right.bars_each)) (omega arith) in
-    let P = λ (r : Round). slice_get (counted (is_proposed_at links) 0 items) beds ≡ slice_get (demanded_ranks r.state r.orders r.bars h) (free_beds r.state h) in
-    subst P is (rw (items_is, beds_is, ranks_told links bars h row.items (right.rows_are h row found) right.opens_are) refl)
-
 pub scan_waits : (links : LinksRow) (bars free : List ℕ) (rows : List (Vec RowWish Global)) (ceilings : List ℕ) (seen : Round) → IsRound links bars free rows
     → record { state = links.state; orders = links.orders; ceilings = ceilings; bars = bars } ≡ seen → (h : ℕ) → h < length seen.bars
     → (row : Vec RowWish Global) → row ≡ get_or rows h row → (items : List RowWish) → items ≡ row.items → AllWait links.state items
 scan_waits links bars free rows ceilings seen right is h lt row read items items_is =
     let within : h < length bars = rw (← is) at lt in
     rw items_is (all_wait links bars free h 0 rows row right within read)
-
-pub seen_within : (links : LinksRow) (bars free : List ℕ) (rows : List (Vec RowWish Global)) (ceilings : List ℕ) (seen : Round) → IsRound links bars free rows
-    → record { state = links.state; orders = links.orders; ceilings = ceilings; bars = bars } ≡ seen → (h : ℕ) → h < length seen.bars → (h < length rows) × (h < length free)
-seen_within links bars free rows ceilings seen right is h lt =
-    let within : h < length bars = rw (← is) at lt in (
-      omega (arith, within, right.rows_each),
-      omega (arith, within, right.bars_each, ap length right.free_are, length-map-range_with_len (free_beds links.state) 0 (length links.state.dossier.schools)),
-    )
 
 -- what the row tells are the demands of its school
 pub demands_right : (links : LinksRow) (bars free : List ℕ) (rows : List (Vec RowWish Global)) → IsRound links bars free rows

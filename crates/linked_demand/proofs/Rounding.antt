@@ -1,16 +1,15 @@
 -- A round as a system of falling bars.
-use Rattle.std.proofs.Common.{ℕ, ◌≤◌, ◌<◌, ◌≡◌, Bool, true, false, not, ◌&&◌, List, [], ◌∷◌, Some, map, length, get_or, inl, inr, refl, sym, ◌∙◌, ap, arith, nat_lt, nat_le, filter, subst, zero-add, Vec}
+use Rattle.std.proofs.Common.{ℕ, ◌<◌, ◌≡◌, Bool, true, false, not, List, [], ◌∷◌, Some, map, length, get_or, refl, sym, ◌∙◌, ap, arith, subst, zero-add, Vec}
 use Rattle.std.specs.Prelude.{slice_get, slice_index, slice_set, Option}
-use Rattle.std.specs.List.{range_with_len, enumerate_from}
+use Rattle.std.specs.List.{range_with_len}
 use Rattle.std.specs.declared.alloc.Global.{Global}
 use Rattle.std.proofs.lemmas.Bool.{and_parts}
 use Rattle.std.proofs.lemmas.List.{length-map, get_or_read}
-use Rattle.std.proofs.lemmas.List.FromFn.{get_or-map-range_with_len}
+use Rattle.std.proofs.lemmas.List.FromFn.{get_or-map-range_with_len, length-map-range_with_len}
 use Rattle.admit_core.specs.declared.dossier.Wish.{Wish}
 use Rattle.admit_core.specs.declared.state.Mark.{Mark}
-use Rattle.admit_core.specs.declared.ranking.CallOrder.{CallOrder}
-use Rattle.admit_core.specs.State.{State, entries, is_waiting, free_beds, seats_left}
-use Rattle.admit_core.specs.Proposals.{is_open, is_barred, is_proposed, needs_no_seat, ahead, proposed, demanded_ranks}
+use Rattle.admit_core.specs.State.{State, entries, is_waiting, free_beds}
+use Rattle.admit_core.specs.Proposals.{is_open, is_barred, demanded_ranks}
 use Rattle.admit_core.specs.Boarding.{boarding}
 use Rattle.bar_law.specs.Overfilled.{rank_over}
 use Rattle.day_state.specs.Kept.{mark_in, wish_in}
@@ -18,14 +17,12 @@ use Rattle.day_state.proofs.Places.{entry_in, entries_by_place}
 use Rattle.linked_demand.specs.declared.rows.RowWish.{RowWish}
 use Rattle.linked_demand.specs.Links.{LinksRow, WaitsAt}
 use Rattle.linked_demand.specs.Opens.{opens_of, is_proposed_by}
-use Rattle.linked_demand.specs.Rows.{AreRows}
-use Rattle.linked_demand.specs.Rounds.{Round, IsRound, IsRoundUnder, bar_each, is_proposed_in}
-use Rattle.linked_demand.specs.Demand.{is_proposed_at}
+use Rattle.linked_demand.specs.Rounds.{Round, IsRoundUnder, bar_each, is_proposed_in}
+use Rattle.linked_demand.specs.Demand.{is_proposed_at, over_at}
 use Rattle.linked_demand.proofs.BarEach.{bar_each_is, bar_each_set}
-use Rattle.linked_demand.proofs.Closing.{proposed_at_is, length_entries}
+use Rattle.linked_demand.proofs.Closing.{proposed_at_is, length_entries, read_range}
 use Rattle.linked_demand.proofs.Falling.{flag_map}
 use Rattle.linked_demand.proofs.Filling.{entry_there}
-use Rattle.linked_demand.proofs.Lining.{numbered}
 use Rattle.linked_demand.proofs.Opens.{proposed_by_bars}
 
 map_twice : {X Y : Type 0} (g : X → Y) (f : ℕ → X) (ks : List ℕ) → map g (map f ks) ≡ map (λ k. g (f k)) ks
@@ -45,7 +42,7 @@ opens_by_place s bars n flags long are n_is =
 pub length-opens_of : (s : State) (bars : List ℕ) → length s.marks ≡ length s.dossier.wishes → length (opens_of s bars) ≡ length s.dossier.wishes
 length-opens_of s bars long = length-map (entries s) (λ (e : Wish × Mark). is_open s bars e.0 e.1) ∙ length_entries s.dossier.wishes s.marks long
 
-module _ (links : LinksRow) (ceilings bars free : List ℕ) (rows : List (Vec RowWish Global)) (seen : Round) (right : IsRoundUnder links ceilings bars free rows)
+module _ (links : LinksRow) (ceilings bars free : List ℕ) (rows : List (Vec RowWish Global)) (overs : List (Option ℕ)) (marked : List Bool) (seen : Round) (right : IsRoundUnder links ceilings bars free rows overs marked)
     (is : record { state = links.state; orders = links.orders; ceilings = ceilings; bars = bars } ≡ seen) where
   as_long : length bars ≡ length ceilings
   as_long = right.round.bars_each ∙ sym right.ceilings_each
@@ -64,11 +61,6 @@ module _ (links : LinksRow) (ceilings bars free : List ℕ) (rows : List (Vec Ro
   pub seen_within_bars : (i : ℕ) → i < length seen.ceilings → i < length seen.bars
   seen_within_bars i lt = omega (arith, bar_within i lt, ap (λ (r : Round). length r.bars) is)
 
-  pub schools_seen : length seen.state.dossier.schools ≡ length seen.ceilings
-  schools_seen =
-      let P = λ (r : Round). length r.state.dossier.schools ≡ length r.ceilings in
-      subst P is (sym right.ceilings_each)
-
   bar_seen : (i x : ℕ) → x ≡ slice_index bars i → x ≡ slice_index (bar_each seen.ceilings seen.bars) i
   bar_seen i x read = read ∙ ap (λ (r : Round). slice_index r.bars i) is ∙ ap (λ (bs : List ℕ). slice_index bs i) (sym bars_seen)
 
@@ -84,6 +76,16 @@ module _ (links : LinksRow) (ceilings bars free : List ℕ) (rows : List (Vec Ro
       answer
       ∙ ap (slice_get (demanded_ranks seen.state seen.orders seen.bars i)) (sym (get_or-map-range_with_len (free_beds seen.state) 0 (length seen.ceilings) i i 0 lt (zero-add i)))
       ∙ ap (λ (bs : List ℕ). slice_get (demanded_ranks seen.state seen.orders bs i) (slice_index (map (free_beds seen.state) (range_with_len 0 (length seen.ceilings))) i)) (sym bars_seen)
+
+  -- the answers that are kept
+  pub answer_within : (i : ℕ) → i < length seen.bars → i < length overs
+  answer_within i lt =
+      omega (arith, lt, ap (λ (r : Round). length r.bars) is, right.round.bars_each, ap length right.overs_are, length-map-range_with_len (over_at links.state links.orders bars) 0 (length links.state.dossier.schools))
+
+  pub answer_read : (i : ℕ) (x : Option ℕ) → i < length seen.bars → x ≡ get_or overs i x → x ≡ over_at seen.state seen.orders seen.bars i
+  answer_read i x lt read =
+      read_range (over_at links.state links.orders bars) (length links.state.dossier.schools) i overs x right.overs_are (omega (arith, lt, ap (λ (r : Round). length r.bars) is, right.round.bars_each)) read
+      ∙ ap (λ (r : Round). over_at r.state r.orders r.bars i) is
 
   -- after a fall
   pub bars_fallen : (i to : ℕ) → bar_each ceilings (slice_set bars i to) ≡ slice_set (bar_each seen.ceilings seen.bars) i to

@@ -1,9 +1,8 @@
 -- What is known of the waiting wishes, programme by programme and candidate by candidate.
-use Rattle.std.proofs.Common.{ℕ, zero, suc, ◌+◌, ◌≤◌, ◌<◌, ◌≡◌, Bool, true, false, ◌&&◌, ◌||◌, List, [], ◌∷◌, ◌++◌, map, length, take, get_or, inl, inr, refl, sym, ◌∙◌, ap, arith, nat_eq, nat_lt, filter, Option, Some, unwrap_or, subst}
-use Rattle.std.specs.Prelude.{slice_get, replicate, option_map, All, if◌then◌else◌}
+use Rattle.std.proofs.Common.{ℕ, zero, suc, ◌+◌, ◌<◌, ◌≡◌, Bool, true, false, ◌&&◌, ◌||◌, List, [], ◌∷◌, ◌++◌, map, length, take, get_or, inl, inr, refl, sym, ◌∙◌, ap, arith, nat_eq, nat_lt, filter, Option, Some, unwrap_or, subst}
+use Rattle.std.specs.Prelude.{slice_get, option_map, All, if◌then◌else◌}
 use Rattle.std.specs.List.{range_with_len, IsDistinct}
-use Rattle.std.proofs.lemmas.Bool.{cases_Bool, cases_lt, false≢true, eqb-true, eq-eqb, ltb-true, lt-ltb, or_cases, or_left, or_right, and_parts, and_from}
-use Rattle.std.proofs.lemmas.List.{take_all, length-replicate}
+use Rattle.std.proofs.lemmas.Bool.{cases_Bool, cases_lt, false≢true, eqb-true, eq-eqb, ltb-true, lt-ltb, or_left, or_right, and_parts, and_from}
 use Rattle.std.proofs.lemmas.List.FromFn.{map-range_with_len_more}
 use Rattle.std.proofs.lemmas.Option.{slice_get_within}
 use Rattle.admit_core.specs.declared.dossier.Wish.{Wish}
@@ -15,13 +14,13 @@ use Rattle.admit_core.specs.DossierRows.{DossierRows, group_of, limit_of}
 use Rattle.admit_core.specs.Validity.{IsValid, IsValidGroup}
 use Rattle.admit_core.proofs.OrderPermutes.{distinct-order}
 use Rattle.admit_core.specs.Lists.{is_among}
-use Rattle.admit_core.specs.State.{State, entries, holds_seat, seats_left}
-use Rattle.admit_core.specs.Proposals.{order_of, needs_no_seat}
+use Rattle.admit_core.specs.State.{State, holds_seat, seats_left}
+use Rattle.admit_core.specs.Proposals.{order_of}
 use Rattle.day_state.specs.Kept.{wish_in}
 use Rattle.demand.specs.Called.{AreCalled}
 use Rattle.demand.proofs.Front.{among_more}
 use Rattle.linked_demand.specs.Line.{LineRow}
-use Rattle.linked_demand.specs.Links.{IsPlaceOf, IsSeatPlace, claim_of, WaitsAt, IsLinked}
+use Rattle.linked_demand.specs.Links.{IsPlaceOf, claim_of, WaitsAt, IsLinked}
 use Rattle.linked_demand.specs.Opens.{waits_in, wants_by, line_of, seat_row}
 use Rattle.linked_demand.specs.Seats.{PutAt, AreSeated, is_below, is_passed}
 use Rattle.linked_demand.proofs.Closing.{wish_of}
@@ -42,12 +41,6 @@ none_yet : (below here : Bool) → (below || (here && false)) ≡ true → below
 none_yet true here t = refl
 none_yet false true t = t
 none_yet false false t = t
-
-pub seated_start : (s : State) (orders : List CallOrder) (n : ℕ) (order : List ℕ) (places : List ℕ) (sure : List Bool)
-    → AreSeated s orders (is_below n) places sure → AreSeated s orders (is_passed n (take 0 order)) places sure
-seated_start s orders n order places sure are =
-    seated_by s orders (is_below n) (is_passed n (take 0 order)) places sure
-    (λ i w m at t. none_yet (nat_lt w.programme n) (nat_eq w.programme n) t) are
 
 still_passed : (below here among one : Bool) → (below || (here && (among || one))) ≡ true → (one && here) ≡ false → (below || (here && among)) ≡ true
 still_passed true here among one t differs = refl
@@ -125,31 +118,11 @@ module _ (s : State) (orders : List CallOrder) (n : ℕ) (order : List ℕ) (i x
         ];
       }
 
--- at the end of the call order the programme is done
-pub seated_all : (s : State) (orders : List CallOrder) (n : ℕ) (order whole : List ℕ) (i : ℕ) (places : List ℕ) (sure : List Bool) → length order ≤ i → order ≡ whole
-    → AreSeated s orders (is_passed n (take i order)) places sure → AreSeated s orders (is_passed n whole) places sure
-seated_all s orders n order whole i places sure le is are =
-    let P = λ (o : List ℕ). AreSeated s orders (is_passed n o) places sure in
-    subst P (take_all i order le ∙ is) are
-
 -- the programmes that are gone through
 pub record IsBuilt (s : State) (orders : List CallOrder) (opens : List Bool) (n : ℕ) (lines : List LineRow) (claims : List (List (List ℕ))) (places : List ℕ) (sure : List Bool) : Type 0 where
   pub lines_are : lines ≡ map (seat_row s orders opens) (range_with_len 0 n)
   pub claims_are : claims ≡ map (λ p. map (claim_of s p) (line_of s orders p)) (range_with_len 0 n)
   pub seated : AreSeated s orders (is_below n) places sure
-
-pub built_none : (s : State) (orders : List CallOrder) (opens : List Bool) (places : List ℕ) (sure : List Bool) → places ≡ replicate (length s.dossier.wishes) 0
-    → sure ≡ replicate (length s.dossier.wishes) false → IsBuilt s orders opens 0 [] [] places sure
-built_none s orders opens places sure is sure_is = record {
-  lines_are = refl;
-  claims_are = refl;
-  seated = record {
-    places_each = ap length is ∙ length-replicate (length s.dossier.wishes) 0;
-    sure_each = ap length sure_is ∙ length-replicate (length s.dossier.wishes) false;
-    place = λ i w m at t. absurd (omega (arith, ltb-true w.programme 0 t));
-    need = λ i w m at t. absurd (omega (arith, ltb-true w.programme 0 t));
-  };
-}
 
 pub wish_in_is : (ws : List Wish) (i : ℕ) (w : Wish) → slice_get ws i ≡ Some w → wish_in ws i ≡ w
 wish_in_is ws i w at = ap (λ (o : Option Wish). unwrap_or o (wish_in [] 0)) at

@@ -16,7 +16,7 @@ use Rattle.admit_core.proofs.DemandLaws.{behind_lower, seat_stays}
 use Rattle.linked_demand.specs.Ticks.{becomes_barred, becomes_proposed, changes_between, can_cost, changes_over, AllLower, ChangesAreFew}
 
 -- a sum over a list
-abbrev total : {X : Type 0} → (X → ℕ) → List X → ℕ
+abbrev pub total : {X : Type 0} → (X → ℕ) → List X → ℕ
 total f [] = 0
 total f (x ∷ xs) = f x + total f xs
 
@@ -72,7 +72,7 @@ module _ (s : State) (orders : List CallOrder) (lower upper : List ℕ) (at_most
         count_total (becomes_proposed s orders upper lower) (entries s),
       )
 
-fall_at_most : (bars : List ℕ) (i to : ℕ) → i < length bars → to ≤ slice_index bars i → IsAtMost (slice_set bars i to) bars
+pub fall_at_most : (bars : List ℕ) (i to : ℕ) → i < length bars → to ≤ slice_index bars i → IsAtMost (slice_set bars i to) bars
 fall_at_most bars i to within le =
     record {
       as_many = length-set bars i to;

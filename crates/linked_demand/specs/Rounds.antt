@@ -1,5 +1,5 @@
 -- A round of falls that keeps the links of the programmes and the rows of the schools.
-use Rattle.std.specs.Prelude.{◌≡◌, ℕ, Bool, List, length, map, Some, slice_get, slice_index, Vec}
+use Rattle.std.specs.Prelude.{◌≡◌, ℕ, Bool, List, length, map, Option, Some, slice_get, slice_index, Vec}
 use Rattle.std.specs.List.{range_with_len}
 use Rattle.std.specs.declared.alloc.Global.{Global}
 use Rattle.std.proofs.lemmas.List.FromFn.{length-map-range_with_len}
@@ -11,6 +11,7 @@ use Rattle.linked_demand.specs.declared.rows.RowWish.{RowWish}
 use Rattle.linked_demand.specs.Links.{LinksRow}
 use Rattle.linked_demand.specs.Opens.{opens_of}
 use Rattle.linked_demand.specs.Rows.{IsRow}
+use Rattle.linked_demand.specs.Demand.{over_at}
 
 -- what a round is seen as
 pub record Round : Type 0 where
@@ -27,10 +28,12 @@ pub record IsRound (links : LinksRow) (bars free : List ℕ) (rows : List (Vec R
   pub opens_are : links.opens ≡ opens_of links.state bars
   pub rows_are : (h : ℕ) (row : Vec RowWish Global) → slice_get rows h ≡ Some row → IsRow links.state bars h row.items
 
--- what holds of the parts of a round
-pub record IsRoundUnder (links : LinksRow) (ceilings bars free : List ℕ) (rows : List (Vec RowWish Global)) : Type 0 where
+-- what holds of the parts of a round: with the answers of the schools, and a mark each
+pub record IsRoundUnder (links : LinksRow) (ceilings bars free : List ℕ) (rows : List (Vec RowWish Global)) (overs : List (Option ℕ)) (marked : List Bool) : Type 0 where
   pub round : IsRound links bars free rows
   pub ceilings_each : length ceilings ≡ length links.state.dossier.schools
+  pub overs_are : overs ≡ map (over_at links.state links.orders bars) (range_with_len 0 (length links.state.dossier.schools))
+  pub marked_each : length marked ≡ length links.state.dossier.schools
 
 -- one bar for each ceiling
 abbrev pub bar_each : List ℕ → List ℕ → List ℕ

@@ -1,11 +1,12 @@
 -- The waiting wishes of a school, by boarding rank, up to its bar.
-use Rattle.std.specs.Prelude.{◌≡◌, ℕ, ◌-◌, ◌≤◌, ◌<◌, Bool, true, false, not, List, [], ◌∷◌, length, take, drop, Some, slice_get, slice_index, slice_set, Vec}
+use Rattle.std.specs.Prelude.{◌≡◌, ℕ, ◌-◌, ◌≤◌, ◌<◌, Bool, true, false, not, List, [], ◌∷◌, length, take, drop, Some, slice_get, slice_index, slice_index_or, slice_set, Vec}
 use Rattle.std.specs.declared.alloc.Global.{Global}
 use Rattle.admit_core.specs.declared.dossier.Wish.{Wish}
 use Rattle.admit_core.specs.declared.state.Mark.{Mark}
-use Rattle.admit_core.specs.State.{State, holds_bed, has_school}
+use Rattle.admit_core.specs.State.{State, entries, holds_bed, has_school}
+use Rattle.admit_core.specs.Proposals.{is_open}
 use Rattle.linked_demand.specs.declared.rows.RowWish.{RowWish}
-use Rattle.linked_demand.specs.Links.{WaitsAt}
+use Rattle.linked_demand.specs.Links.{LinksRow, WaitsAt}
 
 -- a wish that waits for the school, whose candidate has no bed there
 pub record WaitsFor (s : State) (h : ℕ) (x : RowWish) (w : Wish) (m : Mark) : Type 0 where
@@ -39,6 +40,11 @@ pub record CutsAt (to : ℕ) (row : List RowWish) (opens : List Bool) (kept : Li
 -- each wish of the row waits
 abbrev pub AllWait : State → List RowWish → Type 0
 AllWait s row = (k : ℕ) (x : RowWish) → slice_get row k ≡ Some x → (w : Wish) × (m : Mark) × WaitsAt s x.wish w m
+
+-- what is open under bars has its flag set, and no wish of the row past a number is open under them
+pub record StayOpen (l : LinksRow) (bars : List ℕ) (to : ℕ) (row : List RowWish) : Type 0 where
+  pub flagged : (k : ℕ) (e : Wish × Mark) → slice_get (entries l.state) k ≡ Some e → is_open l.state bars e.0 e.1 ≡ true → slice_index_or l.opens k false ≡ true
+  pub past : (j : ℕ) (x : RowWish) (e : Wish × Mark) → slice_get row j ≡ Some x → to < x.rank → slice_get (entries l.state) x.wish ≡ Some e → is_open l.state bars e.0 e.1 ≡ false
 
 -- one row for each school
 pub record AreRows (s : State) (bars : List ℕ) (rows : List (Vec RowWish Global)) : Type 0 where

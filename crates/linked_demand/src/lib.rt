@@ -5,6 +5,7 @@
 mod claims;
 mod cut;
 mod fill;
+mod fresh;
 mod law;
 mod line;
 mod links;

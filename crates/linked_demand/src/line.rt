@@ -94,7 +94,6 @@ impl Line {
         requires { place < length self.old.flags }
         ensures row { self.new ≡ record self.old { flags = slice_set self.old.flags place false } }
         ensures place { IfSome result (λ n. n < length self.old.flags) }
-        ensures grows { (j : ℕ) → j < length self.old.flags → is_reached self.old j ≡ true → is_reached self.new j ≡ true }
         ensures fresh { (j : ℕ) → j < length self.old.flags → slice_index_or self.new.flags j false ≡ true → (is_reached self.new j && not (is_reached self.old j)) ≡ is_answer result j }
     {
         let was_set = self.flags[place];

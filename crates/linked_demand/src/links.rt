@@ -1,5 +1,8 @@
 //! Who is served in each programme while wishes are closed.
-ghost use Rattle.std.specs.Prelude.{◌≡◌, ℕ, ◌<◌, ◌&&◌, ◌||◌, false, length, slice_set, slice_index_or, IfOk};
+ghost use Rattle.std.specs.Prelude.{◌≡◌, ℕ, ◌+◌, ◌<◌, ◌&&◌, ◌||◌, false, length, slice_set, slice_index_or, count_by, IfOk};
+ghost use Rattle.std.specs.List.{enumerate_from};
+ghost use Rattle.admit_core.specs.State.{entries};
+ghost use Rattle.linked_demand.specs.Marks.{is_new, MarksSchools};
 ghost use Rattle.admit_core.specs.CallOrder.{AreCallOrders};
 ghost use Rattle.linked_demand.specs.Opens.{opens_of};
 ghost use Rattle.admit_core.specs.declared.dossier.Wish.{Wish};
@@ -8,14 +11,16 @@ ghost use Rattle.linked_demand.specs.Links.{LinksRow, WaitsAt};
 ghost use Rattle.linked_demand.specs.Demand.{is_proposed_at};
 
 use crate::claims::any_open;
+use crate::fresh::note_fresh;
 use crate::line::Line;
 use crate::seats::seats_of;
 use crate::wishes::{wish_at, wish_count};
-use admit_core::{CallOrders, OutOfMemory, Sequence};
+use admit_core::{CallOrders, OutOfMemory, Sequence, Steps};
 use day_state::DayState;
 use demand::is_open;
 use std::alloc::Global;
 use std::marker::Model;
+use std::sync::ledger::Ledger;
 
 /// Whether each wish is open under bars, by place.
 fn open_flags(alloc: Global, state: &DayState<'_>, bars: &[u32]) -> Result<Vec<bool>, OutOfMemory>
@@ -86,10 +91,21 @@ impl<'a, 'd> SeatLinks<'a, 'd> {
         })
     }
 
-    /// Closes a waiting wish.
-    pub fn close(&mut self, wish: u32)
-        requires { (w : Wish) × (m : Mark) × WaitsAt self.old.state wish w m }
-        ensures { self.new ≡ record self.old { opens = slice_set self.old.opens wish false } }
+    /// Closes a waiting wish. It ticks once for each wish that becomes proposed and is open under these
+    /// bars, and marks its school.
+    pub fn close<L: Ledger>(
+        &mut self,
+        wish: u32,
+        bars: &[u32],
+        marked: &mut Vec<bool>,
+        steps: &mut Steps<L>,
+    )
+        requires waits { (w : Wish) × (m : Mark) × WaitsAt self.old.state wish w m }
+        requires bars { length bars.now ≡ length self.old.state.dossier.schools }
+        requires marked { length marked.old.items ≡ length self.old.state.dossier.schools }
+        ensures value { self.new ≡ record self.old { opens = slice_set self.old.opens wish false } }
+        ensures steps { steps.new ≡ steps.old + count_by (is_new self.old.state bars.now self.old self.new) (enumerate_from 0 (entries self.old.state)) }
+        ensures marked { MarksSchools self.old.state (is_new self.old.state bars.now self.old self.new) marked.old.items marked.new.items }
     {
         let programme = wish_at(self.state, wish).programme as usize;
         let place = self.places[wish as usize];
@@ -97,7 +113,19 @@ impl<'a, 'd> SeatLinks<'a, 'd> {
         let claims = &self.claims[programme];
         let claim = &claims.as_slice()[place];
         if !any_open(claim.as_slice(), &self.opens) {
-            let _ = self.lines[programme].clear(place);
+            if let Some(next) = self.lines[programme].clear(place) {
+                let claims = &self.claims[programme];
+                let claim = &claims.as_slice()[next];
+                note_fresh(
+                    self.state,
+                    bars,
+                    &self.opens,
+                    &self.sure,
+                    claim.as_slice(),
+                    marked,
+                    steps,
+                );
+            }
         }
     }
 

@@ -1,15 +1,16 @@
 //! The boarding schools of a state, with the lines of its programmes.
-ghost use Rattle.std.specs.Prelude.{◌≡◌, ◌<◌, length, slice_get, IfOk};
+ghost use Rattle.std.specs.Prelude.{◌≡◌, ◌+◌, ◌<◌, length, slice_get, slice_index, slice_set, IfOk};
 ghost use Rattle.admit_core.specs.State.{free_beds};
 ghost use Rattle.admit_core.specs.CallOrder.{AreCallOrders};
 ghost use Rattle.admit_core.specs.Proposals.{demanded_ranks};
 ghost use Rattle.admit_core.specs.Boarding.{boarding};
-ghost use Rattle.linked_demand.specs.Rounds.{is_proposed_in};
+ghost use Rattle.linked_demand.specs.Rounds.{bar_each, is_proposed_in};
+ghost use Rattle.linked_demand.specs.Ticks.{changes_between};
 
 use crate::cut::close_past;
 use crate::fill::{free_of, rows_of};
 use crate::links::SeatLinks;
-use crate::over::{demands_in, first_over};
+use crate::over::{ask_marked, demands_in};
 use crate::rows::RowWish;
 use admit_core::{CallOrders, OutOfMemory, Steps};
 use bar_law::Falling;
@@ -28,6 +29,8 @@ pub struct LinkedRound<'a, 'd> {
     bars: Vec<u32>,
     free: Vec<u32>,
     rows: Vec<Vec<RowWish>>,
+    overs: Vec<Option<u32>>,
+    marked: Vec<bool>,
 }
 
 impl<'a, 'd> Model for LinkedRound<'a, 'd> {
@@ -37,7 +40,7 @@ impl<'a, 'd> Model for LinkedRound<'a, 'd> {
 
     ghost view = { λ r. record { state = r.links.state; orders = r.links.orders; ceilings = r.ceilings.items; bars = r.bars.items } };
 
-    ghost invariant = { λ r. IsRoundUnder r.links r.ceilings.items r.bars.items r.free.items r.rows.items };
+    ghost invariant = { λ r. IsRoundUnder r.links r.ceilings.items r.bars.items r.free.items r.rows.items r.overs.items r.marked.items };
 }
 
 impl<'a, 'd> LinkedRound<'a, 'd> {
@@ -61,6 +64,9 @@ impl<'a, 'd> LinkedRound<'a, 'd> {
         let links = SeatLinks::build(alloc, state, orders, ceilings)?;
         let free = free_of(alloc, state)?;
         let rows = rows_of(alloc, state, ceilings)?;
+        let mut overs = vec![in alloc; None; ceilings.len()]?;
+        let mut marked = vec![in alloc; true; ceilings.len()]?;
+        ask_marked(&links, &rows, &free, &mut marked, &mut overs);
         let bars = ceilings.to_vec(alloc)?;
         let ceilings = ceilings.to_vec(alloc)?;
         Ok(LinkedRound {
@@ -69,6 +75,8 @@ impl<'a, 'd> LinkedRound<'a, 'd> {
             bars,
             free,
             rows,
+            overs,
+            marked,
         })
     }
 
@@ -77,7 +85,7 @@ impl<'a, 'd> LinkedRound<'a, 'd> {
         requires { i < length self.now.bars }
         ensures { result ≡ slice_get (demanded_ranks self.now.state self.now.orders self.now.bars i) (free_beds self.now.state i) }
     {
-        first_over(&self.links, &self.rows[i as usize], self.free[i as usize])
+        self.overs[i as usize]
     }
 
     /// Whether the wish at a place is proposed at the present bars.
@@ -123,8 +131,30 @@ impl Falling for LinkedRound<'_, '_> {
         names_up_to(alloc, &demands, upto)
     }
 
-    fn lower<L: Ledger>(&mut self, i: u32, to: u32, _steps: &mut Steps<L>) {
-        close_past(&mut self.links, &mut self.rows[i as usize], to);
+    fn lower<L: Ledger>(&mut self, i: u32, to: u32, steps: &mut Steps<L>)
+        requires in_range { i < length self.old.ceilings }
+        requires lower { to < slice_index (bar_each self.old.ceilings self.old.bars) i }
+        ensures bars { bar_each self.new.ceilings self.new.bars ≡ slice_set (bar_each self.old.ceilings self.old.bars) i to }
+        ensures same { boarding self.new.state self.new.orders self.new.ceilings ≡ boarding self.old.state self.old.orders self.old.ceilings }
+        ensures round { self.new ≡ record self.old { bars = slice_set self.old.bars i to } }
+        ensures steps { steps.new ≡ steps.old + changes_between self.old.state self.old.orders self.old.bars self.new.bars }
+    {
         self.bars[i as usize] = to;
+        close_past(
+            &mut self.links,
+            &mut self.rows[i as usize],
+            to,
+            &self.bars,
+            &mut self.marked,
+            steps,
+        );
+        self.marked[i as usize] = true;
+        ask_marked(
+            &self.links,
+            &self.rows,
+            &self.free,
+            &mut self.marked,
+            &mut self.overs,
+        );
     }
 }

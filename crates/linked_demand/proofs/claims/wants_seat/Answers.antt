@@ -1,5 +1,4 @@
-use Rattle.std.proofs.Common.{Bool, not, ◌&&◌, ◌∙◌, ap, arith, length, List, ℕ, ◌<◌}
-use Rattle.std.specs.Prelude.{All}
+use Rattle.std.proofs.Common.{not, ◌&&◌, ◌∙◌, ap, length}
 use Rattle.std.specs.List.{list_any}
 use Rattle.linked_demand.specs.Opens.{flagged, is_flagged_in}
 use Rattle.linked_demand.proofs.Lining.{claim_opens, claim_within}

@@ -1,4 +1,4 @@
-use Rattle.std.proofs.Common.{ℕ, get_or, refl, ◌∙◌, ap}
+use Rattle.std.proofs.Common.{get_or, refl, ◌∙◌, ap}
 use Rattle.admit_core.specs.declared.dossier.Wish.{Wish}
 use Rattle.admit_core.specs.declared.state.Mark.{Mark}
 use Rattle.day_state.specs.Kept.{wish_in}

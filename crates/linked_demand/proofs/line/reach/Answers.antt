@@ -1,4 +1,4 @@
-use Rattle.std.proofs.Common.{◌≡◌, ◌+◌, arith}
+use Rattle.std.proofs.Common.{arith}
 use Rattle.linked_demand.proofs.Reach.{reach_past, walked_set, walked_unset}
 use Rattle.linked_demand.proofs.line.reach.Goals as goal
 use Rattle.linked_demand.proofs.line.reach.Goals.{then-flag, else-flag}

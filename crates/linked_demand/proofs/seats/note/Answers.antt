@@ -1,5 +1,5 @@
-use Rattle.std.proofs.Common.{ℕ, Bool, false, length, get_or, arith, ◌∙◌}
-use Rattle.linked_demand.proofs.Putting.{put_none, put_more, put_all}
+use Rattle.std.proofs.Common.{ℕ, Bool, false, arith}
+use Rattle.linked_demand.proofs.Putting.{put_none, put_all}
 use Rattle.linked_demand.proofs.seats.note.Goals as goal
 
 pub loop-wish-init : goal.loop-wish-init

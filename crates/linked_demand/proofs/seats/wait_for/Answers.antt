@@ -1,7 +1,6 @@
 use Rattle.std.proofs.Common.{ℕ, ◌≡◌, ◌<◌, Bool, true, false, ◌||◌, List, [], ◌∷◌, ◌++◌, map, length, take, get_or, filter, nat_lt, nat_eq, refl, sym, ◌∙◌, ap, arith, subst}
 use Rattle.std.specs.List.{IsDistinct}
 use Rattle.std.proofs.lemmas.List.{length-map}
-use Rattle.admit_core.specs.DossierRows.{limit_of}
 use Rattle.admit_core.specs.State.{holds_seat}
 use Rattle.demand.proofs.Ranking.{picked, passed_over}
 use Rattle.linked_demand.specs.Links.{claim_of}

@@ -2,7 +2,7 @@ use Rattle.std.proofs.Common.{◌≡◌, ℕ, ◌+◌, Bool, List, false, true, 
 use Rattle.std.proofs.Math.ListN.{set}
 use Rattle.std.proofs.lemmas.List.{get_or_read}
 use Rattle.linked_demand.specs.Line.{LineRow, next, reach}
-use Rattle.linked_demand.proofs.Reach.{reach_unset, reach_behind, reach_moved, reach_within, fresh_none, fresh_some, grows}
+use Rattle.linked_demand.proofs.Reach.{reach_unset, reach_behind, reach_moved, reach_within, fresh_none, fresh_some}
 use Rattle.linked_demand.proofs.line.Line.clear.Goals as goal
 use Rattle.linked_demand.proofs.line.Line.clear.Goals.{then-not-was_set-via-then-not-was_set, then-not-was_set-via-else-not-was_set+then-place-self}
 
@@ -59,22 +59,3 @@ returns-clause-fresh c =
     moves c.args.self.now s.quota s.flags.items c.args.place s.reached c.next_set-self-inside.result c.index-was_set.result.now c.deref.result.now
     c.self.view_is c.self.invariant c.requires c.index-was_set.ensures c.if-not-was_set.false c.if-place-self.false c.deref.ensures.value c.next_set-self-inside.ensures.place in
     fresh_some c.args.self.now s.quota s.flags.items c.args.place s.reached c.self.view_is c.self.invariant c.next_set-self-inside.result moved.0 moved.1 c.deref-2.result.now c.deref-2.ensures.value c.last_new.result c.last_new.ensures.answer
-
-pub returns-then-not-was_set-clause-grows : goal.returns-then-not-was_set-clause-grows
-returns-then-not-was_set-clause-grows c =
-    let s = c.self.inside in
-    let kept : s.reached ≡ reach s.quota (set s.flags.items c.args.place false) =
-    elim c.then-not-was_set.branch [
-      | then-not-was_set-via-then-not-was_set w ↦
-          stays c.args.self.now s.quota s.flags.items c.args.place s.reached c.index-was_set.result.now c.self.view_is c.self.invariant c.requires c.index-was_set.ensures w.if-not-was_set.true
-      | then-not-was_set-via-else-not-was_set+then-place-self w ↦ stays_behind s.quota s.flags.items c.args.place s.reached c.self.invariant w.if-place-self.true
-    ] in
-    grows c.args.self.now s.quota s.flags.items c.args.place s.reached c.self.view_is c.self.invariant s.reached (omega arith) kept
-
-pub returns-clause-grows : goal.returns-clause-grows
-returns-clause-grows c =
-    let s = c.self.inside in
-    let moved =
-    moves c.args.self.now s.quota s.flags.items c.args.place s.reached c.next_set-self-inside.result c.index-was_set.result.now c.deref.result.now
-    c.self.view_is c.self.invariant c.requires c.index-was_set.ensures c.if-not-was_set.false c.if-place-self.false c.deref.ensures.value c.next_set-self-inside.ensures.place in
-    grows c.args.self.now s.quota s.flags.items c.args.place s.reached c.self.view_is c.self.invariant c.next_set-self-inside.result (omega (arith, moved.0)) moved.1
