@@ -7,5 +7,8 @@ mod open;
 mod round;
 mod walk;
 
-pub use round::PlainRound;
-pub use walk::proposed;
+pub use called::{call_everyone, limit_of, order_of};
+pub use demands::{Demand, demands_of};
+pub use open::{is_open, is_waiting, mark_at, wish_at};
+pub use round::{PlainRound, names_up_to};
+pub use walk::{programme_count, proposed};

@@ -12,7 +12,7 @@ use admit_core::{Mark, Status, Wish};
 use day_state::DayState;
 
 /// Whether a mark is that of a waiting wish.
-fn is_waiting(mark: Mark) -> bool
+pub fn is_waiting(mark: Mark) -> bool
     ensures { result ≡ is_waiting mark }
 {
     matches!(mark.status, Status::Waiting)
@@ -29,7 +29,7 @@ pub fn wish_at(state: &DayState<'_>, place: u32) -> Wish
 }
 
 /// The mark at a place.
-fn mark_at(state: &DayState<'_>, place: u32) -> Mark
+pub fn mark_at(state: &DayState<'_>, place: u32) -> Mark
     requires { place < length state.now.dossier.wishes }
     ensures { result ≡ mark_in state.now.marks place }
 {
@@ -51,7 +51,7 @@ fn is_behind_bar(state: &DayState<'_>, bars: &[u32], wish: &Wish) -> bool
 }
 
 /// Whether the wish at a place is open: it waits, and is not barred.
-fn is_open(state: &DayState<'_>, bars: &[u32], place: u32) -> bool
+pub fn is_open(state: &DayState<'_>, bars: &[u32], place: u32) -> bool
     requires place { place < length state.now.dossier.wishes }
     requires bars { length bars.now ≡ length state.now.dossier.schools }
     ensures { result ≡ is_open state.now bars.now (wish_in state.now.dossier.wishes place) (mark_in state.now.marks place) }

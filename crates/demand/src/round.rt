@@ -135,7 +135,7 @@ fn rank_at(demands: &[Demand], place: u32) -> Option<u32>
 }
 
 /// The wishes of the demands whose rank is at most another.
-fn names_up_to(alloc: Global, demands: &[Demand], upto: u32) -> Result<Vec<u32>, OutOfMemory>
+pub fn names_up_to(alloc: Global, demands: &[Demand], upto: u32) -> Result<Vec<u32>, OutOfMemory>
     ensures { IfOk result (λ v. v.items ≡ map (λ x. x.wish) (filter (λ x. nat_le x.rank upto) demands.now)) }
 {
     let names = demands

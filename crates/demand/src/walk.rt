@@ -101,7 +101,7 @@ fn no_flags(alloc: Global, state: &DayState<'_>) -> Result<Vec<bool>, OutOfMemor
 }
 
 /// The number of programmes. Each wish is for one of them.
-fn programme_count(state: &DayState<'_>) -> u32
+pub fn programme_count(state: &DayState<'_>) -> u32
     ensures count { result ≡ length state.now.dossier.programmes }
     ensures each { (k : ℕ) → k < length state.now.dossier.wishes → (wish_in state.now.dossier.wishes k).programme < result }
 {

@@ -11,7 +11,8 @@ use crate::bars::bars_of;
 use admit_core::{CallOrders, OutOfMemory, PassRecord, Sequence, Stamp, Steps};
 use bar_fixpoint::{Picker, greatest};
 use day_state::DayState;
-use demand::{PlainRound, proposed};
+use demand::proposed;
+use linked_demand::LinkedRound;
 use std::alloc::Global;
 use std::marker::Brand;
 use std::sync::ledger::{Blank, Ledger};
@@ -76,7 +77,7 @@ fn find<L: Ledger>(
     ensures choice { choice picker.new ≡ choice picker.old }
 {
     let mut steps: Steps<L> = Steps::new(blank);
-    let mut round = PlainRound::build(alloc, state, orders, ceilings)?;
+    let mut round = LinkedRound::build(alloc, state, orders, ceilings)?;
     let falls = greatest(alloc, &mut round, picker, &mut steps)?;
     let bars = bars_of(alloc, &round)?;
     let offers = proposed(alloc, state, orders, bars.as_slice())?;

@@ -9,6 +9,8 @@ mod demands;
 #[cfg(test)]
 mod dossiers;
 #[cfg(test)]
+mod linked;
+#[cfg(test)]
 mod records;
 #[cfg(test)]
 mod slots;

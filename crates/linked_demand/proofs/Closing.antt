@@ -1,0 +1,311 @@
+-- The links of the programmes stay right where one wish is closed.
+use Rattle.std.proofs.Common.{ℕ, ◌+◌, ◌≤◌, ◌<◌, ◌≡◌, Bool, true, false, not, ◌&&◌, ◌||◌, List, [], ◌∷◌, map, length, inl, inr, refl, sym, ◌∙◌, ap, arith, nat_eq, nat_lt, filter, zero, suc, get_or, drop, Option, Some, zip, add-one, option_map, unwrap_or, drop-cons, subst}
+use Rattle.std.proofs.Math.ListN.{set}
+use Rattle.std.specs.Prelude.{slice_index, slice_get}
+use Rattle.std.specs.List.{list_any, enumerate_from, range_with_len, All, AllByRecursion}
+use Rattle.std.proofs.lemmas.Bool.{cases_Bool, and_left, or_cases, or_left, or_right, eqb-false, ne_eqb, eq-eqb}
+use Rattle.std.proofs.lemmas.List.{get_or_read, set-get_or, length-set, get_or-map, length-map}
+use Rattle.std.proofs.lemmas.List.FromFn.{get_or-map-range_with_len, length-map-range_with_len, get_or-range_with_len, length-range_with_len}
+use Rattle.std.proofs.lemmas.List.Elements.{All-from_recursion}
+use Rattle.std.proofs.lemmas.Option.{slice_get_within}
+use Rattle.admit_core.specs.declared.dossier.Wish.{Wish}
+use Rattle.admit_core.specs.declared.state.Mark.{Mark}
+use Rattle.admit_core.specs.declared.ranking.CallOrder.{CallOrder}
+use Rattle.admit_core.specs.State.{State, entries, is_waiting, holds_seat, seats_left}
+use Rattle.admit_core.specs.Proposals.{needs_no_seat}
+use Rattle.linked_demand.specs.Line.{LineRow, is_reached}
+use Rattle.linked_demand.specs.Opens.{flagged, is_flagged_in, wants_by, ahead_by, is_proposed_by, waits_in, line_of, seat_row}
+use Rattle.linked_demand.specs.Links.{LinksRow, IsSeatPlace, claim_of, WaitsAt, IsLinked}
+use Rattle.linked_demand.specs.Demand.{is_proposed_at}
+use Rattle.linked_demand.proofs.Opens.{row_own, row_other, map_at, any_same, reached_in_line}
+
+-- the wish of an entry
+pub wish_of : (ws : List Wish) (ms : List Mark) (i : ℕ) (w : Wish) (m : Mark) → slice_get (zip ws ms) i ≡ Some (w, m) → slice_get ws i ≡ Some w
+wish_of [] ms i w m at = cc
+wish_of (v ∷ ws) [] i w m at = cc
+wish_of (v ∷ ws) (n ∷ ms) zero w m at = ap (λ (o : Option (Wish × Mark)). option_map (λ x. x.0) o) at
+wish_of (v ∷ ws) (n ∷ ms) (suc i) w m at = wish_of ws ms i w m at
+
+and_end : (b : Bool) → (b && true) ≡ b
+and_end true = refl
+and_end false = refl
+
+and_none : (b : Bool) → (b && false) ≡ false
+and_none true = refl
+and_none false = refl
+
+-- an element read of a list by place
+pub read_range : {X : Type 0} (f : ℕ → X) (n p : ℕ) (xs : List X) (x : X) → xs ≡ map f (range_with_len 0 n) → p < n → x ≡ get_or xs p x → x ≡ f p
+read_range f n p xs x is lt read = read ∙ ap (λ ys. get_or ys p x) is ∙ get_or-map-range_with_len f 0 n p p x lt (omega arith)
+
+pub read_map : {X : Type 0} (f : ℕ → X) (ns : List ℕ) (x : X) (k : ℕ) (ys : List X) → ys ≡ map f ns → k < length ns → x ≡ get_or ys k x → x ≡ f (get_or ns k 0)
+read_map f ns x k ys is lt read = read ∙ ap (λ zs. get_or zs k x) is ∙ get_or-map f ns k 0 x lt
+
+-- whether a wish of the claim is open
+pub any_of_claim : (t : Wish × Mark → Bool) (es : List (Wish × Mark)) (a : ℕ) (opens : List Bool) → a + length es ≤ length opens
+    → list_any (λ v. get_or opens v false) (map (λ x. x.0) (filter (λ x. t x.1) (enumerate_from a es))) ≡ list_any (λ (x : (Wish × Mark) × Bool). t x.0 && x.1) (zip es (drop a opens))
+any_of_claim t [] a opens le = refl
+any_of_claim t (e ∷ es) a opens le =
+    let rest = any_of_claim t es (a + 1) opens (omega arith) in
+    let front : drop a opens ≡ get_or opens a false ∷ drop (a + 1) opens = rw (add-one, drop-cons opens a false (omega arith)) refl in
+    rw front (elim (cases_Bool (t e)) [
+      | inl passes ↦ rw passes (ap (λ b. get_or opens a false || b) rest)
+      | inr fails ↦ rw fails rest
+    ])
+
+pub turn : (a b c d : Bool) → (((a && b) && c) && d) ≡ (((a && d) && b) && c)
+turn true b c true = and_end (b && c)
+turn true b c false = and_none (b && c)
+turn false b c d = refl
+
+-- a claim's wishes are places of the list
+pub places_below : (t : ℕ × (Wish × Mark) → Bool) (es : List (Wish × Mark)) (a n : ℕ) → n ≡ a + length es
+    → AllByRecursion (λ v. v < n) (map (λ x. x.0) (filter t (enumerate_from a es)))
+places_below t [] a n is = tt
+places_below t (e ∷ es) a n is =
+    let rest = places_below t es (a + 1) n (omega arith) in
+    elim (cases_Bool (t (a, e))) [
+      | inl passes ↦ rw passes (omega arith, rest)
+      | inr fails ↦ rw fails rest
+    ]
+
+pub length_entries : (ws : List Wish) (ms : List Mark) → length ms ≡ length ws → length (zip ws ms) ≡ length ws
+length_entries [] ms e = refl
+length_entries (w ∷ ws) [] e = e
+length_entries (w ∷ ws) (m ∷ ms) e = ap suc (length_entries ws ms (omega arith))
+
+-- fewer flags find fewer
+fewer : {X : Type 0} (q : X × Bool → Bool) → ((x : X) → q (x, false) ≡ false) → (xs : List X) (ys : List Bool) (i : ℕ)
+    → list_any q (zip xs (set ys i false)) ≡ true → list_any q (zip xs ys) ≡ true
+fewer q h [] ys i t = t
+fewer q h (x ∷ xs) [] i t = t
+fewer q h (x ∷ xs) (y ∷ ys) zero t = or_right (q (x, y)) (list_any q (zip xs ys)) (rw (h x) at t)
+fewer q h (x ∷ xs) (y ∷ ys) (suc i) t =
+    elim (or_cases (q (x, y)) (list_any q (zip xs (set ys i false))) t) [
+      | inl here ↦ or_left (q (x, y)) (list_any q (zip xs ys)) here
+      | inr later ↦ or_right (q (x, y)) (list_any q (zip xs ys)) (fewer q h xs ys i later)
+    ]
+
+no_flag : (a b c : Bool) → (((a && false) && b) && c) ≡ false
+no_flag true b c = refl
+no_flag false b c = refl
+
+-- what is known where a wish is closed
+pub record Closes (s : State) (orders : List CallOrder) (opens : List Bool) (lines : List LineRow) (claims : List (List (List ℕ))) (places : List ℕ) (sure : List Bool) (i : ℕ) (w : Wish) : Type 0 where
+  pub links : IsLinked s orders opens lines claims places sure
+  pub mark : Mark
+  pub at : WaitsAt s i w mark
+
+pub starts_within : {s : State} {orders : List CallOrder} {opens : List Bool} {lines : List LineRow} {claims : List (List (List ℕ))} {places : List ℕ} {sure : List Bool}
+    → IsLinked s orders opens lines claims places sure → (row : LinksRow) → record { state = s; orders = orders; opens = opens } ≡ row
+    → (i : ℕ) → ((w : Wish) × (m : Mark) × WaitsAt row.state i w m) → i < length s.dossier.wishes
+starts_within {s} {orders} {opens} links row is i (w, m, at) =
+    let P = λ (r : LinksRow). WaitsAt r.state i w m in
+    let here = subst P (sym is) at in
+    slice_get_within s.dossier.wishes i w (wish_of s.dossier.wishes s.marks i w m here.here)
+
+pub closes : {s : State} {orders : List CallOrder} {opens : List Bool} {lines : List LineRow} {claims : List (List (List ℕ))} {places : List ℕ} {sure : List Bool}
+    → IsLinked s orders opens lines claims places sure → (row : LinksRow) → record { state = s; orders = orders; opens = opens } ≡ row
+    → (i : ℕ) → ((w : Wish) × (m : Mark) × WaitsAt row.state i w m) → (v : Wish) → slice_get s.dossier.wishes i ≡ Some v
+    → Closes s orders opens lines claims places sure i v
+closes {s} {orders} {opens} {lines} {claims} {places} {sure} links row is i (w, m, at) v found =
+    let P = λ (r : LinksRow). WaitsAt r.state i w m in
+    let here = subst P (sym is) at in
+    let same : Some w ≡ Some v = sym (wish_of s.dossier.wishes s.marks i w m here.here) ∙ found in
+    let Q = λ (o : Option Wish). WaitsAt s i (unwrap_or o w) m in
+    record { links = links; mark = m; at = subst Q same here }
+
+module _ {s : State} {orders : List CallOrder} {opens : List Bool} {lines : List LineRow} {claims : List (List (List ℕ))} {places : List ℕ} {sure : List Bool} {i : ℕ} {w : Wish}
+    (k : Closes s orders opens lines claims places sure i w) where
+  pub wish_within : i < length s.dossier.wishes
+  wish_within = slice_get_within s.dossier.wishes i w (wish_of s.dossier.wishes s.marks i w k.mark k.at.here)
+
+  pub programme_within : w.programme < length s.dossier.programmes
+  programme_within = k.links.programmes_are i w (wish_of s.dossier.wishes s.marks i w k.mark k.at.here)
+
+  pub place_right : (x : ℕ) → x ≡ get_or places i x → IsSeatPlace s orders w x
+  place_right x read =
+      let is : slice_index places i ≡ x = sym (get_or_read places i x (omega (arith, wish_within, k.links.places_each)) read 0) in
+      let P = λ (n : ℕ). IsSeatPlace s orders w n in
+      subst P is (k.links.places_are i w k.mark k.at)
+
+  -- the claim that is read is that of the wish
+  pub claim_right : (place : ℕ) → IsSeatPlace s orders w place → (row : List (List ℕ)) → row ≡ get_or claims w.programme row
+      → (claim : List ℕ) → claim ≡ get_or row place claim → claim ≡ claim_of s w.programme w.candidate
+  claim_right place at row row_read claim claim_read =
+      let row_is : row ≡ map (claim_of s w.programme) (line_of s orders w.programme) =
+      read_range (λ p. map (claim_of s p) (line_of s orders p)) (length s.dossier.programmes) w.programme claims row k.links.claims_are programme_within row_read in
+      read_map (claim_of s w.programme) (line_of s orders w.programme) claim place row row_is at.within claim_read ∙ ap (claim_of s w.programme) at.here
+
+  pub claim_below : All (λ v. v < length opens) (claim_of s w.programme w.candidate)
+  claim_below =
+      All-from_recursion (λ v. v < length opens) (claim_of s w.programme w.candidate)
+      (places_below (λ x. is_waiting x.1.1 && (nat_eq x.1.0.candidate w.candidate) && (nat_eq x.1.0.programme w.programme)) (entries s) 0 (length opens)
+      (omega (arith, k.links.opens_each, length_entries s.dossier.wishes s.marks k.links.marks_each)))
+
+  pub any_right : list_any (λ v. get_or (set opens i false) v false) (claim_of s w.programme w.candidate)
+      ≡ list_any (is_flagged_in w.programme w.candidate) (flagged s (set opens i false))
+  any_right =
+      let t = λ (e : Wish × Mark). is_waiting e.1 && (nat_eq e.0.candidate w.candidate) && (nat_eq e.0.programme w.programme) in
+      any_of_claim t (entries s) 0 (set opens i false) (omega (arith, length-set opens i false, k.links.opens_each, length_entries s.dossier.wishes s.marks k.links.marks_each))
+      ∙ any_same (λ (x : (Wish × Mark) × Bool). t x.0 && x.1) (is_flagged_in w.programme w.candidate)
+      (λ x. turn (is_waiting x.0.1) (nat_eq x.0.0.candidate w.candidate) (nat_eq x.0.0.programme w.programme) x.1) (zip (entries s) (set opens i false))
+
+  -- the line that is read is that of the programme
+  pub line_right : (line : LineRow) → line ≡ get_or lines w.programme line → line ≡ seat_row s orders opens w.programme
+  line_right line read = read_range (seat_row s orders opens) (length s.dossier.programmes) w.programme lines line k.links.lines_are programme_within read
+
+  -- the links with the flag cleared and the lines right for it
+  links_with : (after : List LineRow) → after ≡ map (seat_row s orders (set opens i false)) (range_with_len 0 (length s.dossier.programmes))
+      → IsLinked s orders (set opens i false) after claims places sure
+  links_with after is =
+      record {
+        marks_each = k.links.marks_each;
+        opens_each = length-set opens i false ∙ k.links.opens_each;
+        places_each = k.links.places_each;
+        programmes_are = k.links.programmes_are;
+        lines_are = is;
+        claims_are = k.links.claims_are;
+        places_are = k.links.places_are;
+        sure_each = k.links.sure_each;
+        sure_are = k.links.sure_are;
+      }
+
+  -- only the line of the wish's programme may change
+  lines_set : (new : LineRow) → new ≡ seat_row s orders (set opens i false) w.programme
+      → set lines w.programme new ≡ map (seat_row s orders (set opens i false)) (range_with_len 0 (length s.dossier.programmes))
+  lines_set new is =
+      let n = length s.dossier.programmes in
+      let old = seat_row s orders opens in
+      let next = seat_row s orders (set opens i false) in
+      let here : get_or (range_with_len 0 n) w.programme 0 ≡ w.programme = omega (arith, get_or-range_with_len 0 n w.programme 0 programme_within) in
+      let changed : map next (range_with_len 0 n) ≡ set (map old (range_with_len 0 n)) w.programme (next (get_or (range_with_len 0 n) w.programme 0)) =
+      map_at old next (range_with_len 0 n) w.programme (omega (arith, programme_within, length-range_with_len 0 n)) (λ j lt ne.
+      let there : get_or (range_with_len 0 n) j 0 ≡ j = omega (arith, get_or-range_with_len 0 n j 0 (omega (arith, length-range_with_len 0 n))) in
+      rw there (row_other s opens i w k.mark k.at.here orders j (ne_eqb w.programme j (λ e. omega (arith, e, eqb-false j w.programme ne))))) in
+      rw (k.links.lines_are, is) (sym (rw here at changed))
+
+  pub row_is : (place : ℕ) → IsSeatPlace s orders w place
+      → seat_row s orders (set opens i false) w.programme
+      ≡ record { flags = set (seat_row s orders opens w.programme).flags place (wants_by s (set opens i false) w.programme w.candidate); quota = seats_left s w.programme }
+  row_is place at =
+      ap (λ (flags : List Bool). let r : LineRow = record { flags = flags; quota = seats_left s w.programme } in r)
+      (row_own s opens i w k.mark k.at.here orders place at)
+
+  -- no other wish of the claim is open: its place is cleared
+  pub links_cleared : (place : ℕ) → IsSeatPlace s orders w place → (line new : LineRow) → line ≡ get_or lines w.programme line
+      → new ≡ record line { flags = set line.flags place false }
+      → list_any (λ v. get_or (set opens i false) v false) (claim_of s w.programme w.candidate) ≡ false
+      → IsLinked s orders (set opens i false) (set lines w.programme new) claims places sure
+  links_cleared place at line new read is none =
+      let wants : wants_by s (set opens i false) w.programme w.candidate ≡ false =
+      and_left (list_any (is_flagged_in w.programme w.candidate) (flagged s (set opens i false))) (not (holds_seat s w.candidate w.programme)) (sym any_right ∙ none) in
+      let row : seat_row s orders (set opens i false) w.programme ≡ record { flags = set (seat_row s orders opens w.programme).flags place false; quota = seats_left s w.programme } =
+      rw wants at (row_is place at) in
+      links_with (set lines w.programme new) (lines_set new (is ∙ rw (line_right line read) (sym row)))
+
+  -- another wish of the claim is open: its line stays
+  pub row_kept : (place : ℕ) → IsSeatPlace s orders w place
+      → list_any (λ v. get_or (set opens i false) v false) (claim_of s w.programme w.candidate) ≡ true
+      → seat_row s orders (set opens i false) w.programme ≡ seat_row s orders opens w.programme
+  row_kept place at some =
+      let p = w.programme in
+      let c = w.candidate in
+      let line = line_of s orders p in
+      let old = wants_by s opens p in
+      let new = wants_by s (set opens i false) p in
+      let found : list_any (is_flagged_in p c) (flagged s (set opens i false)) ≡ true = sym any_right ∙ some in
+      let before : list_any (is_flagged_in p c) (flagged s opens) ≡ true =
+      fewer (is_flagged_in p c) (λ e. no_flag (is_waiting e.1) (nat_eq e.0.candidate c) (nat_eq e.0.programme p)) (entries s) opens i found in
+      let same : new c ≡ old c = rw (found, before) refl in
+      let flag : get_or (map old line) place false ≡ old c = get_or-map old line place 0 false at.within ∙ ap old at.here in
+      let flags : set (map old line) place (new c) ≡ map old line = rw (same, ← flag) (set-get_or (map old line) place false) in
+      row_is place at ∙ ap (λ (fs : List Bool). let r : LineRow = record { flags = fs; quota = seats_left s p } in r) flags
+
+  pub links_kept : (place : ℕ) → IsSeatPlace s orders w place
+      → list_any (λ v. get_or (set opens i false) v false) (claim_of s w.programme w.candidate) ≡ true
+      → IsLinked s orders (set opens i false) lines claims places sure
+  links_kept place at some =
+      let p = w.programme in
+      let row = row_kept place at some in
+      let stands : get_or lines p (seat_row s orders opens p) ≡ seat_row s orders opens p =
+      rw k.links.lines_are (get_or-map-range_with_len (seat_row s orders opens) 0 (length s.dossier.programmes) p p (seat_row s orders opens p) programme_within (omega arith)) in
+      let kept : set lines p (seat_row s orders opens p) ≡ lines =
+      ap (λ (r : LineRow). set lines p r) (sym stands) ∙ set-get_or lines p (seat_row s orders opens p) in
+      links_with lines (sym kept ∙ lines_set (seat_row s orders opens p) (sym row))
+
+  pub claims_each : length claims ≡ length s.dossier.programmes
+  claims_each = ap length k.links.claims_are ∙ length-map-range_with_len (λ p. map (claim_of s p) (line_of s orders p)) 0 (length s.dossier.programmes)
+
+  pub lines_each : length lines ≡ length s.dossier.programmes
+  lines_each = ap length k.links.lines_are ∙ length-map-range_with_len (seat_row s orders opens) 0 (length s.dossier.programmes)
+
+  -- the row that is read has the place
+  pub row_within : (place : ℕ) → IsSeatPlace s orders w place → (row rows : List (List ℕ)) → row ≡ get_or claims w.programme row → rows ≡ row → place < length rows
+  row_within place at row rows read same =
+      let row_is : row ≡ map (claim_of s w.programme) (line_of s orders w.programme) =
+      read_range (λ p. map (claim_of s p) (line_of s orders p)) (length s.dossier.programmes) w.programme claims row k.links.claims_are programme_within read in
+      omega (arith, at.within, ap length row_is, ap length same, length-map (line_of s orders w.programme) (claim_of s w.programme))
+
+  -- the line that is read has the place
+  pub line_within : (place : ℕ) → IsSeatPlace s orders w place → (line : LineRow) → line ≡ get_or lines w.programme line → place < length line.flags
+  line_within place at line read =
+      omega (arith, at.within, ap (λ (r : LineRow). length r.flags) (line_right line read), length-map (line_of s orders w.programme) (wants_by s opens w.programme))
+
+  pub below_for : (claim : List ℕ) → claim ≡ claim_of s w.programme w.candidate → (n : ℕ) → n ≡ length opens → All (λ v. v < n) claim
+  below_for claim is n each = rw (is, each) claim_below
+
+  pub any_is : (claim : List ℕ) → claim ≡ claim_of s w.programme w.candidate → (flags : List Bool) → flags ≡ set opens i false → (found b : Bool)
+      → found ≡ list_any (λ v. get_or flags v false) claim → found ≡ b → list_any (λ v. get_or (set opens i false) v false) (claim_of s w.programme w.candidate) ≡ b
+  any_is claim is flags set_is found b by at = rw (← is, ← set_is) (sym by ∙ at)
+
+pub any_at : {X : Type 0} (q : X → Bool) (xs : List X) (i : ℕ) (x : X) → slice_get xs i ≡ Some x → q x ≡ true → list_any q xs ≡ true
+any_at q [] i x at t = absurd (omega (arith, slice_get_within [] i x at))
+any_at q (y ∷ xs) zero x at t = or_left (q y) (list_any q xs) (ap (λ o. q (unwrap_or o x)) at ∙ t)
+any_at q (y ∷ xs) (suc i) x at t = or_right (q y) (list_any q xs) (any_at q xs i x at t)
+
+module _ {s : State} {orders : List CallOrder} {opens : List Bool} {lines : List LineRow} {claims : List (List (List ℕ))} {places : List ℕ} {sure : List Bool} {i : ℕ} {w : Wish}
+    (k : Closes s orders opens lines claims places sure i w) where
+  pub waits_in_programme : waits_in s w.programme w.candidate ≡ true
+  waits_in_programme =
+      any_at (λ (e : Wish × Mark). is_waiting e.1 && (nat_eq e.0.candidate w.candidate) && (nat_eq e.0.programme w.programme)) (entries s) i (w, k.mark) k.at.here
+      (rw (k.at.waits, eq-eqb w.candidate w.candidate refl, eq-eqb w.programme w.programme refl) refl)
+
+  pub sure_each : length sure ≡ length s.dossier.wishes
+  sure_each = k.links.sure_each
+
+  -- what is read says whether the wish is proposed
+  pub proposed_right : (place : ℕ) → IsSeatPlace s orders w place → (line : LineRow) → line ≡ get_or lines w.programme line
+      → (flag sure_flag reached : Bool) → flag ≡ get_or opens i flag → sure_flag ≡ get_or sure i sure_flag → reached ≡ is_reached line place
+      → (flag && (sure_flag || reached)) ≡ is_proposed_by s orders opens w k.mark (get_or opens i false)
+  proposed_right place at line read flag sure_flag reached flag_read sure_read by =
+      let wish = wish_of s.dossier.wishes s.marks i w k.mark k.at.here in
+      let lt = slice_get_within s.dossier.wishes i w wish in
+      let flag_is : flag ≡ get_or opens i false = get_or_read opens i flag (omega (arith, lt, k.links.opens_each)) flag_read false in
+      let sure_is : sure_flag ≡ needs_no_seat s orders w =
+      get_or_read sure i sure_flag (omega (arith, lt, k.links.sure_each)) sure_read false ∙ k.links.sure_are i w k.mark k.at in
+      let line_is = line_right k line read in
+      let reach_is : reached ≡ nat_lt (ahead_by s orders opens w) (seats_left s w.programme) =
+      by ∙ ap (λ (r : LineRow). is_reached r place) line_is ∙ reached_in_line s orders opens w place waits_in_programme at in
+      rw (flag_is, sure_is, reach_is, k.at.waits) refl
+
+-- the same, as the call says it
+pub proposed_goal : {s : State} {orders : List CallOrder} {opens : List Bool} {lines : List LineRow} {claims : List (List (List ℕ))} {places : List ℕ} {sure : List Bool}
+    → IsLinked s orders opens lines claims places sure → (row : LinksRow) → record { state = s; orders = orders; opens = opens } ≡ row
+    → (i : ℕ) (w : Wish) (m : Mark) → WaitsAt row.state i w m → (v : Wish) → slice_get s.dossier.wishes i ≡ Some v
+    → (place : ℕ) → place ≡ get_or places i place → (line : LineRow) → line ≡ get_or lines v.programme line → (flag sure_flag reached served : Bool)
+    → flag ≡ get_or opens i flag → sure_flag ≡ get_or sure i sure_flag → reached ≡ is_reached line place → served ≡ (flag && (sure_flag || reached))
+    → served ≡ is_proposed_by row.state row.orders row.opens w m (get_or row.opens i false)
+proposed_goal {s} {orders} {opens} {lines} {claims} {places} {sure} links row is i w m waits v found place place_read line line_read flag sure_flag reached served flag_read sure_read by served_is =
+    let P = λ (r : LinksRow). WaitsAt r.state i w m in
+    let here : WaitsAt s i w m = subst P (sym is) waits in
+    let same : v ≡ w = ap (λ (o : Option Wish). unwrap_or o w) (sym found ∙ wish_of s.dossier.wishes s.marks i w m here.here) in
+    let k : Closes s orders opens lines claims places sure i w = record { links = links; mark = m; at = here } in
+    let read : line ≡ get_or lines w.programme line = rw same at line_read in
+    let Q = λ (r : LinksRow). served ≡ is_proposed_by r.state r.orders r.opens w m (get_or r.opens i false) in
+    subst Q is (served_is ∙ proposed_right k place (place_right k place place_read) line read flag sure_flag reached flag_read sure_read by)
+
+pub proposed_at_is : (row : LinksRow) (i : ℕ) (w : Wish) (m : Mark) → WaitsAt row.state i w m
+    → is_proposed_at row i ≡ is_proposed_by row.state row.orders row.opens w m (get_or row.opens i false)
+proposed_at_is row i w m waits =
+    ap (λ (o : Option (Wish × Mark)). unwrap_or (option_map (λ e. is_proposed_by row.state row.orders row.opens e.0 e.1 (get_or row.opens i false)) o) false) waits.here

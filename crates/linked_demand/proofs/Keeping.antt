@@ -1,0 +1,36 @@
+-- What a filter keeps of one more.
+use Rattle.std.proofs.Common.{ℕ, ◌+◌, ◌<◌, ◌≡◌, Bool, true, false, List, [], ◌∷◌, ◌++◌, length, take, get_or, refl, sym, ◌∙◌, ap, arith, filter}
+use Rattle.std.specs.List.{range_with_len}
+use Rattle.std.proofs.lemmas.List.{take_more}
+use Rattle.std.proofs.lemmas.List.Elements.{filter-append}
+use Rattle.day_state.proofs.Ordering.{range_more}
+
+pub add_none : {X : Type 0} (xs : List X) → xs ≡ xs ++ []
+add_none [] = refl
+add_none {X} (x ∷ xs) = ap (λ (ys : List X). x ∷ ys) (add_none xs)
+
+one_kept : (p : ℕ → Bool) (x : ℕ) → p x ≡ true → filter p (x ∷ []) ≡ x ∷ []
+one_kept p x passes = rw passes refl
+
+one_left : (p : ℕ → Bool) (x : ℕ) → p x ≡ false → filter p (x ∷ []) ≡ []
+one_left p x fails = rw fails refl
+
+push_kept : (p : ℕ → Bool) (xs : List ℕ) (x : ℕ) → p x ≡ true → filter p (xs ++ x ∷ []) ≡ filter p xs ++ x ∷ []
+push_kept p xs x passes = filter-append p xs (x ∷ []) ∙ ap (λ (ys : List ℕ). filter p xs ++ ys) (one_kept p x passes)
+
+push_left : (p : ℕ → Bool) (xs : List ℕ) (x : ℕ) → p x ≡ false → filter p (xs ++ x ∷ []) ≡ filter p xs
+push_left p xs x fails = filter-append p xs (x ∷ []) ∙ ap (λ (ys : List ℕ). filter p xs ++ ys) (one_left p x fails) ∙ sym (add_none (filter p xs))
+
+-- of the front of a list
+pub front_kept : (p : ℕ → Bool) (xs : List ℕ) (i : ℕ) → i < length xs → p (get_or xs i 0) ≡ true → filter p (take (i + 1) xs) ≡ filter p (take i xs) ++ get_or xs i 0 ∷ []
+front_kept p xs i lt passes = ap (filter p) (take_more xs i 0 lt) ∙ push_kept p (take i xs) (get_or xs i 0) passes
+
+pub front_left : (p : ℕ → Bool) (xs : List ℕ) (i : ℕ) → i < length xs → p (get_or xs i 0) ≡ false → filter p (take (i + 1) xs) ≡ filter p (take i xs)
+front_left p xs i lt fails = ap (filter p) (take_more xs i 0 lt) ∙ push_left p (take i xs) (get_or xs i 0) fails
+
+-- of a range
+pub range_kept : (p : ℕ → Bool) (n : ℕ) → p n ≡ true → filter p (range_with_len 0 (n + 1)) ≡ filter p (range_with_len 0 n) ++ n ∷ []
+range_kept p n passes = ap (filter p) (range_more 0 n n (omega arith)) ∙ push_kept p (range_with_len 0 n) n passes
+
+pub range_left : (p : ℕ → Bool) (n : ℕ) → p n ≡ false → filter p (range_with_len 0 (n + 1)) ≡ filter p (range_with_len 0 n)
+range_left p n fails = ap (filter p) (range_more 0 n n (omega arith)) ∙ push_left p (range_with_len 0 n) n fails

@@ -1,0 +1,204 @@
+-- A candidate's claim in a programme, and his place in its line.
+use Rattle.std.proofs.Common.{ℕ, zero, suc, ◌+◌, ◌<◌, ◌≡◌, Bool, true, false, ◌&&◌, ◌||◌, List, [], ◌∷◌, map, length, take, get_or, inl, inr, refl, sym, ◌∙◌, ap, arith, nat_eq, nat_lt, nat_le, filter, Option, Some, unwrap_or, zip, subst}
+use Rattle.std.specs.Prelude.{slice_get, All, ◌==◌}
+use Rattle.std.specs.List.{list_any, enumerate_from, range_with_len, IsDistinct, AllByRecursion}
+use Rattle.std.proofs.lemmas.Bool.{cases_Bool, cases_lt, false≢true, eq-eqb, ne_eqb, eqb-false, lt-ltb, le-ltb, le-leb, lt-leb}
+use Rattle.std.proofs.lemmas.List.{length-take-le}
+use Rattle.std.proofs.lemmas.List.Elements.{All-from_recursion}
+use Rattle.std.proofs.lemmas.Option.{slice_get_within}
+use Rattle.admit_core.specs.declared.dossier.Wish.{Wish}
+use Rattle.admit_core.specs.declared.state.Mark.{Mark}
+use Rattle.admit_core.specs.declared.ranking.CallOrder.{CallOrder}
+use Rattle.admit_core.specs.DossierRows.{candidate_of, limit_of}
+use Rattle.admit_core.specs.Lists.{is_among}
+use Rattle.admit_core.specs.OwnWishes.{own_places}
+use Rattle.admit_core.specs.State.{State, entries, is_waiting, holds_seat}
+use Rattle.admit_core.specs.Proposals.{order_of, before, needs_no_seat}
+use Rattle.admit_core.proofs.OrderPermutes.{nat_eq_turn}
+use Rattle.day_state.specs.Kept.{mark_in, wish_in}
+use Rattle.day_state.proofs.Places.{candidate_in, entry_in, entries_by_place}
+use Rattle.demand.proofs.Front.{front_same}
+use Rattle.linked_demand.specs.Links.{IsPlaceOf, claim_of, WaitsAt}
+use Rattle.linked_demand.specs.Opens.{flagged, is_flagged_in, waits_in}
+use Rattle.linked_demand.specs.Seats.{waits_at}
+use Rattle.linked_demand.proofs.Opens.{filter_same, any_same}
+use Rattle.linked_demand.proofs.Closing.{any_of_claim, turn, length_entries, places_below}
+
+-- the places of those who pass, counted from the first place or taken from a range
+pub numbered : {X : Type 0} (t : X → Bool) (f : ℕ → X) (n a : ℕ)
+    → map (λ (x : ℕ × X). x.0) (filter (λ (x : ℕ × X). t x.1) (enumerate_from a (map f (range_with_len a n)))) ≡ filter (λ k. t (f k)) (range_with_len a n)
+numbered t f zero a = refl
+numbered t f (suc n) a =
+    let later = numbered t f n (a + 1) in
+    elim (cases_Bool (t (f a))) [
+      | inl passes ↦ rw passes (ap (λ (ks : List ℕ). a ∷ ks) later)
+      | inr fails ↦ rw fails later
+    ]
+
+filter_twice : {X : Type 0} (p q : X → Bool) (xs : List X) → filter p (filter q xs) ≡ filter (λ x. q x && p x) xs
+filter_twice p q [] = refl
+filter_twice {X} p q (x ∷ xs) =
+    let later = filter_twice p q xs in
+    elim (cases_Bool (q x)) [
+      | inl kept ↦ rw kept (elim (cases_Bool (p x)) [ inl passes ↦ rw passes (ap (λ (ys : List X). x ∷ ys) later) | inr fails ↦ rw fails later ])
+      | inr dropped ↦ rw dropped later
+    ]
+
+turn_own : (own waits here : Bool) → (own && (waits && here)) ≡ ((waits && own) && here)
+turn_own true true here = refl
+turn_own true false here = refl
+turn_own false true here = refl
+turn_own false false here = refl
+
+-- a candidate's claim is taken from his own wishes
+pub claim_own : (s : State) (p c : ℕ) → length s.marks ≡ length s.dossier.wishes → filter (waits_at s p) (own_places s.dossier c) ≡ claim_of s p c
+claim_own s p c long =
+    let d = s.dossier in
+    let n = length d.wishes in
+    let t = λ (e : Wish × Mark). is_waiting e.1 && (nat_eq e.0.candidate c) && (nat_eq e.0.programme p) in
+    filter_twice (waits_at s p) (λ k. candidate_of d k == c) (range_with_len 0 n)
+    ∙ filter_same (λ k. (candidate_of d k == c) && waits_at s p k) (λ k. t (entry_in s k))
+    (λ k. rw (candidate_in d.wishes k) (turn_own ((wish_in d.wishes k).candidate == c) (is_waiting (mark_in s.marks k)) ((wish_in d.wishes k).programme == p))) (range_with_len 0 n)
+    ∙ sym (numbered t (entry_in s) n 0)
+    ∙ ap (λ (es : List (Wish × Mark)). map (λ (x : ℕ × (Wish × Mark)). x.0) (filter (λ (x : ℕ × (Wish × Mark)). t x.1) (enumerate_from 0 es))) (sym (entries_by_place s long))
+
+none_below : {X : Type 0} (t : X → Bool) (es : List X) (a k : ℕ) → k < a
+    → is_among k (map (λ (x : ℕ × X). x.0) (filter (λ (x : ℕ × X). t x.1) (enumerate_from a es))) ≡ false
+none_below t [] a k lt = refl
+none_below t (e ∷ es) a k lt =
+    let later = none_below t es (a + 1) k (omega arith) in
+    elim (cases_Bool (t e)) [
+      | inl passes ↦ rw (passes, ne_eqb k a (λ same. omega (arith, lt, same))) later
+      | inr fails ↦ rw fails later
+    ]
+
+-- a place is among those of a test where what stands there passes
+pub among_numbered : {X : Type 0} (t : X → Bool) (es : List X) (a i k : ℕ) (e : X) → slice_get es i ≡ Some e → k ≡ a + i
+    → is_among k (map (λ (x : ℕ × X). x.0) (filter (λ (x : ℕ × X). t x.1) (enumerate_from a es))) ≡ t e
+among_numbered t [] a i k e at is = absurd (omega (arith, slice_get_within [] i e at))
+among_numbered t (x ∷ es) a zero k e at is =
+    let same : t x ≡ t e = ap (λ (o : Option _). t (unwrap_or o x)) at in
+    elim (cases_Bool (t x)) [
+      | inl passes ↦ rw (passes, eq-eqb k a (omega (arith, is))) (sym passes ∙ same)
+      | inr fails ↦ rw fails (none_below t es (a + 1) k (omega (arith, is)) ∙ sym fails ∙ same)
+    ]
+among_numbered t (x ∷ es) a (suc i) k e at is =
+    let later = among_numbered t es (a + 1) i k e at (omega (arith, is)) in
+    elim (cases_Bool (t x)) [
+      | inl passes ↦ rw (passes, ne_eqb k a (λ same. omega (arith, is, same))) later
+      | inr fails ↦ rw fails later
+    ]
+
+-- a waiting wish is in the claim of its candidate in its programme, and in no other
+pub among_claim : (s : State) (p c i : ℕ) (w : Wish) (m : Mark) → WaitsAt s i w m → is_among i (claim_of s p c) ≡ (nat_eq w.candidate c && nat_eq w.programme p)
+among_claim s p c i w m at =
+    let t = λ (e : Wish × Mark). is_waiting e.1 && (nat_eq e.0.candidate c) && (nat_eq e.0.programme p) in
+    among_numbered t (entries s) 0 i i (w, m) at.here (omega arith) ∙ rw at.waits refl
+
+pub among_some : (k : ℕ) (ks : List ℕ) → is_among k ks ≡ true → nat_lt 0 (length ks) ≡ true
+among_some k [] t = absurd (false≢true t)
+among_some k (x ∷ ks) t = lt-ltb 0 (length (x ∷ ks)) (omega arith)
+
+any_numbered : {X : Type 0} (t : X → Bool) (es : List X) (a : ℕ)
+    → list_any t es ≡ nat_lt 0 (length (map (λ (x : ℕ × X). x.0) (filter (λ (x : ℕ × X). t x.1) (enumerate_from a es))))
+any_numbered t [] a = refl
+any_numbered t (e ∷ es) a =
+    let later = any_numbered t es (a + 1) in
+    let ks = map (λ (x : ℕ × _). x.0) (filter (λ (x : ℕ × _). t x.1) (enumerate_from (a + 1) es)) in
+    elim (cases_Bool (t e)) [
+      | inl passes ↦ rw passes (sym (lt-ltb 0 (length (a ∷ ks)) (omega arith)))
+      | inr fails ↦ rw fails later
+    ]
+
+-- a candidate waits for a programme where his claim has a wish
+pub waits_claim : (s : State) (p c : ℕ) → waits_in s p c ≡ nat_lt 0 (length (claim_of s p c))
+waits_claim s p c = any_numbered (λ (e : Wish × Mark). is_waiting e.1 && (nat_eq e.0.candidate c) && (nat_eq e.0.programme p)) (entries s) 0
+
+-- a wish of the claim is open where the flags say so
+pub claim_opens : (s : State) (opens : List Bool) (p c : ℕ) → length opens ≡ length s.dossier.wishes → length s.marks ≡ length s.dossier.wishes
+    → list_any (λ v. get_or opens v false) (claim_of s p c) ≡ list_any (is_flagged_in p c) (flagged s opens)
+claim_opens s opens p c long marks =
+    let t = λ (e : Wish × Mark). is_waiting e.1 && (nat_eq e.0.candidate c) && (nat_eq e.0.programme p) in
+    any_of_claim t (entries s) 0 opens (omega (arith, long, length_entries s.dossier.wishes s.marks marks))
+    ∙ any_same (λ (x : (Wish × Mark) × Bool). t x.0 && x.1) (is_flagged_in p c)
+    (λ x. turn (is_waiting x.0.1) (nat_eq x.0.0.candidate c) (nat_eq x.0.0.programme p) x.1) (zip (entries s) opens)
+
+pub all_get : (P : ℕ → Type 0) (ys : List ℕ) → AllByRecursion P ys → (j : ℕ) → j < length ys → P (get_or ys j 0)
+all_get P [] all j lt = absurd (omega arith)
+all_get P (y ∷ ys) all zero lt = all.0
+all_get P (y ∷ ys) all (suc j) lt = all_get P ys all.1 j (omega arith)
+
+all_at : (c : ℕ) (ys : List ℕ) → AllByRecursion (λ y. nat_eq c y ≡ false) ys → (j : ℕ) → j < length ys → nat_eq c (get_or ys j 0) ≡ false
+all_at c ys all j lt = all_get (λ y. nat_eq c y ≡ false) ys all j lt
+
+all_kept : (c : ℕ) (f : ℕ → Bool) (ys : List ℕ) → AllByRecursion (λ y. nat_eq c y ≡ false) ys → AllByRecursion (λ y. nat_eq c y ≡ false) (filter f ys)
+all_kept c f [] all = tt
+all_kept c f (y ∷ ys) all =
+    elim (cases_Bool (f y)) [
+      | inl kept ↦ rw kept (all.0, all_kept c f ys all.1)
+      | inr dropped ↦ rw dropped (all_kept c f ys all.1)
+    ]
+
+once_first : (c x : ℕ) (ys : List ℕ) → AllByRecursion (λ y. nat_eq c y ≡ false) ys → (j : ℕ) → j < length (x ∷ ys) → nat_eq j 0 ≡ false → nat_eq c (get_or (x ∷ ys) j 0) ≡ false
+once_first c x ys all zero lt ne = absurd (false≢true (sym ne))
+once_first c x ys all (suc j) lt ne = all_at c ys all j (omega arith)
+
+once_later : (c x k : ℕ) (ys : List ℕ) → nat_eq c x ≡ false → IsPlaceOf c ys k → (j : ℕ) → j < length (x ∷ ys) → nat_eq j (suc k) ≡ false → nat_eq c (get_or (x ∷ ys) j 0) ≡ false
+once_later c x k ys not_x at zero lt ne = not_x
+once_later c x k ys not_x at (suc j) lt ne = at.once j (omega arith) (ne_eqb j k (λ e. eqb-false (suc j) (suc k) ne (ap suc e)))
+
+first_place : (c x : ℕ) (ys : List ℕ) → x ≡ c → AllByRecursion (λ y. nat_eq c y ≡ false) ys → IsPlaceOf c (x ∷ ys) 0
+first_place c x ys is all = record { within = omega arith; here = is; once = once_first c x ys all }
+
+next_place : (c x k : ℕ) (ys : List ℕ) → nat_eq c x ≡ false → IsPlaceOf c ys k → IsPlaceOf c (x ∷ ys) (suc k)
+next_place c x k ys not_x at = record { within = omega (arith, at.within); here = at.here; once = once_later c x k ys not_x at }
+
+-- in a list where none stands twice, one who passes stands among those who pass behind those before him
+pub placed : (f : ℕ → Bool) (xs : List ℕ) (i c : ℕ) → IsDistinct nat_eq xs → i < length xs → get_or xs i 0 ≡ c → f c ≡ true
+    → IsPlaceOf c (filter f xs) (length (filter f (take i xs)))
+unfolding IsDistinct
+placed f [] i c apart lt at passes = absurd (omega arith)
+placed f (x ∷ xs) zero c apart lt at passes =
+    let P = λ (n : ℕ). AllByRecursion (λ y. nat_eq n y ≡ false) xs in
+    let kept : f x ≡ true = ap f at ∙ passes in
+    rw kept (first_place c x (filter f xs) at (all_kept c f xs (subst P at apart.0)))
+placed f (x ∷ xs) (suc i) c apart lt at passes =
+    let later = placed f xs i c apart.1 (omega arith) at passes in
+    let not_x : nat_eq c x ≡ false = nat_eq_turn c x ∙ ap (nat_eq x) (sym at) ∙ all_at x xs apart.0 i (omega arith) in
+    elim (cases_Bool (f x)) [
+      | inl kept ↦ rw kept (next_place c x (length (filter f (take i xs))) (filter f xs) not_x later)
+      | inr dropped ↦ rw dropped later
+    ]
+
+-- and he isn't among those before him
+pub fresh : (xs : List ℕ) (i : ℕ) → IsDistinct nat_eq xs → i < length xs → is_among (get_or xs i 0) (take i xs) ≡ false
+unfolding IsDistinct
+fresh [] i apart lt = absurd (omega arith)
+fresh (x ∷ xs) zero apart lt = refl
+fresh (x ∷ xs) (suc i) apart lt =
+    let not_x : nat_eq (get_or xs i 0) x ≡ false = nat_eq_turn (get_or xs i 0) x ∙ all_at x xs apart.0 i (omega arith) in
+    rw not_x (fresh xs i apart.1 (omega arith))
+
+le_next : (i limit : ℕ) → nat_le (i + 1) limit ≡ nat_lt i limit
+le_next i limit =
+    elim (cases_lt i limit) [
+      | inl lt ↦ le-leb (i + 1) limit (omega (arith, lt)) ∙ sym (lt-ltb i limit lt)
+      | inr le ↦ lt-leb (i + 1) limit (omega (arith, le)) ∙ sym (le-ltb i limit le)
+    ]
+
+-- whether the wish of one who stands at a place of the call order needs no seat
+pub need_at : (s : State) (orders : List CallOrder) (w : Wish) (order : List ℕ) (i : ℕ) → order ≡ order_of s.dossier orders w.programme
+    → IsDistinct nat_eq order → i < length order → get_or order i 0 ≡ w.candidate
+    → needs_no_seat s orders w ≡ (holds_seat s w.candidate w.programme || nat_lt i (limit_of s.dossier w.programme))
+need_at s orders w order i is apart lt at =
+    let none : is_among w.candidate (take i order) ≡ false = ap (λ c. is_among c (take i order)) (sym at) ∙ fresh order i apart lt in
+    let front : before s orders w ≡ take i order = rw (← is) (front_same w.candidate order i lt at none) in
+    let long : length (before s orders w) ≡ i = ap length front ∙ length-take-le i order (omega (arith, lt)) in
+    ap (λ n. holds_seat s w.candidate w.programme || nat_le (n + 1) (limit_of s.dossier w.programme)) long
+    ∙ ap (λ b. holds_seat s w.candidate w.programme || b) (le_next i (limit_of s.dossier w.programme))
+
+-- a claim's wishes are places of wishes
+pub claim_within : (s : State) (p c n : ℕ) → n ≡ length s.dossier.wishes → length s.marks ≡ length s.dossier.wishes → All (λ v. v < n) (claim_of s p c)
+claim_within s p c n n_is marks =
+    All-from_recursion (λ v. v < n) (claim_of s p c)
+    (places_below (λ x. is_waiting x.1.1 && (nat_eq x.1.0.candidate c) && (nat_eq x.1.0.programme p)) (entries s) 0 n (omega (arith, n_is, length_entries s.dossier.wishes s.marks marks)))

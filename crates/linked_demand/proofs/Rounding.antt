@@ -1,0 +1,131 @@
+-- A round as a system of falling bars.
+use Rattle.std.proofs.Common.{ℕ, ◌<◌, ◌≡◌, Bool, true, false, not, List, [], ◌∷◌, Some, map, length, get_or, refl, sym, ◌∙◌, ap, arith, subst, zero-add, Vec}
+use Rattle.std.specs.Prelude.{slice_get, slice_index, slice_set, Option}
+use Rattle.std.specs.List.{range_with_len}
+use Rattle.std.specs.declared.alloc.Global.{Global}
+use Rattle.std.proofs.lemmas.Bool.{and_parts}
+use Rattle.std.proofs.lemmas.List.{length-map, get_or_read}
+use Rattle.std.proofs.lemmas.List.FromFn.{get_or-map-range_with_len, length-map-range_with_len}
+use Rattle.admit_core.specs.declared.dossier.Wish.{Wish}
+use Rattle.admit_core.specs.declared.state.Mark.{Mark}
+use Rattle.admit_core.specs.State.{State, entries, is_waiting, free_beds}
+use Rattle.admit_core.specs.Proposals.{is_open, is_barred, demanded_ranks}
+use Rattle.admit_core.specs.Boarding.{boarding}
+use Rattle.bar_law.specs.Overfilled.{rank_over}
+use Rattle.day_state.specs.Kept.{mark_in, wish_in}
+use Rattle.day_state.proofs.Places.{entry_in, entries_by_place}
+use Rattle.linked_demand.specs.declared.rows.RowWish.{RowWish}
+use Rattle.linked_demand.specs.Links.{LinksRow, WaitsAt}
+use Rattle.linked_demand.specs.Opens.{opens_of, is_proposed_by}
+use Rattle.linked_demand.specs.Rounds.{Round, IsRoundUnder, bar_each, is_proposed_in}
+use Rattle.linked_demand.specs.Demand.{is_proposed_at, over_at}
+use Rattle.linked_demand.proofs.BarEach.{bar_each_is, bar_each_set}
+use Rattle.linked_demand.proofs.Closing.{proposed_at_is, length_entries, read_range}
+use Rattle.linked_demand.proofs.Falling.{flag_map}
+use Rattle.linked_demand.proofs.Filling.{entry_there}
+use Rattle.linked_demand.proofs.Opens.{proposed_by_bars}
+
+map_twice : {X Y : Type 0} (g : X → Y) (f : ℕ → X) (ks : List ℕ) → map g (map f ks) ≡ map (λ k. g (f k)) ks
+map_twice g f [] = refl
+map_twice {X} {Y} g f (k ∷ ks) = ap (λ (ys : List Y). g (f k) ∷ ys) (map_twice g f ks)
+
+-- the flags by place are those of the bars
+pub opens_by_place : (s : State) (bars : List ℕ) (n : ℕ) (flags : List Bool) → length s.marks ≡ length s.dossier.wishes
+    → flags ≡ map (λ k. is_open s bars (wish_in s.dossier.wishes k) (mark_in s.marks k)) (range_with_len 0 n) → n ≡ length s.dossier.wishes → flags ≡ opens_of s bars
+opens_by_place s bars n flags long are n_is =
+    let g = λ (e : Wish × Mark). is_open s bars e.0 e.1 in
+    are
+    ∙ ap (λ k. map (λ j. is_open s bars (wish_in s.dossier.wishes j) (mark_in s.marks j)) (range_with_len 0 k)) n_is
+    ∙ sym (map_twice g (entry_in s) (range_with_len 0 (length s.dossier.wishes)))
+    ∙ ap (map g) (sym (entries_by_place s long))
+
+pub length-opens_of : (s : State) (bars : List ℕ) → length s.marks ≡ length s.dossier.wishes → length (opens_of s bars) ≡ length s.dossier.wishes
+length-opens_of s bars long = length-map (entries s) (λ (e : Wish × Mark). is_open s bars e.0 e.1) ∙ length_entries s.dossier.wishes s.marks long
+
+module _ (links : LinksRow) (ceilings bars free : List ℕ) (rows : List (Vec RowWish Global)) (overs : List (Option ℕ)) (marked : List Bool) (seen : Round) (right : IsRoundUnder links ceilings bars free rows overs marked)
+    (is : record { state = links.state; orders = links.orders; ceilings = ceilings; bars = bars } ≡ seen) where
+  as_long : length bars ≡ length ceilings
+  as_long = right.round.bars_each ∙ sym right.ceilings_each
+
+  pub bars_seen : bar_each seen.ceilings seen.bars ≡ seen.bars
+  bars_seen =
+      let P = λ (r : Round). bar_each r.ceilings r.bars ≡ r.bars in
+      subst P is (bar_each_is ceilings bars as_long)
+
+  pub ceilings_seen : length ceilings ≡ length seen.ceilings
+  ceilings_seen = ap (λ (r : Round). length r.ceilings) is
+
+  pub bar_within : (i : ℕ) → i < length seen.ceilings → i < length bars
+  bar_within i lt = omega (arith, lt, ceilings_seen, as_long)
+
+  pub seen_within_bars : (i : ℕ) → i < length seen.ceilings → i < length seen.bars
+  seen_within_bars i lt = omega (arith, bar_within i lt, ap (λ (r : Round). length r.bars) is)
+
+  bar_seen : (i x : ℕ) → x ≡ slice_index bars i → x ≡ slice_index (bar_each seen.ceilings seen.bars) i
+  bar_seen i x read = read ∙ ap (λ (r : Round). slice_index r.bars i) is ∙ ap (λ (bs : List ℕ). slice_index bs i) (sym bars_seen)
+
+  pub bar_read : (i x : ℕ) → i < length seen.ceilings → x ≡ get_or bars i x → x ≡ slice_index (bar_each seen.ceilings seen.bars) i
+  bar_read i x lt read = bar_seen i x (get_or_read bars i x (bar_within i lt) read 0)
+
+  pub falls_seen : (i to : ℕ) → to < slice_index (bar_each seen.ceilings seen.bars) i → to < slice_index bars i
+  falls_seen i to falls = omega (arith, falls, bar_seen i (slice_index bars i) refl)
+
+  pub over_seen : (i : ℕ) (over : Option ℕ) → i < length seen.ceilings → over ≡ slice_get (demanded_ranks seen.state seen.orders seen.bars i) (free_beds seen.state i)
+      → over ≡ rank_over (boarding seen.state seen.orders seen.ceilings) (bar_each seen.ceilings seen.bars) i
+  over_seen i over lt answer =
+      answer
+      ∙ ap (slice_get (demanded_ranks seen.state seen.orders seen.bars i)) (sym (get_or-map-range_with_len (free_beds seen.state) 0 (length seen.ceilings) i i 0 lt (zero-add i)))
+      ∙ ap (λ (bs : List ℕ). slice_get (demanded_ranks seen.state seen.orders bs i) (slice_index (map (free_beds seen.state) (range_with_len 0 (length seen.ceilings))) i)) (sym bars_seen)
+
+  -- the answers that are kept
+  pub answer_within : (i : ℕ) → i < length seen.bars → i < length overs
+  answer_within i lt =
+      omega (arith, lt, ap (λ (r : Round). length r.bars) is, right.round.bars_each, ap length right.overs_are, length-map-range_with_len (over_at links.state links.orders bars) 0 (length links.state.dossier.schools))
+
+  pub answer_read : (i : ℕ) (x : Option ℕ) → i < length seen.bars → x ≡ get_or overs i x → x ≡ over_at seen.state seen.orders seen.bars i
+  answer_read i x lt read =
+      read_range (over_at links.state links.orders bars) (length links.state.dossier.schools) i overs x right.overs_are (omega (arith, lt, ap (λ (r : Round). length r.bars) is, right.round.bars_each)) read
+      ∙ ap (λ (r : Round). over_at r.state r.orders r.bars i) is
+
+  -- after a fall
+  pub bars_fallen : (i to : ℕ) → bar_each ceilings (slice_set bars i to) ≡ slice_set (bar_each seen.ceilings seen.bars) i to
+  bars_fallen i to =
+      let P = λ (r : Round). bar_each ceilings (slice_set bars i to) ≡ slice_set (bar_each r.ceilings r.bars) i to in
+      subst P is (bar_each_set ceilings bars i to as_long)
+
+  module _ (k : ℕ) (lt : k < length seen.state.dossier.wishes) where
+    k_within : k < length links.state.dossier.wishes
+    k_within = omega (arith, lt, ap (λ (r : Round). length r.state.dossier.wishes) is)
+
+    here : slice_get (entries links.state) k ≡ Some (wish_in links.state.dossier.wishes k, mark_in links.state.marks k)
+    here = entry_there links.state.dossier.wishes links.state.marks k right.round.marks_each k_within
+
+    flag_is : get_or links.opens k false ≡ is_open links.state bars (wish_in links.state.dossier.wishes k) (mark_in links.state.marks k)
+    flag_is =
+        ap (λ (os : List Bool). get_or os k false) right.round.opens_are
+        ∙ flag_map (λ e. is_open links.state bars e.0 e.1) (entries links.state) k (wish_in links.state.dossier.wishes k, mark_in links.state.marks k) here
+
+    -- a wish that is not open is not proposed
+    pub closed_seen : get_or links.opens k false ≡ false → false ≡ is_proposed_in seen k
+    closed_seen closed =
+        let P = λ (r : Round). false ≡ is_proposed_in r k in
+        subst P is (rw (sym flag_is ∙ closed) refl)
+
+    -- one that is open waits
+    pub open_waits : get_or links.opens k false ≡ true → (w : Wish) × (m : Mark) × WaitsAt links.state k w m
+    open_waits opens =
+        let w = wish_in links.state.dossier.wishes k in
+        let m = mark_in links.state.marks k in
+        (w, m, record { here = here; waits = (and_parts (is_waiting m) (not (is_barred links.state bars w m)) (sym flag_is ∙ opens)).0 })
+
+    pub proposed_seen : get_or links.opens k false ≡ true → is_proposed_at links k ≡ is_proposed_in seen k
+    proposed_seen opens =
+        let w = wish_in links.state.dossier.wishes k in
+        let m = mark_in links.state.marks k in
+        let waits : WaitsAt links.state k w m = record { here = here; waits = (and_parts (is_waiting m) (not (is_barred links.state bars w m)) (sym flag_is ∙ opens)).0 } in
+        let P = λ (r : Round). is_proposed_at links k ≡ is_proposed_in r k in
+        subst P is (
+        proposed_at_is links k w m waits
+        ∙ ap (is_proposed_by links.state links.orders links.opens w m) flag_is
+        ∙ ap (λ (os : List Bool). is_proposed_by links.state links.orders os w m (is_open links.state bars w m)) right.round.opens_are
+        ∙ proposed_by_bars links.state links.orders bars w m)

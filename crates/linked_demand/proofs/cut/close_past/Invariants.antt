@@ -1,0 +1,17 @@
+use Rattle.std.proofs.Common.{◌≡◌, ◌+◌, length, count_by}
+use Rattle.std.specs.List.{enumerate_from}
+use Rattle.admit_core.specs.State.{entries}
+use Rattle.linked_demand.specs.Marks.{is_new, MarksSchools}
+use Rattle.linked_demand.proofs.Cutting.{SoFar}
+use Rattle.linked_demand.proofs.cut.close_past.Given as goal
+
+abbrev pub invariant-loop-end : goal.invariant-loop-end
+invariant-loop-end g l =
+    record {
+      cut : SoFar l.to l.row.items l.initial.links l.links l.end;
+      steps : l.steps + l.end ≡ l.initial.steps + length l.row.items + count_by (is_new l.initial.links.state l.bars l.initial.links l.links) (enumerate_from 0 (entries l.initial.links.state));
+      marked : MarksSchools l.initial.links.state (is_new l.initial.links.state l.bars l.initial.links l.links) l.initial.marked.items l.marked.items;
+    }
+
+abbrev pub decreases-loop-end : goal.decreases-loop-end
+decreases-loop-end g l = l.end

@@ -1,0 +1,42 @@
+use Rattle.std.proofs.Common.{rules, ◌≡◌, ◌∙◌, sym, ap, ℕ, length, true, arith, List, Vec, subst, Some}
+use Rattle.std.specs.Prelude.{slice_get, replicate}
+use Rattle.std.specs.declared.alloc.Global.{Global}
+use Rattle.linked_demand.specs.declared.rows.RowWish.{RowWish}
+use Rattle.linked_demand.specs.Rows.{AllWait}
+use Rattle.linked_demand.specs.Rounds.{IsRound}
+use Rattle.linked_demand.proofs.BarEach.{bar_each_same}
+use Rattle.linked_demand.proofs.Lowered.{round_built, rows_wait, one_free_each, answers_built}
+use Rattle.linked_demand.proofs.round.LinkedRound.build.Goals as goal
+
+pub returns-clause-bars : goal.returns-clause-bars
+returns-clause-bars c = bar_each_same c.in_ok-ceilings.ceilings.items c.in_ok-bars.bars.items c.args.ceilings.now (search rules) (search rules)
+
+pub ask_marked-requires : goal.ask_marked-requires
+ask_marked-requires c =
+    let links = c.in_ok-links.links in
+    let free = c.in_ok-free.free.items in
+    let rows = c.in_ok-rows.rows.items in
+    let round : IsRound links c.args.ceilings.now free rows =
+    round_built c.args.state.now c.args.orders.now.orders links c.args.ceilings.now free rows c.in_ok-links.ensures (rw c.marks.ensures.marks at c.marks.ensures.one_each) c.requires.ceilings c.in_ok-free.ensures c.in_ok-rows.ensures in
+    let long : length rows ≡ length c.args.ceilings.now = round.rows_each in
+    let P = λ (all : List (Vec RowWish Global)). (h : ℕ) (row : Vec RowWish Global) → slice_get all h ≡ Some row → AllWait links.state row.items in
+    record {
+      rows = subst P (sym c.deref.ensures.value) (rows_wait links c.args.ceilings.now free rows round);
+      free = ap length c.deref-2.ensures.value ∙ one_free_each links c.args.ceilings.now free rows round ∙ ap length (sym c.deref.ensures.value);
+      marked = omega (arith, c.in_ok-marked.ensures.len, long, c.deref.ensures.len);
+      overs = omega (arith, c.in_ok-overs.ensures.len, long, c.deref.ensures.len);
+    }
+
+pub invariant_of-result : goal.invariant_of-result
+invariant_of-result c =
+    let links = c.in_ok-links.links in
+    let free = c.in_ok-free.free.items in
+    let rows = c.in_ok-rows.rows.items in
+    let bars : c.in_ok-bars.bars.items ≡ c.args.ceilings.now = search rules in
+    let ceilings : c.in_ok-ceilings.ceilings.items ≡ c.args.ceilings.now = search rules in
+    let marked : c.in_ok-marked.marked.items ≡ replicate (length c.args.ceilings.now) true = search rules in
+    let round : IsRound links c.args.ceilings.now free rows =
+    round_built c.args.state.now c.args.orders.now.orders links c.args.ceilings.now free rows c.in_ok-links.ensures (rw c.marks.ensures.marks at c.marks.ensures.one_each) c.requires.ceilings c.in_ok-free.ensures c.in_ok-rows.ensures in
+    rw (bars, ceilings)
+    (answers_built links c.args.ceilings.now free rows round c.in_ok-overs.overs.items c.in_ok-marked.marked.items (omega (arith, c.in_ok-overs.ensures.len)) marked c.deref-2.result.now c.deref.result.now c.deref-2.ensures.value c.deref.ensures.value
+    c.ask_marked.new.overs.items c.ask_marked.new.marked.items c.ask_marked.ensures.asked c.ask_marked.ensures.unmarked)

@@ -1,0 +1,10 @@
+pub mod Demand
+pub mod Filled
+pub mod Line
+pub mod Links
+pub mod Marks
+pub mod Opens
+pub mod Rounds
+pub mod Rows
+pub mod Seats
+pub mod Ticks

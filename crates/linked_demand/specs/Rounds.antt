@@ -1,0 +1,47 @@
+-- A round of falls that keeps the links of the programmes and the rows of the schools.
+use Rattle.std.specs.Prelude.{◌≡◌, ℕ, Bool, List, length, map, Option, Some, slice_get, slice_index, Vec}
+use Rattle.std.specs.List.{range_with_len}
+use Rattle.std.specs.declared.alloc.Global.{Global}
+use Rattle.std.proofs.lemmas.List.FromFn.{length-map-range_with_len}
+use Rattle.admit_core.specs.declared.ranking.CallOrder.{CallOrder}
+use Rattle.admit_core.specs.State.{State, free_beds}
+use Rattle.admit_core.specs.Proposals.{is_proposed}
+use Rattle.day_state.specs.Kept.{mark_in, wish_in}
+use Rattle.linked_demand.specs.declared.rows.RowWish.{RowWish}
+use Rattle.linked_demand.specs.Links.{LinksRow}
+use Rattle.linked_demand.specs.Opens.{opens_of}
+use Rattle.linked_demand.specs.Rows.{IsRow}
+use Rattle.linked_demand.specs.Demand.{over_at}
+
+-- what a round is seen as
+pub record Round : Type 0 where
+  pub state : State
+  pub orders : List CallOrder
+  pub ceilings : List ℕ
+  pub bars : List ℕ
+
+pub record IsRound (links : LinksRow) (bars free : List ℕ) (rows : List (Vec RowWish Global)) : Type 0 where
+  pub marks_each : length links.state.marks ≡ length links.state.dossier.wishes
+  pub bars_each : length bars ≡ length links.state.dossier.schools
+  pub free_are : free ≡ map (free_beds links.state) (range_with_len 0 (length links.state.dossier.schools))
+  pub rows_each : length rows ≡ length bars
+  pub opens_are : links.opens ≡ opens_of links.state bars
+  pub rows_are : (h : ℕ) (row : Vec RowWish Global) → slice_get rows h ≡ Some row → IsRow links.state bars h row.items
+
+-- what holds of the parts of a round: with the answers of the schools, and a mark each
+pub record IsRoundUnder (links : LinksRow) (ceilings bars free : List ℕ) (rows : List (Vec RowWish Global)) (overs : List (Option ℕ)) (marked : List Bool) : Type 0 where
+  pub round : IsRound links bars free rows
+  pub ceilings_each : length ceilings ≡ length links.state.dossier.schools
+  pub overs_are : overs ≡ map (over_at links.state links.orders bars) (range_with_len 0 (length links.state.dossier.schools))
+  pub marked_each : length marked ≡ length links.state.dossier.schools
+
+-- one bar for each ceiling
+abbrev pub bar_each : List ℕ → List ℕ → List ℕ
+bar_each ceilings bars = map (slice_index bars) (range_with_len 0 (length ceilings))
+
+pub length-bar_each : (ceilings bars : List ℕ) → length (bar_each ceilings bars) ≡ length ceilings
+length-bar_each ceilings bars = length-map-range_with_len (slice_index bars) 0 (length ceilings)
+
+-- the wish at a place is proposed at the bars of a round
+abbrev pub is_proposed_in : Round → ℕ → Bool
+is_proposed_in r k = is_proposed r.state r.orders r.bars (wish_in r.state.dossier.wishes k) (mark_in r.state.marks k)

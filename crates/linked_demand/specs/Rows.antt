@@ -1,0 +1,52 @@
+-- The waiting wishes of a school, by boarding rank, up to its bar.
+use Rattle.std.specs.Prelude.{◌≡◌, ℕ, ◌-◌, ◌≤◌, ◌<◌, Bool, true, false, not, List, [], ◌∷◌, length, take, drop, Some, slice_get, slice_index, slice_index_or, slice_set, Vec}
+use Rattle.std.specs.declared.alloc.Global.{Global}
+use Rattle.admit_core.specs.declared.dossier.Wish.{Wish}
+use Rattle.admit_core.specs.declared.state.Mark.{Mark}
+use Rattle.admit_core.specs.State.{State, entries, holds_bed, has_school}
+use Rattle.admit_core.specs.Proposals.{is_open}
+use Rattle.linked_demand.specs.declared.rows.RowWish.{RowWish}
+use Rattle.linked_demand.specs.Links.{LinksRow, WaitsAt}
+
+-- a wish that waits for the school, whose candidate has no bed there
+pub record WaitsFor (s : State) (h : ℕ) (x : RowWish) (w : Wish) (m : Mark) : Type 0 where
+  pub waits : WaitsAt s x.wish w m
+  pub has : has_school w h ≡ true
+  pub no_bed : not (holds_bed s w.candidate h) ≡ true
+  pub rank : x.rank ≡ w.board_rank
+
+-- the row of a school: those who wait for it and rank at most at the bar, by rank, and those of one rank by place
+pub record IsRow (s : State) (bars : List ℕ) (h : ℕ) (row : List RowWish) : Type 0 where
+  pub rises : (j k : ℕ) (x y : RowWish) → j ≤ k → slice_get row j ≡ Some x → slice_get row k ≡ Some y → x.rank ≤ y.rank
+  pub in_order : (j k : ℕ) (x y : RowWish) → j < k → slice_get row j ≡ Some x → slice_get row k ≡ Some y → x.rank ≡ y.rank → x.wish < y.wish
+  pub each : (k : ℕ) (x : RowWish) → slice_get row k ≡ Some x → (w : Wish) × (m : Mark) × WaitsFor s h x w m
+  pub below : (k : ℕ) (x : RowWish) → slice_get row k ≡ Some x → x.rank ≤ slice_index bars h
+  pub all : (x : RowWish) (w : Wish) (m : Mark) → WaitsFor s h x w m → x.rank ≤ slice_index bars h → (k : ℕ) × (slice_get row k ≡ Some x)
+
+-- the flags after the wishes of a part of a row are closed
+abbrev pub closed : List RowWish → List Bool → List Bool
+closed [] opens = opens
+closed (x ∷ xs) opens = slice_set (closed xs opens) x.wish false
+
+-- the row keeps its wishes of at most a rank, and the others are closed
+pub record CutsAt (to : ℕ) (row : List RowWish) (opens : List Bool) (kept : List RowWish) (after : List Bool) : Type 0 where
+  pub end : ℕ
+  pub within : end ≤ length row
+  pub kept_is : kept ≡ take end row
+  pub after_is : after ≡ closed (drop end row) opens
+  pub past : (k : ℕ) (x : RowWish) → end ≤ k → slice_get row k ≡ Some x → to < x.rank
+  pub last : (x : RowWish) → 0 < end → slice_get row (end - 1) ≡ Some x → x.rank ≤ to
+
+-- each wish of the row waits
+abbrev pub AllWait : State → List RowWish → Type 0
+AllWait s row = (k : ℕ) (x : RowWish) → slice_get row k ≡ Some x → (w : Wish) × (m : Mark) × WaitsAt s x.wish w m
+
+-- what is open under bars has its flag set, and no wish of the row past a number is open under them
+pub record StayOpen (l : LinksRow) (bars : List ℕ) (to : ℕ) (row : List RowWish) : Type 0 where
+  pub flagged : (k : ℕ) (e : Wish × Mark) → slice_get (entries l.state) k ≡ Some e → is_open l.state bars e.0 e.1 ≡ true → slice_index_or l.opens k false ≡ true
+  pub past : (j : ℕ) (x : RowWish) (e : Wish × Mark) → slice_get row j ≡ Some x → to < x.rank → slice_get (entries l.state) x.wish ≡ Some e → is_open l.state bars e.0 e.1 ≡ false
+
+-- one row for each school
+pub record AreRows (s : State) (bars : List ℕ) (rows : List (Vec RowWish Global)) : Type 0 where
+  pub one_each : length rows ≡ length s.dossier.schools
+  pub each : (h : ℕ) (row : Vec RowWish Global) → slice_get rows h ≡ Some row → IsRow s bars h row.items

@@ -1,0 +1,59 @@
+//! Wishes that become proposed.
+ghost use Rattle.std.specs.Prelude.{◌≡◌, ℕ, ◌+◌, ◌<◌, ◌&&◌, length, count_by, All};
+ghost use Rattle.std.specs.Option.{ForSome};
+ghost use Rattle.admit_core.specs.declared.dossier.Wish.{Wish};
+ghost use Rattle.admit_core.specs.declared.state.Mark.{Mark};
+ghost use Rattle.admit_core.specs.Lists.{is_among};
+ghost use Rattle.linked_demand.specs.Marks.{is_fresh, with_mark, MarksSchools};
+
+use admit_core::Steps;
+use day_state::DayState;
+use demand::{is_open, wish_at};
+use std::sync::ledger::Ledger;
+
+/// Whether a wish is open, by its flag and under bars, and is called by its turn alone.
+fn is_fresh(state: &DayState<'_>, bars: &[u32], opens: &[bool], sure: &[bool], wish: u32) -> bool
+    requires wish { wish < length state.now.dossier.wishes }
+    requires bars { length bars.now ≡ length state.now.dossier.schools }
+    requires opens { length opens.now ≡ length state.now.dossier.wishes }
+    requires sure { length sure.now ≡ length state.now.dossier.wishes }
+    ensures { result ≡ is_fresh state.now bars.now opens.now sure.now wish }
+{
+    opens[wish as usize] && !sure[wish as usize] && is_open(state, bars, wish)
+}
+
+/// Marks a school, if there is one.
+fn mark(marked: &mut Vec<bool>, school: Option<u32>)
+    requires { ForSome school (λ h. h < length marked.old.items) }
+    ensures { marked.new.items ≡ with_mark school marked.old.items }
+{
+    if let Some(school) = school {
+        marked[school as usize] = true;
+    }
+}
+
+/// Ticks once for each wish of a claim that is fresh, and marks its school.
+pub fn note_fresh<L: Ledger>(
+    state: &DayState<'_>,
+    bars: &[u32],
+    opens: &[bool],
+    sure: &[bool],
+    claim: &[u32],
+    marked: &mut Vec<bool>,
+    steps: &mut Steps<L>,
+)
+    requires claim { All (λ v. v < length state.now.dossier.wishes) claim.now }
+    requires bars { length bars.now ≡ length state.now.dossier.schools }
+    requires opens { length opens.now ≡ length state.now.dossier.wishes }
+    requires sure { length sure.now ≡ length state.now.dossier.wishes }
+    requires marked { length marked.old.items ≡ length state.now.dossier.schools }
+    ensures steps { steps.new ≡ steps.old + count_by (is_fresh state.now bars.now opens.now sure.now) claim.now }
+    ensures marked { MarksSchools state.now (λ x. is_among x.0 claim.now && is_fresh state.now bars.now opens.now sure.now x.0) marked.old.items marked.new.items }
+{
+    for wish in claim {
+        if is_fresh(state, bars, opens, sure, *wish) {
+            steps.tick();
+            mark(marked, wish_at(state, *wish).school);
+        }
+    }
+}

@@ -1,0 +1,19 @@
+//! The boarding schools of a state as a system of falling bars that keeps who is served, so that a
+//! fall costs what it changes.
+#![tactic(auto)]
+
+mod claims;
+mod cut;
+mod fill;
+mod fresh;
+mod law;
+mod line;
+mod links;
+mod over;
+mod round;
+mod rows;
+mod seats;
+mod wishes;
+
+pub use law::law_of_changes;
+pub use round::LinkedRound;

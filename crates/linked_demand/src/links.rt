@@ -1,0 +1,159 @@
+//! Who is served in each programme while wishes are closed.
+ghost use Rattle.std.specs.Prelude.{◌≡◌, ℕ, ◌+◌, ◌<◌, ◌&&◌, ◌||◌, false, length, slice_set, slice_index_or, count_by, IfOk};
+ghost use Rattle.std.specs.List.{enumerate_from};
+ghost use Rattle.admit_core.specs.State.{entries};
+ghost use Rattle.linked_demand.specs.Marks.{is_new, MarksSchools};
+ghost use Rattle.admit_core.specs.CallOrder.{AreCallOrders};
+ghost use Rattle.linked_demand.specs.Opens.{opens_of};
+ghost use Rattle.admit_core.specs.declared.dossier.Wish.{Wish};
+ghost use Rattle.admit_core.specs.declared.state.Mark.{Mark};
+ghost use Rattle.linked_demand.specs.Links.{LinksRow, WaitsAt};
+ghost use Rattle.linked_demand.specs.Demand.{is_proposed_at};
+
+use crate::claims::any_open;
+use crate::fresh::note_fresh;
+use crate::line::Line;
+use crate::seats::seats_of;
+use crate::wishes::{wish_at, wish_count};
+use admit_core::{CallOrders, OutOfMemory, Sequence, Steps};
+use day_state::DayState;
+use demand::is_open;
+use std::alloc::Global;
+use std::marker::Model;
+use std::sync::ledger::Ledger;
+
+/// Whether each wish is open under bars, by place.
+fn open_flags(alloc: Global, state: &DayState<'_>, bars: &[u32]) -> Result<Vec<bool>, OutOfMemory>
+    requires { length bars.now ≡ length state.now.dossier.schools }
+    ensures flags { IfOk result (λ v. v.items ≡ opens_of state.now bars.now) }
+    ensures one_each { IfOk result (λ v. length v.items ≡ length state.now.dossier.wishes) }
+{
+    let _ = state.marks(); // one for each wish
+    let mut flags = Vec::new(alloc);
+    let count = wish_count(state);
+    for place in 0..count {
+        flags.push(is_open(state, bars, place))?;
+    }
+    Ok(flags)
+}
+
+/// Whether an open wish has a seat, by need of none or by its place.
+fn is_served(open: bool, sure: bool, reached: bool) -> bool
+    ensures { result ≡ («open» && (sure || reached)) }
+{
+    open && (sure || reached)
+}
+
+/// For each programme the line of those who wait for it, while wishes are closed.
+#[derive(Drop)]
+pub struct SeatLinks<'a, 'd> {
+    state: &'a DayState<'d>,
+    orders: &'a CallOrders,
+    opens: Vec<bool>,
+    lines: Vec<Line>,
+    claims: Vec<Sequence<Sequence<u32>>>,
+    places: Vec<usize>,
+    sure: Vec<bool>,
+}
+
+impl<'a, 'd> Model for SeatLinks<'a, 'd> {
+    ghost use Rattle.linked_demand.specs.Links.{LinksRow, IsLinked};
+
+    ghost Value = { LinksRow };
+
+    ghost view = { λ l. record { state = l.state.now; orders = l.orders.now.orders; opens = l.opens.items } };
+
+    ghost invariant = { λ l. IsLinked l.state.now l.orders.now.orders l.opens.items l.lines.items l.claims.items l.places.items l.sure.items };
+}
+
+impl<'a, 'd> SeatLinks<'a, 'd> {
+    /// The links of a state where the wishes are open that are not barred by these bars.
+    pub fn build(
+        alloc: Global,
+        state: &'a DayState<'d>,
+        orders: &'a CallOrders,
+        bars: &[u32],
+    ) -> Result<SeatLinks<'a, 'd>, OutOfMemory>
+        requires orders { AreCallOrders state.now.dossier.groups orders.now.orders }
+        requires bars { length bars.now ≡ length state.now.dossier.schools }
+        ensures { IfOk result (λ l. l ≡ record { state = state.now; orders = orders.now.orders; opens = opens_of state.now bars.now }) }
+    {
+        let opens = open_flags(alloc, state, bars)?;
+        let seats = seats_of(alloc, state, orders, &opens)?;
+        Ok(SeatLinks {
+            state,
+            orders,
+            opens,
+            lines: seats.lines,
+            claims: seats.claims,
+            places: seats.places,
+            sure: seats.sure,
+        })
+    }
+
+    /// Closes a waiting wish. It ticks once for each wish that becomes proposed and is open under these
+    /// bars, and marks its school.
+    pub fn close<L: Ledger>(
+        &mut self,
+        wish: u32,
+        bars: &[u32],
+        marked: &mut Vec<bool>,
+        steps: &mut Steps<L>,
+    )
+        requires waits { (w : Wish) × (m : Mark) × WaitsAt self.old.state wish w m }
+        requires bars { length bars.now ≡ length self.old.state.dossier.schools }
+        requires marked { length marked.old.items ≡ length self.old.state.dossier.schools }
+        ensures value { self.new ≡ record self.old { opens = slice_set self.old.opens wish false } }
+        ensures steps { steps.new ≡ steps.old + count_by (is_new self.old.state bars.now self.old self.new) (enumerate_from 0 (entries self.old.state)) }
+        ensures marked { MarksSchools self.old.state (is_new self.old.state bars.now self.old self.new) marked.old.items marked.new.items }
+    {
+        let programme = wish_at(self.state, wish).programme as usize;
+        let place = self.places[wish as usize];
+        self.opens[wish as usize] = false;
+        let claims = &self.claims[programme];
+        let claim = &claims.as_slice()[place];
+        if !any_open(claim.as_slice(), &self.opens) {
+            if let Some(next) = self.lines[programme].clear(place) {
+                let claims = &self.claims[programme];
+                let claim = &claims.as_slice()[next];
+                note_fresh(
+                    self.state,
+                    bars,
+                    &self.opens,
+                    &self.sure,
+                    claim.as_slice(),
+                    marked,
+                    steps,
+                );
+            }
+        }
+    }
+
+    /// The state.
+    pub fn state(&self) -> &'a DayState<'d>
+        ensures { result.now ≡ self.now.state }
+    {
+        self.state
+    }
+
+    /// Whether a wish is open.
+    pub fn is_open(&self, wish: u32) -> bool
+        requires { wish < length self.now.state.dossier.wishes }
+        ensures { result ≡ slice_index_or self.now.opens wish false }
+    {
+        self.opens[wish as usize]
+    }
+
+    /// Whether a waiting wish is proposed.
+    pub fn is_proposed(&self, wish: u32) -> bool
+        requires { (w : Wish) × (m : Mark) × WaitsAt self.now.state wish w m }
+        ensures { result ≡ is_proposed_at self.now wish }
+    {
+        let programme = wish_at(self.state, wish).programme as usize;
+        let place = self.places[wish as usize];
+        let open = self.opens[wish as usize];
+        let sure = self.sure[wish as usize];
+        let reached = self.lines[programme].is_reached(place);
+        is_served(open, sure, reached)
+    }
+}

@@ -1,0 +1,77 @@
+//! The demanded ranks that a row tells.
+ghost use Rattle.std.specs.Prelude.{◌≡◌, ℕ, length, false, slice_get, slice_index_or, IfOk, Vec};
+ghost use Rattle.std.specs.declared.alloc.Global.{Global};
+ghost use Rattle.linked_demand.specs.declared.rows.RowWish.{RowWish};
+ghost use Rattle.linked_demand.specs.Rows.{AllWait};
+ghost use Rattle.linked_demand.specs.Demand.{is_proposed_at, counted, firsts, IsAsked, AreUnmarked};
+
+use crate::links::SeatLinks;
+use crate::rows::RowWish;
+use admit_core::OutOfMemory;
+use demand::Demand;
+use std::alloc::Global;
+
+/// The demanded rank numbered `free + 1` of a row, where there are so many.
+pub fn first_over(links: &SeatLinks<'_, '_>, row: &[RowWish], free: u32) -> Option<u32>
+    requires { AllWait links.now.state row.now }
+    ensures { result ≡ slice_get (counted (is_proposed_at links.now) 0 row.now) free }
+{
+    let mut found = 0;
+    let mut last = 0;
+    for x in row {
+        if last < x.rank && links.is_proposed(x.wish) {
+            if found == free {
+                return Some(x.rank);
+            }
+            found += 1;
+            last = x.rank;
+        }
+    }
+    None
+}
+
+/// The demanded ranks of a row with their names, from the least rank.
+pub fn demands_in(
+    alloc: Global,
+    links: &SeatLinks<'_, '_>,
+    row: &[RowWish],
+) -> Result<Vec<Demand>, OutOfMemory>
+    requires { AllWait links.now.state row.now }
+    ensures { IfOk result (λ v. v.items ≡ firsts (is_proposed_at links.now) 0 row.now) }
+{
+    let mut demands = Vec::new(alloc);
+    let mut last = 0;
+    for x in row {
+        if last < x.rank && links.is_proposed(x.wish) {
+            demands.push(Demand {
+                rank: x.rank,
+                wish: x.wish,
+            })?;
+            last = x.rank;
+        }
+    }
+    Ok(demands)
+}
+
+/// Asks the marked schools anew for the first rank that has no bed, and takes their marks away.
+pub fn ask_marked(
+    links: &SeatLinks<'_, '_>,
+    rows: &[Vec<RowWish>],
+    free: &[u32],
+    marked: &mut Vec<bool>,
+    overs: &mut Vec<Option<u32>>,
+)
+    requires rows { (h : ℕ) (row : Vec RowWish Global) → slice_get rows.now h ≡ Some row → AllWait links.now.state row.items }
+    requires free { length free.now ≡ length rows.now }
+    requires marked { length marked.old.items ≡ length rows.now }
+    requires overs { length overs.old.items ≡ length rows.now }
+    ensures asked { IsAsked links.now rows.now free.now (λ h. slice_index_or marked.old.items h false) overs.old.items overs.new.items }
+    ensures unmarked { AreUnmarked (length rows.now) marked.old.items marked.new.items }
+{
+    for school in 0..rows.len() {
+        if marked[school] {
+            overs[school] = first_over(links, &rows[school], free[school]);
+        }
+        marked[school] = false;
+    }
+}

@@ -1,0 +1,160 @@
+//! The boarding schools of a state, with the lines of its programmes.
+ghost use Rattle.std.specs.Prelude.{◌≡◌, ◌+◌, ◌<◌, length, slice_get, slice_index, slice_set, IfOk};
+ghost use Rattle.admit_core.specs.State.{free_beds};
+ghost use Rattle.admit_core.specs.CallOrder.{AreCallOrders};
+ghost use Rattle.admit_core.specs.Proposals.{demanded_ranks};
+ghost use Rattle.admit_core.specs.Boarding.{boarding};
+ghost use Rattle.linked_demand.specs.Rounds.{bar_each, is_proposed_in};
+ghost use Rattle.linked_demand.specs.Ticks.{changes_between};
+
+use crate::cut::close_past;
+use crate::fill::{free_of, rows_of};
+use crate::links::SeatLinks;
+use crate::over::{ask_marked, demands_in};
+use crate::rows::RowWish;
+use admit_core::{CallOrders, OutOfMemory, Steps};
+use bar_law::Falling;
+use day_state::DayState;
+use demand::names_up_to;
+use std::alloc::Global;
+use std::marker::Model;
+use std::sync::ledger::Ledger;
+
+/// The boarding schools (*internats*) of a state, with their ceilings and their present bars. It keeps
+/// who is served in each programme, so that a fall costs what it changes.
+#[derive(Drop)]
+pub struct LinkedRound<'a, 'd> {
+    links: SeatLinks<'a, 'd>,
+    ceilings: Vec<u32>,
+    bars: Vec<u32>,
+    free: Vec<u32>,
+    rows: Vec<Vec<RowWish>>,
+    overs: Vec<Option<u32>>,
+    marked: Vec<bool>,
+}
+
+impl<'a, 'd> Model for LinkedRound<'a, 'd> {
+    ghost use Rattle.linked_demand.specs.Rounds.{Round, IsRoundUnder};
+
+    ghost Value = { Round };
+
+    ghost view = { λ r. record { state = r.links.state; orders = r.links.orders; ceilings = r.ceilings.items; bars = r.bars.items } };
+
+    ghost invariant = { λ r. IsRoundUnder r.links r.ceilings.items r.bars.items r.free.items r.rows.items r.overs.items r.marked.items };
+}
+
+impl<'a, 'd> LinkedRound<'a, 'd> {
+    /// The schools of a state, with their bars at the ceilings.
+    ///
+    /// It costs about the length of the call orders, each taken once for each of its programmes, and of
+    /// the wishes.
+    pub fn build(
+        alloc: Global,
+        state: &'a DayState<'d>,
+        orders: &'a CallOrders,
+        ceilings: &[u32],
+    ) -> Result<LinkedRound<'a, 'd>, OutOfMemory>
+        requires orders { AreCallOrders state.now.dossier.groups orders.now.orders }
+        requires ceilings { length ceilings.now ≡ length state.now.dossier.schools }
+        ensures round { IfOk result (λ r. r ≡ record { state = state.now; orders = orders.now.orders; ceilings = ceilings.now; bars = ceilings.now }) }
+        ensures system { IfOk result (λ r. ⟦<LinkedRound<'a, 'd> as Falling>⟧.system r ≡ boarding state.now orders.now.orders ceilings.now) }
+        ensures bars { IfOk result (λ r. ⟦<LinkedRound<'a, 'd> as Falling>⟧.bars r ≡ ceilings.now) }
+    {
+        let _ = state.marks(); // one for each wish
+        let links = SeatLinks::build(alloc, state, orders, ceilings)?;
+        let free = free_of(alloc, state)?;
+        let rows = rows_of(alloc, state, ceilings)?;
+        let mut overs = vec![in alloc; None; ceilings.len()]?;
+        let mut marked = vec![in alloc; true; ceilings.len()]?;
+        ask_marked(&links, &rows, &free, &mut marked, &mut overs);
+        let bars = ceilings.to_vec(alloc)?;
+        let ceilings = ceilings.to_vec(alloc)?;
+        Ok(LinkedRound {
+            links,
+            ceilings,
+            bars,
+            free,
+            rows,
+            overs,
+            marked,
+        })
+    }
+
+    /// The demanded rank of a school that is the first to have no bed, where the school is overfilled.
+    pub fn first_over(&self, i: u32) -> Option<u32>
+        requires { i < length self.now.bars }
+        ensures { result ≡ slice_get (demanded_ranks self.now.state self.now.orders self.now.bars i) (free_beds self.now.state i) }
+    {
+        self.overs[i as usize]
+    }
+
+    /// Whether the wish at a place is proposed at the present bars.
+    pub fn is_proposed(&self, wish: u32) -> bool
+        requires { wish < length self.now.state.dossier.wishes }
+        ensures { result ≡ is_proposed_in self.now wish }
+    {
+        if !self.links.is_open(wish) {
+            return false;
+        }
+        self.links.is_proposed(wish)
+    }
+}
+
+impl Falling for LinkedRound<'_, '_> {
+    ghost use Rattle.admit_core.specs.Boarding.{boarding};
+    ghost use Rattle.admit_core.proofs.DemandLaws.{boarding_is_lawful};
+    ghost use Rattle.linked_demand.specs.Rounds.{bar_each, length-bar_each};
+
+    ghost system = { λ r. boarding r.state r.orders r.ceilings };
+
+    ghost bars = { λ r. bar_each r.ceilings r.bars };
+
+    ghost lawful = { λ r. boarding_is_lawful r.state r.orders r.ceilings };
+
+    ghost one_bar_each = { λ r. length-bar_each r.ceilings r.bars };
+
+    fn count(&self) -> u32 {
+        self.links.state().dossier().schools.len() as u32
+    }
+
+    fn bar(&self, i: u32) -> u32 {
+        self.bars[i as usize]
+    }
+
+    fn over(&self, _alloc: Global, i: u32) -> Result<Option<u32>, OutOfMemory> {
+        let _ = &self.bars; // learns the invariant
+        Ok(self.first_over(i))
+    }
+
+    fn names(&self, alloc: Global, i: u32, upto: u32) -> Result<Vec<u32>, OutOfMemory> {
+        let demands = demands_in(alloc, &self.links, &self.rows[i as usize])?;
+        names_up_to(alloc, &demands, upto)
+    }
+
+    fn lower<L: Ledger>(&mut self, i: u32, to: u32, steps: &mut Steps<L>)
+        requires in_range { i < length self.old.ceilings }
+        requires lower { to < slice_index (bar_each self.old.ceilings self.old.bars) i }
+        ensures bars { bar_each self.new.ceilings self.new.bars ≡ slice_set (bar_each self.old.ceilings self.old.bars) i to }
+        ensures same { boarding self.new.state self.new.orders self.new.ceilings ≡ boarding self.old.state self.old.orders self.old.ceilings }
+        ensures round { self.new ≡ record self.old { bars = slice_set self.old.bars i to } }
+        ensures steps { steps.new ≡ steps.old + changes_between self.old.state self.old.orders self.old.bars self.new.bars }
+    {
+        self.bars[i as usize] = to;
+        close_past(
+            &mut self.links,
+            &mut self.rows[i as usize],
+            to,
+            &self.bars,
+            &mut self.marked,
+            steps,
+        );
+        self.marked[i as usize] = true;
+        ask_marked(
+            &self.links,
+            &self.rows,
+            &self.free,
+            &mut self.marked,
+            &mut self.overs,
+        );
+    }
+}

@@ -1,0 +1,149 @@
+//! The lines of all programmes, and what is known of each waiting wish.
+ghost use Rattle.std.specs.Prelude.{◌≡◌, ℕ, ◌<◌, false, length, map, nat_eq, nat_lt, All, Bool, ◌||◌, IfOk, OnOk};
+ghost use Rattle.std.specs.List.{IsDistinct};
+ghost use Rattle.admit_core.specs.CallOrder.{AreCallOrders};
+ghost use Rattle.admit_core.specs.Proposals.{order_of};
+ghost use Rattle.demand.specs.Called.{AreCalled};
+ghost use Rattle.linked_demand.specs.Links.{claim_of, IsLinked};
+ghost use Rattle.linked_demand.specs.Opens.{wants_by, line_of};
+ghost use Rattle.linked_demand.specs.Seats.{PutAt, AreSeated, is_below, is_passed};
+
+use crate::claims::{claim_of, has_wish, wants_seat};
+use crate::line::Line;
+use admit_core::{CallOrders, OutOfMemory, Sequence};
+use day_state::DayState;
+use demand::{call_everyone, limit_of, order_of, programme_count};
+use std::alloc::Global;
+use vacancies::seats_left;
+
+/// No candidate stands twice in a call order. The call does nothing.
+pub fn call_once(state: &DayState<'_>, orders: &CallOrders)
+    requires { AreCallOrders state.now.dossier.groups orders.now.orders }
+    ensures { (p : ℕ) → IsDistinct nat_eq (order_of state.now.dossier orders.now.orders p) }
+{
+    let dossier = state.dossier();
+    let _ = &dossier.wishes; // learns the invariant
+}
+
+/// Notes for the wishes of a claim their candidate's place in the line, and whether they need no
+/// seat.
+fn note(places: &mut Vec<usize>, sure: &mut Vec<bool>, claim: &[u32], place: usize, is_sure: bool)
+    requires places { All (λ k. k < length places.old.items) claim.now }
+    requires sure { length sure.old.items ≡ length places.old.items }
+    ensures places { PutAt ℕ 0 claim.now place places.old.items places.new.items }
+    ensures sure { PutAt Bool false claim.now is_sure sure.old.items sure.new.items }
+{
+    for wish in claim {
+        places[*wish as usize] = place;
+        sure[*wish as usize] = is_sure;
+    }
+}
+
+/// For one programme, those who wait for it in call order: their waiting wishes, and whether each
+/// wants a seat.
+#[derive(Drop)]
+pub struct Waiting {
+    pub claims: Vec<Sequence<u32>>,
+    pub wants: Vec<bool>,
+}
+
+/// Whether one is called who has so many before him, whatever seats are left.
+fn is_sure(is_live: bool, before: usize, limit: u32) -> bool
+    ensures { result ≡ (is_live || nat_lt before limit) }
+{
+    is_live || before < limit as usize
+}
+
+/// Goes along the call order of a programme, and notes what is known of the wishes that wait for it.
+fn wait_for(
+    alloc: Global,
+    state: &DayState<'_>,
+    orders: &CallOrders,
+    opens: &[bool],
+    programme: u32,
+    places: &mut Vec<usize>,
+    sure: &mut Vec<bool>,
+) -> Result<Waiting, OutOfMemory>
+    requires programme { programme < length state.now.dossier.programmes }
+    requires orders { AreCalled state.now.dossier orders.now.orders }
+    requires once { IsDistinct nat_eq (order_of state.now.dossier orders.now.orders programme) }
+    requires opens { length opens.now ≡ length state.now.dossier.wishes }
+    requires seated { AreSeated state.now orders.now.orders (is_below programme) places.old.items sure.old.items }
+    ensures claims { IfOk result (λ x. x.claims.items ≡ map (claim_of state.now programme) (line_of state.now orders.now.orders programme)) }
+    ensures wants { IfOk result (λ x. x.wants.items ≡ map (wants_by state.now opens.now programme) (line_of state.now orders.now.orders programme)) }
+    ensures seated { OnOk result (AreSeated state.now orders.now.orders (is_passed programme (order_of state.now.dossier orders.now.orders programme)) places.new.items sure.new.items) }
+{
+    let _ = state.marks(); // one for each wish
+    let order = order_of(state, orders, programme);
+    let limit = limit_of(state, programme);
+    let mut claims = Vec::new(alloc);
+    let mut wants = Vec::new(alloc);
+    for (before, candidate) in order.iter().enumerate() {
+        let claim = claim_of(alloc, state, programme, *candidate)?;
+        let own = claim.as_slice();
+        if has_wish(own) {
+            let is_live = state.is_live_in_programme(*candidate, programme);
+            note(
+                places,
+                sure,
+                own,
+                claims.len(),
+                is_sure(is_live, before, limit),
+            );
+            wants.push(wants_seat(state, opens, programme, *candidate, own))?;
+            claims.push(Sequence::from_vec(claim))?;
+        }
+    }
+    Ok(Waiting { claims, wants })
+}
+
+/// The lines of all programmes, with what is known of each waiting wish.
+#[derive(Drop)]
+pub struct Seats {
+    pub lines: Vec<Line>,
+    pub claims: Vec<Sequence<Sequence<u32>>>,
+    pub places: Vec<usize>,
+    pub sure: Vec<bool>,
+}
+
+/// The lines of all programmes, in one walk along each call order for each of its programmes.
+pub fn seats_of(
+    alloc: Global,
+    state: &DayState<'_>,
+    orders: &CallOrders,
+    opens: &[bool],
+) -> Result<Seats, OutOfMemory>
+    requires orders { AreCallOrders state.now.dossier.groups orders.now.orders }
+    requires opens { length opens.now ≡ length state.now.dossier.wishes }
+    ensures { IfOk result (λ x. IsLinked state.now orders.now.orders opens.now x.lines.items x.claims.items x.places.items x.sure.items) }
+{
+    let _ = state.marks(); // one for each wish
+    call_everyone(state, orders);
+    call_once(state, orders);
+    let count = state.dossier().wishes.len();
+    let mut places = vec![in alloc; 0; count]?;
+    let mut sure = vec![in alloc; false; count]?;
+    let mut lines = Vec::new(alloc);
+    let mut claims = Vec::new(alloc);
+    let programmes = programme_count(state);
+    for programme in 0..programmes {
+        let waiting = wait_for(
+            alloc,
+            state,
+            orders,
+            opens,
+            programme,
+            &mut places,
+            &mut sure,
+        )?;
+        let left = seats_left(state, programme) as usize;
+        lines.push(Line::new(waiting.wants, left))?;
+        claims.push(Sequence::from_vec(waiting.claims))?;
+    }
+    Ok(Seats {
+        lines,
+        claims,
+        places,
+        sure,
+    })
+}
