@@ -1,7 +1,10 @@
 pub mod CampaignSoFar
+pub mod DatedOffers
 pub mod DayPlaces
 pub mod Parses
+pub mod GivenDays
 pub mod PickedDay
 pub mod PlayedDays
 pub mod ReadOrder
 pub mod Replies
+pub mod Stamps

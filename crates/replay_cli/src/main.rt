@@ -12,6 +12,7 @@ mod request;
 mod run;
 mod stop;
 mod tables;
+mod terms;
 #[cfg(test)]
 mod tests;
 mod words;
