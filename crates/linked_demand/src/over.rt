@@ -40,14 +40,14 @@ pub fn demands_in(
     ensures { IfOk result (λ v. v.items ≡ firsts (is_proposed_at links.now) 0 row.now) }
 {
     let mut demands = Vec::new(alloc);
-    let mut last = 0;
+    let mut named = 0;
     for x in row {
-        if last < x.rank && links.is_proposed(x.wish) {
+        if named < x.rank && links.is_proposed(x.wish) {
             demands.push(Demand {
                 rank: x.rank,
                 wish: x.wish,
             })?;
-            last = x.rank;
+            named = x.rank;
         }
     }
     Ok(demands)
