@@ -1,3 +1,4 @@
+pub mod Accepted
 pub mod CampaignSoFar
 pub mod DayPlaces
 pub mod Parses
@@ -5,3 +6,4 @@ pub mod PickedDay
 pub mod PlayedDays
 pub mod ReadOrder
 pub mod Replies
+pub mod SampleDays

@@ -1,16 +1,14 @@
 -- One more day of a campaign.
-use Rattle.std.proofs.Common.{◌≡◌, ◌∙◌, ℕ, ◌+◌, Bool, List, [], ◌∷◌, ◌++◌, Option, None, Some, ap, append_assoc, arith, filter, flat_map, length, map, refl, subst, sym}
+use Rattle.std.proofs.Common.{◌≡◌, ◌∙◌, ℕ, ◌+◌, Bool, List, [], ◌∷◌, ◌++◌, Option, None, Some, ap, append_assoc, arith, filter, flat_map, length, refl, subst, sym}
 use Rattle.std.proofs.lemmas.Grind.{flat_map-append}
 use Rattle.std.proofs.lemmas.List.{append-nil}
 use Rattle.std.proofs.lemmas.List.Elements.{filter-append}
 use Rattle.admit_core.specs.Days.{Days, IsDay, Passes, after_lapse, answers_of, ceilings_of, closing, morning}
-use Rattle.admit_core.specs.Lapses.{lapse}
 use Rattle.admit_core.specs.State.{State}
 use Rattle.admit_core.specs.declared.ranking.CallOrder.{CallOrder}
 use Rattle.admit_core.specs.declared.records.DayRecord.{DayRecord}
 use Rattle.admit_core.specs.declared.records.PassEnd.{PassEnd}
 use Rattle.admit_core.specs.declared.records.Terms.{Terms}
-use Rattle.admit_core.specs.declared.state.Stamp.{Stamp}
 use Rattle.day_run.specs.DayPasses.{schools_of_passes}
 use Rattle.day_state.proofs.Independence.{dossier_after_all}
 use Rattle.replay_cli.specs.Picks.{Picks, Told, is_named, picked_by, picker_on, picks_of}
@@ -67,7 +65,7 @@ picked_by-append choice name xs ys =
 grown : (a b c p q r : List ℕ) → r ≡ p ++ q → b ≡ a ++ p → c ≡ b ++ q → c ≡ a ++ r
 grown a b c p q r whole first then = rw (then, first, whole) (append_assoc a p q)
 
-told_more : (choice : PickerChoice) (days : List DayRecord) (day : DayRecord) (before mid after : Picks) → Told before mid (picks_of choice days) → Told mid after (picks_of choice (day ∷ []))
+pub told_more : (choice : PickerChoice) (days : List DayRecord) (day : DayRecord) (before mid after : Picks) → Told before mid (picks_of choice days) → Told mid after (picks_of choice (day ∷ []))
     → Told before after (picks_of choice (days ++ day ∷ []))
 told_more choice days day before mid after one two = record {
   first = grown before.first mid.first after.first (picked_by choice First days) (picked_by choice First (day ∷ [])) _ (picked_by-append choice First days (day ∷ [])) one.first two.first;

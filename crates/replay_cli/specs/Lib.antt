@@ -7,4 +7,5 @@ pub mod Picks
 pub mod Played
 pub mod Replay
 pub mod Request
+pub mod Sample
 pub mod Stops

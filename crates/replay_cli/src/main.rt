@@ -10,6 +10,7 @@ mod replay;
 mod reply;
 mod request;
 mod run;
+mod sample;
 mod stop;
 mod tables;
 #[cfg(test)]

@@ -49,7 +49,7 @@ fn run_with(
 }
 
 /// Runs a day with the one of the pickers whose day it is.
-fn next_day(
+pub(crate) fn next_day(
     alloc: Global,
     desk: &mut Desk<'_>,
     orders: &CallOrders,

@@ -20,8 +20,9 @@ use crate::pickers::Pickers;
 use crate::replay::replay;
 use crate::reply::Reply;
 use crate::request::{Mode, Request};
+use crate::sample::sample_report;
 use crate::stop::Stop;
-use crate::tables::read_tables;
+use crate::tables::tables_of;
 use crate::words::read_request;
 use admit_core::{Dossier, OutOfMemory};
 use bar_fixpoint::Picker;
@@ -38,7 +39,8 @@ fn run_mode(
     last: &mut dyn Picker,
     turn: &mut dyn Picker,
 ) -> Result<Reply, OutOfMemory>
-    requires { IsRequest request.now }
+    requires known { IsRequest request.now }
+    requires quiet { request.now.mode ≡ modes.Sample → dossier.now.answers ≡ [] }
     ensures ending { IfOk result (λ reply. IsEnding reply.exit) }
     ensures ends { (t : Tables) → dossier.now ≡ dossier_of t → IfOk result (λ reply. (picks : Picks)
         × IsEndOf request.now.mode (record { request = request.now; tables = t }) reply.exit picks reply.text.items
@@ -51,6 +53,10 @@ fn run_mode(
             text: order_report(alloc, dossier)?,
         }),
         Mode::Replay => replay(alloc, dossier, request, first, last, turn),
+        Mode::Sample => Ok(Reply {
+            exit: Exit::Done,
+            text: sample_report(alloc, dossier, request, first, last, turn)?,
+        }),
     }
 }
 
@@ -76,7 +82,7 @@ fn run_request<S: Shelf>(
     ensures counts { NoneFell (S.faults shelf.old) (S.faults shelf.new) }
     ensures fault { IfErr result (HasCause (slots_of request.now.mode) (S.left shelf.old) (S.faults shelf.old) (S.faults shelf.new)) }
 {
-    let tables = read_tables(alloc, shelf, request.mode)?;
+    let tables = tables_of(alloc, shelf, request)?;
     let checked = check(alloc, &tables)?;
     Ok(run_mode(alloc, request, &checked.dossier, first, last, turn)?)
 }

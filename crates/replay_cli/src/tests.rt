@@ -1,6 +1,8 @@
 //! Whole runs in memory.
 ghost use Rattle.std.specs.Prelude.{IsSome};
 
+mod sample;
+
 use crate::exit::Exit;
 use crate::pickers::Pickers;
 use crate::request::{Deadlines, Mode, PickerChoice, PickerName, Request};
