@@ -1,4 +1,5 @@
 pub mod Command
+pub mod Dated
 pub mod Input
 pub mod Modes
 pub mod OrderText

@@ -1,8 +1,8 @@
 -- What the words after the program's name ask for.
-use Rattle.std.specs.Prelude.{ℕ, ◌&&◌, List, [], ◌∷◌, ◌≡◌, ◌≤◌, Bool, true, false, Option, Some, None, Result, Ok, Err, IsSomeAnd, codes, nat_le, option_map, unwrap_or, if◌then◌else◌, ℤ}
+use Rattle.std.specs.Prelude.{ℕ, ◌&&◌, List, [], ◌∷◌, ◌≡◌, ◌≤◌, Option, Some, None, Result, Ok, Err, IfSome, IsSomeAnd, codes, nat_le, option_map, unwrap_or, if◌then◌else◌, ℤ, pos, ◌+ℤ◌, ◌≤ℤ◌}
 use Rattle.std.specs.Option.{ok_or, option_and_then}
 use Rattle.admit_core.specs.declared.dossier.TheConstants.{MAX_DAY, MAX_NUMBER}
-use Rattle.calendar.specs.Dates.{date_of}
+use Rattle.calendar.specs.Dates.{date_of, first_day, last_read_day}
 use Rattle.calendar.specs.Texts.{date_in}
 use Rattle.clap.specs.Words.{Kinds, Row, Text, fault_of, first_of, matches_of}
 use Rattle.dossier_csv.specs.Columns.{choice, number_of}
@@ -79,21 +79,20 @@ deadlines_option rows = do
   term ← number_option (codes "term") 0 MAX_DAY rows
   deadlines_with start term
 
--- days of offers that lapse are not run yet: the mode `replay` takes no deadlines
-abbrev pub is_run : Mode → Option Deadlines → Bool
-is_run Order deadlines = true
-is_run Sample deadlines = true
-is_run Replay None = true
-is_run Replay (Some deadlines) = false
+-- a date of day 1: the day before it and all deadlines are dates
+pub record IsStart (start : ℤ) : Type 0 where
+  pub after_first : (first_day +ℤ pos 1) ≤ℤ start
+  pub is_read : start ≤ℤ last_read_day
 
-abbrev pub if_run : Request → Result Request Stop
-if_run request = if is_run request.mode request.deadlines then Ok request else Err BadWords
+pub record IsDeadlines (deadlines : Deadlines) : Type 0 where
+  pub start : IsStart deadlines.start
+  pub term : deadlines.term ≤ MAX_DAY
 
 -- what is known of a request that was read
 pub record IsRequest (request : Request) : Type 0 where
   pub days : request.days ≤ MAX_DAY
   pub candidates : HasNumber request.mode request.number
-  pub undated : request.mode ≡ Replay → request.deadlines ≡ None
+  pub deadlines : IfSome request.deadlines IsDeadlines
 
 -- each value is tested, whether or not the mode uses its option
 unfoldable pub request_in : List Row → Result Request Stop
@@ -105,7 +104,7 @@ request_in rows = do
   picker ← picker_option rows
   number ← candidates_option mode rows
   deadlines ← deadlines_option rows
-  if_run (record { mode = mode; days = unwrap_or days 1; wish = wish; school = school; picker = picker; number = number; deadlines = deadlines })
+  Ok (record { mode = mode; days = unwrap_or days 1; wish = wish; school = school; picker = picker; number = number; deadlines = deadlines })
 
 -- the words are bad where the command has a fault to name
 abbrev pub where_sound : {A : Type 0} → Kinds → Result A Stop → Result A Stop

@@ -13,6 +13,7 @@ mod run;
 mod sample;
 mod stop;
 mod tables;
+mod terms;
 #[cfg(test)]
 mod tests;
 mod words;

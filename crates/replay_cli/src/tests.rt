@@ -270,7 +270,6 @@ fn options_are_tested(rt: HostRuntime) -> Result<(), Fail> {
         ("order --start 2299-01-01 --term 1", false),
         ("order --start 2023-02-29 --term 1", false),
         ("order --beds 2", false),
-        ("replay --start 2025-06-02 --term 1", false),
         ("order -d 2", false),
     ];
     for (words, is_good) in &cases {

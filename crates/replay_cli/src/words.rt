@@ -3,7 +3,7 @@ ghost use Rattle.std.specs.Prelude.{◌≡◌, ◌≢◌, ◌≤◌, IfErr, IfOk
 ghost use Rattle.clap.specs.Words.{first_of, found_of, rows_of};
 ghost use Rattle.dossier_csv.specs.Columns.{number_of};
 ghost use Rattle.calendar.specs.Texts.{date_in};
-ghost use Rattle.replay_cli.specs.Request.{HasNumber, IsRequest, between, candidates_option, deadlines_option, deadlines_with, if_run, in_start_years, is_run, mode_named, mode_option, named_words, number_for, number_option, picker_named, picker_option, request_in, request_of, request_of_named, start_option};
+ghost use Rattle.replay_cli.specs.Request.{HasNumber, IsDeadlines, IsRequest, IsStart, between, candidates_option, deadlines_option, deadlines_with, in_start_years, mode_named, mode_option, named_words, number_for, number_option, picker_named, picker_option, request_in, request_of, request_of_named, start_option};
 ghost use Rattle.replay_cli.specs.Stops.{Gives, IsOfWords};
 
 use crate::command::parse;
@@ -57,7 +57,8 @@ fn number_between(text: &str, least: u32, most: u32) -> Option<u32>
 
 /// The date that a text names, of a year from 1901 to 2298.
 fn start_date(text: &str) -> Option<Civil>
-    ensures { result ≡ in_start_years (date_in text.now) }
+    ensures value { result ≡ in_start_years (date_in text.now) }
+    ensures range { IfSome result IsStart }
 {
     let date = read_date(text.as_bytes())?;
     let (year, _, _) = parts(date);
@@ -124,6 +125,7 @@ fn picker_option(matches: &ArgMatches<'_>) -> Result<PickerChoice, Stop>
 #[tactic(auto, unfolding(crate::specs::Request::start_option))]
 fn start_option(matches: &ArgMatches<'_>) -> Result<Option<Civil>, Stop>
     ensures value { result ≡ start_option (rows_of (found_of matches.now)) }
+    ensures range { IfOk result (λ start. IfSome start IsStart) }
     ensures kinds { IfErr result IsOfWords }
 {
     match value_of(matches, "start") {
@@ -137,7 +139,10 @@ fn start_option(matches: &ArgMatches<'_>) -> Result<Option<Civil>, Stop>
 
 /// The date of day 1 and the term of offers, which are given together or not at all.
 fn deadlines_with(start: Option<Civil>, term: Option<u32>) -> Result<Option<Deadlines>, Stop>
+    requires start { IfSome start IsStart }
+    requires term { IfSome term (λ n. n ≤ 366) }
     ensures value { result ≡ deadlines_with start term }
+    ensures range { IfOk result (λ deadlines. IfSome deadlines IsDeadlines) }
     ensures kinds { IfErr result IsOfWords }
 {
     match (start, term) {
@@ -150,6 +155,7 @@ fn deadlines_with(start: Option<Civil>, term: Option<u32>) -> Result<Option<Dead
 #[tactic(auto, unfolding(crate::specs::Request::deadlines_option))]
 fn deadlines_option(matches: &ArgMatches<'_>) -> Result<Option<Deadlines>, Stop>
     ensures value { result ≡ deadlines_option (rows_of (found_of matches.now)) }
+    ensures range { IfOk result (λ deadlines. IfSome deadlines IsDeadlines) }
     ensures kinds { IfErr result IsOfWords }
 {
     let start = start_option(matches)?;
@@ -181,32 +187,6 @@ fn candidates_option(mode: Mode, matches: &ArgMatches<'_>) -> Result<Option<u32>
     number_for(mode, number)
 }
 
-/// Whether the mode runs with these deadlines: days of offers that lapse are not run yet.
-fn is_run(mode: Mode, deadlines: Option<Deadlines>) -> bool
-    ensures { result ≡ is_run mode deadlines }
-{
-    match (mode, deadlines) {
-        (Mode::Order | Mode::Sample, _) => true,
-        (Mode::Replay, None) => true,
-        (Mode::Replay, Some(_)) => false,
-    }
-}
-
-/// The request, where it can be run.
-fn if_run(request: Request) -> Result<Request, Stop>
-    requires days { request.days ≤ 366 }
-    requires candidates { HasNumber request.mode request.number }
-    ensures value { result ≡ if_run request }
-    ensures known { IfOk result IsRequest }
-    ensures kinds { IfErr result IsOfWords }
-{
-    if is_run(request.mode, request.deadlines) {
-        Ok(request)
-    } else {
-        Err(Stop::BadWords)
-    }
-}
-
 /// How many days are run; 1 where it is not given.
 fn days_of(days: Option<u32>) -> u32
     requires { IfSome days (λ n. n ≤ 366) }
@@ -227,7 +207,7 @@ fn request_in(matches: &ArgMatches<'_>) -> Result<Request, Stop>
     ensures kinds { IfErr result IsOfWords }
 {
     let mode = mode_option(matches)?;
-    if_run(Request {
+    Ok(Request {
         mode,
         days: days_of(number_option(matches, "days", 1, MAX_DAY)?),
         wish: number_option(matches, "wish", 1, MAX_NUMBER)?,

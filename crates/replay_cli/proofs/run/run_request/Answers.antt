@@ -36,7 +36,7 @@ returns-in_err-run_mode-clause-untold g c = memory_tells _ _ c.from_residual-in_
 
 pub returns-clause-value : goal.returns-clause-value
 returns-clause-value g c =
-    λ slots tells. rw (c.in_ok-tables.ensures.value slots tells, c.in_ok-checked.ensures.fault) (c.in_ok-run_mode.ensures.ends c.in_ok-tables.tables c.in_ok-checked.ensures.dossier)
+    λ slots tells. rw (c.in_ok-tables.ensures.value slots tells, c.in_ok-checked.ensures.fault) c.in_ok-run_mode.ensures.ends
 
 pub returns-clause-taken : goal.returns-clause-taken
 returns-clause-taken g c = λ slots tells. c.in_ok-tables.ensures.taken slots tells
