@@ -2,7 +2,6 @@
 
 mod dossiers;
 mod replays;
-
 mod sample;
 
 use crate::exit::Exit;
