@@ -62,6 +62,7 @@ fn run_mode(
 }
 
 /// Reads the slots that are asked for, checks their tables, and does what the mode says.
+#[tactic(auto, unfolding(crate::specs::Input::accepted_tables))]
 fn run_request<S: Shelf>(
     alloc: Global,
     request: &Request,

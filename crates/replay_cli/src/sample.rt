@@ -53,9 +53,7 @@ fn quiet_day(
     ensures dossier { desk.new.present.dossier ≡ desk.old.present.dossier }
     ensures picks { IfOk result (λ done. Told (three (told first.old) (told last.old) (told turn.old)) (three (told first.new) (told last.new) (told turn.new)) (picks_of request.now.picker (done ∷ []))) }
 {
-    match next_day(
-        alloc, desk, orders, request, None, day, first, last, turn,
-    ) {
+    match next_day(alloc, desk, orders, request, None, day, first, last, turn) {
         Ok(record) => Ok(record),
         Err(DayRefusal::Unfit(_)) => unreachable!(),
         Err(DayRefusal::OutOfMemory) => Err(OutOfMemory),
