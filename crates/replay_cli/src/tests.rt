@@ -1,8 +1,10 @@
 //! Whole runs in memory.
 
 mod dossiers;
+mod final_state;
 mod replays;
 mod sample;
+mod written;
 
 use crate::exit::Exit;
 use crate::pickers::Pickers;

@@ -13,7 +13,7 @@ use std::alloc::Global;
 use std::test::Fail;
 
 /// A shelf with these slots, of which one read fails.
-fn shelf_of(
+pub(super) fn shelf_of(
     alloc: Global,
     slots: &[(Slot, &'static str)],
     failing_read: Option<u64>,

@@ -1,12 +1,8 @@
 //! Whole runs of the mode `sample`, over slots of which it reads none.
 
-use super::{Case, holds, small_rate, words_of};
+use super::written::written;
+use super::{Case, holds, small_rate};
 use crate::exit::Exit;
-use crate::pickers::Pickers;
-use crate::run::run;
-use bar_fixpoint::{FirstPicker, LastPicker, TurnPicker};
-use shelf_io::{MemShelf, MemSink};
-use std::alloc::Global;
 use std::test::Fail;
 
 /// The summary of four candidates.
@@ -71,27 +67,18 @@ fn samples(rt: HostRuntime) -> Result<(), Fail> {
     Ok(())
 }
 
-/// What a run with these words writes, over no slots.
-fn written(alloc: Global, words: &str) -> Result<Vec<u8>, Fail> {
-    let words = words_of(alloc, words)?;
-    let mut sink = MemSink::new(alloc, None);
-    let mut pickers = Pickers {
-        first: Some(Box::new(alloc, FirstPicker::new(alloc))?),
-        last: Some(Box::new(alloc, LastPicker::new(alloc))?),
-        turn: Some(Box::new(alloc, TurnPicker::new(alloc))?),
-    };
-    let mut shelf = MemShelf::new(alloc);
-    match run(alloc, &words, &mut shelf, &mut sink, &mut pickers) {
-        Exit::Done => Ok(Vec::from_slice(alloc, sink.bytes())?),
-        _ => Err("the run is not done".into()),
-    }
+#[test]
+fn a_sample_is_the_same_again(rt: HostRuntime) -> Result<(), Fail> {
+    let one = written(rt.alloc(), "sample --number 1000", &[])?;
+    let other = written(rt.alloc(), "sample --number 1000", &[])?;
+    assert!(rt; one.starts_with(b"sample 1000 wishes 4500\nday 1 "));
+    assert!(rt; one == other);
+    Ok(())
 }
 
 #[test]
-fn a_sample_is_the_same_again(rt: HostRuntime) -> Result<(), Fail> {
-    let one = written(rt.alloc(), "sample --number 1000")?;
-    let other = written(rt.alloc(), "sample --number 1000")?;
-    assert!(rt; one.starts_with(b"sample 1000 wishes 4500\nday 1 "));
-    assert!(rt; one == other);
+fn a_large_sample_ends(rt: HostRuntime) -> Result<(), Fail> {
+    let text = written(rt.alloc(), "sample --number 100000", &[])?;
+    assert!(rt; text.starts_with(b"sample 100000 wishes 450000\nday 1 "));
     Ok(())
 }
