@@ -11,6 +11,8 @@ mod dossiers;
 #[cfg(test)]
 mod linked;
 #[cfg(test)]
+mod passes;
+#[cfg(test)]
 mod records;
 #[cfg(test)]
 mod slots;

@@ -387,3 +387,67 @@ const STANDING_OFFER: Case = Case {
 pub(super) fn lapse_cases() -> [Case; 4] {
     [LAPSE, LATE_ANSWER, EARLIER_OFFER, STANDING_OFFER]
 }
+
+/// A day of the two full schools on which the bar of the first falls first.
+const FIRST_FULL: Seen = Seen::Done(DaySeen {
+    lapsed: &[],
+    passes: &[EndSeen {
+        pass: PassSeen {
+            falls: &[
+                FallSeen {
+                    school: 0,
+                    from: 1,
+                    to: 0,
+                    wishes: &[0],
+                },
+                FallSeen {
+                    school: 1,
+                    from: 1,
+                    to: 0,
+                    wishes: &[1],
+                },
+            ],
+            bars: &[0, 0],
+            offers: &[],
+        },
+        ..QUIET
+    }],
+    left: &[1, 1],
+    free: &[0, 0],
+});
+
+/// A day of the two full schools on which the bar of the last falls first.
+const LAST_FULL: Seen = Seen::Done(DaySeen {
+    lapsed: &[],
+    passes: &[EndSeen {
+        pass: PassSeen {
+            falls: &[
+                FallSeen {
+                    school: 1,
+                    from: 1,
+                    to: 0,
+                    wishes: &[1],
+                },
+                FallSeen {
+                    school: 0,
+                    from: 1,
+                    to: 0,
+                    wishes: &[0],
+                },
+            ],
+            bars: &[0, 0],
+            offers: &[],
+        },
+        ..QUIET
+    }],
+    left: &[1, 1],
+    free: &[0, 0],
+});
+
+pub(super) fn first_full() -> [Seen; 1] {
+    [FIRST_FULL]
+}
+
+pub(super) fn last_full() -> [Seen; 1] {
+    [LAST_FULL]
+}
