@@ -8,3 +8,4 @@ pub mod MarkPairs
 pub mod LatestCeilings
 pub mod LastBars
 pub mod SameDays
+pub mod DayLaws

@@ -1,5 +1,5 @@
 -- How far a campaign has come, and what its next day makes of it.
-use Rattle.std.specs.Prelude.{◌≡◌, ℕ, ◌+◌, Bool, true, false, List, length, Option}
+use Rattle.std.specs.Prelude.{◌≡◌, ◌≤◌, ℕ, ◌+◌, Bool, true, false, List, length, Option}
 use Rattle.std.specs.Option.{ForSome}
 use Rattle.admit_core.specs.declared.ranking.CallOrder.{CallOrder}
 use Rattle.admit_core.specs.declared.records.DayRecord.{DayRecord}
@@ -8,6 +8,7 @@ use Rattle.admit_core.specs.CallOrder.{AreCallOrders}
 use Rattle.admit_core.specs.State.{State}
 use Rattle.admit_core.specs.Days.{IsDay, morning, ceilings_of}
 use Rattle.admit_core.specs.EveningLaws.{last_bars}
+use Rattle.day_run.specs.DayLaws.{KeepsLaws}
 use Rattle.day_run.specs.DayPasses.{last_opening}
 
 -- the orders and the terms of a campaign, the days that were run, and whether the last one came about; the present state,
@@ -32,6 +33,8 @@ pub record IsProgress (p : Progress) : Type 0 where
 pub record RunsDay (old new : Progress) (done : DayRecord) : Type 0 where
   pub number : done.day ≡ old.day + 1
   pub day : IsDay old.terms old.orders (ceilings_of old.present.dossier (old.day + 1)) old.present done new.present
+  pub few : length done.passes ≤ length old.present.dossier.wishes + 1
+  pub laws : KeepsLaws old.terms old.orders (ceilings_of old.present.dossier (old.day + 1)) old.present done new.present
   pub opening : new.opening ≡ last_opening old.orders (old.day + 1) 1 (morning old.terms (old.day + 1) old.present) done.passes
   pub bars : new.bars ≡ last_bars done.passes
   pub ceilings : new.ceilings ≡ ceilings_of old.present.dossier (old.day + 1)

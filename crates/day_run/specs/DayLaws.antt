@@ -1,11 +1,15 @@
 -- What holds of every day.
-use Rattle.std.specs.Prelude.{◌≡◌, ℕ, List, Option}
+use Rattle.std.specs.Prelude.{◌≡◌, ℕ, List, [], All, Option}
 use Rattle.std.specs.List.{AllZip}
 use Rattle.admit_core.specs.declared.ranking.CallOrder.{CallOrder}
 use Rattle.admit_core.specs.declared.records.PassEnd.{PassEnd}
 use Rattle.admit_core.specs.declared.records.DayRecord.{DayRecord}
 use Rattle.admit_core.specs.declared.records.Terms.{Terms}
-use Rattle.admit_core.specs.State.{State}
+use Rattle.admit_core.specs.State.{State, entries}
+use Rattle.admit_core.specs.Proposals.{proposed}
+use Rattle.admit_core.specs.Falls.{IsGreatest}
+use Rattle.admit_core.specs.Boarding.{boarding}
+use Rattle.admit_core.specs.EveningLaws.{IsFilled, last_bars}
 use Rattle.admit_core.specs.Days.{IsDay}
 
 -- two passes with the same bars, offers, automatic answers and freed numbers
@@ -30,3 +34,10 @@ OnlyFallsDiffer =
     → IsDay terms orders ceilings old one evening
     → IsDay terms orders ceilings old other night
     → (evening ≡ night) × SameDayButFalls one other
+
+-- what holds of a day that came about. In its evening a programme has seats left only where each waiting wish of it is barred under the bars of the last pass,
+-- and under the evening's own greatest bars no wish is proposed; and every day of its number from the same evening before is the same but for its falls
+pub record KeepsLaws (terms : Option Terms) (orders : List CallOrder) (ceilings : List ℕ) (old : State) (day : DayRecord) (evening : State) : Type 0 where
+  pub filled : All (IsFilled evening (last_bars day.passes)) (entries evening)
+  pub closed : (bars : List ℕ) → IsGreatest (boarding evening orders ceilings) bars → proposed evening orders bars ≡ []
+  pub only : (other : DayRecord) (night : State) → other.day ≡ day.day → IsDay terms orders ceilings old other night → (night ≡ evening) × SameDayButFalls other day

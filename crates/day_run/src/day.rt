@@ -5,6 +5,7 @@ ghost use Rattle.admit_core.specs.CallOrder.{AreCallOrders};
 ghost use Rattle.admit_core.specs.Ranges.{IsDay as IsDayNumber};
 ghost use Rattle.admit_core.specs.Days.{IsDay, unfit_on, morning};
 ghost use Rattle.day_run.specs.AnswersOn.{IsUnfitOf, TellsNoneUnfit};
+ghost use Rattle.day_run.specs.DayLaws.{KeepsLaws};
 ghost use Rattle.day_run.specs.DayPasses.{schools_of_passes, last_opening};
 
 use crate::answers_on::answer;
@@ -34,6 +35,7 @@ pub fn run_day(
 
     ensures number { IfOk result (λ done. done.day ≡ day) }
     ensures day { IfOk result (λ done. IsDay None orders.now.orders ceilings.now desk.old.present done desk.new.present) }
+    ensures laws { IfOk result (λ done. KeepsLaws None orders.now.orders ceilings.now desk.old.present done desk.new.present) }
     ensures opening { IfOk result (λ done. desk.new.opening ≡ last_opening orders.now.orders day 1 (morning None day desk.old.present) done.passes) }
     ensures few { IfOk result (λ done. length done.passes ≤ length desk.old.present.dossier.wishes + 1) }
 
@@ -66,6 +68,7 @@ pub fn run_dated_day(
 
     ensures number { IfOk result (λ done. done.day ≡ day) }
     ensures day { IfOk result (λ done. IsDay (Some terms.now) orders.now.orders ceilings.now desk.old.present done desk.new.present) }
+    ensures laws { IfOk result (λ done. KeepsLaws (Some terms.now) orders.now.orders ceilings.now desk.old.present done desk.new.present) }
     ensures opening { IfOk result (λ done. desk.new.opening ≡ last_opening orders.now.orders day 1 (morning (Some terms.now) day desk.old.present) done.passes) }
     ensures few { IfOk result (λ done. length done.passes ≤ length desk.old.present.dossier.wishes + 1) }
 
@@ -98,6 +101,7 @@ pub(crate) fn run_with(
 
     ensures number { IfOk result (λ done. done.day ≡ day) }
     ensures day { IfOk result (λ done. IsDay (option_copied terms.entry) orders.now.orders ceilings.now desk.old.present done desk.new.present) }
+    ensures laws { IfOk result (λ done. KeepsLaws (option_copied terms.entry) orders.now.orders ceilings.now desk.old.present done desk.new.present) }
     ensures opening { IfOk result (λ done. desk.new.opening ≡ last_opening orders.now.orders day 1 (morning (option_copied terms.entry) day desk.old.present) done.passes) }
     ensures few { IfOk result (λ done. length done.passes ≤ length desk.old.present.dossier.wishes + 1) }
 
@@ -146,6 +150,7 @@ fn play<'d>(
 
     ensures number { IfOk result (λ done. done.day ≡ day) }
     ensures day { IfOk result (λ done. IsDay (option_copied terms.entry) orders.now.orders ceilings.now state.old done state.new) }
+    ensures laws { IfOk result (λ done. KeepsLaws (option_copied terms.entry) orders.now.orders ceilings.now state.old done state.new) }
     ensures opening { IfOk result (λ done. opening.new ≡ last_opening orders.now.orders day 1 (morning (option_copied terms.entry) day state.old) done.passes) }
     ensures few { IfOk result (λ done. length done.passes ≤ length state.old.dossier.wishes + 1) }
 
@@ -157,6 +162,7 @@ fn play<'d>(
     ensures untold { IfErr result (TellsNoneUnfit (told picker.old) (told picker.new)) }
     ensures choice { choice picker.new ≡ choice picker.old }
 {
+    let _ = state.dossier().wishes.len(); // learns that the dossier is valid
     let lapsed = lapse_offers(alloc, state, terms, day)?;
     answer(state, day)?;
     let passes = make_passes(alloc, opening, state, orders, ceilings, day, picker)?;

@@ -54,7 +54,7 @@ in_range q j a (suc n) le lt =
       | inr other ↦ rw (ne_eqb j a other, and_right (q a) false refl) (in_range q j (a + 1) n (omega arith) (omega arith))
     ]
 
-among-filter : (q : ℕ → Bool) (j n : ℕ) → j < n → is_among j (filter q (range_with_len 0 n)) ≡ q j
+pub among-filter : (q : ℕ → Bool) (j n : ℕ) → j < n → is_among j (filter q (range_with_len 0 n)) ≡ q j
 among-filter q j n lt = any-filter (nat_eq j) q (range_with_len 0 n) ∙ in_range q j 0 n (omega arith) (omega arith)
 
 -- a change leaves the dossier and the number of marks

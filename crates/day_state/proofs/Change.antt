@@ -1,14 +1,13 @@
 -- What a change of one mark asks and gives, in the words of the code.
-use Rattle.std.proofs.Common.{ℕ, ◌+◌, ◌≤◌, ◌<◌, ◌≡◌, Bool, true, false, not, ◌&&◌, List, [], map, length, get_or, refl, sym, ◌∙◌, arith, filter, Option, Some, None}
+use Rattle.std.proofs.Common.{ℕ, ◌+◌, ◌≤◌, ◌<◌, ◌≡◌, Bool, true, false, not, ◌&&◌, List, [], map, length, get_or, sym, ◌∙◌, arith, filter, Option, Some, None}
 use Rattle.std.specs.Prelude.{slice_index, ◌==◌, All}
 use Rattle.std.proofs.lemmas.Option.{unwrap_or-slice_get}
-use mathlib.Core.Bool.{beq}
 use Rattle.std.proofs.lemmas.List.{length-map, get_or_read}
 use Rattle.std.proofs.lemmas.List.Elements.{All-filter}
 use Rattle.std.proofs.lemmas.List.FromFn.{length-range_with_len, get_or-range_with_len}
 use Rattle.admit_core.specs.Lists.{distinct}
 use Rattle.std.specs.Option.{ForSome}
-use Rattle.std.specs.List.{list_any, range_with_len}
+use Rattle.std.specs.List.{range_with_len}
 use Rattle.admit_core.specs.declared.dossier.Wish.{Wish}
 use Rattle.admit_core.specs.declared.state.Mark.{Mark}
 use Rattle.admit_core.specs.DossierRows.{DossierRows, candidate_of}
@@ -16,8 +15,8 @@ use Rattle.admit_core.specs.State.{State, has_school, with_mark_at, holds_seat, 
 use Rattle.admit_core.specs.OwnWishes.{own_places}
 use Rattle.admit_core.specs.AutoAnswer.{freed_by}
 use Rattle.admit_core.specs.Validity.{IsValid, IsValidWish}
-use Rattle.day_state.specs.Kept.{mark_in, wish_in, lives_at, holds_one, in_school, one_if, recount, recount_some, has_seat_there, has_bed_there, state_of, AreCounts, IsKept}
-use Rattle.day_state.proofs.Places.{candidate_in, own_any}
+use Rattle.day_state.specs.Kept.{mark_in, wish_in, holds_one, in_school, one_if, recount, recount_some, has_seat_there, has_bed_there, state_of, AreCounts, IsKept}
+use Rattle.day_state.proofs.Places.{candidate_in}
 use Rattle.day_state.proofs.KeptCounts.{kept_after, holders_after, count_bounds}
 use Rattle.day_state.proofs.Freeing.{freed_there}
 
@@ -26,12 +25,6 @@ own_within d c =
     let n = length d.wishes in
     All-filter (λ k. candidate_of d k == c) (λ k. k < n) (range_with_len 0 n)
     (λ k e lt. let in_range : k < n = omega (arith, length-range_with_len 0 n) in rw (get_or-range_with_len 0 n k e in_range) (omega arith))
-
--- what a look at the own wishes of a wish's candidate finds
-pub own_finds : (test : Wish → Bool) (d : DossierRows) (marks : List Mark) (wish : ℕ) (own : List ℕ) → length marks ≡ length d.wishes
-    → own ≡ own_places d (candidate_of d wish)
-    → list_any (lives_at d.wishes marks test) own ≡ holds_one test (state_of d marks) (wish_in d.wishes wish).candidate
-own_finds test d marks wish own long is = rw (is, candidate_in d.wishes wish) (own_any test (state_of d marks) (wish_in d.wishes wish).candidate long)
 
 one_at_most : (b : Bool) → one_if b ≤ 1
 one_at_most true = omega arith
@@ -88,12 +81,6 @@ wish_valid d valid place lt =
 -- what a read of a mark gives
 pub mark_read : (ms : List Mark) (k : ℕ) (x : Mark) → k < length ms → x ≡ get_or ms k x → mark_in ms k ≡ x
 mark_read ms k x lt is = unwrap_or-slice_get ms k (mark_in [] 0) ∙ sym (get_or_read ms k x lt is (mark_in [] 0))
-
-pub same_bools : (a b : Bool) → beq a b ≡ true → a ≡ b
-same_bools true true e = refl
-same_bools true false e = absurd (cc)
-same_bools false true e = absurd (cc)
-same_bools false false e = refl
 
 named_valid : (d : DossierRows) (marks : List Mark) (seats beds : List ℕ) (wish : ℕ) → IsValid d → IsKept (state_of d marks) seats beds → wish < length marks → IsValidWish d (wish_in d.wishes wish)
 named_valid d marks seats beds wish valid kept lt = wish_valid d valid wish (omega (arith, kept.marks))

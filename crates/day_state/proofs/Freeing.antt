@@ -14,20 +14,13 @@ use Rattle.admit_core.specs.DossierRows.{DossierRows}
 use Rattle.admit_core.specs.AutoAnswer.{freed_by}
 use Rattle.day_state.specs.Kept.{mark_in, wish_in, holds_one, in_school, one_if, has_seat_there, has_bed_there}
 use Rattle.day_state.proofs.Places.{entry_in, entries-with_mark_at}
-use Rattle.day_state.proofs.KeptCounts.{holds_same_other, holds_same_live, school_fails, none_fails}
+use Rattle.day_state.proofs.KeptCounts.{holds_same_other, school_fails, none_fails}
 use Rattle.day_state.proofs.Lost.{Falls, lost_in, lost_none, lost_one, lost_both, lost_at_most}
 
 pub freed_none : (s t : State) (c : ℕ) → ((k : ℕ) → holds_seat t c k ≡ holds_seat s c k) → ((k : ℕ) → holds_bed t c k ≡ holds_bed s c k)
     → freed_by s t c ≡ record { seats = 0; beds = 0 }
 freed_none s t c seats beds =
     rw (lost_none (holds_seat s c) (holds_seat t c) (length s.dossier.programmes) seats, lost_none (holds_bed s c) (holds_bed t c) (length s.dossier.schools) beds) refl
-
--- where the wish is live as before
-pub freed_same : (s : State) (place : ℕ) (m : Mark) (c : ℕ) → length s.marks ≡ length s.dossier.wishes → place < length s.marks
-    → is_live m ≡ is_live (mark_in s.marks place) → freed_by s (with_mark_at s place m) c ≡ record { seats = 0; beds = 0 }
-freed_same s place m c long lt same =
-    freed_none s (with_mark_at s place m) c
-    (λ k. holds_same_live (λ w. w.programme == k) s place m long lt same c) (λ k. holds_same_live (λ w. has_school w k) s place m long lt same c)
 
 no_school : (c : ℕ) (es : List (Wish × Mark)) → list_any (λ (e : Wish × Mark). is_live e.1 && (e.0.candidate == c) && in_school None e.0) es ≡ false
 no_school c [] = refl

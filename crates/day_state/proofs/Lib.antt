@@ -3,7 +3,9 @@ pub mod Places
 pub mod KeptCounts
 pub mod Change
 pub mod Ordering
+pub mod Finding
 pub mod Along
+pub mod Numbering
 pub mod Lost
 pub mod Freeing
 pub mod Changing
@@ -12,6 +14,7 @@ pub mod Taking
 pub mod OneAccepted
 pub mod Answering
 pub mod Filled
+pub mod Bundled
 pub mod Independence
 pub mod Lapsing
 pub mod FittingLists

@@ -1,5 +1,6 @@
 -- What is kept beside the marks: an index of the candidates, and the numbers of those who are live.
-use Rattle.std.specs.Prelude.{◌≡◌, ℕ, ◌+◌, ◌-◌, ◌≤◌, ◌<◌, Bool, false, cond, ◌&&◌, List, map, length, filter, Option, Some, None, ◌==◌, slice_get, slice_index, slice_range, slice_set, unwrap_or, All}
+use Rattle.std.specs.Prelude.{◌≡◌, ℕ, ◌+◌, ◌-◌, ◌≤◌, ◌<◌, Bool, false, cond, ◌&&◌, List, map, length, filter, Option, Some, None, ◌==◌, slice_get, slice_index, slice_range, slice_set, unwrap_or, All, IsSome}
+use Rattle.std.specs.Option.{ForSome}
 use Rattle.std.specs.List.{list_any, range_with_len}
 use Rattle.std.specs.List.Sorted.{IsNonDecreasingBy}
 use Rattle.admit_core.specs.declared.dossier.Wish.{Wish}
@@ -93,7 +94,13 @@ pub record AreSpans (ws : List Wish) (order : List ℕ) (n : ℕ) (spans : List 
   pub count : length spans ≡ n
   pub each : (k : ℕ) → k < n → IsSpan ws order (candidate_in ws k) (span_in spans k)
 
+-- each candidate of the first n wishes is found, at the place of one of his
+pub record AreFound (ws : List Wish) (n : ℕ) (place_of : ℕ → Option ℕ) : Type 0 where
+  pub own : (c : ℕ) → ForSome (place_of c) (λ k. (k < n) × (candidate_in ws k ≡ c))
+  pub each : (k : ℕ) → k < n → IsSome (place_of (candidate_in ws k))
+
 -- an index by candidate and by wish
-pub record IsIndexed (ws : List Wish) (order : List ℕ) (spans : List Span) : Type 0 where
+pub record IsIndexed (ws : List Wish) (order : List ℕ) (spans : List Span) (place_of : ℕ → Option ℕ) : Type 0 where
   pub by_candidate : IsIndex ws order
   pub by_wish : AreSpans ws order (length ws) spans
+  pub found : AreFound ws (length ws) place_of

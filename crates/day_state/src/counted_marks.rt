@@ -8,49 +8,67 @@ ghost use Rattle.admit_core.specs.OwnWishes.{own_places};
 ghost use Rattle.admit_core.specs.AutoAnswer.{best_live, freed_by};
 ghost use Rattle.day_state.specs.Along.{change_own, changed_by};
 ghost use Rattle.day_state.specs.Best.{best_among};
-ghost use Rattle.day_state.specs.Kept.{mark_in, wish_in, lives_at, holds_one, in_school, one_if, waiting_mark, recount, recount_some, has_seat_there, has_bed_there, state_of};
+ghost use Rattle.day_state.specs.Kept.{mark_in, lives_at, in_school, waiting_mark, state_of, IsIndex};
 
+use crate::bundles::{Bundles, Sites};
+use crate::counts::{copy_counts, recount, recount_some, zeros};
 use crate::mark::{
-    OwnChange, better, changed_by, counted, is_live, live_preference, lives_in_programme,
-    lives_in_school, lost, wish_at,
+    OwnChange, better, changed_by, is_live, live_preference, lives_in_programme, lives_in_school,
+    lost, wish_at,
 };
 use admit_core::{Dossier, Freed, Mark, OutOfMemory, Stamp, Status, Wish};
 use std::alloc::Global;
 use std::marker::Model;
 
-/// The marks of a dossier's wishes, and of each programme and each school the number of candidates who are live there.
+/// The marks of a dossier's wishes, and of each programme and each school the number of candidates
+/// who are live there. A change of one mark takes the same time however many wishes its candidate
+/// has: the bundles tell whether he is live there still.
 #[derive(Drop)]
 pub struct CountedMarks<'d> {
     dossier: &'d Dossier,
     marks: Vec<Mark>,
     seats: Vec<u32>,
     beds: Vec<u32>,
+    in_programmes: Bundles,
+    in_schools: Bundles,
 }
 
 impl<'d> Model for CountedMarks<'d> {
     ghost use Rattle.admit_core.specs.State.{State};
-    ghost use Rattle.day_state.specs.Kept.{IsKept};
+    ghost use Rattle.day_state.specs.Bundles.{KeepsCounts};
 
     ghost Value = { State };
 
     ghost view = { λ s. record { dossier = s.dossier.now; marks = s.marks.items } };
 
-    ghost invariant = { λ s. IsKept (record { dossier = s.dossier.now; marks = s.marks.items }) s.seats.items s.beds.items };
+    ghost invariant = { λ s. KeepsCounts (record { dossier = s.dossier.now; marks = s.marks.items }) s.seats.items s.beds.items s.in_programmes.numbers.items s.in_programmes.live.items s.in_schools.numbers.items s.in_schools.live.items };
 }
 
 impl<'d> CountedMarks<'d> {
-    /// All wishes wait.
-    pub fn waiting(alloc: Global, dossier: &'d Dossier) -> Result<CountedMarks<'d>, OutOfMemory>
+    /// All wishes wait; `order` has their places by candidate.
+    pub fn waiting(
+        alloc: Global,
+        dossier: &'d Dossier,
+        order: &[u32],
+    ) -> Result<CountedMarks<'d>, OutOfMemory>
+        requires { IsIndex dossier.now.wishes order.now }
         ensures { IfOk result (λ s. s ≡ state_of dossier.now (replicate (length dossier.now.wishes) waiting_mark)) }
     {
-        let marks = waiting_marks(alloc, dossier.wishes.len())?;
-        let seats = zeros(alloc, dossier.programmes.len())?;
-        let beds = zeros(alloc, dossier.schools.len())?;
+        let wishes = dossier.wishes.as_slice();
+        let programmes = dossier.programmes.len();
+        let schools = dossier.schools.len();
+        let marks = waiting_marks(alloc, wishes.len())?;
+        let seats = zeros(alloc, programmes)?;
+        let beds = zeros(alloc, schools)?;
+        let in_programmes = Bundles::build(alloc, Sites::Programmes, wishes, order, programmes)?;
+        let in_schools = Bundles::build(alloc, Sites::Schools, wishes, order, schools)?;
         Ok(CountedMarks {
             dossier,
             marks,
             seats,
             beds,
+            in_programmes,
+            in_schools,
         })
     }
 
@@ -63,6 +81,8 @@ impl<'d> CountedMarks<'d> {
             marks: self.marks.as_slice().to_vec(alloc)?,
             seats: self.seats.as_slice().to_vec(alloc)?,
             beds: self.beds.as_slice().to_vec(alloc)?,
+            in_programmes: self.in_programmes.copy(alloc)?,
+            in_schools: self.in_schools.copy(alloc)?,
         })
     }
 
@@ -74,6 +94,8 @@ impl<'d> CountedMarks<'d> {
         copy_marks(&mut self.marks, &other.marks);
         copy_counts(&mut self.seats, &other.seats);
         copy_counts(&mut self.beds, &other.beds);
+        self.in_programmes.set_from(&other.in_programmes);
+        self.in_schools.set_from(&other.in_schools);
     }
 
     /// The marks of all wishes, by place.
@@ -169,36 +191,29 @@ impl<'d> CountedMarks<'d> {
         let mut freed = NOTHING_FREED;
         for place in own {
             let mark = changed_by(change, wish_at(wishes, *place), self.mark(*place), stamp);
-            freed = freed_in_all(freed, self.set_mark(own, *place, mark));
+            freed = freed_in_all(freed, self.set_mark(*place, mark));
         }
         freed
     }
 
-    /// Gives a wish a mark, and counts what its candidate frees; `own` has the places of his
-    /// wishes.
-    pub fn set_mark(&mut self, own: &[u32], wish: u32, mark: Mark) -> Freed
-        requires place { wish < length self.old.marks }
-        requires own { own.now ≡ own_places self.old.dossier (candidate_of self.old.dossier wish) }
+    /// Gives a wish a mark, and counts what its candidate frees.
+    pub fn set_mark(&mut self, wish: u32, mark: Mark) -> Freed
+        requires { wish < length self.old.marks }
         ensures state { self.new ≡ with_mark_at self.old wish mark }
         ensures freed { result ≡ freed_by self.old self.new (candidate_of self.old.dossier wish) }
     {
         let dossier = self.dossier;
-        if is_live(self.marks[wish as usize]) == is_live(mark) {
-            self.marks[wish as usize] = mark;
-            NOTHING_FREED
-        } else {
-            let had_seat = has_seat_there(dossier, &self.marks, own, wish);
-            let had_bed = has_bed_there(dossier, &self.marks, own, wish);
-            self.marks[wish as usize] = mark;
-            let has_seat = has_seat_there(dossier, &self.marks, own, wish);
-            let has_bed = has_bed_there(dossier, &self.marks, own, wish);
-            let named = wish_at(dossier.wishes.as_slice(), wish);
-            recount(&mut self.seats, named.programme, had_seat, has_seat);
-            recount_some(&mut self.beds, named.school, had_bed, has_bed);
-            Freed {
-                seats: lost(had_seat, has_seat),
-                beds: lost(had_bed, has_bed),
-            }
+        let named = wish_at(dossier.wishes.as_slice(), wish);
+        let was_live = is_live(self.marks[wish as usize]);
+        let lives = is_live(mark);
+        let seat = self.in_programmes.turn(wish, was_live, lives);
+        let bed = self.in_schools.turn(wish, was_live, lives);
+        self.marks[wish as usize] = mark;
+        recount(&mut self.seats, named.programme, seat.had, seat.has);
+        recount_some(&mut self.beds, named.school, bed.had, bed.has);
+        Freed {
+            seats: lost(seat.had, seat.has),
+            beds: lost(bed.had, bed.has),
         }
     }
 }
@@ -229,33 +244,6 @@ fn best_among(wishes: &[Wish], marks: &[Mark], own: &[u32]) -> Option<u32>
     })
 }
 
-/// Whether a wish's candidate is live in its programme; `own` has the places of his wishes.
-fn has_seat_there(dossier: &Dossier, marks: &Vec<Mark>, own: &[u32], wish: u32) -> bool
-    requires place { wish < length dossier.now.wishes }
-    requires marks { length marks.now.items ≡ length dossier.now.wishes }
-    requires own { own.now ≡ own_places dossier.now (candidate_of dossier.now wish) }
-    ensures { result ≡ has_seat_there (state_of dossier.now marks.now.items) wish }
-{
-    let wishes = dossier.wishes.as_slice();
-    any_in_programme(
-        wishes,
-        marks.as_slice(),
-        own,
-        wish_at(wishes, wish).programme,
-    )
-}
-
-/// Whether a wish's candidate is live in its school; `own` has the places of his wishes.
-fn has_bed_there(dossier: &Dossier, marks: &Vec<Mark>, own: &[u32], wish: u32) -> bool
-    requires place { wish < length dossier.now.wishes }
-    requires marks { length marks.now.items ≡ length dossier.now.wishes }
-    requires own { own.now ≡ own_places dossier.now (candidate_of dossier.now wish) }
-    ensures { result ≡ has_bed_there (state_of dossier.now marks.now.items) wish }
-{
-    let wishes = dossier.wishes.as_slice();
-    any_in_school(wishes, marks.as_slice(), own, wish_at(wishes, wish).school)
-}
-
 fn waiting_marks(alloc: Global, count: usize) -> Result<Vec<Mark>, OutOfMemory>
     ensures { IfOk result (λ v. v.items ≡ replicate count waiting_mark) }
 {
@@ -266,46 +254,11 @@ fn waiting_marks(alloc: Global, count: usize) -> Result<Vec<Mark>, OutOfMemory>
     Ok(vec![in alloc; mark; count]?)
 }
 
-fn zeros(alloc: Global, count: usize) -> Result<Vec<u32>, OutOfMemory>
-    ensures { IfOk result (λ v. v.items ≡ replicate count 0) }
-{
-    Ok(vec![in alloc; 0u32; count]?)
-}
-
 fn copy_marks(marks: &mut Vec<Mark>, from: &Vec<Mark>)
     requires { length marks.old.items ≡ length from.now.items }
     ensures { marks.new.items ≡ from.now.items }
 {
     marks.as_mut_slice().copy_from_slice(from.as_slice());
-}
-
-fn copy_counts(counts: &mut Vec<u32>, from: &Vec<u32>)
-    requires { length counts.old.items ≡ length from.now.items }
-    ensures { counts.new.items ≡ from.now.items }
-{
-    counts.as_mut_slice().copy_from_slice(from.as_slice());
-}
-
-/// Counts anew at a place, where one candidate was counted, or wasn't, and is counted, or isn't.
-fn recount(counts: &mut Vec<u32>, place: u32, had: bool, has: bool)
-    requires place { place < length counts.old.items }
-    requires comes { slice_index counts.old.items place + one_if has < 2 ^ 32 }
-    requires goes { one_if had ≤ slice_index counts.old.items place + one_if has }
-    ensures { counts.new.items ≡ recount counts.old.items place had has }
-{
-    counts[place as usize] = counted(counts[place as usize], had, has);
-}
-
-/// The same at a place that may be none.
-fn recount_some(counts: &mut Vec<u32>, place: Option<u32>, had: bool, has: bool)
-    requires place { ForSome place (λ k. k < length counts.old.items) }
-    requires comes { ForSome place (λ k. slice_index counts.old.items k + one_if has < 2 ^ 32) }
-    requires goes { ForSome place (λ k. one_if had ≤ slice_index counts.old.items k + one_if has) }
-    ensures { counts.new.items ≡ recount_some counts.old.items place had has }
-{
-    if let Some(place) = place {
-        recount(counts, place, had, has);
-    }
 }
 
 /// Whether one of a candidate's own wishes is live in a programme.

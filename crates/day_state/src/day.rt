@@ -59,10 +59,9 @@ impl<'d> DayState<'d> {
         ensures { IfOk result (λ s. s ≡ first_evening dossier.now) }
     {
         let index = CandidateIndex::build(alloc, dossier)?;
-        let mut live = CountedMarks::waiting(alloc, dossier)?;
+        let mut live = CountedMarks::waiting(alloc, dossier, index.order())?;
         for (place, status) in dossier.statuses.as_slice().iter().enumerate() {
-            let wish = place as u32;
-            live.set_mark(index.own_of(wish), wish, first_mark(*status));
+            live.set_mark(place as u32, first_mark(*status));
         }
         Ok(DayState { index, live })
     }
@@ -162,7 +161,7 @@ impl<'d> DayState<'d> {
         ensures { self.new ≡ change_at self.old wish status stamp }
     {
         let mark = changed_to(self.live.mark(wish), status, stamp);
-        self.live.set_mark(self.index.own_of(wish), wish, mark);
+        self.live.set_mark(wish, mark);
     }
 
     /// Gives a wish another status than accepted.
@@ -207,7 +206,7 @@ impl<'d> DayState<'d> {
         let mark = changed_to(self.live.mark(wish), Status::Accepted, stamp);
         self.live
             .change_own(own, candidate, OwnChange::RefuseLive, stamp);
-        self.live.set_mark(own, wish, mark);
+        self.live.set_mark(wish, mark);
     }
 
     /// Quits all that is open of a candidate.
@@ -312,28 +311,20 @@ impl<'d> DayState<'d> {
         let dossier = self.live.dossier();
         let count = dossier.wishes.len() as u32;
         for wish in 0..count {
-            lapse_at(&self.index, &mut self.live, terms, day, wish);
+            lapse_at(&mut self.live, terms, day, wish);
         }
     }
 }
 
 /// Ends the offer of a wish where its deadline has passed.
-fn lapse_at(
-    index: &CandidateIndex<'_>,
-    live: &mut CountedMarks<'_>,
-    terms: &Terms,
-    day: u32,
-    wish: u32,
-)
+fn lapse_at(live: &mut CountedMarks<'_>, terms: &Terms, day: u32, wish: u32)
     requires before { wish < length terms.now.before }
-    requires same { index.now ≡ live.old.dossier }
     requires place { wish < length live.old.marks }
-    requires wish { wish < length index.now.wishes }
     ensures { live.new ≡ with_mark_at live.old wish (lapsed terms.now.term day (slice_index_or terms.now.before wish (pos 0)) (mark_in live.old.marks wish)) }
 {
     let mark = live.mark(wish);
     if lapses(terms, day, wish, mark) {
         let mark = changed_to(mark, Status::Lapsed, Stamp { day, pass: 0 });
-        live.set_mark(index.own_of(wish), wish, mark);
+        live.set_mark(wish, mark);
     }
 }

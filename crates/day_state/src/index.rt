@@ -1,13 +1,15 @@
 //! An index from a candidate to his own wishes.
-ghost use Rattle.std.specs.Prelude.{◌≡◌, ◌<◌, ◌≤◌, ◌^◌, length, slice_range, IfOk, OnOk, filter, ◌==◌, nat_lt, nat_le, true, false};
+ghost use Rattle.std.specs.Prelude.{◌≡◌, ◌<◌, ◌≤◌, ◌^◌, length, slice_range, IfOk, OnOk, nat_eq, nat_lt, nat_le, true, false};
 ghost use Rattle.std.specs.List.{range_with_len};
 ghost use Rattle.std.specs.List.Sorted.{IsNonDecreasingBy, IsPermutation, IsStableByKey, IsPartitionPoint};
 ghost use Rattle.std.specs.Ordering.{nat_cmp};
+ghost use Rattle.indexmap.specs.IndexMap.{get};
 ghost use Rattle.admit_core.specs.DossierRows.{DossierRows, candidate_of};
 ghost use Rattle.admit_core.specs.OwnWishes.{own_places};
-ghost use Rattle.day_state.specs.Kept.{candidate_in, IsIndex, IsSpan, AreSpans};
+ghost use Rattle.day_state.specs.Kept.{candidate_in, AreFound, IsIndex, IsSpan, AreSpans};
 
 use admit_core::{Dossier, OutOfMemory, Wish};
+use indexmap::IndexMap;
 use std::alloc::{AllocError, AllocFailed, Global};
 use std::marker::Model;
 
@@ -18,16 +20,19 @@ struct Span {
     to: u32,
 }
 
-/// The places of a dossier's wishes in order by candidate, and for each wish where those of its
-/// candidate stand in it.
+/// The places of a dossier's wishes in order by candidate, for each wish where those of its
+/// candidate stand in it, and for each candidate the place of one of his wishes.
 #[derive(Drop)]
 pub struct CandidateIndex<'d> {
     dossier: &'d Dossier,
     order: Vec<u32>,
     spans: Vec<Span>,
+    found: IndexMap<u32, u32>,
 }
 
 impl<'d> Model for CandidateIndex<'d> {
+    ghost use Rattle.std.specs.Prelude.{nat_eq};
+    ghost use Rattle.indexmap.specs.IndexMap.{get};
     ghost use Rattle.admit_core.specs.DossierRows.{DossierRows};
     ghost use Rattle.day_state.specs.Kept.{IsIndexed};
 
@@ -35,7 +40,7 @@ impl<'d> Model for CandidateIndex<'d> {
 
     ghost view = { λ s. s.dossier.now };
 
-    ghost invariant = { λ s. IsIndexed s.dossier.now.wishes s.order.items s.spans.items };
+    ghost invariant = { λ s. IsIndexed s.dossier.now.wishes s.order.items s.spans.items (get nat_eq s.found) };
 }
 
 impl<'d> CandidateIndex<'d> {
@@ -46,10 +51,12 @@ impl<'d> CandidateIndex<'d> {
         let wishes = dossier.wishes.as_slice();
         let order = order_of(alloc, wishes)?;
         let spans = spans_of(alloc, wishes, order.as_slice())?;
+        let found = found_of(alloc, wishes)?;
         Ok(CandidateIndex {
             dossier,
             order,
             spans,
+            found,
         })
     }
 
@@ -57,19 +64,30 @@ impl<'d> CandidateIndex<'d> {
     pub fn copy(&self, alloc: Global) -> Result<CandidateIndex<'d>, OutOfMemory>
         ensures { IfOk result (λ s. s ≡ self.now) }
     {
+        let dossier = self.dossier;
         Ok(CandidateIndex {
-            dossier: self.dossier,
+            dossier,
             order: self.order.as_slice().to_vec(alloc)?,
             spans: self.spans.as_slice().to_vec(alloc)?,
+            found: found_of(alloc, dossier.wishes.as_slice())?,
         })
     }
 
-    /// The places of a candidate's wishes, ascending. It searches for the candidate.
+    /// The places of all wishes by candidate.
+    pub fn order(&self) -> &[u32]
+        ensures { IsIndex self.now.wishes result.now }
+    {
+        self.order.as_slice()
+    }
+
+    /// The places of a candidate's wishes, ascending.
     pub fn of(&self, candidate: u32) -> &[u32]
         ensures { result.now ≡ own_places self.now candidate }
     {
-        let dossier = self.dossier;
-        own_in(dossier.wishes.as_slice(), self.order.as_slice(), candidate)
+        match self.found.get(&candidate) {
+            Some(wish) => self.own_of(*wish),
+            None => &[],
+        }
     }
 
     /// The places of the wishes of a wish's candidate, ascending.
@@ -185,6 +203,18 @@ fn spans_of(alloc: Global, wishes: &[Wish], order: &[u32]) -> Result<Vec<Span>, 
     Ok(spans)
 }
 
+/// For each candidate the place of one of his wishes.
+fn found_of(alloc: Global, wishes: &[Wish]) -> Result<IndexMap<u32, u32>, OutOfMemory>
+    requires { length wishes.now < 2 ^ 32 }
+    ensures { IfOk result (λ found. AreFound wishes.now (length wishes.now) (get nat_eq found)) }
+{
+    let mut found = IndexMap::new(alloc);
+    for (place, wish) in wishes.iter().enumerate() {
+        found.insert(wish.candidate, place as u32)?;
+    }
+    Ok(found)
+}
+
 /// The part of an order that a span marks.
 fn part(order: &[u32], span: Span) -> &[u32]
     requires rises { span.from ≤ span.to }
@@ -192,13 +222,4 @@ fn part(order: &[u32], span: Span) -> &[u32]
     ensures { result.now ≡ slice_range order.now span.from span.to }
 {
     &order[span.from as usize..span.to as usize]
-}
-
-/// The part of an order by candidate that has a candidate's wishes.
-fn own_in<'a>(wishes: &[Wish], order: &'a [u32], candidate: u32) -> &'a [u32]
-    requires rises { IsNonDecreasingBy (candidate_in wishes.now) order.now }
-    requires count { length order.now < 2 ^ 32 }
-    ensures { result.now ≡ filter (λ k. candidate_in wishes.now k == candidate) order.now }
-{
-    part(order, span_of(wishes, order, candidate))
 }

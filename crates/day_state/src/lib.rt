@@ -1,11 +1,15 @@
 //! The state of a dossier's wishes on a day, and what answers and deadlines do to it.
 #![tactic(auto)]
 
+mod bundles;
 mod counted_marks;
+mod counts;
 mod day;
 mod index;
 mod laws;
 mod mark;
+#[cfg(test)]
+mod small_dossier;
 #[cfg(test)]
 mod tests;
 

@@ -1,6 +1,6 @@
 -- The places in the record of a day are those of the dossier.
-use Rattle.std.proofs.Common.{◌≡◌, ◌∙◌, ℕ, ◌+◌, ◌<◌, ◌≤◌, Bool, true, List, [], ◌∷◌, Option, All, IsTrue, ap, arith, filter, find, get_or, inl, inr, length, map, refl, subst, sym, take}
-use Rattle.std.specs.Prelude.{nat_lt, option_map, slice_index, unwrap_or, zip}
+use Rattle.std.proofs.Common.{◌≡◌, ◌∙◌, ℕ, ◌+◌, ◌<◌, ◌≤◌, Bool, List, [], ◌∷◌, Option, All, IsTrue, ap, arith, filter, find, get_or, inl, inr, length, map, refl, subst, sym, take}
+use Rattle.std.specs.Prelude.{option_map, unwrap_or, zip}
 use Rattle.std.specs.List.{enumerate_from}
 use Rattle.std.proofs.lemmas.Bool.{and_parts, cases_Bool, ltb-true}
 use Rattle.std.proofs.lemmas.List.{length-map, take_all}
@@ -8,11 +8,11 @@ use Rattle.std.proofs.lemmas.List.Elements.{All-cons, All-filter, All-head, All-
 use Rattle.std.proofs.lemmas.List.FromFn.{get_or-enumerate_from, length-enumerate_from}
 use Rattle.std.proofs.lemmas.Slice.Zip.{length-zip}
 use Rattle.admit_core.specs.Boarding.{boarding, name_of}
-use Rattle.admit_core.specs.Days.{IsDay, IsPassEnd, Passes, after_lapse, answers_of, ceiling_on, ceilings_of, changes, closing, morning, offered}
+use Rattle.admit_core.specs.Days.{IsDay, IsPassEnd, Passes, after_lapse, answers_of, ceiling_on, ceilings_of, closing, morning, offered}
 use Rattle.admit_core.specs.DossierRows.{DossierRows}
 use Rattle.admit_core.specs.Falls.{AreFalls, fall_of, fallen, first_over, is_overfilled}
-use Rattle.admit_core.specs.Proposals.{demands_bed, demanded_ranks, is_proposed}
-use Rattle.admit_core.specs.State.{State, entries, status_number}
+use Rattle.admit_core.specs.Proposals.{demanded_ranks}
+use Rattle.admit_core.specs.State.{State, entries}
 use Rattle.admit_core.specs.declared.dossier.Wish.{Wish}
 use Rattle.admit_core.specs.declared.ranking.CallOrder.{CallOrder}
 use Rattle.admit_core.specs.declared.records.DayRecord.{DayRecord}

@@ -1,12 +1,12 @@
 -- What a day's picker told is the picks of the day.
-use Rattle.std.proofs.Common.{◌≡◌, ◌∙◌, ℕ, true, false, List, [], ◌∷◌, ◌++◌, Result, Ok, Err, IfErr, IfOk, ap, refl, sym}
+use Rattle.std.proofs.Common.{◌≡◌, ◌∙◌, ℕ, true, false, List, [], ◌∷◌, ◌++◌, Result, Ok, Err, IfErr, IfOk, ap, sym}
 use Rattle.std.proofs.lemmas.List.{append-nil}
 use Rattle.admit_core.specs.declared.records.DayRecord.{DayRecord}
 use Rattle.day_run.specs.AnswersOn.{TellsNoneUnfit}
 use Rattle.day_run.specs.DayPasses.{schools_of_passes}
 use Rattle.day_run.specs.declared.refusal.DayRefusal.{DayRefusal}
 use Rattle.day_run.specs.declared.refusal.DayRefusal.TheVariants as refusals
-use Rattle.replay_cli.specs.Picks.{Told, is_named, picked_by, picker_on, picks_of, three}
+use Rattle.replay_cli.specs.Picks.{is_named, picked_by, picker_on, three}
 use Rattle.replay_cli.specs.Played.{PicksDay}
 use Rattle.replay_cli.specs.declared.request.PickerChoice.{PickerChoice}
 use Rattle.replay_cli.specs.declared.request.PickerName.{PickerName}

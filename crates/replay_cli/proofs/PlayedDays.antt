@@ -1,18 +1,17 @@
 -- One more day of a campaign.
-use Rattle.std.proofs.Common.{◌≡◌, ◌∙◌, ℕ, ◌+◌, Bool, List, [], ◌∷◌, ◌++◌, Option, None, Some, ap, append_assoc, arith, filter, flat_map, length, map, refl, subst, sym}
+use Rattle.std.proofs.Common.{◌≡◌, ◌∙◌, ℕ, ◌+◌, Bool, List, [], ◌∷◌, ◌++◌, Option, None, Some, ap, append_assoc, arith, filter, flat_map, length, refl, subst, sym}
 use Rattle.std.proofs.lemmas.Grind.{flat_map-append}
 use Rattle.std.proofs.lemmas.List.{append-nil}
 use Rattle.std.proofs.lemmas.List.Elements.{filter-append}
 use Rattle.admit_core.specs.Days.{Days, IsDay, Passes, after_lapse, answers_of, ceilings_of, closing, morning}
-use Rattle.admit_core.specs.Lapses.{lapse}
 use Rattle.admit_core.specs.State.{State}
 use Rattle.admit_core.specs.declared.ranking.CallOrder.{CallOrder}
 use Rattle.admit_core.specs.declared.records.DayRecord.{DayRecord}
 use Rattle.admit_core.specs.declared.records.PassEnd.{PassEnd}
 use Rattle.admit_core.specs.declared.records.Terms.{Terms}
-use Rattle.admit_core.specs.declared.state.Stamp.{Stamp}
 use Rattle.day_run.specs.DayPasses.{schools_of_passes}
 use Rattle.day_state.proofs.Independence.{dossier_after_all}
+use Rattle.replay_cli.specs.Dated.{terms_in}
 use Rattle.replay_cli.specs.Picks.{Picks, Told, is_named, picked_by, picker_on, picks_of}
 use Rattle.replay_cli.specs.Played.{ArePlayed, Standing}
 use Rattle.replay_cli.specs.Replay.{day_lines}
@@ -20,6 +19,7 @@ use Rattle.replay_cli.specs.declared.request.PickerChoice.{PickerChoice}
 use Rattle.replay_cli.specs.declared.request.PickerName.{PickerName}
 use Rattle.replay_cli.specs.declared.request.PickerName.TheVariants.{First, Last, Turn}
 use Rattle.replay_cli.specs.declared.request.Request.{Request}
+use Rattle.replay_cli.specs.declared.terms.DatedTerms.{DatedTerms}
 
 -- a day leaves the dossier
 dossier_after_passes : (orders : List CallOrder) (ceilings : List ℕ) (day k : ℕ) (s : State) (passes : List PassEnd) (evening : State)
@@ -67,7 +67,7 @@ picked_by-append choice name xs ys =
 grown : (a b c p q r : List ℕ) → r ≡ p ++ q → b ≡ a ++ p → c ≡ b ++ q → c ≡ a ++ r
 grown a b c p q r whole first then = rw (then, first, whole) (append_assoc a p q)
 
-told_more : (choice : PickerChoice) (days : List DayRecord) (day : DayRecord) (before mid after : Picks) → Told before mid (picks_of choice days) → Told mid after (picks_of choice (day ∷ []))
+pub told_more : (choice : PickerChoice) (days : List DayRecord) (day : DayRecord) (before mid after : Picks) → Told before mid (picks_of choice days) → Told mid after (picks_of choice (day ∷ []))
     → Told before after (picks_of choice (days ++ day ∷ []))
 told_more choice days day before mid after one two = record {
   first = grown before.first mid.first after.first (picked_by choice First days) (picked_by choice First (day ∷ [])) _ (picked_by-append choice First days (day ∷ [])) one.first two.first;
@@ -79,14 +79,14 @@ last_line : (lines : DayRecord → List ℕ) (xs : List DayRecord) (x : DayRecor
 last_line lines xs x = flat_map-append lines xs (x ∷ []) ∙ ap (λ l. flat_map lines xs ++ l) (append-nil (lines x))
 
 -- one more day that came about, with its picks and its lines
-pub played_more : (request : Request) (terms : Option Terms) (orders : List CallOrder) (days : List DayRecord) (day : DayRecord) (old mid new : Standing)
-    → ArePlayed request terms orders days old mid → day.day ≡ 1 + length days → IsDay terms orders (ceilings_of mid.state.dossier (1 + length days)) mid.state day new.state
-    → Told mid.told new.told (picks_of request.picker (day ∷ [])) → new.text ≡ mid.text ++ day_lines old.state.dossier request.deadlines day
-    → ArePlayed request terms orders (days ++ day ∷ []) old new
-played_more request terms orders days day old mid new so_far number is told text = record {
-  run = days_more terms orders 1 old.state days mid.state day new.state so_far.run number is;
+pub played_more : (request : Request) (dated : Option DatedTerms) (orders : List CallOrder) (days : List DayRecord) (day : DayRecord) (old mid new : Standing)
+    → ArePlayed request dated orders days old mid → day.day ≡ 1 + length days → IsDay (terms_in dated) orders (ceilings_of mid.state.dossier (1 + length days)) mid.state day new.state
+    → Told mid.told new.told (picks_of request.picker (day ∷ [])) → new.text ≡ mid.text ++ day_lines old.state.dossier dated day
+    → ArePlayed request dated orders (days ++ day ∷ []) old new
+played_more request dated orders days day old mid new so_far number is told text = record {
+  run = days_more (terms_in dated) orders 1 old.state days mid.state day new.state so_far.run number is;
   picked = told_more request.picker days day old.told mid.told new.told so_far.picked told;
   is_text =
-      let lines : DayRecord → List ℕ = day_lines old.state.dossier request.deadlines in
+      let lines : DayRecord → List ℕ = day_lines old.state.dossier dated in
       grown old.text mid.text new.text (flat_map lines days) (lines day) (flat_map lines (days ++ day ∷ [])) (last_line lines days day) so_far.is_text text;
 }

@@ -39,7 +39,7 @@ with_slots-append tables (x ∷ xs) ys slots =
     ]
 
 -- what stops a step stops those after it
-stopped_then : {A B : Type 0} (stop : Stop) (r : Result A Stop) (next : A → Result B Stop) → Stopped stop r → Stopped stop (r >>= next)
+pub stopped_then : {A B : Type 0} (stop : Stop) (r : Result A Stop) (next : A → Result B Stop) → Stopped stop r → Stopped stop (r >>= next)
 stopped_then stops.OutOfMemory r next stopped = tt
 stopped_then (stops.ReadFault slot) r next stopped = tt
 stopped_then stops.BadWords r next stopped = rw stopped refl

@@ -1,5 +1,5 @@
 -- What a run answers where it stops, and what it has written where it is cut off.
-use Rattle.std.proofs.Common.{◌≡◌, ◌⊎◌, ◌↔◌, ◌∙◌, ℕ, List, [], Option, Some, Result, Ok, Err, IfErr, IfOk, IsErr, IsErrAnd, IsOkAnd, IsTrue, MatchResult, ap, inl, inr, refl, subst, sym}
+use Rattle.std.proofs.Common.{◌≡◌, ◌⊎◌, ◌↔◌, ◌∙◌, ℕ, List, [], Option, Result, Ok, Err, IfErr, IfOk, IsErr, IsErrAnd, IsOkAnd, IsTrue, MatchResult, ap, inl, inr, refl, subst, sym}
 use Rattle.std.specs.Prelude.{⊤}
 use Rattle.std.specs.Io.KnownBytes.{Appends}
 use Rattle.std.proofs.lemmas.Bool.{false≢true}
@@ -19,7 +19,7 @@ use Rattle.replay_cli.specs.OrderText.{IsOrdersText}
 use Rattle.replay_cli.specs.Outcome.{GivesReply, IsEnd, IsEndOf, IsEnding, IsOutcome, IsStoppedBy, IsWhole, NamesFault, TellsNone, WritesPart, asks_nobody, is_answer}
 use Rattle.replay_cli.specs.Picks.{Picks, Told, no_picks, three}
 use Rattle.replay_cli.specs.Replay.{Job}
-use Rattle.replay_cli.specs.Stops.{◌>>=◌, IsOfWords, Stopped, exit_of, stop_of, stop_text}
+use Rattle.replay_cli.specs.Stops.{◌>>=◌, IsOfWords, Stopped, stop_of}
 use Rattle.replay_cli.specs.declared.exit.Exit.{Exit}
 use Rattle.replay_cli.specs.declared.exit.Exit.TheVariants as exits
 use Rattle.replay_cli.specs.declared.request.Mode.TheVariants as modes

@@ -12,7 +12,7 @@ use Rattle.dossier_csv.specs.Rows as Rows
 use Rattle.dossier_csv.specs.Shape.{shape}
 use Rattle.replay_cli.specs.declared.stop.Stop.{Stop}
 use Rattle.replay_cli.specs.declared.stop.Stop.TheVariants as stops
-use Rattle.replay_cli.specs.Stops.{◌>>=◌, refused_as}
+use Rattle.replay_cli.specs.Stops.{◌>>=◌, Stopped, refused_as}
 
 -- the bytes of a slot that is not too large
 unfoldable pub sized : Slot → List ℕ → Result (List ℕ) Stop
@@ -61,6 +61,11 @@ unfoldable pub accepted_tables : List Slot → (Slot → List ℕ) → Result Ta
 accepted_tables order slots = do
   tables ← tables_in order slots
   faultless tables (first_fault tables)
+
+-- tables of which the relations alone remain to be tested, or why there are none
+abbrev pub StandFor : Result Tables Stop → Result Tables Stop → Type 0
+StandFor (Ok tables) accepted = accepted ≡ faultless tables (first_fault tables)
+StandFor (Err stop) accepted = Stopped stop accepted
 
 -- the shelf tells these bytes
 abbrev pub Tells : (Slot → Option (List ℕ)) → (Slot → List ℕ) → Type 0

@@ -1,4 +1,5 @@
 pub mod Command
+pub mod Dated
 pub mod Input
 pub mod Modes
 pub mod OrderText
@@ -7,4 +8,5 @@ pub mod Picks
 pub mod Played
 pub mod Replay
 pub mod Request
+pub mod Sample
 pub mod Stops

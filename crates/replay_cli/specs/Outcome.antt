@@ -1,26 +1,35 @@
 -- How a run ends and what it writes.
 use Rattle.std.specs.Prelude.{◌≡◌, ◌≢◌, ◌⊎◌, ℕ, Bool, true, false, List, Option, Result, Ok, Err, IsOk, IsOkAnd}
 use Rattle.admit_core.specs.declared.slot.Slot.{Slot}
+use Rattle.admit_core.specs.declared.tables.Tables.{Tables}
 use Rattle.shelf_io.specs.Bytes.{AppendsPrefix}
+use Rattle.sample_gen.specs.Samples.{sample_tables}
 use Rattle.replay_cli.specs.Input.{IsFaultAt, accepted_tables}
 use Rattle.replay_cli.specs.Modes.{slots_of, slots_read}
 use Rattle.replay_cli.specs.OrderText.{IsOrdersText}
 use Rattle.replay_cli.specs.Picks.{Picks, no_picks}
 use Rattle.replay_cli.specs.Replay.{IsCutShort, IsReplayed, Job, dossier}
 use Rattle.replay_cli.specs.Request.{request_of}
+use Rattle.replay_cli.specs.Sample.{IsSampled, candidates}
 use Rattle.replay_cli.specs.Stops.{◌>>=◌, Stopped, exit_of, stop_text}
 use Rattle.replay_cli.specs.declared.exit.Exit.{Exit}
 use Rattle.replay_cli.specs.declared.exit.Exit.TheVariants.{Done, Refused, BadWords, ReadFault, WriteFault, NoMemory, NotProved, NoSuchWish}
 use Rattle.replay_cli.specs.declared.request.Mode.{Mode}
-use Rattle.replay_cli.specs.declared.request.Mode.TheVariants.{Order, Replay}
+use Rattle.replay_cli.specs.declared.request.Mode.TheVariants.{Order, Replay, Sample}
 use Rattle.replay_cli.specs.declared.request.Request.{Request}
 use Rattle.replay_cli.specs.declared.stop.Stop.{Stop}
 use Rattle.replay_cli.specs.declared.stop.Stop.TheVariants as stops
 
--- the tables that the slots' bytes stand for, with what is asked for
+-- the tables of a mode: those of the sample, or those that the bytes of its slots stand for
+abbrev pub tables_of : Mode → Option ℕ → (Slot → List ℕ) → Result Tables Stop
+tables_of Sample number slots = Ok (sample_tables (candidates number))
+tables_of Order number slots = accepted_tables (slots_of Order) slots
+tables_of Replay number slots = accepted_tables (slots_of Replay) slots
+
+-- the tables, with what is asked for
 abbrev pub job_of : Request → (Slot → List ℕ) → Result Job Stop
 job_of request slots = do
-  tables ← accepted_tables (slots_of request.mode) slots
+  tables ← tables_of request.mode request.number slots
   Ok (record { request = request; tables = tables })
 
 -- what the words ask for, and then the tables that the slots' bytes stand for
@@ -33,6 +42,7 @@ accepted words slots = do
 abbrev pub IsEndOf : Mode → Job → Exit → Picks → List ℕ → Type 0
 IsEndOf Order job exit picks text = (exit ≡ Done) × (picks ≡ no_picks) × IsOrdersText (dossier job).groups text
 IsEndOf Replay job exit picks text = ((exit ≡ Done) × IsReplayed job picks text) ⊎ ((exit ≡ Refused) × IsCutShort job picks text)
+IsEndOf Sample job exit picks text = (exit ≡ Done) × IsSampled job picks text
 
 -- a run over accepted tables ends by its mode; any other picks nothing and writes the line that says why
 abbrev pub IsEnd : Result Job Stop → Exit → Picks → List ℕ → Type 0

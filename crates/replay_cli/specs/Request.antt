@@ -1,8 +1,8 @@
 -- What the words after the program's name ask for.
-use Rattle.std.specs.Prelude.{ℕ, ◌&&◌, List, [], ◌∷◌, ◌≡◌, ◌≤◌, Bool, true, false, Option, Some, None, Result, Ok, Err, codes, nat_le, option_map, unwrap_or, if◌then◌else◌, ℤ}
+use Rattle.std.specs.Prelude.{ℕ, ◌&&◌, List, [], ◌∷◌, ◌≡◌, ◌≤◌, Option, Some, None, Result, Ok, Err, IfSome, IsSomeAnd, codes, nat_le, option_map, unwrap_or, if◌then◌else◌, ℤ, pos, ◌+ℤ◌, ◌≤ℤ◌}
 use Rattle.std.specs.Option.{ok_or, option_and_then}
 use Rattle.admit_core.specs.declared.dossier.TheConstants.{MAX_DAY, MAX_NUMBER}
-use Rattle.calendar.specs.Dates.{date_of}
+use Rattle.calendar.specs.Dates.{date_of, first_day, last_read_day}
 use Rattle.calendar.specs.Texts.{date_in}
 use Rattle.clap.specs.Words.{Kinds, Row, Text, fault_of, first_of, matches_of}
 use Rattle.dossier_csv.specs.Columns.{choice, number_of}
@@ -10,7 +10,7 @@ use Rattle.replay_cli.specs.Command.{parcours}
 use Rattle.replay_cli.specs.Stops.{◌>>=◌}
 use Rattle.replay_cli.specs.declared.request.Deadlines.{Deadlines}
 use Rattle.replay_cli.specs.declared.request.Mode.{Mode}
-use Rattle.replay_cli.specs.declared.request.Mode.TheVariants.{Order, Replay}
+use Rattle.replay_cli.specs.declared.request.Mode.TheVariants.{Order, Replay, Sample}
 use Rattle.replay_cli.specs.declared.request.PickerChoice.{PickerChoice}
 use Rattle.replay_cli.specs.declared.request.PickerChoice.TheVariants.{Same, Each}
 use Rattle.replay_cli.specs.declared.request.PickerName.TheVariants.{First, Last, Turn}
@@ -19,7 +19,7 @@ use Rattle.replay_cli.specs.declared.stop.Stop.{Stop}
 use Rattle.replay_cli.specs.declared.stop.Stop.TheVariants.{BadWords}
 
 abbrev pub mode_named : Text → Option Mode
-mode_named = choice ((codes "order", Order) ∷ (codes "replay", Replay) ∷ [])
+mode_named = choice ((codes "order", Order) ∷ (codes "replay", Replay) ∷ (codes "sample", Sample) ∷ [])
 
 abbrev pub picker_named : Text → Option PickerChoice
 picker_named = choice ((codes "first", Same First) ∷ (codes "last", Same Last) ∷ (codes "turn", Same Turn) ∷ (codes "each", Each) ∷ [])
@@ -53,6 +53,20 @@ picker_option rows = do
 unfoldable pub start_option : List Row → Result (Option ℤ) Stop
 start_option rows = given (λ text. in_start_years (date_in text)) (first_of (codes "start") rows)
 
+-- a sample needs its number of candidates
+abbrev pub number_for : Mode → Option ℕ → Result (Option ℕ) Stop
+number_for Sample None = Err BadWords
+number_for _ number = Ok number
+
+unfoldable pub candidates_option : Mode → List Row → Result (Option ℕ) Stop
+candidates_option mode rows = do
+  number ← number_option (codes "number") 1 1000000 rows
+  number_for mode number
+
+-- what is known of the number that a mode was given
+abbrev pub HasNumber : Mode → Option ℕ → Type 0
+HasNumber mode number = mode ≡ Sample → IsSomeAnd number (λ n. (1 ≤ n) × (n ≤ 1000000))
+
 -- the date of day 1 and the term of offers are given together or not at all
 abbrev pub deadlines_with : Option ℤ → Option ℕ → Result (Option Deadlines) Stop
 deadlines_with None None = Ok None
@@ -65,19 +79,20 @@ deadlines_option rows = do
   term ← number_option (codes "term") 0 MAX_DAY rows
   deadlines_with start term
 
--- days of offers that lapse are not run yet: the mode `replay` takes no deadlines
-abbrev pub is_run : Mode → Option Deadlines → Bool
-is_run Order deadlines = true
-is_run Replay None = true
-is_run Replay (Some deadlines) = false
+-- a date of day 1: the day before it and all deadlines are dates
+pub record IsStart (start : ℤ) : Type 0 where
+  pub after_first : (first_day +ℤ pos 1) ≤ℤ start
+  pub is_read : start ≤ℤ last_read_day
 
-abbrev pub if_run : Request → Result Request Stop
-if_run request = if is_run request.mode request.deadlines then Ok request else Err BadWords
+pub record IsDeadlines (deadlines : Deadlines) : Type 0 where
+  pub start : IsStart deadlines.start
+  pub term : deadlines.term ≤ MAX_DAY
 
 -- what is known of a request that was read
 pub record IsRequest (request : Request) : Type 0 where
   pub days : request.days ≤ MAX_DAY
-  pub undated : request.mode ≡ Replay → request.deadlines ≡ None
+  pub candidates : HasNumber request.mode request.number
+  pub deadlines : IfSome request.deadlines IsDeadlines
 
 -- each value is tested, whether or not the mode uses its option
 unfoldable pub request_in : List Row → Result Request Stop
@@ -87,9 +102,9 @@ request_in rows = do
   wish ← number_option (codes "wish") 1 MAX_NUMBER rows
   school ← number_option (codes "school") 1 MAX_NUMBER rows
   picker ← picker_option rows
-  number ← number_option (codes "number") 1 1000000 rows
+  number ← candidates_option mode rows
   deadlines ← deadlines_option rows
-  if_run (record { mode = mode; days = unwrap_or days 1; wish = wish; school = school; picker = picker; number = number; deadlines = deadlines })
+  Ok (record { mode = mode; days = unwrap_or days 1; wish = wish; school = school; picker = picker; number = number; deadlines = deadlines })
 
 -- the words are bad where the command has a fault to name
 abbrev pub where_sound : {A : Type 0} → Kinds → Result A Stop → Result A Stop

@@ -10,8 +10,10 @@ mod replay;
 mod reply;
 mod request;
 mod run;
+mod sample;
 mod stop;
 mod tables;
+mod terms;
 #[cfg(test)]
 mod tests;
 mod words;

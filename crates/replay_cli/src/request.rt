@@ -9,6 +9,8 @@ pub enum Mode {
     Order,
     /// Writes the call orders, the days that are run, and the final state.
     Replay,
+    /// Makes a dossier of any size, and writes a summary of its days.
+    Sample,
 }
 
 /// A picker, which chooses the overfilled school that falls.
@@ -52,7 +54,7 @@ pub struct Request {
     pub school: Option<u32>,
     /// The first picker where none is given.
     pub picker: PickerChoice,
-    /// How many candidates a sample has, from 1 to 1,000,000.
+    /// How many candidates a sample has, from 1 to 1,000,000; the mode `sample` needs it.
     pub number: Option<u32>,
     /// None where offers do not lapse.
     pub deadlines: Option<Deadlines>,

@@ -3,7 +3,6 @@ ghost use Rattle.std.specs.Prelude.{◌≡◌, ◌≢◌, ◌⊎◌, ◌↔◌, 
 ghost use Rattle.std.specs.Io.KnownBytes.{Appends};
 ghost use Rattle.admit_core.specs.Standing.{dossier_of};
 ghost use Rattle.admit_core.specs.declared.slot.Slot.{Slot};
-ghost use Rattle.admit_core.specs.declared.tables.Tables.{Tables};
 ghost use Rattle.shelf_io.specs.Faults.{NoneFell, Rose};
 ghost use Rattle.replay_cli.specs.Input.{HasCause, Tells};
 ghost use Rattle.replay_cli.specs.Modes.{IsRead, slots_of};
@@ -20,10 +19,11 @@ use crate::pickers::Pickers;
 use crate::replay::replay;
 use crate::reply::Reply;
 use crate::request::{Mode, Request};
+use crate::sample::sample_report;
 use crate::stop::Stop;
-use crate::tables::read_tables;
+use crate::tables::tables_of;
 use crate::words::read_request;
-use admit_core::{Dossier, OutOfMemory};
+use admit_core::{Dossier, OutOfMemory, Tables};
 use bar_fixpoint::Picker;
 use dossier_check::check;
 use shelf_io::{IoRefusal, Shelf, Sink, write_all};
@@ -33,15 +33,18 @@ use std::alloc::Global;
 fn run_mode(
     alloc: Global,
     request: &Request,
+    tables: &Tables,
     dossier: &Dossier,
     first: &mut dyn Picker,
     last: &mut dyn Picker,
     turn: &mut dyn Picker,
 ) -> Result<Reply, OutOfMemory>
-    requires { IsRequest request.now }
+    requires request { IsRequest request.now }
+    requires dossier { dossier.now ≡ dossier_of tables.now }
+    requires quiet { request.now.mode ≡ modes.Sample → dossier.now.answers ≡ [] }
     ensures ending { IfOk result (λ reply. IsEnding reply.exit) }
-    ensures ends { (t : Tables) → dossier.now ≡ dossier_of t → IfOk result (λ reply. (picks : Picks)
-        × IsEndOf request.now.mode (record { request = request.now; tables = t }) reply.exit picks reply.text.items
+    ensures ends { IfOk result (λ reply. (picks : Picks)
+        × IsEndOf request.now.mode (record { request = request.now; tables = tables.now }) reply.exit picks reply.text.items
         × Told (three (told first.old) (told last.old) (told turn.old)) (three (told first.new) (told last.new) (told turn.new)) picks) }
     ensures no_day { request.now.mode ≡ modes.Order → (three (told first.new) (told last.new) (told turn.new)) ≡ (three (told first.old) (told last.old) (told turn.old)) }
 {
@@ -50,7 +53,11 @@ fn run_mode(
             exit: Exit::Done,
             text: order_report(alloc, dossier)?,
         }),
-        Mode::Replay => replay(alloc, dossier, request, first, last, turn),
+        Mode::Replay => replay(alloc, tables, dossier, request, first, last, turn),
+        Mode::Sample => Ok(Reply {
+            exit: Exit::Done,
+            text: sample_report(alloc, dossier, request, first, last, turn)?,
+        }),
     }
 }
 
@@ -76,9 +83,9 @@ fn run_request<S: Shelf>(
     ensures counts { NoneFell (S.faults shelf.old) (S.faults shelf.new) }
     ensures fault { IfErr result (HasCause (slots_of request.now.mode) (S.left shelf.old) (S.faults shelf.old) (S.faults shelf.new)) }
 {
-    let tables = read_tables(alloc, shelf, request.mode)?;
+    let tables = tables_of(alloc, shelf, request)?;
     let checked = check(alloc, &tables)?;
-    Ok(run_mode(alloc, request, &checked.dossier, first, last, turn)?)
+    Ok(run_mode(alloc, request, &tables, &checked.dossier, first, last, turn)?)
 }
 
 /// What a run answers, or why it stops before.

@@ -5,17 +5,22 @@ ghost use Rattle.admit_core.specs.Ranges.{AreTables};
 ghost use Rattle.shelf_io.specs.Bytes.{OthersKept};
 ghost use Rattle.shelf_io.specs.Faults.{NoneFell};
 ghost use Rattle.dossier_csv.specs.Shape.{Answers};
-ghost use Rattle.replay_cli.specs.Input.{FaultsAt, HasCause, Tells, no_rows, sized, tables_in, with_rows};
+ghost use Rattle.replay_cli.specs.Input.{FaultsAt, HasCause, StandFor, Tells, no_rows, sized, tables_in, with_rows};
 ghost use Rattle.replay_cli.specs.Modes as Modes;
+ghost use Rattle.replay_cli.specs.Outcome.{tables_of};
+ghost use Rattle.replay_cli.specs.Request.{IsRequest};
 ghost use Rattle.replay_cli.specs.Stops.{Gives};
+ghost use Rattle.replay_cli.specs.declared.request.Mode.TheVariants as modes;
 
-use crate::request::Mode;
+use crate::request::{Mode, Request};
+use crate::sample::candidates_of;
 use crate::stop::Stop;
 use admit_core::{InFault, Reason, Refusal, Sequence, Slot, Tables};
 use dossier_csv::{
     read_answers, read_boarding, read_ceilings, read_groups, read_programmes, read_rankings,
     read_schools, read_state, read_wishes,
 };
+use sample_gen::sample;
 use shelf_io::{Shelf, SlotRefusal, read_slot};
 use std::alloc::Global;
 
@@ -26,6 +31,7 @@ fn slots_of(mode: Mode) -> &'static [Slot]
 {
     match mode {
         Mode::Order => &[Slot::Groups, Slot::Rankings],
+        Mode::Sample => &[],
         Mode::Replay => &[
             Slot::Groups,
             Slot::Programmes,
@@ -149,11 +155,7 @@ fn read_slots<S: Shelf>(alloc: Global, shelf: &mut S, order: &[Slot]) -> Result<
 }
 
 /// The tables of the slots that a mode reads.
-pub(crate) fn read_tables<S: Shelf>(
-    alloc: Global,
-    shelf: &mut S,
-    mode: Mode,
-) -> Result<Tables, Stop>
+fn read_tables<S: Shelf>(alloc: Global, shelf: &mut S, mode: Mode) -> Result<Tables, Stop>
     ensures value { (slots : Slot → List ℕ) → Tells (S.left shelf.old) slots → Gives (λ tables. tables) result (tables_in (Modes.slots_of mode) slots) }
     ensures ranges { IfOk result AreTables }
     ensures taken { (slots : Slot → List ℕ) → Tells (S.left shelf.old) slots → OnOk result ((slot : Slot) → Contains (Modes.slots_of mode) slot → S.left shelf.new slot ≡ Some []) }
@@ -162,4 +164,26 @@ pub(crate) fn read_tables<S: Shelf>(
     ensures fault { IfErr result (HasCause (Modes.slots_of mode) (S.left shelf.old) (S.faults shelf.old) (S.faults shelf.new)) }
 {
     read_slots(alloc, shelf, slots_of(mode))
+}
+
+/// The tables that are asked for, in each of which every number is in its column's range: those of a
+/// sample, or of the slots that the mode reads.
+pub(crate) fn tables_of<S: Shelf>(
+    alloc: Global,
+    shelf: &mut S,
+    request: &Request,
+) -> Result<Tables, Stop>
+    requires { IsRequest request.now }
+    ensures value { (slots : Slot → List ℕ) → Tells (S.left shelf.old) slots → StandFor result (tables_of request.now.mode request.now.number slots) }
+    ensures ranges { IfOk result AreTables }
+    ensures quiet { request.now.mode ≡ modes.Sample → IfOk result (λ tables. tables.answers ≡ []) }
+    ensures taken { (slots : Slot → List ℕ) → Tells (S.left shelf.old) slots → OnOk result ((slot : Slot) → Contains (Modes.slots_of request.now.mode) slot → S.left shelf.new slot ≡ Some []) }
+    ensures others { (slot : Slot) → ¬ Contains (Modes.slots_of request.now.mode) slot → S.left shelf.new slot ≡ S.left shelf.old slot }
+    ensures counts { NoneFell (S.faults shelf.old) (S.faults shelf.new) }
+    ensures fault { IfErr result (HasCause (Modes.slots_of request.now.mode) (S.left shelf.old) (S.faults shelf.old) (S.faults shelf.new)) }
+{
+    match request.mode {
+        Mode::Sample => Ok(sample(alloc, candidates_of(request))?),
+        _ => read_tables(alloc, shelf, request.mode),
+    }
 }

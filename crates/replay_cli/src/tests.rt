@@ -1,5 +1,10 @@
 //! Whole runs in memory.
-ghost use Rattle.std.specs.Prelude.{IsSome};
+
+mod dossiers;
+mod final_state;
+mod replays;
+mod sample;
+mod written;
 
 use crate::exit::Exit;
 use crate::pickers::Pickers;
@@ -7,7 +12,7 @@ use crate::request::{Deadlines, Mode, PickerChoice, PickerName, Request};
 use crate::run::run;
 use crate::words::read_request;
 use admit_core::Slot;
-use bar_fixpoint::{FirstPicker, LastPicker, Picker, TiredPicker, TurnPicker};
+use bar_fixpoint::{FirstPicker, LastPicker, TurnPicker};
 use calendar::civil_of;
 use shelf_io::{MemShelf, MemSink};
 use std::alloc::Global;
@@ -49,7 +54,7 @@ fn small_rate() -> Case {
 }
 
 /// The words of a line.
-fn words_of(alloc: Global, line: &str) -> Result<Vec<String>, Fail> {
+pub(crate) fn words_of(alloc: Global, line: &str) -> Result<Vec<String>, Fail> {
     let mut words = Vec::new(alloc);
     for word in line.split_whitespace() {
         words.push(String::from_str(alloc, word)?)?;
@@ -268,7 +273,6 @@ fn options_are_tested(rt: HostRuntime) -> Result<(), Fail> {
         ("order --start 2299-01-01 --term 1", false),
         ("order --start 2023-02-29 --term 1", false),
         ("order --beds 2", false),
-        ("replay --start 2025-06-02 --term 1", false),
         ("order -d 2", false),
     ];
     for (words, is_good) in &cases {
@@ -316,244 +320,5 @@ fn words_are_read(rt: HostRuntime) -> Result<(), Fail> {
     for (words, request) in &cases {
         assert!(rt; asks(rt.alloc(), words, request)?, "{words}");
     }
-    Ok(())
-}
-
-/// The slots of a dossier in which automatic answers free a bed, and which has answers on its second day.
-fn realistic() -> [(Slot, &'static str); 9] {
-    [
-        (Slot::Groups, "group,scholar_pct,resident_pct\n1,20,50\n"),
-        (Slot::Programmes, "programme,group,seats\n10,1,2\n20,1,1\n"),
-        (Slot::Schools, "school,beds,ceiling\n5,1,10\n"),
-        (
-            Slot::Rankings,
-            "group,candidate,rank,scholar,resident\n1,101,1,0,0\n1,102,2,1,1\n1,103,3,0,1\n1,104,4,0,0\n",
-        ),
-        (Slot::Boarding, "school,candidate,rank\n5,103,1\n5,101,2\n"),
-        (
-            Slot::Wishes,
-            "wish,candidate,programme,school,preference\n1,101,10,,0\n2,101,10,5,0\n3,102,10,,2\n4,102,20,,1\n5,103,10,5,0\n6,103,20,5,0\n7,104,10,,0\n8,104,20,,0\n",
-        ),
-        (Slot::State, "wish,status\n"),
-        (Slot::Ceilings, "day,school,ceiling\n"),
-        (Slot::Answers, "day,kind,target\n2,accept,1\n2,refuse,7\n"),
-    ]
-}
-
-/// The slots of a dossier in which one school's bar falls twice.
-fn cascade() -> [(Slot, &'static str); 9] {
-    [
-        (
-            Slot::Groups,
-            "group,scholar_pct,resident_pct\n1,0,0\n2,0,0\n3,0,0\n",
-        ),
-        (
-            Slot::Programmes,
-            "programme,group,seats\n10,1,1\n20,2,1\n30,3,1\n",
-        ),
-        (Slot::Schools, "school,beds,ceiling\n5,1,9\n6,1,9\n"),
-        (
-            Slot::Rankings,
-            "group,candidate,rank,scholar,resident\n1,41,1,0,0\n2,42,1,0,0\n2,43,2,0,0\n3,44,1,0,0\n3,45,2,0,0\n",
-        ),
-        (
-            Slot::Boarding,
-            "school,candidate,rank\n5,45,1\n5,41,2\n5,42,3\n6,43,1\n6,44,2\n",
-        ),
-        (
-            Slot::Wishes,
-            "wish,candidate,programme,school,preference\n1,41,10,5,0\n2,42,20,5,0\n3,43,20,6,0\n4,44,30,6,0\n5,45,30,5,0\n",
-        ),
-        (Slot::State, "wish,status\n"),
-        (Slot::Ceilings, "day,school,ceiling\n"),
-        (Slot::Answers, "day,kind,target\n"),
-    ]
-}
-
-/// What the dossier `realistic` gives on two days.
-const TWO_DAYS: &str =
-    "order 1: 102 101 103 104\nrule 1: b - r -\nday 1\npass 1\nbar 5 10\noffer 1\noffer 2\noffer 3\noffer 4\nauto 3 auto_refused\nauto 4 accepted\nfreed 1 0\npass 2\nfall 5 10 0 5\nbar 5 0\noffer 7\nfreed 0 0\nleft 10 0\nleft 20 0\nfree 5 0\nday 2\npass 1\nbar 5 10\noffer 5\nfreed 0 0\nleft 10 0\nleft 20 0\nfree 5 0\nfinal\nwish,status\n1,accepted\n2,refused\n3,auto_refused\n4,accepted\n5,offered\n6,waiting\n7,refused\n8,waiting\n";
-
-/// What the dossier `cascade` gives.
-const CASCADE: &str =
-    "order 1: 41\nrule 1: -\norder 2: 42 43\nrule 2: - -\norder 3: 44 45\nrule 3: - -\nday 1\npass 1\nfall 5 9 2 1 2\nfall 6 9 1 3 4\nfall 5 2 1 5 1\nbar 5 1\nbar 6 1\noffer 3\noffer 5\nfreed 0 0\nleft 10 1\nleft 20 0\nleft 30 0\nfree 5 0\nfree 6 0\nfinal\nwish,status\n1,waiting\n2,waiting\n3,offered\n4,waiting\n5,offered\n";
-
-/// A shelf with these slots, of which one read fails.
-fn shelf_of(
-    alloc: Global,
-    slots: &[(Slot, &'static str)],
-    failing_read: Option<u64>,
-) -> Result<MemShelf, Fail> {
-    let mut shelf = MemShelf::new(alloc);
-    for (slot, text) in slots {
-        shelf.put(*slot, Vec::from_slice(alloc, text.as_bytes())?);
-    }
-    if let Some(call) = failing_read {
-        shelf.fail_at(call).map_err(|_| "no memory")?;
-    }
-    Ok(shelf)
-}
-
-/// A run of the mode `replay`: its words and outside, its exit and text, and the places that each picker tells.
-#[derive(Clone, Copy)]
-struct Replay {
-    words: &'static str,
-    is_cascade: bool,
-    failing_read: Option<u64>,
-    room: Option<u64>,
-    exit: Exit,
-    text: &'static str,
-    first: &'static [u32],
-    last: &'static [u32],
-    turn: &'static [u32],
-}
-
-/// Two days that nothing outside disturbs.
-fn two_days() -> Replay {
-    Replay {
-        words: "replay --days 2",
-        is_cascade: false,
-        failing_read: None,
-        room: None,
-        exit: Exit::Done,
-        text: TWO_DAYS,
-        first: &[0],
-        last: &[],
-        turn: &[],
-    }
-}
-
-/// A day of three falls.
-fn three_falls() -> Replay {
-    Replay {
-        words: "replay",
-        is_cascade: true,
-        text: CASCADE,
-        first: &[0, 1, 0],
-        ..two_days()
-    }
-}
-
-/// Whether the picker is there and tells these places.
-fn tells(picker: &Option<Box<dyn Picker>>, places: &[u32]) -> bool {
-    match picker {
-        Some(picker) => picker.told_list() == places,
-        None => false,
-    }
-}
-
-/// Runs the case with these pickers, and answers whether the exit, the text and what they told are as they are to be.
-fn comes_about(alloc: Global, case: &Replay, pickers: &mut Pickers) -> Result<bool, Fail>
-    requires first { IsSome pickers.old.first }
-    requires last { IsSome pickers.old.last }
-    requires turn { IsSome pickers.old.turn }
-    ensures first { IsSome pickers.new.first }
-    ensures last { IsSome pickers.new.last }
-    ensures turn { IsSome pickers.new.turn }
-{
-    let words = words_of(alloc, case.words)?;
-    let slots = if case.is_cascade {
-        cascade()
-    } else {
-        realistic()
-    };
-    let mut shelf = shelf_of(alloc, &slots, case.failing_read)?;
-    let mut sink = MemSink::new(alloc, case.room);
-    let exit = run(alloc, &words, &mut shelf, &mut sink, pickers);
-    Ok(
-        exit == case.exit
-            && sink.bytes() == case.text.as_bytes()
-            && tells(&pickers.first, case.first)
-            && tells(&pickers.last, case.last)
-            && tells(&pickers.turn, case.turn),
-    )
-}
-
-/// The same with three new pickers.
-fn plays(alloc: Global, case: &Replay) -> Result<bool, Fail> {
-    let mut pickers = Pickers {
-        first: Some(Box::new(alloc, FirstPicker::new(alloc))?),
-        last: Some(Box::new(alloc, LastPicker::new(alloc))?),
-        turn: Some(Box::new(alloc, TurnPicker::new(alloc))?),
-    };
-    comes_about(alloc, case, &mut pickers)
-}
-
-#[test]
-fn days_are_played(rt: HostRuntime) -> Result<(), Fail> {
-    let cases = [
-        two_days(),
-        Replay {
-            failing_read: Some(1),
-            exit: Exit::ReadFault,
-            text: "read fault groups\n",
-            first: &[],
-            ..two_days()
-        },
-        Replay {
-            failing_read: Some(18),
-            exit: Exit::ReadFault,
-            text: "read fault answers\n",
-            first: &[],
-            ..two_days()
-        },
-        Replay {
-            failing_read: Some(19),
-            ..two_days()
-        },
-        Replay {
-            room: Some(5),
-            exit: Exit::WriteFault,
-            text: "order",
-            ..two_days()
-        },
-        three_falls(),
-        Replay {
-            words: "replay --picker last",
-            first: &[],
-            last: &[0, 1, 0],
-            ..three_falls()
-        },
-        Replay {
-            words: "replay --picker turn",
-            first: &[],
-            turn: &[0, 1, 0],
-            ..three_falls()
-        },
-        Replay {
-            words: "replay --picker each",
-            ..three_falls()
-        },
-    ];
-    for case in &cases {
-        assert!(rt; plays(rt.alloc(), case)?, "{}", case.words);
-    }
-    Ok(())
-}
-
-/// Whether a picker that refuses its second pick ends the run with nothing written, and the run is
-/// whole when it is tried again.
-fn tires_once(alloc: Global) -> Result<bool, Fail> {
-    let mut pickers = Pickers {
-        first: Some(Box::new(alloc, TiredPicker::new(alloc, 2))?),
-        last: Some(Box::new(alloc, LastPicker::new(alloc))?),
-        turn: Some(Box::new(alloc, TurnPicker::new(alloc))?),
-    };
-    let refused = Replay {
-        exit: Exit::NoMemory,
-        text: "",
-        first: &[0],
-        ..three_falls()
-    };
-    let again = Replay {
-        first: &[0, 0, 1, 0],
-        ..three_falls()
-    };
-    Ok(comes_about(alloc, &refused, &mut pickers)? && comes_about(alloc, &again, &mut pickers)?)
-}
-
-#[test]
-fn a_tired_picker_ends_the_run(rt: HostRuntime) -> Result<(), Fail> {
-    assert!(rt; tires_once(rt.alloc())?);
     Ok(())
 }

@@ -3,7 +3,7 @@ ghost use Rattle.std.specs.Prelude.{◌≡◌, ◌≢◌, ◌≤◌, IfErr, IfOk
 ghost use Rattle.clap.specs.Words.{first_of, found_of, rows_of};
 ghost use Rattle.dossier_csv.specs.Columns.{number_of};
 ghost use Rattle.calendar.specs.Texts.{date_in};
-ghost use Rattle.replay_cli.specs.Request.{IsRequest, between, deadlines_option, deadlines_with, if_run, in_start_years, is_run, mode_named, mode_option, named_words, number_option, picker_named, picker_option, request_in, request_of, request_of_named, start_option};
+ghost use Rattle.replay_cli.specs.Request.{HasNumber, IsDeadlines, IsRequest, IsStart, between, candidates_option, deadlines_option, deadlines_with, in_start_years, mode_named, mode_option, named_words, number_for, number_option, picker_named, picker_option, request_in, request_of, request_of_named, start_option};
 ghost use Rattle.replay_cli.specs.Stops.{Gives, IsOfWords};
 
 use crate::command::parse;
@@ -14,6 +14,7 @@ use calendar::{Civil, parts, read_date};
 use clap::ArgMatches;
 use clap::error::ErrorKind;
 use dossier_csv::number_of;
+use sample_gen::MAX_CANDIDATES;
 use std::alloc::{AllocError, Global};
 
 /// The mode of a word; only modes that are built have one.
@@ -23,6 +24,7 @@ fn mode_named(text: &str) -> Option<Mode>
     match text {
         "order" => Some(Mode::Order),
         "replay" => Some(Mode::Replay),
+        "sample" => Some(Mode::Sample),
         _ => None,
     }
 }
@@ -43,7 +45,7 @@ fn picker_named(text: &str) -> Option<PickerChoice>
 /// The number that a text writes, where it is in the range.
 fn number_between(text: &str, least: u32, most: u32) -> Option<u32>
     ensures value { result ≡ between least most (number_of text.now) }
-    ensures range { IfSome result (λ number. number ≤ most) }
+    ensures range { IfSome result (λ number. (least ≤ number) × (number ≤ most)) }
 {
     let number = number_of(text.as_bytes())?;
     if u64::from(least) <= number && number <= u64::from(most) {
@@ -55,7 +57,8 @@ fn number_between(text: &str, least: u32, most: u32) -> Option<u32>
 
 /// The date that a text names, of a year from 1901 to 2298.
 fn start_date(text: &str) -> Option<Civil>
-    ensures { result ≡ in_start_years (date_in text.now) }
+    ensures value { result ≡ in_start_years (date_in text.now) }
+    ensures range { IfSome result IsStart }
 {
     let date = read_date(text.as_bytes())?;
     let (year, _, _) = parts(date);
@@ -94,7 +97,7 @@ fn number_option(
     most: u32,
 ) -> Result<Option<u32>, Stop>
     ensures value { result ≡ number_option id.now least most (rows_of (found_of matches.now)) }
-    ensures range { IfOk result (λ number. IfSome number (λ n. n ≤ most)) }
+    ensures range { IfOk result (λ number. IfSome number (λ n. (least ≤ n) × (n ≤ most))) }
     ensures kinds { IfErr result IsOfWords }
 {
     match value_of(matches, id) {
@@ -122,6 +125,7 @@ fn picker_option(matches: &ArgMatches<'_>) -> Result<PickerChoice, Stop>
 #[tactic(auto, unfolding(crate::specs::Request::start_option))]
 fn start_option(matches: &ArgMatches<'_>) -> Result<Option<Civil>, Stop>
     ensures value { result ≡ start_option (rows_of (found_of matches.now)) }
+    ensures range { IfOk result (λ start. IfSome start IsStart) }
     ensures kinds { IfErr result IsOfWords }
 {
     match value_of(matches, "start") {
@@ -135,7 +139,10 @@ fn start_option(matches: &ArgMatches<'_>) -> Result<Option<Civil>, Stop>
 
 /// The date of day 1 and the term of offers, which are given together or not at all.
 fn deadlines_with(start: Option<Civil>, term: Option<u32>) -> Result<Option<Deadlines>, Stop>
+    requires start { IfSome start IsStart }
+    requires term { IfSome term (λ n. n ≤ 366) }
     ensures value { result ≡ deadlines_with start term }
+    ensures range { IfOk result (λ deadlines. IfSome deadlines IsDeadlines) }
     ensures kinds { IfErr result IsOfWords }
 {
     match (start, term) {
@@ -148,6 +155,7 @@ fn deadlines_with(start: Option<Civil>, term: Option<u32>) -> Result<Option<Dead
 #[tactic(auto, unfolding(crate::specs::Request::deadlines_option))]
 fn deadlines_option(matches: &ArgMatches<'_>) -> Result<Option<Deadlines>, Stop>
     ensures value { result ≡ deadlines_option (rows_of (found_of matches.now)) }
+    ensures range { IfOk result (λ deadlines. IfSome deadlines IsDeadlines) }
     ensures kinds { IfErr result IsOfWords }
 {
     let start = start_option(matches)?;
@@ -155,32 +163,28 @@ fn deadlines_option(matches: &ArgMatches<'_>) -> Result<Option<Deadlines>, Stop>
     deadlines_with(start, term)
 }
 
-/// The most candidates of a sample.
-const MAX_SAMPLE: u32 = 1_000_000;
-
-/// Whether the mode runs with these deadlines: days of offers that lapse are not run yet.
-fn is_run(mode: Mode, deadlines: Option<Deadlines>) -> bool
-    ensures { result ≡ is_run mode deadlines }
+/// The number of candidates, where the mode was given what it needs.
+fn number_for(mode: Mode, number: Option<u32>) -> Result<Option<u32>, Stop>
+    requires { IfSome number (λ n. (1 ≤ n) × (n ≤ 1000000)) }
+    ensures value { result ≡ number_for mode number }
+    ensures known { IfOk result (HasNumber mode) }
+    ensures kinds { IfErr result IsOfWords }
 {
-    match (mode, deadlines) {
-        (Mode::Order, _) => true,
-        (Mode::Replay, None) => true,
-        (Mode::Replay, Some(_)) => false,
+    match (mode, number) {
+        (Mode::Sample, None) => Err(Stop::BadWords),
+        _ => Ok(number),
     }
 }
 
-/// The request, where it can be run.
-fn if_run(request: Request) -> Result<Request, Stop>
-    requires { request.days ≤ 366 }
-    ensures value { result ≡ if_run request }
-    ensures known { IfOk result IsRequest }
+/// How many candidates a sample has, which the mode `sample` needs.
+#[tactic(auto, unfolding(crate::specs::Request::candidates_option))]
+fn candidates_option(mode: Mode, matches: &ArgMatches<'_>) -> Result<Option<u32>, Stop>
+    ensures value { result ≡ candidates_option mode (rows_of (found_of matches.now)) }
+    ensures known { IfOk result (HasNumber mode) }
     ensures kinds { IfErr result IsOfWords }
 {
-    if is_run(request.mode, request.deadlines) {
-        Ok(request)
-    } else {
-        Err(Stop::BadWords)
-    }
+    let number = number_option(matches, "number", 1, MAX_CANDIDATES)?;
+    number_for(mode, number)
 }
 
 /// How many days are run; 1 where it is not given.
@@ -202,13 +206,14 @@ fn request_in(matches: &ArgMatches<'_>) -> Result<Request, Stop>
     ensures known { IfOk result IsRequest }
     ensures kinds { IfErr result IsOfWords }
 {
-    if_run(Request {
-        mode: mode_option(matches)?,
+    let mode = mode_option(matches)?;
+    Ok(Request {
+        mode,
         days: days_of(number_option(matches, "days", 1, MAX_DAY)?),
         wish: number_option(matches, "wish", 1, MAX_NUMBER)?,
         school: number_option(matches, "school", 1, MAX_NUMBER)?,
         picker: picker_option(matches)?,
-        number: number_option(matches, "number", 1, MAX_SAMPLE)?,
+        number: candidates_option(mode, matches)?,
         deadlines: deadlines_option(matches)?,
     })
 }

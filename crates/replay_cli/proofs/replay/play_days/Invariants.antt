@@ -1,4 +1,4 @@
-use Rattle.std.proofs.Common.{◌≡◌}
+use Rattle.std.specs.Option.{option_copied}
 use Rattle.replay_cli.specs.Picks.{three}
 use Rattle.replay_cli.proofs.CampaignSoFar.{SoFar}
 use Rattle.replay_cli.proofs.replay.play_days.Given as goal
@@ -11,6 +11,6 @@ invariant-loop-played g l =
     let first_before = goal.Picker-dyn g l.fn.first.now in
     let last_before = goal.Picker-dyn g l.fn.last.now in
     let turn_before = goal.Picker-dyn g l.fn.turn.now in
-    SoFar l.request l.orders.orders l.played
+    SoFar l.request (option_copied l.dated) l.orders.orders l.played
     (record { state = l.fn.desk.present; told = three (first_before.told l.fn.first.now.1) (last_before.told l.fn.last.now.1) (turn_before.told l.fn.turn.now.1); text = l.fn.text.items })
     (record { state = l.desk.present; told = three (first.told l.first.now.1) (last.told l.last.now.1) (turn.told l.turn.now.1); text = l.text.items })

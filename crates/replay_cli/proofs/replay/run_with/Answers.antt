@@ -8,3 +8,8 @@ pub run_day-requires-clause-ceilings : goal.run_day-requires-clause-ceilings
 run_day-requires-clause-ceilings g c =
     ap length (c.deref.ensures.value ∙ c.in_ok-ceilings.ensures) ∙ length-ceilings_of c.dossier.result.now c.args.day
     ∙ ap (λ (d : DossierRows). length d.schools) (c.dossier.ensures ∙ ap (λ (s : State). s.dossier) c.now.ensures)
+
+pub run_dated_day-requires-clause-ceilings : goal.run_dated_day-requires-clause-ceilings
+run_dated_day-requires-clause-ceilings g c =
+    ap length (c.deref-in-Some.ensures.value ∙ c.in_ok-ceilings.ensures) ∙ length-ceilings_of c.dossier.result.now c.args.day
+    ∙ ap (λ (d : DossierRows). length d.schools) (c.dossier.ensures ∙ ap (λ (s : State). s.dossier) c.now.ensures)

@@ -1,14 +1,20 @@
 use Rattle.std.proofs.Common.{Ok}
 use Rattle.dossier_check.specs.declared.relations.Checked.{Checked}
-use Rattle.replay_cli.specs.Input.{accepted_tables}
+use Rattle.replay_cli.proofs.Accepted.{no_answers, stops_reply}
 use Rattle.replay_cli.proofs.Replies.{memory_gives, memory_has_cause, memory_tells, stop_tells, stops_at_fault}
 use Rattle.replay_cli.proofs.run.run_request.Goals as goal
+
+pub run_mode-requires-clause-quiet : goal.run_mode-requires-clause-quiet
+run_mode-requires-clause-quiet g c = λ is. no_answers c.in_ok-tables.tables _ c.in_ok-checked.ensures.dossier (c.in_ok-tables.ensures.quiet is)
+
+pub returns-in_err-tables-clause-value : goal.returns-in_err-tables-clause-value
+returns-in_err-tables-clause-value g c =
+    λ slots tells. stops_reply (λ reply. reply.exit) (λ reply. reply.text.items) _ c.in_err-tables.field-0.0 _ _ c.from_residual.result (c.in_err-tables.ensures.value slots tells) c.from_residual.ensures.1
 
 pub returns-in_err-tables-clause-untold : goal.returns-in_err-tables-clause-untold
 returns-in_err-tables-clause-untold g c = stop_tells _ c.from_residual.result
 
 pub returns-in_err-checked-clause-value : goal.returns-in_err-checked-clause-value
-unfolding accepted_tables
 returns-in_err-checked-clause-value g c =
     λ slots tells.
     rw (c.in_ok-tables.ensures.value slots tells)
@@ -29,9 +35,8 @@ pub returns-in_err-run_mode-clause-untold : goal.returns-in_err-run_mode-clause-
 returns-in_err-run_mode-clause-untold g c = memory_tells _ _ c.from_residual-in_err-run_mode.result c.from_residual-in_err-run_mode.ensures.1
 
 pub returns-clause-value : goal.returns-clause-value
-unfolding accepted_tables
 returns-clause-value g c =
-    λ slots tells. rw (c.in_ok-tables.ensures.value slots tells, c.in_ok-checked.ensures.fault) (c.in_ok-run_mode.ensures.ends c.in_ok-tables.tables c.in_ok-checked.ensures.dossier)
+    λ slots tells. rw (c.in_ok-tables.ensures.value slots tells, c.in_ok-checked.ensures.fault) c.in_ok-run_mode.ensures.ends
 
 pub returns-clause-taken : goal.returns-clause-taken
 returns-clause-taken g c = λ slots tells. c.in_ok-tables.ensures.taken slots tells

@@ -18,36 +18,29 @@ loop-place-init c = record { on_way = on_way_none (changed_by c.args.change c.ar
 pub mark-requires : goal.mark-requires
 mark-requires c =
     let f = changed_by c.args.change c.args.stamp in
-    let long : length c.args.self.now.marks ≡ length c.args.self.now.dossier.wishes = subst IsWhole c.self.view_is c.self.invariant.marks in
+    let long : length c.args.self.now.marks ≡ length c.args.self.now.dossier.wishes = subst IsWhole c.self.view_is c.self.invariant.kept.marks in
     let place = on_way_place f c.args.self.now c.loop-place.self c.args.own.now c.args.candidate c.loop-place.place-index long c.requires c.loop-place.invariant.on_way c.loop-place-test.true in
     place.0
 
 pub wish_at-requires : goal.wish_at-requires
 wish_at-requires c =
     let f = changed_by c.args.change c.args.stamp in
-    let long : length c.args.self.now.marks ≡ length c.args.self.now.dossier.wishes = subst IsWhole c.self.view_is c.self.invariant.marks in
+    let long : length c.args.self.now.marks ≡ length c.args.self.now.dossier.wishes = subst IsWhole c.self.view_is c.self.invariant.kept.marks in
     let place = on_way_place f c.args.self.now c.loop-place.self c.args.own.now c.args.candidate c.loop-place.place-index long c.requires c.loop-place.invariant.on_way c.loop-place-test.true in
     let same : c.self.inside.dossier.now ≡ c.args.self.now.dossier = ap (λ (s : State). s.dossier) c.self.view_is in
     let wishes : c.as_slice-wishes.result.now ≡ c.args.self.now.dossier.wishes = c.as_slice-wishes.ensures ∙ ap (λ (d : DossierRows). d.wishes) (c.dossier.view_is ∙ same) in
     rw wishes (omega (arith, place.0, long, c.loop-place.invariant.on_way.long))
 
-pub set_mark-requires-clause-place : goal.set_mark-requires-clause-place
-set_mark-requires-clause-place c =
+pub set_mark-requires : goal.set_mark-requires
+set_mark-requires c =
     let f = changed_by c.args.change c.args.stamp in
-    let long : length c.args.self.now.marks ≡ length c.args.self.now.dossier.wishes = subst IsWhole c.self.view_is c.self.invariant.marks in
+    let long : length c.args.self.now.marks ≡ length c.args.self.now.dossier.wishes = subst IsWhole c.self.view_is c.self.invariant.kept.marks in
     let place = on_way_place f c.args.self.now c.loop-place.self c.args.own.now c.args.candidate c.loop-place.place-index long c.requires c.loop-place.invariant.on_way c.loop-place-test.true in
     place.0
 
-pub set_mark-requires-clause-own : goal.set_mark-requires-clause-own
-set_mark-requires-clause-own c =
-    let f = changed_by c.args.change c.args.stamp in
-    let long : length c.args.self.now.marks ≡ length c.args.self.now.dossier.wishes = subst IsWhole c.self.view_is c.self.invariant.marks in
-    let place = on_way_place f c.args.self.now c.loop-place.self c.args.own.now c.args.candidate c.loop-place.place-index long c.requires c.loop-place.invariant.on_way c.loop-place-test.true in
-    place.1
-
 pub freed_in_all-freed-requires-clause-seats : goal.freed_in_all-freed-requires-clause-seats
 freed_in_all-freed-requires-clause-seats c =
-    let long : length c.args.self.now.marks ≡ length c.args.self.now.dossier.wishes = subst IsWhole c.self.view_is c.self.invariant.marks in
+    let long : length c.args.self.now.marks ≡ length c.args.self.now.dossier.wishes = subst IsWhole c.self.view_is c.self.invariant.kept.marks in
     let same : c.self.inside.dossier.now ≡ c.args.self.now.dossier = ap (λ (s : State). s.dossier) c.self.view_is in
     let wishes : c.as_slice-wishes.result.now ≡ c.loop-place.self.dossier.wishes =
     c.as_slice-wishes.ensures ∙ ap (λ (d : DossierRows). d.wishes) (c.dossier.view_is ∙ same ∙ sym c.loop-place.invariant.on_way.dossier) in
@@ -61,7 +54,7 @@ freed_in_all-freed-requires-clause-seats c =
 
 pub freed_in_all-freed-requires-clause-beds : goal.freed_in_all-freed-requires-clause-beds
 freed_in_all-freed-requires-clause-beds c =
-    let long : length c.args.self.now.marks ≡ length c.args.self.now.dossier.wishes = subst IsWhole c.self.view_is c.self.invariant.marks in
+    let long : length c.args.self.now.marks ≡ length c.args.self.now.dossier.wishes = subst IsWhole c.self.view_is c.self.invariant.kept.marks in
     let same : c.self.inside.dossier.now ≡ c.args.self.now.dossier = ap (λ (s : State). s.dossier) c.self.view_is in
     let wishes : c.as_slice-wishes.result.now ≡ c.loop-place.self.dossier.wishes =
     c.as_slice-wishes.ensures ∙ ap (λ (d : DossierRows). d.wishes) (c.dossier.view_is ∙ same ∙ sym c.loop-place.invariant.on_way.dossier) in
@@ -75,7 +68,7 @@ freed_in_all-freed-requires-clause-beds c =
 
 pub loop-place-preserved : goal.loop-place-preserved
 loop-place-preserved c =
-    let long : length c.args.self.now.marks ≡ length c.args.self.now.dossier.wishes = subst IsWhole c.self.view_is c.self.invariant.marks in
+    let long : length c.args.self.now.marks ≡ length c.args.self.now.dossier.wishes = subst IsWhole c.self.view_is c.self.invariant.kept.marks in
     let same : c.self.inside.dossier.now ≡ c.args.self.now.dossier = ap (λ (s : State). s.dossier) c.self.view_is in
     let wishes : c.as_slice-wishes.result.now ≡ c.loop-place.self.dossier.wishes =
     c.as_slice-wishes.ensures ∙ ap (λ (d : DossierRows). d.wishes) (c.dossier.view_is ∙ same ∙ sym c.loop-place.invariant.on_way.dossier) in
@@ -90,7 +83,7 @@ loop-place-preserved c =
 pub returns-clause-state : goal.returns-clause-state
 returns-clause-state c =
     let f = changed_by c.args.change c.args.stamp in
-    let long : length c.args.self.now.marks ≡ length c.args.self.now.dossier.wishes = subst IsWhole c.self.view_is c.self.invariant.marks in
+    let long : length c.args.self.now.marks ≡ length c.args.self.now.dossier.wishes = subst IsWhole c.self.view_is c.self.invariant.kept.marks in
     on_way_end f c.args.self.now c.loop-place.self c.args.own.now c.args.candidate c.loop-place.place-index long c.requires c.loop-place.invariant.on_way c.loop-place-test.false
 
 pub returns-clause-freed : goal.returns-clause-freed

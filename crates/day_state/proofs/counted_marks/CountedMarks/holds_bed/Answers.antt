@@ -18,5 +18,5 @@ returns c =
     let s = state_of c.self.inside.dossier.now c.self.inside.marks.items in
     let is = c.self.view_is in
     c.any_in_school.ensures
-    ∙ rw (wishes, c.as_slice-2.ensures.value, c.requires, ← ap (λ (s : State). s.dossier) c.self.view_is) (own_any (in_school (Some c.args.school)) s c.args.candidate c.self.invariant.marks)
+    ∙ rw (wishes, c.as_slice-2.ensures.value, c.requires, ← ap (λ (s : State). s.dossier) c.self.view_is) (own_any (in_school (Some c.args.school)) s c.args.candidate c.self.invariant.kept.marks)
     ∙ ap (λ (s : State). holds_one (in_school (Some c.args.school)) s c.args.candidate) c.self.view_is

@@ -6,8 +6,8 @@ use Rattle.day_state.proofs.Along.{refuse_live_is}
 use Rattle.day_state.proofs.Answering.{whole_accept, long_refused}
 use Rattle.day_state.proofs.day.DayState.accept.Goals as goal
 
-pub set_mark-requires-clause-place : goal.set_mark-requires-clause-place
-set_mark-requires-clause-place c =
+pub set_mark-requires : goal.set_mark-requires
+set_mark-requires c =
     let lt : c.args.wish < length c.self.inside.live.dossier.wishes = rw c.self.view_is c.requires in
     rw (c.change_own.ensures.state ∙ refuse_live_is c.self.inside.live c.candidate_at-candidate.result c.args.stamp) (omega (arith, lt, long_refused c.self.inside.live c.candidate_at-candidate.result c.args.stamp c.self.invariant.long, c.self.invariant.long))
 

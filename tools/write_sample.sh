@@ -1,0 +1,54 @@
+#!/bin/sh
+# Writes the nine slots of a made-up dossier with NUMBER candidates to the folder FOLDER.
+# The rows are those of the mode `sample`: 500 candidates a programme, up to three choices each.
+# An optional third word gives the answers of day 2: each candidate of that multiple quits.
+set -eu
+if [ $# -lt 2 ]; then
+    echo "usage: $0 NUMBER FOLDER [QUITS]" >&2
+    exit 2
+fi
+number=$1
+folder=$2
+quits=${3:-0}
+mkdir -p "$folder"
+exec awk -v number="$number" -v folder="$folder" -v quits="$quits" '
+function slot(name, header) { path[name] = folder "/" name ".csv"; print header > path[name] }
+function halved(x) { return int(x / 2) }
+function rank(candidate, multiplier) { return 1 + (candidate * multiplier) % 1073741824 }
+BEGIN {
+    programmes = 1 + int(number / 500)
+    schools = 1 + halved(programmes - 1)
+    slot("groups", "group,scholar_pct,resident_pct")
+    slot("programmes", "programme,group,seats")
+    slot("schools", "school,beds,ceiling")
+    slot("rankings", "group,candidate,rank,scholar,resident")
+    slot("boarding", "school,candidate,rank")
+    slot("wishes", "wish,candidate,programme,school,preference")
+    slot("state", "wish,status")
+    slot("ceilings", "day,school,ceiling")
+    slot("answers", "day,kind,target")
+    for (p = 1; p <= programmes; p++) {
+        printf "%d,%d,%d\n", p, (7 * p) % 31, (11 * p) % 41 > path["groups"]
+        printf "%d,%d,200\n", p, p > path["programmes"]
+    }
+    for (h = 1; h <= schools; h++) printf "%d,40,1073741824\n", h > path["schools"]
+    choices = programmes < 3 ? programmes : 3
+    for (c = 1; c <= number; c++) {
+        before = 0
+        for (j = 0; j < choices; j++) {
+            p = 1 + (c + j) % programmes
+            h = 1 + halved(p - 1)
+            printf "%d,%d,%d,%d,%d\n", p, c, rank(c, 1000001 + 2 * p), c % 5 == 0, (c + p) % 3 == 0 > path["rankings"]
+            wish = 6 * (c - 1) + 2 * j + 1
+            ranked = c % 4 == 0
+            printf "%d,%d,%d,,%d\n", wish, c, p, ranked ? 2 * j + 2 : 0 > path["wishes"]
+            if (c % 2 == 0) {
+                printf "%d,%d,%d,%d,%d\n", wish + 1, c, p, h, ranked ? 2 * j + 1 : 0 > path["wishes"]
+                seen = 0
+                for (i = 0; i < j; i++) if (1 + halved((c + i) % programmes) == h) seen = 1
+                if (!seen) printf "%d,%d,%d\n", h, c, rank(c, 2000001 + 2 * h) > path["boarding"]
+            }
+        }
+        if (quits > 0 && c % quits == 0) printf "2,quit,%d\n", c > path["answers"]
+    }
+}'
