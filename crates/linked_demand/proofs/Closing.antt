@@ -13,6 +13,7 @@ use Rattle.admit_core.specs.declared.state.Mark.{Mark}
 use Rattle.admit_core.specs.declared.ranking.CallOrder.{CallOrder}
 use Rattle.admit_core.specs.State.{State, entries, is_waiting, holds_seat, seats_left}
 use Rattle.admit_core.specs.Proposals.{needs_no_seat}
+use Rattle.day_state.specs.Kept.{wish_in}
 use Rattle.linked_demand.specs.Line.{LineRow, is_reached}
 use Rattle.linked_demand.specs.Opens.{flagged, is_flagged_in, wants_by, ahead_by, is_proposed_by, waits_in, line_of, seat_row}
 use Rattle.linked_demand.specs.Links.{LinksRow, IsSeatPlace, claim_of, WaitsAt, IsLinked}
@@ -104,7 +105,7 @@ starts_within {s} {orders} {opens} links row is i (w, m, at) =
     let here = subst P (sym is) at in
     slice_get_within s.dossier.wishes i w (wish_of s.dossier.wishes s.marks i w m here.here)
 
-pub closes : {s : State} {orders : List CallOrder} {opens : List Bool} {lines : List LineRow} {claims : List (List (List ℕ))} {places : List ℕ} {sure : List Bool}
+closes : {s : State} {orders : List CallOrder} {opens : List Bool} {lines : List LineRow} {claims : List (List (List ℕ))} {places : List ℕ} {sure : List Bool}
     → IsLinked s orders opens lines claims places sure → (row : LinksRow) → record { state = s; orders = orders; opens = opens } ≡ row
     → (i : ℕ) → ((w : Wish) × (m : Mark) × WaitsAt row.state i w m) → (v : Wish) → slice_get s.dossier.wishes i ≡ Some v
     → Closes s orders opens lines claims places sure i v
@@ -114,6 +115,18 @@ closes {s} {orders} {opens} {lines} {claims} {places} {sure} links row is i (w, 
     let same : Some w ≡ Some v = sym (wish_of s.dossier.wishes s.marks i w m here.here) ∙ found in
     let Q = λ (o : Option Wish). WaitsAt s i (unwrap_or o w) m in
     record { links = links; mark = m; at = subst Q same here }
+
+-- the wish that is read stands there
+wish_there : (ws : List Wish) (i : ℕ) (v : Wish) → i < length ws → v ≡ wish_in ws i → slice_get ws i ≡ Some v
+wish_there [] i v lt is = absurd (omega arith)
+wish_there (w ∷ ws) zero v lt is = ap (λ (u : Wish). Some u) (sym is)
+wish_there (w ∷ ws) (suc i) v lt is = wish_there ws i v (omega arith) is
+
+pub closes_read : {s : State} {orders : List CallOrder} {opens : List Bool} {lines : List LineRow} {claims : List (List (List ℕ))} {places : List ℕ} {sure : List Bool}
+    → IsLinked s orders opens lines claims places sure → (row : LinksRow) → record { state = s; orders = orders; opens = opens } ≡ row
+    → (i : ℕ) → ((w : Wish) × (m : Mark) × WaitsAt row.state i w m) → (v : Wish) → v ≡ wish_in s.dossier.wishes i
+    → Closes s orders opens lines claims places sure i v
+closes_read {s} links row is i waits v read = closes links row is i waits v (wish_there s.dossier.wishes i v (starts_within links row is i waits) read)
 
 module _ {s : State} {orders : List CallOrder} {opens : List Bool} {lines : List LineRow} {claims : List (List (List ℕ))} {places : List ℕ} {sure : List Bool} {i : ℕ} {w : Wish}
     (k : Closes s orders opens lines claims places sure i w) where
@@ -292,11 +305,12 @@ module _ {s : State} {orders : List CallOrder} {opens : List Bool} {lines : List
 -- the same, as the call says it
 pub proposed_goal : {s : State} {orders : List CallOrder} {opens : List Bool} {lines : List LineRow} {claims : List (List (List ℕ))} {places : List ℕ} {sure : List Bool}
     → IsLinked s orders opens lines claims places sure → (row : LinksRow) → record { state = s; orders = orders; opens = opens } ≡ row
-    → (i : ℕ) (w : Wish) (m : Mark) → WaitsAt row.state i w m → (v : Wish) → slice_get s.dossier.wishes i ≡ Some v
+    → (i : ℕ) (w : Wish) (m : Mark) → WaitsAt row.state i w m → (v : Wish) → v ≡ wish_in s.dossier.wishes i
     → (place : ℕ) → place ≡ get_or places i place → (line : LineRow) → line ≡ get_or lines v.programme line → (flag sure_flag reached served : Bool)
     → flag ≡ get_or opens i flag → sure_flag ≡ get_or sure i sure_flag → reached ≡ is_reached line place → served ≡ (flag && (sure_flag || reached))
     → served ≡ is_proposed_by row.state row.orders row.opens w m (get_or row.opens i false)
-proposed_goal {s} {orders} {opens} {lines} {claims} {places} {sure} links row is i w m waits v found place place_read line line_read flag sure_flag reached served flag_read sure_read by served_is =
+proposed_goal {s} {orders} {opens} {lines} {claims} {places} {sure} links row is i w m waits v wish_read place place_read line line_read flag sure_flag reached served flag_read sure_read by served_is =
+    let found = wish_there s.dossier.wishes i v (starts_within links row is i (w, m, waits)) wish_read in
     let P = λ (r : LinksRow). WaitsAt r.state i w m in
     let here : WaitsAt s i w m = subst P (sym is) waits in
     let same : v ≡ w = ap (λ (o : Option Wish). unwrap_or o w) (sym found ∙ wish_of s.dossier.wishes s.marks i w m here.here) in

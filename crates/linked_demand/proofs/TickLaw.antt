@@ -13,7 +13,7 @@ use Rattle.admit_core.specs.State.{State, entries, is_waiting, seats_left}
 use Rattle.admit_core.specs.Proposals.{is_behind_bar, is_barred, is_open, is_proposed, needs_no_seat, ahead}
 use Rattle.admit_core.specs.Falls.{IsAtMost, fallen}
 use Rattle.admit_core.proofs.DemandLaws.{behind_lower, seat_stays}
-use Rattle.linked_demand.specs.Ticks.{becomes_barred, becomes_proposed, changes_between, can_cost, changes_over, AllLower, ChangesAreFew}
+use Rattle.linked_demand.specs.Ticks.{becomes_barred, becomes_proposed, changes_between, rest_under, changes_over, AllLower, FallsSpendTheRest, TheRestIsSmall, ChangesAreFew}
 
 -- a sum over a list
 abbrev pub total : {X : Type 0} → (X → ℕ) → List X → ℕ
@@ -34,6 +34,10 @@ count_total p xs = omega (arith, length-filter p xs, filter_total p xs)
 total_le : {X : Type 0} (f g h k : X → ℕ) → ((x : X) → f x + g x + h x ≤ k x) → (xs : List X) → total f xs + total g xs + total h xs ≤ total k xs
 total_le f g h k le [] = omega arith
 total_le f g h k le (x ∷ xs) = omega (arith, le x, total_le f g h k le xs)
+
+-- what a wish can still cost: an open one that is not proposed two, a proposed one one
+abbrev can_cost : State → List CallOrder → List ℕ → Wish × Mark → ℕ
+can_cost s orders bars e = cond (is_open s bars e.0 e.1) (cond (is_proposed s orders bars e.0 e.1) 1 2) 0
 
 -- one wish: it waits, is behind the lower and the higher bar, and has a seat left under them
 one : (waits low high seat_low seat_high : Bool) → (high ≡ true → low ≡ true) → (seat_high ≡ true → seat_low ≡ true)
@@ -103,6 +107,36 @@ can_cost_waiting s orders bars (e ∷ es) =
       cost_bits (is_open s bars e.0 e.1) (is_proposed s orders bars e.0 e.1) (is_waiting e.1) (λ t. (and_parts (is_waiting e.1) (not (is_barred s bars e.0 e.1)) t).0),
       can_cost_waiting s orders bars es,
     )
+
+rest_bits : (opens seat : Bool) → cond opens (cond (opens && seat) 1 2) 0 ≡ 2 * cond (opens && not (opens && seat)) 1 0 + cond (opens && seat) 1 0
+rest_bits true true = refl
+rest_bits true false = refl
+rest_bits false seat = refl
+
+total_rest : (s : State) (orders : List CallOrder) (bars : List ℕ) (es : List (Wish × Mark))
+    → total (can_cost s orders bars) es
+    ≡ 2 * total (λ (e : Wish × Mark). cond (is_open s bars e.0 e.1 && not (is_proposed s orders bars e.0 e.1)) 1 0) es + total (λ (e : Wish × Mark). cond (is_proposed s orders bars e.0 e.1) 1 0) es
+total_rest s orders bars [] = refl
+total_rest s orders bars (e ∷ es) =
+    omega (arith, rest_bits (is_open s bars e.0 e.1) (needs_no_seat s orders e.0 || nat_lt (ahead s orders bars e.0) (seats_left s e.0.programme)), total_rest s orders bars es)
+
+-- the rest is what all wishes can still cost
+rest_is : (s : State) (orders : List CallOrder) (bars : List ℕ) → total (can_cost s orders bars) (entries s) ≡ rest_under s orders bars
+rest_is s orders bars =
+    omega (
+      arith,
+      total_rest s orders bars (entries s),
+      count_total (λ (e : Wish × Mark). is_open s bars e.0 e.1 && not (is_proposed s orders bars e.0 e.1)) (entries s),
+      count_total (λ (e : Wish × Mark). is_proposed s orders bars e.0 e.1) (entries s),
+    )
+
+pub falls_spend_the_rest : FallsSpendTheRest
+falls_spend_the_rest s orders bars i to within le =
+    omega (arith, changes_spent s orders (slice_set bars i to) bars (fall_at_most bars i to within le), rest_is s orders (slice_set bars i to), rest_is s orders bars)
+
+pub the_rest_is_small : TheRestIsSmall
+the_rest_is_small s orders bars =
+    omega (arith, can_cost_waiting s orders bars (entries s), count_total (λ (e : Wish × Mark). is_waiting e.1) (entries s), rest_is s orders bars)
 
 pub changes_are_few : ChangesAreFew
 changes_are_few s orders bars falls all =

@@ -1,7 +1,10 @@
-//! What a list of falls costs.
-ghost use Rattle.linked_demand.specs.Ticks.{ChangesAreFew};
+//! What falls cost.
+ghost use Rattle.linked_demand.specs.Ticks.{FallsSpendTheRest, TheRestIsSmall, ChangesAreFew};
 
-/// A list of falls makes no more wishes barred and proposed than twice the waiting ones.
+/// How many wishes become barred and proposed where bars fall: at each fall no more than the rest
+/// falls, and over a list of falls no more than twice the waiting ones. The call does nothing.
 pub fn law_of_changes()
-    ensures { ChangesAreFew }
+    ensures spent { FallsSpendTheRest }
+    ensures small { TheRestIsSmall }
+    ensures few { ChangesAreFew }
 {}

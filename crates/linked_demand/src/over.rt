@@ -18,13 +18,13 @@ pub fn first_over(links: &SeatLinks<'_, '_>, row: &[RowWish], free: u32) -> Opti
 {
     let mut found = 0;
     let mut last = 0;
-    for x in row {
-        if last < x.rank && links.is_proposed(x.wish) {
+    for item in row {
+        if last < item.rank && links.is_proposed(item.wish) {
             if found == free {
-                return Some(x.rank);
+                return Some(item.rank);
             }
             found += 1;
-            last = x.rank;
+            last = item.rank;
         }
     }
     None
@@ -41,13 +41,13 @@ pub fn demands_in(
 {
     let mut demands = Vec::new(alloc);
     let mut named = 0;
-    for x in row {
-        if named < x.rank && links.is_proposed(x.wish) {
+    for item in row {
+        if named < item.rank && links.is_proposed(item.wish) {
             demands.push(Demand {
-                rank: x.rank,
-                wish: x.wish,
+                rank: item.rank,
+                wish: item.wish,
             })?;
-            named = x.rank;
+            named = item.rank;
         }
     }
     Ok(demands)

@@ -2,5 +2,5 @@ use Rattle.std.proofs.Common.{◌≡◌, ◌++◌, drop}
 use Rattle.linked_demand.specs.Demand.{is_proposed_at, firsts}
 use Rattle.linked_demand.proofs.over.demands_in.Given as goal
 
-abbrev pub invariant-loop-x : goal.invariant-loop-x
-invariant-loop-x l = firsts (is_proposed_at l.links) 0 l.row ≡ l.demands.items ++ firsts (is_proposed_at l.links) l.named (drop l.x-index l.row)
+abbrev pub invariant-loop-item : goal.invariant-loop-item
+invariant-loop-item l = firsts (is_proposed_at l.links) 0 l.row ≡ l.demands.items ++ firsts (is_proposed_at l.links) l.named (drop l.item-index l.row)

@@ -1,7 +1,7 @@
 use Rattle.std.proofs.Common.{◌≡◌, ℕ, List, arith, ap, length, refl, sym, ◌∙◌, get_or, true, false}
 use Rattle.linked_demand.specs.Links.{LinksRow}
 use Rattle.linked_demand.specs.Opens.{line_of}
-use Rattle.linked_demand.proofs.Closing.{starts_within, closes, wish_within, programme_within, place_right, claim_right, claims_each, lines_each, sure_each, row_within, line_within, below_for, any_is, links_cleared, links_kept}
+use Rattle.linked_demand.proofs.Closing.{starts_within, closes_read, wish_within, programme_within, place_right, claim_right, claims_each, lines_each, sure_each, row_within, line_within, below_for, any_is, links_cleared, links_kept}
 use Rattle.linked_demand.proofs.Ticking.{new_none, new_some, new_kept, next_in_row, next_claim, claim_fits, told_none, told_some}
 use Rattle.linked_demand.proofs.links.SeatLinks.close.Goals as goal
 
@@ -14,69 +14,69 @@ wish_at-programme-requires g c =
 
 pub index-place-requires : goal.index-place-requires
 index-place-requires g c =
-    let k = closes c.self.invariant c.args.self.now c.self.view_is c.args.wish c.requires.waits c.wish_at-programme.result c.wish_at-programme.ensures in
+    let k = closes_read c.self.invariant c.args.self.now c.self.view_is c.args.wish c.requires.waits c.wish_at-programme.result c.wish_at-programme.ensures.wish in
     omega (arith, wish_within k, c.self.invariant.places_each)
 
 pub index_mut-requires : goal.index_mut-requires
 index_mut-requires g c =
-    let k = closes c.self.invariant c.args.self.now c.self.view_is c.args.wish c.requires.waits c.wish_at-programme.result c.wish_at-programme.ensures in
+    let k = closes_read c.self.invariant c.args.self.now c.self.view_is c.args.wish c.requires.waits c.wish_at-programme.result c.wish_at-programme.ensures.wish in
     omega (arith, wish_within k, c.self.invariant.opens_each)
 
 pub index-claims-requires : goal.index-claims-requires
 index-claims-requires g c =
-    let k = closes c.self.invariant c.args.self.now c.self.view_is c.args.wish c.requires.waits c.wish_at-programme.result c.wish_at-programme.ensures in
+    let k = closes_read c.self.invariant c.args.self.now c.self.view_is c.args.wish c.requires.waits c.wish_at-programme.result c.wish_at-programme.ensures.wish in
     omega (arith, programme_within k, claims_each k)
 
 pub offset_bounds-as_slice-place : goal.offset_bounds-as_slice-place
 offset_bounds-as_slice-place g c =
-    let k = closes c.self.invariant c.args.self.now c.self.view_is c.args.wish c.requires.waits c.wish_at-programme.result c.wish_at-programme.ensures in
+    let k = closes_read c.self.invariant c.args.self.now c.self.view_is c.args.wish c.requires.waits c.wish_at-programme.result c.wish_at-programme.ensures.wish in
     let at = place_right k c.index-place.result.now c.index-place.ensures in
     omega (arith, row_within k c.index-place.result.now at c.index-claims.result.now c.as_slice.result.now c.index-claims.ensures c.as_slice.ensures, c.as_slice.type_inv)
 
 pub bounds-as_slice-place : goal.bounds-as_slice-place
 bounds-as_slice-place g c =
-    let k = closes c.self.invariant c.args.self.now c.self.view_is c.args.wish c.requires.waits c.wish_at-programme.result c.wish_at-programme.ensures in
+    let k = closes_read c.self.invariant c.args.self.now c.self.view_is c.args.wish c.requires.waits c.wish_at-programme.result c.wish_at-programme.ensures.wish in
     let at = place_right k c.index-place.result.now c.index-place.ensures in
     row_within k c.index-place.result.now at c.index-claims.result.now c.as_slice.result.now c.index-claims.ensures c.as_slice.ensures
 
 pub any_open-requires : goal.any_open-requires
 any_open-requires g c =
-    let k = closes c.self.invariant c.args.self.now c.self.view_is c.args.wish c.requires.waits c.wish_at-programme.result c.wish_at-programme.ensures in
+    let k = closes_read c.self.invariant c.args.self.now c.self.view_is c.args.wish c.requires.waits c.wish_at-programme.result c.wish_at-programme.ensures.wish in
     let at = place_right k c.index-place.result.now c.index-place.ensures in
     let claim = c.as_slice-2.ensures ∙ claim_right k c.index-place.result.now at c.index-claims.result.now c.index-claims.ensures c.index-as_slice-place.result (claim_read c.as_slice.result.now c.index-claims.result.now c.index-place.result.now c.index-as_slice-place.result c.as_slice.ensures c.index-as_slice-place.is) in
     below_for k c.as_slice-2.result.now claim (length c.deref.result.now) (omega (arith, c.deref.ensures.len))
 
 pub index_mut-requires-then-not-any_open : goal.index_mut-requires-then-not-any_open
 index_mut-requires-then-not-any_open g c =
-    let k = closes c.self.invariant c.args.self.now c.self.view_is c.args.wish c.requires.waits c.wish_at-programme.result c.wish_at-programme.ensures in
+    let k = closes_read c.self.invariant c.args.self.now c.self.view_is c.args.wish c.requires.waits c.wish_at-programme.result c.wish_at-programme.ensures.wish in
     omega (arith, programme_within k, lines_each k)
 
 pub clear-requires : goal.clear-requires
 clear-requires g c =
-    let k = closes c.self.invariant c.args.self.now c.self.view_is c.args.wish c.requires.waits c.wish_at-programme.result c.wish_at-programme.ensures in
+    let k = closes_read c.self.invariant c.args.self.now c.self.view_is c.args.wish c.requires.waits c.wish_at-programme.result c.wish_at-programme.ensures.wish in
     let at = place_right k c.index-place.result.now c.index-place.ensures in
     line_within k c.index-place.result.now at c.index_mut-then-not-any_open.result.now c.index_mut-then-not-any_open.ensures.value
 
 pub index-claims-requires-in-Some : goal.index-claims-requires-in-Some
 index-claims-requires-in-Some g c =
-    let k = closes c.self.invariant c.args.self.now c.self.view_is c.args.wish c.requires.waits c.wish_at-programme.result c.wish_at-programme.ensures in
+    let k = closes_read c.self.invariant c.args.self.now c.self.view_is c.args.wish c.requires.waits c.wish_at-programme.result c.wish_at-programme.ensures.wish in
     omega (arith, programme_within k, claims_each k)
 
 pub offset_bounds-as_slice-next : goal.offset_bounds-as_slice-next
 offset_bounds-as_slice-next g c =
-    let k = closes c.self.invariant c.args.self.now c.self.view_is c.args.wish c.requires.waits c.wish_at-programme.result c.wish_at-programme.ensures in
+    let k = closes_read c.self.invariant c.args.self.now c.self.view_is c.args.wish c.requires.waits c.wish_at-programme.result c.wish_at-programme.ensures.wish in
     let lt = c.in-Some.ensures.place in
     omega (arith, next_in_row k c.in-Some.next c.index_mut-then-not-any_open.result.now c.index_mut-then-not-any_open.ensures.value lt c.index-claims-in-Some.result.now c.as_slice-in-Some.result.now c.index-claims-in-Some.ensures c.as_slice-in-Some.ensures, c.as_slice-in-Some.type_inv)
 
 pub bounds-as_slice-next : goal.bounds-as_slice-next
 bounds-as_slice-next g c =
-    let k = closes c.self.invariant c.args.self.now c.self.view_is c.args.wish c.requires.waits c.wish_at-programme.result c.wish_at-programme.ensures in
+    let k = closes_read c.self.invariant c.args.self.now c.self.view_is c.args.wish c.requires.waits c.wish_at-programme.result c.wish_at-programme.ensures.wish in
     let lt = c.in-Some.ensures.place in
     next_in_row k c.in-Some.next c.index_mut-then-not-any_open.result.now c.index_mut-then-not-any_open.ensures.value lt c.index-claims-in-Some.result.now c.as_slice-in-Some.result.now c.index-claims-in-Some.ensures c.as_slice-in-Some.ensures
 
 pub invariant_of-self : goal.invariant_of-self
 invariant_of-self g c =
-    let k = closes c.self.invariant c.args.self.now c.self.view_is c.args.wish c.requires.waits c.wish_at-programme.result c.wish_at-programme.ensures in
+    let k = closes_read c.self.invariant c.args.self.now c.self.view_is c.args.wish c.requires.waits c.wish_at-programme.result c.wish_at-programme.ensures.wish in
     let at = place_right k c.index-place.result.now c.index-place.ensures in
     let claim = c.as_slice-2.ensures ∙ claim_right k c.index-place.result.now at c.index-claims.result.now c.index-claims.ensures c.index-as_slice-place.result (claim_read c.as_slice.result.now c.index-claims.result.now c.index-place.result.now c.index-as_slice-place.result c.as_slice.ensures c.index-as_slice-place.is) in
     let none = any_is k c.as_slice-2.result.now claim c.deref.result.now c.deref.ensures.value c.any_open.result false c.any_open.ensures c.if-not-any_open.true in
@@ -84,7 +84,7 @@ invariant_of-self g c =
 
 pub invariant_of-self-in_default : goal.invariant_of-self-in_default
 invariant_of-self-in_default g c =
-    let k = closes c.self.invariant c.args.self.now c.self.view_is c.args.wish c.requires.waits c.wish_at-programme.result c.wish_at-programme.ensures in
+    let k = closes_read c.self.invariant c.args.self.now c.self.view_is c.args.wish c.requires.waits c.wish_at-programme.result c.wish_at-programme.ensures.wish in
     let at = place_right k c.index-place.result.now c.index-place.ensures in
     let claim = c.as_slice-2.ensures ∙ claim_right k c.index-place.result.now at c.index-claims.result.now c.index-claims.ensures c.index-as_slice-place.result (claim_read c.as_slice.result.now c.index-claims.result.now c.index-place.result.now c.index-as_slice-place.result c.as_slice.ensures c.index-as_slice-place.is) in
     let none = any_is k c.as_slice-2.result.now claim c.deref.result.now c.deref.ensures.value c.any_open.result false c.any_open.ensures c.if-not-any_open.true in
@@ -92,7 +92,7 @@ invariant_of-self-in_default g c =
 
 pub invariant_of-self-else-not-any_open : goal.invariant_of-self-else-not-any_open
 invariant_of-self-else-not-any_open g c =
-    let k = closes c.self.invariant c.args.self.now c.self.view_is c.args.wish c.requires.waits c.wish_at-programme.result c.wish_at-programme.ensures in
+    let k = closes_read c.self.invariant c.args.self.now c.self.view_is c.args.wish c.requires.waits c.wish_at-programme.result c.wish_at-programme.ensures.wish in
     let at = place_right k c.index-place.result.now c.index-place.ensures in
     let claim = c.as_slice-2.ensures ∙ claim_right k c.index-place.result.now at c.index-claims.result.now c.index-claims.ensures c.index-as_slice-place.result (claim_read c.as_slice.result.now c.index-claims.result.now c.index-place.result.now c.index-as_slice-place.result c.as_slice.ensures c.index-as_slice-place.is) in
     links_kept k c.index-place.result.now at
@@ -100,7 +100,7 @@ invariant_of-self-else-not-any_open g c =
 
 pub note_fresh-requires : goal.note_fresh-requires
 note_fresh-requires g c =
-    let k = closes c.self.invariant c.args.self.now c.self.view_is c.args.wish c.requires.waits c.wish_at-programme.result c.wish_at-programme.ensures in
+    let k = closes_read c.self.invariant c.args.self.now c.self.view_is c.args.wish c.requires.waits c.wish_at-programme.result c.wish_at-programme.ensures.wish in
     let lt = c.in-Some.ensures.place in
     let fresh_claim = c.as_slice-in-Some-2.ensures ∙ next_claim k c.in-Some.next c.index_mut-then-not-any_open.result.now c.index_mut-then-not-any_open.ensures.value lt c.index-claims-in-Some.result.now c.as_slice-in-Some.result.now c.index-claims-in-Some.ensures c.as_slice-in-Some.ensures c.index-as_slice-next.result c.index-as_slice-next.is in
     let schools : length c.args.self.now.state.dossier.schools ≡ length c.self.inside.state.now.dossier.schools = ap (λ (r : LinksRow). length r.state.dossier.schools) (sym c.self.view_is) in
@@ -114,7 +114,7 @@ note_fresh-requires g c =
 
 pub returns-else-not-any_open-clause-steps : goal.returns-else-not-any_open-clause-steps
 returns-else-not-any_open-clause-steps g c =
-    let k = closes c.self.invariant c.args.self.now c.self.view_is c.args.wish c.requires.waits c.wish_at-programme.result c.wish_at-programme.ensures in
+    let k = closes_read c.self.invariant c.args.self.now c.self.view_is c.args.wish c.requires.waits c.wish_at-programme.result c.wish_at-programme.ensures.wish in
     let at = place_right k c.index-place.result.now c.index-place.ensures in
     let claim = c.as_slice-2.ensures ∙ claim_right k c.index-place.result.now at c.index-claims.result.now c.index-claims.ensures c.index-as_slice-place.result (claim_read c.as_slice.result.now c.index-claims.result.now c.index-place.result.now c.index-as_slice-place.result c.as_slice.ensures c.index-as_slice-place.is) in
     let some = any_is k c.as_slice-2.result.now claim c.deref.result.now c.deref.ensures.value c.any_open.result true c.any_open.ensures c.if-not-any_open.false in
@@ -123,7 +123,7 @@ returns-else-not-any_open-clause-steps g c =
 
 pub returns-in_default-clause-steps : goal.returns-in_default-clause-steps
 returns-in_default-clause-steps g c =
-    let k = closes c.self.invariant c.args.self.now c.self.view_is c.args.wish c.requires.waits c.wish_at-programme.result c.wish_at-programme.ensures in
+    let k = closes_read c.self.invariant c.args.self.now c.self.view_is c.args.wish c.requires.waits c.wish_at-programme.result c.wish_at-programme.ensures.wish in
     let at = place_right k c.index-place.result.now c.index-place.ensures in
     let claim = c.as_slice-2.ensures ∙ claim_right k c.index-place.result.now at c.index-claims.result.now c.index-claims.ensures c.index-as_slice-place.result (claim_read c.as_slice.result.now c.index-claims.result.now c.index-place.result.now c.index-as_slice-place.result c.as_slice.ensures c.index-as_slice-place.is) in
     let none = any_is k c.as_slice-2.result.now claim c.deref.result.now c.deref.ensures.value c.any_open.result false c.any_open.ensures c.if-not-any_open.true in
@@ -134,7 +134,7 @@ returns-in_default-clause-steps g c =
 
 pub returns-in-Some-clause-steps : goal.returns-in-Some-clause-steps
 returns-in-Some-clause-steps g c =
-    let k = closes c.self.invariant c.args.self.now c.self.view_is c.args.wish c.requires.waits c.wish_at-programme.result c.wish_at-programme.ensures in
+    let k = closes_read c.self.invariant c.args.self.now c.self.view_is c.args.wish c.requires.waits c.wish_at-programme.result c.wish_at-programme.ensures.wish in
     let at = place_right k c.index-place.result.now c.index-place.ensures in
     let claim = c.as_slice-2.ensures ∙ claim_right k c.index-place.result.now at c.index-claims.result.now c.index-claims.ensures c.index-as_slice-place.result (claim_read c.as_slice.result.now c.index-claims.result.now c.index-place.result.now c.index-as_slice-place.result c.as_slice.ensures c.index-as_slice-place.is) in
     let none = any_is k c.as_slice-2.result.now claim c.deref.result.now c.deref.ensures.value c.any_open.result false c.any_open.ensures c.if-not-any_open.true in
@@ -150,7 +150,7 @@ returns-in-Some-clause-steps g c =
 
 pub returns-else-not-any_open-clause-marked : goal.returns-else-not-any_open-clause-marked
 returns-else-not-any_open-clause-marked g c =
-    let k = closes c.self.invariant c.args.self.now c.self.view_is c.args.wish c.requires.waits c.wish_at-programme.result c.wish_at-programme.ensures in
+    let k = closes_read c.self.invariant c.args.self.now c.self.view_is c.args.wish c.requires.waits c.wish_at-programme.result c.wish_at-programme.ensures.wish in
     let at = place_right k c.index-place.result.now c.index-place.ensures in
     let claim = c.as_slice-2.ensures ∙ claim_right k c.index-place.result.now at c.index-claims.result.now c.index-claims.ensures c.index-as_slice-place.result (claim_read c.as_slice.result.now c.index-claims.result.now c.index-place.result.now c.index-as_slice-place.result c.as_slice.ensures c.index-as_slice-place.is) in
     let some = any_is k c.as_slice-2.result.now claim c.deref.result.now c.deref.ensures.value c.any_open.result true c.any_open.ensures c.if-not-any_open.false in
@@ -159,7 +159,7 @@ returns-else-not-any_open-clause-marked g c =
 
 pub returns-in_default-clause-marked : goal.returns-in_default-clause-marked
 returns-in_default-clause-marked g c =
-    let k = closes c.self.invariant c.args.self.now c.self.view_is c.args.wish c.requires.waits c.wish_at-programme.result c.wish_at-programme.ensures in
+    let k = closes_read c.self.invariant c.args.self.now c.self.view_is c.args.wish c.requires.waits c.wish_at-programme.result c.wish_at-programme.ensures.wish in
     let at = place_right k c.index-place.result.now c.index-place.ensures in
     let claim = c.as_slice-2.ensures ∙ claim_right k c.index-place.result.now at c.index-claims.result.now c.index-claims.ensures c.index-as_slice-place.result (claim_read c.as_slice.result.now c.index-claims.result.now c.index-place.result.now c.index-as_slice-place.result c.as_slice.ensures c.index-as_slice-place.is) in
     let none = any_is k c.as_slice-2.result.now claim c.deref.result.now c.deref.ensures.value c.any_open.result false c.any_open.ensures c.if-not-any_open.true in
@@ -170,7 +170,7 @@ returns-in_default-clause-marked g c =
 
 pub returns-in-Some-clause-marked : goal.returns-in-Some-clause-marked
 returns-in-Some-clause-marked g c =
-    let k = closes c.self.invariant c.args.self.now c.self.view_is c.args.wish c.requires.waits c.wish_at-programme.result c.wish_at-programme.ensures in
+    let k = closes_read c.self.invariant c.args.self.now c.self.view_is c.args.wish c.requires.waits c.wish_at-programme.result c.wish_at-programme.ensures.wish in
     let at = place_right k c.index-place.result.now c.index-place.ensures in
     let claim = c.as_slice-2.ensures ∙ claim_right k c.index-place.result.now at c.index-claims.result.now c.index-claims.ensures c.index-as_slice-place.result (claim_read c.as_slice.result.now c.index-claims.result.now c.index-place.result.now c.index-as_slice-place.result c.as_slice.ensures c.index-as_slice-place.is) in
     let none = any_is k c.as_slice-2.result.now claim c.deref.result.now c.deref.ensures.value c.any_open.result false c.any_open.ensures c.if-not-any_open.true in
