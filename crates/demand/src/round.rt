@@ -82,11 +82,14 @@ impl<'a, 'd> PlainRound<'a, 'd> {
 
 impl Falling for PlainRound<'_, '_> {
     ghost use Rattle.admit_core.specs.Boarding.{boarding};
+    ghost use Rattle.admit_core.specs.Proposals.{proposed};
     ghost use Rattle.admit_core.proofs.DemandLaws.{boarding_is_lawful};
 
     ghost system = { λ r. boarding r.state.now r.orders.now.orders r.ceilings.items };
 
     ghost bars = { λ r. r.bars.items };
+
+    ghost offers = { λ r. proposed r.state.now r.orders.now.orders };
 
     ghost lawful = { λ r. boarding_is_lawful r.state.now r.orders.now.orders r.ceilings.items };
 
