@@ -40,6 +40,7 @@ impl<'a, 'd> PlainRound<'a, 'd> {
         requires ceilings { length ceilings.now ≡ length state.now.dossier.schools }
         ensures system { IfOk result (λ round. ⟦<PlainRound<'a, 'd> as Falling>⟧.system round ≡ boarding state.now orders.now.orders ceilings.now) }
         ensures bars { IfOk result (λ round. ⟦<PlainRound<'a, 'd> as Falling>⟧.bars round ≡ ceilings.now) }
+        ensures offers { IfOk result (λ round. ⟦<PlainRound<'a, 'd> as Falling>⟧.offers round ≡ proposed state.now orders.now.orders) }
     {
         call_everyone(state, orders);
         let bars = ceilings.to_vec(alloc)?;
