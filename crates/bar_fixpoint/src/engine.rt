@@ -34,6 +34,7 @@ pub fn greatest<F: Falling, L: Ledger>(
     ensures early { OnErr result (EndsEarly (F.system system.old) (choice picker.old) (told picker.old) (told picker.new) (F.bars system.new)) }
 
     ensures same { F.system system.new ≡ F.system system.old }
+    ensures offers { F.offers system.new ≡ F.offers system.old }
     ensures choice { choice picker.new ≡ choice picker.old }
 {
     let mut falls = Vec::new(alloc);
@@ -57,6 +58,7 @@ fn fall_once<F: Falling, L: Ledger>(
     ensures err { OnErr result (F.bars system.new ≡ F.bars system.old) }
     ensures told { OnErr result (TellsAtMostOne (F.system system.old) (F.bars system.old) (told picker.old) (told picker.new)) }
     ensures same { F.system system.new ≡ F.system system.old }
+    ensures offers { F.offers system.new ≡ F.offers system.old }
     ensures choice { choice picker.new ≡ choice picker.old }
 {
     let places = system.overfilled(alloc)?;
@@ -81,6 +83,7 @@ fn make_fall<F: Falling, L: Ledger>(
     ensures bars { IfOk result (λ f. F.bars system.new ≡ fallen (F.bars system.old) f) }
     ensures err { OnErr result (F.bars system.new ≡ F.bars system.old) }
     ensures same { F.system system.new ≡ F.system system.old }
+    ensures offers { F.offers system.new ≡ F.offers system.old }
 {
     match system.over(alloc, school)? {
         None => unreachable!(),

@@ -1,5 +1,5 @@
 //! A system for tests, whose places have fixed lists of ranks.
-ghost use Rattle.std.specs.Prelude.{◌≡◌, ℕ, ◌<◌, ◌≤◌, ◌^◌, length, Contains, IfOk, filter, nat_le, slice_get};
+ghost use Rattle.std.specs.Prelude.{◌≡◌, ℕ, ◌<◌, ◌≤◌, ◌^◌, length, [], Contains, IfOk, filter, nat_le, slice_get};
 ghost use Rattle.std.specs.List.Sorted.{IsStrictlyIncreasing};
 ghost use Rattle.bar_fixpoint.specs.FixedSystems.{list_of};
 
@@ -29,6 +29,8 @@ impl Falling for FixedLists {
     ghost system = { λ s. fixed_system s.ceilings.items s.free.items s.lists.items };
 
     ghost bars = { λ s. s.bars.items };
+
+    ghost offers = { λ _ _. [] };
 
     ghost lawful = { λ s. fixed_is_lawful s.ceilings.items s.free.items s.lists.items s.one_free_each s.rising s.from_one };
 

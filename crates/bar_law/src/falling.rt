@@ -15,6 +15,9 @@ pub trait Falling {
     /// The present bars.
     ghost bars: { Self → List ℕ };
 
+    /// What is offered under given bars: this never changes.
+    ghost offers: { Self → List ℕ → List ℕ };
+
     /// The number of places.
     fn count(&self) -> u32
         ensures { result ≡ length (system self.now).ceilings };
@@ -55,7 +58,8 @@ pub trait Falling {
         requires in_range { i < length (system self.old).ceilings }
         requires lower { to < slice_index (bars self.old) i }
         ensures bars { bars self.new ≡ slice_set (bars self.old) i to }
-        ensures same { system self.new ≡ system self.old };
+        ensures same { system self.new ≡ system self.old }
+        ensures offers { offers self.new ≡ offers self.old };
 
     /// Ranks are from 1 to the bar, and stay demanded while bars fall.
     ghost lawful: { (s : Self) → IsLawful (system s) };

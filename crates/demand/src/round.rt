@@ -40,6 +40,7 @@ impl<'a, 'd> PlainRound<'a, 'd> {
         requires ceilings { length ceilings.now ≡ length state.now.dossier.schools }
         ensures system { IfOk result (λ round. ⟦<PlainRound<'a, 'd> as Falling>⟧.system round ≡ boarding state.now orders.now.orders ceilings.now) }
         ensures bars { IfOk result (λ round. ⟦<PlainRound<'a, 'd> as Falling>⟧.bars round ≡ ceilings.now) }
+        ensures offers { IfOk result (λ round. ⟦<PlainRound<'a, 'd> as Falling>⟧.offers round ≡ proposed state.now orders.now.orders) }
     {
         call_everyone(state, orders);
         let bars = ceilings.to_vec(alloc)?;
@@ -82,11 +83,14 @@ impl<'a, 'd> PlainRound<'a, 'd> {
 
 impl Falling for PlainRound<'_, '_> {
     ghost use Rattle.admit_core.specs.Boarding.{boarding};
+    ghost use Rattle.admit_core.specs.Proposals.{proposed};
     ghost use Rattle.admit_core.proofs.DemandLaws.{boarding_is_lawful};
 
     ghost system = { λ r. boarding r.state.now r.orders.now.orders r.ceilings.items };
 
     ghost bars = { λ r. r.bars.items };
+
+    ghost offers = { λ r. proposed r.state.now r.orders.now.orders };
 
     ghost lawful = { λ r. boarding_is_lawful r.state.now r.orders.now.orders r.ceilings.items };
 

@@ -12,7 +12,7 @@ use Rattle.admit_core.specs.declared.dossier.Wish.{Wish}
 use Rattle.admit_core.specs.declared.state.Mark.{Mark}
 use Rattle.admit_core.specs.declared.ranking.CallOrder.{CallOrder}
 use Rattle.admit_core.specs.State.{State, entries, holds_bed, has_school, free_beds}
-use Rattle.admit_core.specs.Proposals.{is_open}
+use Rattle.admit_core.specs.Proposals.{is_open, proposed}
 use Rattle.admit_core.specs.Boarding.{boarding}
 use Rattle.linked_demand.specs.declared.rows.RowWish.{RowWish}
 use Rattle.linked_demand.specs.Links.{LinksRow}
@@ -126,6 +126,9 @@ module _ (links : LinksRow) (ceilings bars free : List ℕ) (rows : List (Vec Ro
         ap (λ (s : State). let r : Round = record { state = s; orders = new.orders; ceilings = ceilings; bars = set bars i to } in r) state
         ∙ ap (λ (o : List CallOrder). let r : Round = record { state = links.state; orders = o; ceilings = ceilings; bars = set bars i to } in r) orders
         ∙ ap (λ (r : Round). let q : Round = record r { bars = set r.bars i to } in q) is
+
+    pub offers_now : proposed new.state new.orders ≡ proposed seen.state seen.orders
+    offers_now = ap (λ (r : Round). proposed r.state r.orders) seen_now
 
     -- the steps are the changes
     pub steps_now : (low : List ℕ) → low ≡ set bars i to → (before after : ℕ)

@@ -1,7 +1,7 @@
 -- A round as a system of falling bars.
-use Rattle.std.proofs.Common.{ℕ, ◌<◌, ◌≡◌, Bool, true, false, not, List, [], ◌∷◌, Some, map, length, get_or, refl, sym, ◌∙◌, ap, arith, subst, zero-add, Vec}
+use Rattle.std.proofs.Common.{ℕ, ◌<◌, ◌≡◌, Bool, true, false, not, List, [], ◌∷◌, Some, map, length, filter, get_or, refl, sym, ◌∙◌, ap, arith, subst, zero-add, Vec}
 use Rattle.std.specs.Prelude.{slice_get, slice_index, slice_set, Option}
-use Rattle.std.specs.List.{range_with_len}
+use Rattle.std.specs.List.{enumerate_from, range_with_len}
 use Rattle.std.specs.declared.alloc.Global.{Global}
 use Rattle.std.proofs.lemmas.Bool.{and_parts}
 use Rattle.std.proofs.lemmas.List.{length-map, get_or_read}
@@ -9,7 +9,8 @@ use Rattle.std.proofs.lemmas.List.FromFn.{get_or-map-range_with_len, length-map-
 use Rattle.admit_core.specs.declared.dossier.Wish.{Wish}
 use Rattle.admit_core.specs.declared.state.Mark.{Mark}
 use Rattle.admit_core.specs.State.{State, entries, is_waiting, free_beds}
-use Rattle.admit_core.specs.Proposals.{is_open, is_barred, demanded_ranks}
+use Rattle.admit_core.specs.declared.ranking.CallOrder.{CallOrder}
+use Rattle.admit_core.specs.Proposals.{is_open, is_barred, is_proposed, proposed, demanded_ranks}
 use Rattle.admit_core.specs.Boarding.{boarding}
 use Rattle.bar_law.specs.Overfilled.{rank_over}
 use Rattle.day_state.specs.Kept.{mark_in, wish_in}
@@ -23,6 +24,7 @@ use Rattle.linked_demand.proofs.BarEach.{bar_each_is, bar_each_set}
 use Rattle.linked_demand.proofs.Closing.{proposed_at_is, length_entries, read_range}
 use Rattle.linked_demand.proofs.Falling.{flag_map}
 use Rattle.linked_demand.proofs.Filling.{entry_there}
+use Rattle.linked_demand.proofs.Lining.{numbered}
 use Rattle.linked_demand.proofs.Opens.{proposed_by_bars}
 
 map_twice : {X Y : Type 0} (g : X → Y) (f : ℕ → X) (ks : List ℕ) → map g (map f ks) ≡ map (λ k. g (f k)) ks
@@ -41,6 +43,14 @@ opens_by_place s bars n flags long are n_is =
 
 pub length-opens_of : (s : State) (bars : List ℕ) → length s.marks ≡ length s.dossier.wishes → length (opens_of s bars) ≡ length s.dossier.wishes
 length-opens_of s bars long = length-map (entries s) (λ (e : Wish × Mark). is_open s bars e.0 e.1) ∙ length_entries s.dossier.wishes s.marks long
+
+-- the proposed wishes, place by place
+pub proposed_by_place : (s : State) (orders : List CallOrder) (bars : List ℕ) → length s.marks ≡ length s.dossier.wishes
+    → filter (λ k. is_proposed s orders bars (wish_in s.dossier.wishes k) (mark_in s.marks k)) (range_with_len 0 (length s.dossier.wishes)) ≡ proposed s orders bars
+proposed_by_place s orders bars long =
+    let test = λ (e : Wish × Mark). is_proposed s orders bars e.0 e.1 in
+    sym (numbered test (entry_in s) (length s.dossier.wishes) 0)
+    ∙ ap (λ (es : List (Wish × Mark)). map (λ (x : ℕ × (Wish × Mark)). x.0) (filter (λ (x : ℕ × (Wish × Mark)). test x.1) (enumerate_from 0 es))) (sym (entries_by_place s long))
 
 module _ (links : LinksRow) (ceilings bars free : List ℕ) (rows : List (Vec RowWish Global)) (overs : List (Option ℕ)) (marked : List Bool) (seen : Round) (right : IsRoundUnder links ceilings bars free rows overs marked)
     (is : record { state = links.state; orders = links.orders; ceilings = ceilings; bars = bars } ≡ seen) where
@@ -86,6 +96,15 @@ module _ (links : LinksRow) (ceilings bars free : List ℕ) (rows : List (Vec Ro
   answer_read i x lt read =
       read_range (over_at links.state links.orders bars) (length links.state.dossier.schools) i overs x right.overs_are (omega (arith, lt, ap (λ (r : Round). length r.bars) is, right.round.bars_each)) read
       ∙ ap (λ (r : Round). over_at r.state r.orders r.bars i) is
+
+  -- the proposed wishes, under the bars and under those that the system tells
+  pub all_seen : filter (is_proposed_in seen) (range_with_len 0 (length seen.state.dossier.wishes)) ≡ proposed seen.state seen.orders seen.bars
+  all_seen =
+      let P = λ (r : Round). filter (is_proposed_in r) (range_with_len 0 (length r.state.dossier.wishes)) ≡ proposed r.state r.orders r.bars in
+      subst P is (proposed_by_place links.state links.orders bars right.round.marks_each)
+
+  pub offers_seen : proposed seen.state seen.orders seen.bars ≡ proposed seen.state seen.orders (bar_each seen.ceilings seen.bars)
+  offers_seen = ap (proposed seen.state seen.orders) (sym bars_seen)
 
   -- after a fall
   pub bars_fallen : (i to : ℕ) → bar_each ceilings (slice_set bars i to) ≡ slice_set (bar_each seen.ceilings seen.bars) i to

@@ -2,7 +2,7 @@
 ghost use Rattle.std.specs.Prelude.{◌≡◌, ◌+◌, ◌<◌, length, slice_get, slice_index, slice_set, IfOk};
 ghost use Rattle.admit_core.specs.State.{free_beds};
 ghost use Rattle.admit_core.specs.CallOrder.{AreCallOrders};
-ghost use Rattle.admit_core.specs.Proposals.{demanded_ranks};
+ghost use Rattle.admit_core.specs.Proposals.{demanded_ranks, proposed};
 ghost use Rattle.admit_core.specs.Boarding.{boarding};
 ghost use Rattle.linked_demand.specs.Rounds.{bar_each, is_proposed_in};
 ghost use Rattle.linked_demand.specs.Ticks.{changes_between};
@@ -12,6 +12,7 @@ use crate::fill::{free_of, rows_of};
 use crate::links::SeatLinks;
 use crate::over::{ask_marked, demands_in};
 use crate::rows::RowWish;
+use crate::wishes::wish_count;
 use admit_core::{CallOrders, OutOfMemory, Steps};
 use bar_law::Falling;
 use day_state::DayState;
@@ -59,6 +60,7 @@ impl<'a, 'd> LinkedRound<'a, 'd> {
         ensures round { IfOk result (λ r. r ≡ record { state = state.now; orders = orders.now.orders; ceilings = ceilings.now; bars = ceilings.now }) }
         ensures system { IfOk result (λ r. ⟦<LinkedRound<'a, 'd> as Falling>⟧.system r ≡ boarding state.now orders.now.orders ceilings.now) }
         ensures bars { IfOk result (λ r. ⟦<LinkedRound<'a, 'd> as Falling>⟧.bars r ≡ ceilings.now) }
+        ensures offers { IfOk result (λ r. ⟦<LinkedRound<'a, 'd> as Falling>⟧.offers r ≡ proposed state.now orders.now.orders) }
     {
         let _ = state.marks(); // one for each wish
         let links = SeatLinks::build(alloc, state, orders, ceilings)?;
@@ -98,16 +100,34 @@ impl<'a, 'd> LinkedRound<'a, 'd> {
         }
         self.links.is_proposed(wish)
     }
+
+    /// The places of the wishes that are proposed at the present bars, ascending. It asks each wish once.
+    pub fn proposed(&self, alloc: Global) -> Result<Vec<u32>, OutOfMemory>
+        ensures places { IfOk result (λ v. v.items ≡ proposed self.now.state self.now.orders self.now.bars) }
+        ensures offers { IfOk result (λ v. v.items ≡ ⟦<LinkedRound<'a, 'd> as Falling>⟧.offers self.now (⟦<LinkedRound<'a, 'd> as Falling>⟧.bars self.now)) }
+    {
+        let mut places = Vec::new(alloc);
+        let count = wish_count(self.links.state());
+        for wish in 0..count {
+            if self.is_proposed(wish) {
+                places.push(wish)?;
+            }
+        }
+        Ok(places)
+    }
 }
 
 impl Falling for LinkedRound<'_, '_> {
     ghost use Rattle.admit_core.specs.Boarding.{boarding};
+    ghost use Rattle.admit_core.specs.Proposals.{proposed};
     ghost use Rattle.admit_core.proofs.DemandLaws.{boarding_is_lawful};
     ghost use Rattle.linked_demand.specs.Rounds.{bar_each, length-bar_each};
 
     ghost system = { λ r. boarding r.state r.orders r.ceilings };
 
     ghost bars = { λ r. bar_each r.ceilings r.bars };
+
+    ghost offers = { λ r. proposed r.state r.orders };
 
     ghost lawful = { λ r. boarding_is_lawful r.state r.orders r.ceilings };
 
@@ -136,6 +156,7 @@ impl Falling for LinkedRound<'_, '_> {
         requires lower { to < slice_index (bar_each self.old.ceilings self.old.bars) i }
         ensures bars { bar_each self.new.ceilings self.new.bars ≡ slice_set (bar_each self.old.ceilings self.old.bars) i to }
         ensures same { boarding self.new.state self.new.orders self.new.ceilings ≡ boarding self.old.state self.old.orders self.old.ceilings }
+        ensures offers { proposed self.new.state self.new.orders ≡ proposed self.old.state self.old.orders }
         ensures round { self.new ≡ record self.old { bars = slice_set self.old.bars i to } }
         ensures steps { steps.new ≡ steps.old + changes_between self.old.state self.old.orders self.old.bars self.new.bars }
     {

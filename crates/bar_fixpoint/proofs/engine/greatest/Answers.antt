@@ -29,6 +29,7 @@ loop-falls-preserved g c =
     let fell = rw c.in-Some.is at c.in_ok-fall.ensures.fall in
     record {
       same = c.fall_once.ensures.same ∙ c.loop-falls.invariant.same;
+      offers = c.fall_once.ensures.offers ∙ c.loop-falls.invariant.offers;
       choice = c.fall_once.ensures.choice ∙ c.loop-falls.invariant.choice;
       so_far =
           more_now (f.system c.args.system.now) (g.met.F.Falling.lawful c.args.system.now) _ _ (f.system c.loop-falls.system) c.loop-falls.invariant.same

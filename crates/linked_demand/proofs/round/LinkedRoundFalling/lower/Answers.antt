@@ -6,7 +6,7 @@ use Rattle.linked_demand.specs.declared.rows.RowWish.{RowWish}
 use Rattle.linked_demand.specs.Rows.{AllWait}
 use Rattle.linked_demand.proofs.RoundFalls.{all_wait}
 use Rattle.linked_demand.proofs.Rounding.{bar_within, bars_fallen}
-use Rattle.linked_demand.proofs.Lowered.{rows_wait, one_free_each, within, stay, round_now, system_now, seen_now, steps_now, marks_long, overs_long, lowered}
+use Rattle.linked_demand.proofs.Lowered.{rows_wait, one_free_each, within, stay, round_now, system_now, offers_now, seen_now, steps_now, marks_long, overs_long, lowered}
 use Rattle.linked_demand.proofs.round.LinkedRoundFalling.lower.Goals as goal
 
 pub index_mut-requires : goal.index_mut-requires
@@ -64,6 +64,7 @@ returns g c =
     record {
       bars = bars_fallen r.links r.ceilings.items r.bars.items r.free.items r.rows.items r.overs.items r.marked.items c.args.self.now c.self.invariant c.self.view_is c.args.i c.args.to;
       same = system_now r.links r.ceilings.items r.bars.items r.free.items r.rows.items r.overs.items r.marked.items c.args.self.now c.self.invariant c.self.view_is c.args.i c.args.to c.requires.in_range c.requires.lower c.index_mut-2.result.now c.index_mut-2.ensures.value c.close_past.new.links c.close_past.new.row c.close_past.ensures.state c.close_past.ensures.orders c.close_past.ensures.cut;
+      offers = offers_now r.links r.ceilings.items r.bars.items r.free.items r.rows.items r.overs.items r.marked.items c.args.self.now c.self.invariant c.self.view_is c.args.i c.args.to c.requires.in_range c.requires.lower c.index_mut-2.result.now c.index_mut-2.ensures.value c.close_past.new.links c.close_past.new.row c.close_past.ensures.state c.close_past.ensures.orders c.close_past.ensures.cut;
       round = seen_now r.links r.ceilings.items r.bars.items r.free.items r.rows.items r.overs.items r.marked.items c.args.self.now c.self.invariant c.self.view_is c.args.i c.args.to c.requires.in_range c.requires.lower c.index_mut-2.result.now c.index_mut-2.ensures.value c.close_past.new.links c.close_past.new.row c.close_past.ensures.state c.close_past.ensures.orders c.close_past.ensures.cut;
       steps = steps_now r.links r.ceilings.items r.bars.items r.free.items r.rows.items r.overs.items r.marked.items c.args.self.now c.self.invariant c.self.view_is c.args.i c.args.to c.requires.in_range c.requires.lower c.index_mut-2.result.now c.index_mut-2.ensures.value c.close_past.new.links c.close_past.new.row c.close_past.ensures.state c.close_past.ensures.orders c.close_past.ensures.cut c.deref.result.now c.deref.ensures.value c.args.steps.now c.close_past.new.steps c.close_past.ensures.steps;
     }
