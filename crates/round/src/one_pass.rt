@@ -11,7 +11,6 @@ use crate::bars::bars_of;
 use admit_core::{CallOrders, OutOfMemory, PassRecord, Sequence, Stamp, Steps};
 use bar_fixpoint::{Picker, greatest};
 use day_state::DayState;
-use demand::proposed;
 use linked_demand::LinkedRound;
 use std::alloc::Global;
 use std::marker::Brand;
@@ -80,7 +79,7 @@ fn find<L: Ledger>(
     let mut round = LinkedRound::build(alloc, state, orders, ceilings)?;
     let falls = greatest(alloc, &mut round, picker, &mut steps)?;
     let bars = bars_of(alloc, &round)?;
-    let offers = proposed(alloc, state, orders, bars.as_slice())?;
+    let offers = round.proposed(alloc)?;
     Ok(PassRecord {
         bars: Sequence::from_vec(bars),
         falls: Sequence::from_vec(falls),
