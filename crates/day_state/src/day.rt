@@ -9,7 +9,7 @@ ghost use Rattle.admit_core.specs.Days.{first_evening};
 ghost use Rattle.admit_core.specs.Validity.{IsTarget};
 ghost use Rattle.admit_core.specs.Lapses.{lapse};
 ghost use Rattle.admit_core.specs.AutoAnswer.{auto_one, freed_by};
-ghost use Rattle.day_state.specs.Kept.{mark_in};
+ghost use Rattle.day_state.specs.Kept.{mark_in, IsIndex};
 ghost use Rattle.day_state.specs.Along.{change_along};
 ghost use Rattle.day_state.specs.Lapsing.{lapsed};
 ghost use Rattle.day_state.specs.Laws.{AreOwn, OwnFit};
@@ -136,6 +136,13 @@ impl<'d> DayState<'d> {
         ensures { result.now ≡ own_places self.now.dossier candidate }
     {
         self.index.of(candidate)
+    }
+
+    /// The places of all wishes by candidate.
+    pub fn places_by_candidate(&self) -> &[u32]
+        ensures { IsIndex self.now.dossier.wishes result.now }
+    {
+        self.index.order()
     }
 
     /// Whether a candidate is live in a programme.
