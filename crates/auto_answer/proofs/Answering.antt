@@ -119,6 +119,10 @@ same_freed c s t u v before after =
 abbrev pub later : DossierRows → ℕ → List ℕ
 later d i = drop i (wishers d)
 
+-- a later wish is of the same candidate
+abbrev pub comes_later : DossierRows → ℕ → Bool
+comes_later d i = is_among (candidate_of d i) (later d (i + 1))
+
 -- what those of a list freed
 abbrev pub seats_of_all : State → State → List ℕ → ℕ
 seats_of_all old new cs = sum (map (seats_freed old new) (distinct cs))
@@ -308,17 +312,17 @@ step_room start now next stamp i c all own so_far lt here last next_is own_is =
     rw freed_is (room_here start now stamp i all so_far lt (rw here at last))
 
 -- what the test says
-pub test_last : (start now : State) (stamp : Stamp) (i c : ℕ) (all : Freed) (is_last : Bool) → IsAnswered start now stamp i all
-    → is_last ≡ not (is_among c (drop (i + 1) (wishers now.dossier))) → is_last ≡ true → is_among c (later start.dossier (i + 1)) ≡ false
-test_last start now stamp i c all is_last so_far e t =
-    ap (λ (d : DossierRows). is_among c (later d (i + 1))) (sym (same_dossier start now stamp i all so_far))
-    ∙ not-true (is_among c (drop (i + 1) (wishers now.dossier))) (sym e ∙ t)
+pub test_last : (start now : State) (stamp : Stamp) (i : ℕ) (all : Freed) (is_last : Bool) → IsAnswered start now stamp i all
+    → is_last ≡ not (comes_later now.dossier i) → is_last ≡ true → comes_later start.dossier i ≡ false
+test_last start now stamp i all is_last so_far e t =
+    ap (λ (d : DossierRows). comes_later d i) (sym (same_dossier start now stamp i all so_far))
+    ∙ not-true (comes_later now.dossier i) (sym e ∙ t)
 
-pub test_later : (start now : State) (stamp : Stamp) (i c : ℕ) (all : Freed) (is_last : Bool) → IsAnswered start now stamp i all
-    → is_last ≡ not (is_among c (drop (i + 1) (wishers now.dossier))) → is_last ≡ false → is_among c (later start.dossier (i + 1)) ≡ true
-test_later start now stamp i c all is_last so_far e t =
-    ap (λ (d : DossierRows). is_among c (later d (i + 1))) (sym (same_dossier start now stamp i all so_far))
-    ∙ not-false (is_among c (drop (i + 1) (wishers now.dossier))) (sym e ∙ t)
+pub test_later : (start now : State) (stamp : Stamp) (i : ℕ) (all : Freed) (is_last : Bool) → IsAnswered start now stamp i all
+    → is_last ≡ not (comes_later now.dossier i) → is_last ≡ false → comes_later start.dossier i ≡ true
+test_later start now stamp i all is_last so_far e t =
+    ap (λ (d : DossierRows). comes_later d i) (sym (same_dossier start now stamp i all so_far))
+    ∙ not-false (comes_later now.dossier i) (sym e ∙ t)
 
 -- the candidate of the wish that the loop is at
 pub wisher_here : (d : DossierRows) (ws : List Wish) (i : ℕ) (e : Wish) → ws ≡ d.wishes → i < length ws → (get_or ws i e).candidate ≡ candidate_of d i

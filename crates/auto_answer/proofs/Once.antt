@@ -178,13 +178,14 @@ among_from c cs i (suc m) e =
     ∙ rw (turn_eq c (slice_index cs i)) (ap (λ b. (slice_index cs i == c) || b) (among_from c cs (i + 1) m (omega arith)))
 
 -- THE TEST: a wish is its candidate's last where it is the last of his own
-pub last_own : (d : DossierRows) (c place : ℕ) → place < length d.wishes → c ≡ candidate_of d place
-    → option_eq nat_eq (last_of (own_places d c)) (Some place) ≡ not (is_among c (drop (place + 1) (wishers d)))
-last_own d c place lt own =
+pub last_own : (d : DossierRows) (place : ℕ) → place < length d.wishes
+    → option_eq nat_eq (last_of (own_places d (candidate_of d place))) (Some place) ≡ not (is_among (candidate_of d place) (drop (place + 1) (wishers d)))
+last_own d place lt =
+    let c = candidate_of d place in
     let n = length d.wishes in
     let q = λ (k : ℕ). candidate_of d k == c in
     let long : length (wishers d) ≡ n = length-map d.wishes (λ (w : Wish). w.candidate) in
-    is_last_in q place 0 n (omega arith) (omega arith) (eq-eqb (candidate_of d place) c (sym own))
+    is_last_in q place 0 n (omega arith) (omega arith) (eq-eqb c c refl)
     ∙ ap (λ m. not (list_any q (range_with_len (place + 1) m))) zero_n
     ∙ ap not (sym (among_from c (wishers d) (place + 1) (n - (place + 1)) (omega (arith, long))))
   where

@@ -27,7 +27,7 @@ pub fn auto_all(state: &mut DayState<'_>, stamp: Stamp) -> Freed
     let mut all = Freed { seats: 0, beds: 0 };
     let wishes = state.dossier().wishes.as_slice();
     for (place, wish) in wishes.iter().enumerate() {
-        if is_last_wish(state, place as u32, wish.candidate) {
+        if is_last_wish(state, place as u32) {
             let own = state.answer_automatically(wish.candidate, stamp);
             all = together(all, own);
         }
@@ -49,10 +49,9 @@ fn together(one: Freed, other: Freed) -> Freed
 }
 
 /// Whether no later wish is of the same candidate, so that each candidate is answered for once.
-fn is_last_wish(state: &DayState<'_>, place: u32, candidate: u32) -> bool
-    requires place { place < length state.now.dossier.wishes }
-    requires candidate { candidate ≡ candidate_of state.now.dossier place }
-    ensures { result ≡ not (is_among candidate (drop (place + 1) (wishers state.now.dossier))) }
+fn is_last_wish(state: &DayState<'_>, place: u32) -> bool
+    requires { place < length state.now.dossier.wishes }
+    ensures { result ≡ not (is_among (candidate_of state.now.dossier place) (drop (place + 1) (wishers state.now.dossier))) }
 {
-    state.own_wishes(candidate).last().copied() == Some(place)
+    state.own_wishes_beside(place).last().copied() == Some(place)
 }

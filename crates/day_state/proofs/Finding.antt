@@ -1,6 +1,6 @@
 -- Where the wishes of a candidate are found.
-use Rattle.std.proofs.Common.{ℕ, ◌+◌, ◌<◌, ◌≡◌, Bool, true, false, cond, List, [], length, get_or, Option, Some, None, inl, inr, refl, sym, ◌∙◌, ap, arith, filter, nat_eq}
-use Rattle.std.specs.Prelude.{◌==◌, All, IsSome}
+use Rattle.std.proofs.Common.{ℕ, ◌+◌, ◌≡◌, cond, List, [], length, get_or, Option, Some, None, inl, inr, refl, sym, ◌∙◌, arith, filter, nat_eq}
+use Rattle.std.specs.Prelude.{◌==◌, IsSome}
 use Rattle.std.proofs.lemmas.Bool.{cases_Bool, cases_lt, both_ways, eqb-true, eq-eqb}
 use Rattle.admit_core.specs.declared.dossier.Wish.{Wish}
 use Rattle.day_state.specs.Kept.{candidate_in, AreFound, IsIndex}

@@ -38,6 +38,11 @@ abbrev pub in_school : Option ℕ → Wish → Bool
 in_school None w = false
 in_school (Some h) w = has_school w h
 
+-- a candidate is live in a school, where one is given
+abbrev pub holds_bed_in : State → ℕ → Option ℕ → Bool
+holds_bed_in s c None = false
+holds_bed_in s c (Some h) = holds_bed s c h
+
 -- the candidate of the wish at a place is live in the programme, or in the school, of that wish
 abbrev pub has_seat_there : State → ℕ → Bool
 has_seat_there s place = holds_seat s (wish_in s.dossier.wishes place).candidate (wish_in s.dossier.wishes place).programme

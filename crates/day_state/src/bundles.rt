@@ -75,6 +75,15 @@ impl Bundles {
         copy_counts(&mut self.live, &other.live);
     }
 
+    /// Whether one of a wish's bundle is live.
+    pub fn is_live(&self, wish: u32) -> bool
+        requires place { wish < length self.now.numbers.items }
+        requires number { ForSome (number_in self.now.numbers.items wish) (λ b. b < length self.now.live.items) }
+        ensures { result ≡ has_live self.now.live.items (number_in self.now.numbers.items wish) }
+    {
+        has_live(&self.live, self.numbers[wish as usize])
+    }
+
     /// Counts a wish anew that was live, or wasn't, and is live, or isn't.
     pub fn turn(&mut self, wish: u32, was_live: bool, lives: bool) -> Turn
         requires place { wish < length self.old.numbers.items }

@@ -8,7 +8,7 @@ ghost use Rattle.admit_core.specs.OwnWishes.{own_places};
 ghost use Rattle.admit_core.specs.AutoAnswer.{best_live, freed_by};
 ghost use Rattle.day_state.specs.Along.{change_own, changed_by};
 ghost use Rattle.day_state.specs.Best.{best_among};
-ghost use Rattle.day_state.specs.Kept.{mark_in, lives_at, in_school, waiting_mark, state_of, IsIndex};
+ghost use Rattle.day_state.specs.Kept.{mark_in, wish_in, lives_at, in_school, holds_bed_in, has_seat_there, waiting_mark, state_of, IsIndex};
 
 use crate::bundles::{Bundles, Sites};
 use crate::counts::{copy_counts, recount, recount_some, zeros};
@@ -162,6 +162,22 @@ impl<'d> CountedMarks<'d> {
             own,
             Some(school),
         )
+    }
+
+    /// Whether a wish's candidate is live in its programme.
+    pub fn is_live_in_its_programme(&self, wish: u32) -> bool
+        requires { wish < length self.now.marks }
+        ensures { result ≡ has_seat_there self.now wish }
+    {
+        self.in_programmes.is_live(wish)
+    }
+
+    /// Whether a wish's candidate is live in its school.
+    pub fn is_live_in_its_school(&self, wish: u32) -> bool
+        requires { wish < length self.now.marks }
+        ensures { result ≡ holds_bed_in self.now (wish_in self.now.dossier.wishes wish).candidate (wish_in self.now.dossier.wishes wish).school }
+    {
+        self.in_schools.is_live(wish)
     }
 
     /// The preference number of a candidate's best live wish, where he ranks his wishes; `own` has

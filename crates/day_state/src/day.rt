@@ -3,13 +3,14 @@ ghost use Rattle.std.specs.Prelude.{◌≡◌, ◌<◌, ◌≤◌, ◌^◌, leng
 ghost use Rattle.admit_core.specs.declared.state.Status.TheVariants.{Offered, Accepted};
 ghost use Rattle.admit_core.specs.declared.dossier.AnswerKind.TheVariants.{Accept, Quit};
 ghost use Rattle.admit_core.specs.State.{State, with_mark_at, holds_seat, holds_bed, seat_holders, bed_holders, is_live, is_waiting, changed_to};
+ghost use Rattle.admit_core.specs.DossierRows.{candidate_of};
 ghost use Rattle.admit_core.specs.Answers.{mark_at, status_at, change_at, after_kind, first_unfit};
 ghost use Rattle.admit_core.specs.OwnWishes.{own_places, IsOneAccepted};
 ghost use Rattle.admit_core.specs.Days.{first_evening};
 ghost use Rattle.admit_core.specs.Validity.{IsTarget};
 ghost use Rattle.admit_core.specs.Lapses.{lapse};
 ghost use Rattle.admit_core.specs.AutoAnswer.{auto_one, freed_by};
-ghost use Rattle.day_state.specs.Kept.{mark_in};
+ghost use Rattle.day_state.specs.Kept.{mark_in, wish_in, holds_bed_in, IsIndex};
 ghost use Rattle.day_state.specs.Along.{change_along};
 ghost use Rattle.day_state.specs.Lapsing.{lapsed};
 ghost use Rattle.day_state.specs.Laws.{AreOwn, OwnFit};
@@ -138,6 +139,21 @@ impl<'d> DayState<'d> {
         self.index.of(candidate)
     }
 
+    /// The places of the wishes of a wish's candidate, ascending.
+    pub fn own_wishes_beside(&self, wish: u32) -> &[u32]
+        requires { wish < length self.now.dossier.wishes }
+        ensures { result.now ≡ own_places self.now.dossier (candidate_of self.now.dossier wish) }
+    {
+        self.index.own_of(wish)
+    }
+
+    /// The places of all wishes by candidate.
+    pub fn places_by_candidate(&self) -> &[u32]
+        ensures { IsIndex self.now.dossier.wishes result.now }
+    {
+        self.index.order()
+    }
+
     /// Whether a candidate is live in a programme.
     pub fn is_live_in_programme(&self, candidate: u32, programme: u32) -> bool
         ensures { result ≡ holds_seat self.now candidate programme }
@@ -152,6 +168,22 @@ impl<'d> DayState<'d> {
     {
         self.live
             .holds_bed(self.index.of(candidate), candidate, school)
+    }
+
+    /// Whether a wish's candidate is live in its programme.
+    pub fn is_live_in_its_programme(&self, wish: u32) -> bool
+        requires { wish < length self.now.dossier.wishes }
+        ensures { result ≡ holds_seat self.now (wish_in self.now.dossier.wishes wish).candidate (wish_in self.now.dossier.wishes wish).programme }
+    {
+        self.live.is_live_in_its_programme(wish)
+    }
+
+    /// Whether a wish's candidate is live in its school.
+    pub fn is_live_in_its_school(&self, wish: u32) -> bool
+        requires { wish < length self.now.dossier.wishes }
+        ensures { result ≡ holds_bed_in self.now (wish_in self.now.dossier.wishes wish).candidate (wish_in self.now.dossier.wishes wish).school }
+    {
+        self.live.is_live_in_its_school(wish)
     }
 
     /// Gives a wish a status.

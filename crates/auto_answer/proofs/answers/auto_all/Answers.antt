@@ -3,7 +3,7 @@ use Rattle.admit_core.specs.declared.dossier.Wish.{Wish}
 use Rattle.admit_core.specs.declared.state.Mark.{Mark}
 use Rattle.admit_core.specs.DossierRows.{DossierRows, candidate_of}
 use Rattle.admit_core.specs.Lists.{is_among}
-use Rattle.auto_answer.proofs.Answering.{later, answered_none, answered_later, answered_all, step_last, step_room, test_last, test_later, wisher_here, same_dossier}
+use Rattle.auto_answer.proofs.Answering.{later, comes_later, answered_none, answered_later, answered_all, step_last, step_room, test_last, test_later, wisher_here, same_dossier}
 use Rattle.auto_answer.proofs.answers.auto_all.Goals as goal
 use Rattle.auto_answer.proofs.answers.auto_all.Goals.{then-is_last_wish, else-is_last_wish}
 
@@ -18,11 +18,7 @@ is_last_wish-requires c =
     let d = c.args.state.now.dossier in
     let wishes : c.as_slice-wishes.result.now ≡ d.wishes = c.as_slice-wishes.ensures ∙ ap (λ (d : DossierRows). d.wishes) (c.behind-state.view_is ∙ c.dossier.ensures) in
     let lt : c.loop-place.place < length d.wishes = rw wishes at c.loop-place-test.true in
-    let same = same_dossier c.args.state.now c.loop-place.state c.args.stamp c.loop-place.place c.loop-place.all c.loop-place.invariant in
-    record {
-      place = rw same lt;
-      candidate = wisher_here d c.as_slice-wishes.result.now c.loop-place.place no_wish wishes c.loop-place-test.true ∙ ap (λ (d : DossierRows). candidate_of d c.loop-place.place) (sym same);
-    }
+    rw (same_dossier c.args.state.now c.loop-place.state c.args.stamp c.loop-place.place c.loop-place.all c.loop-place.invariant) lt
 
 pub together-all-requires : goal.together-all-requires
 together-all-requires c =
@@ -32,9 +28,9 @@ together-all-requires c =
     let lt : i < length d.wishes = rw wishes at c.loop-place-test.true in
     let few = ap (λ (ws : List Wish). length ws) (sym c.as_slice-wishes.ensures ∙ wishes) in
     let here = (get_or c.as_slice-wishes.result.now i no_wish).candidate in
-    let last : is_among here (later d (i + 1)) ≡ false = test_last c.args.state.now c.loop-place.state c.args.stamp i here c.loop-place.all c.is_last_wish.result c.loop-place.invariant c.is_last_wish.ensures c.if-is_last_wish.true in
-    let room = step_room c.args.state.now c.loop-place.state c.answer_automatically-own.new.self c.args.stamp i here c.loop-place.all c.answer_automatically-own.result c.loop-place.invariant lt
-    (wisher_here d c.as_slice-wishes.result.now i no_wish wishes c.loop-place-test.true) last c.answer_automatically-own.ensures.state c.answer_automatically-own.ensures.freed in
+    let own : here ≡ candidate_of d i = wisher_here d c.as_slice-wishes.result.now i no_wish wishes c.loop-place-test.true in
+    let last : is_among here (later d (i + 1)) ≡ false = rw own (test_last c.args.state.now c.loop-place.state c.args.stamp i c.loop-place.all c.is_last_wish.result c.loop-place.invariant c.is_last_wish.ensures c.if-is_last_wish.true) in
+    let room = step_room c.args.state.now c.loop-place.state c.answer_automatically-own.new.self c.args.stamp i here c.loop-place.all c.answer_automatically-own.result c.loop-place.invariant lt own last c.answer_automatically-own.ensures.state c.answer_automatically-own.ensures.freed in
     record { seats = omega (arith, room.0, few, c.behind-state.invariant.size.wishes); beds = omega (arith, room.1, few, c.behind-state.invariant.size.wishes) }
 
 pub loop-place-preserved : goal.loop-place-preserved
@@ -47,14 +43,14 @@ loop-place-preserved c =
     let own : here ≡ candidate_of d i = wisher_here d c.as_slice-wishes.result.now i no_wish wishes c.loop-place-test.true in
     elim c.if-is_last_wish.branch [
       | then-is_last_wish w ↦
-          let last : is_among here (later d (i + 1)) ≡ false = test_last c.args.state.now c.loop-place.state c.args.stamp i here c.loop-place.all c.is_last_wish.result c.loop-place.invariant c.is_last_wish.ensures w.if-is_last_wish.true in
+          let last : is_among here (later d (i + 1)) ≡ false = rw own (test_last c.args.state.now c.loop-place.state c.args.stamp i c.loop-place.all c.is_last_wish.result c.loop-place.invariant c.is_last_wish.ensures w.if-is_last_wish.true) in
           rw (w.state-is, w.all-is)
           (step_last c.args.state.now c.loop-place.state w.answer_automatically-own.new.self c.args.stamp i here c.loop-place.all w.answer_automatically-own.result w.together-all.result c.loop-place.invariant lt own last
           w.answer_automatically-own.ensures.state w.answer_automatically-own.ensures.freed w.together-all.ensures.seats w.together-all.ensures.beds)
       | else-is_last_wish w ↦
-          let again : is_among here (later d (i + 1)) ≡ true = test_later c.args.state.now c.loop-place.state c.args.stamp i here c.loop-place.all c.is_last_wish.result c.loop-place.invariant c.is_last_wish.ensures w.if-is_last_wish.false in
+          let again : comes_later d i ≡ true = test_later c.args.state.now c.loop-place.state c.args.stamp i c.loop-place.all c.is_last_wish.result c.loop-place.invariant c.is_last_wish.ensures w.if-is_last_wish.false in
           rw (w.state-is, w.all-is)
-          (answered_later c.args.state.now c.loop-place.state c.args.stamp i c.loop-place.all c.loop-place.invariant lt (rw own at again))
+          (answered_later c.args.state.now c.loop-place.state c.args.stamp i c.loop-place.all c.loop-place.invariant lt again)
     ]
 
 pub returns : goal.returns
