@@ -434,6 +434,26 @@ fn deadlines(rt: HostRuntime) -> Result<(), Fail> {
     Ok(())
 }
 
+/// Whether the candidate of a wish is live in its programme, and in its school.
+fn is_live_beside(state: &DayState<'_>, wish: u32, in_programme: bool, in_school: bool) -> bool
+    requires { wish < length state.now.dossier.wishes }
+{
+    state.is_live_in_its_programme(wish) == in_programme
+        && state.is_live_in_its_school(wish) == in_school
+        && state.own_wishes_beside(wish).contains(&wish)
+}
+
+/// Where the second wish alone is live of candidate 11's three, he is live in the programme of the
+/// first too, and in the school of the third.
+fn are_live_beside(state: &DayState<'_>) -> bool
+    requires { length state.now.dossier.wishes ≡ 4 }
+{
+    is_live_beside(state, 0, true, false)
+        && is_live_beside(state, 1, true, true)
+        && is_live_beside(state, 2, false, true)
+        && is_live_beside(state, 3, true, false)
+}
+
 /// A copy stays as it is where the state goes on, and the state goes back to it.
 fn goes_back(alloc: Global) -> Result<bool, OutOfMemory> {
     let dossier = dossier(alloc, Status::Waiting, false)?;
@@ -442,7 +462,9 @@ fn goes_back(alloc: Global) -> Result<bool, OutOfMemory> {
     state.offer(1, Stamp { day: 1, pass: 1 });
     let goes_on = state.is_live_in_programme(11, 0)
         && state.is_live_in_school(11, 0)
-        && state.own_wishes(11).len() == 3;
+        && state.own_wishes(11).len() == 3
+        && state.places_by_candidate().len() == 4
+        && are_live_beside(&state);
     let kept = copy.status(1) == Status::Waiting;
     state.set_from(&copy);
     let back = state.status(1) == Status::Waiting && !state.is_live_in_school(11, 0);

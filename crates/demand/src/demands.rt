@@ -25,9 +25,7 @@ fn needs_bed(state: &DayState<'_>, school: u32, place: u32) -> bool
     ensures { result ≡ needs_bed state.now school place }
 {
     let wish = wish_at(state, place);
-    wish.school == Some(school)
-        && wish.board_rank > 0
-        && !state.is_live_in_school(wish.candidate, school)
+    wish.school == Some(school) && wish.board_rank > 0 && !state.is_live_in_its_school(place)
 }
 
 /// The rank of the wish at a place, with the place.

@@ -36,16 +36,18 @@ pub fn mark_at(state: &DayState<'_>, place: u32) -> Mark
     state.marks()[place as usize]
 }
 
-/// Whether the candidate of a wish, where he has no bed in its school, ranks there behind the bar.
-fn is_behind_bar(state: &DayState<'_>, bars: &[u32], wish: &Wish) -> bool
-    requires { ForSome wish.now.school (λ h. h < length bars.now) }
-    ensures { result ≡ is_behind_bar state.now bars.now wish.now wish.now.school }
+/// Whether the candidate of the wish at a place, where he has no bed in its school, ranks there
+/// behind the bar.
+fn is_behind_bar(state: &DayState<'_>, bars: &[u32], place: u32) -> bool
+    requires place { place < length state.now.dossier.wishes }
+    requires bars { length bars.now ≡ length state.now.dossier.schools }
+    ensures { result ≡ is_behind_bar state.now bars.now (wish_in state.now.dossier.wishes place) (wish_in state.now.dossier.wishes place).school }
 {
+    let wish = wish_at(state, place);
     match wish.school {
         None => false,
         Some(school) => {
-            bars[school as usize] < wish.board_rank
-                && !state.is_live_in_school(wish.candidate, school)
+            bars[school as usize] < wish.board_rank && !state.is_live_in_its_school(place)
         }
     }
 }
@@ -56,7 +58,7 @@ pub fn is_open(state: &DayState<'_>, bars: &[u32], place: u32) -> bool
     requires bars { length bars.now ≡ length state.now.dossier.schools }
     ensures { result ≡ is_open state.now bars.now (wish_in state.now.dossier.wishes place) (mark_in state.now.marks place) }
 {
-    is_waiting(mark_at(state, place)) && !is_behind_bar(state, bars, &wish_at(state, place))
+    is_waiting(mark_at(state, place)) && !is_behind_bar(state, bars, place)
 }
 
 /// Whether the wish at a place is an open one in a programme.
