@@ -1,3 +1,4 @@
+pub mod Answered
 pub mod Asked
 pub mod Asking
 pub mod BarEach
@@ -10,6 +11,7 @@ pub mod Filling
 pub mod Keeping
 pub mod Lining
 pub mod Lowered
+pub mod Marked
 pub mod Marking
 pub mod Moving
 pub mod Naming

@@ -2,6 +2,7 @@ pub mod Demand
 pub mod Filled
 pub mod Line
 pub mod Links
+pub mod Listed
 pub mod Marks
 pub mod Opens
 pub mod Rounds

@@ -118,7 +118,7 @@ returns-else-not-any_open-clause-steps g c =
     let at = place_right k c.index-place.result.now c.index-place.ensures in
     let claim = c.as_slice-2.ensures ∙ claim_right k c.index-place.result.now at c.index-claims.result.now c.index-claims.ensures c.index-as_slice-place.result (claim_read c.as_slice.result.now c.index-claims.result.now c.index-place.result.now c.index-as_slice-place.result c.as_slice.ensures c.index-as_slice-place.is) in
     let some = any_is k c.as_slice-2.result.now claim c.deref.result.now c.deref.ensures.value c.any_open.result true c.any_open.ensures c.if-not-any_open.false in
-    let told = told_none c.self.inside.state.now c.self.inside.orders.now.orders c.self.inside.opens.items c.args.wish c.args.self.now c.self.view_is (new_kept k c.index-place.result.now at some) c.args.bars.now c.args.steps.now c.args.marked.now.items in
+    let told = told_none c.self.inside.state.now c.self.inside.orders.now.orders c.self.inside.opens.items c.args.wish c.args.self.now c.self.view_is (new_kept k c.index-place.result.now at some) c.args.bars.now c.args.steps.now c.args.marked.now in
     told.steps
 
 pub returns-in_default-clause-steps : goal.returns-in_default-clause-steps
@@ -129,7 +129,7 @@ returns-in_default-clause-steps g c =
     let none = any_is k c.as_slice-2.result.now claim c.deref.result.now c.deref.ensures.value c.any_open.result false c.any_open.ensures c.if-not-any_open.true in
     let told =
     told_none c.self.inside.state.now c.self.inside.orders.now.orders c.self.inside.opens.items c.args.wish c.args.self.now c.self.view_is
-    (new_none k c.index-place.result.now at none c.index_mut-then-not-any_open.result.now c.clear.new.self c.index_mut-then-not-any_open.ensures.value c.clear.ensures.row c.clear.result c.in_default.is c.clear.ensures.fresh) c.args.bars.now c.args.steps.now c.args.marked.now.items in
+    (new_none k c.index-place.result.now at none c.index_mut-then-not-any_open.result.now c.clear.new.self c.index_mut-then-not-any_open.ensures.value c.clear.ensures.row c.clear.result c.in_default.is c.clear.ensures.fresh) c.args.bars.now c.args.steps.now c.args.marked.now in
     told.steps
 
 pub returns-in-Some-clause-steps : goal.returns-in-Some-clause-steps
@@ -145,7 +145,7 @@ returns-in-Some-clause-steps g c =
     told_some c.self.inside.state.now c.self.inside.orders.now.orders c.self.inside.opens.items c.self.inside.sure.items c.args.wish p (get_or (line_of c.self.inside.state.now c.self.inside.orders.now.orders p) c.in-Some.next 0) c.args.self.now c.self.view_is
     (new_some k c.index-place.result.now at none c.index_mut-then-not-any_open.result.now c.clear.new.self c.index_mut-then-not-any_open.ensures.value c.clear.ensures.row c.clear.result c.in-Some.next c.in-Some.is lt c.clear.ensures.fresh) c.args.bars.now c.as_slice-in-Some-2.result.now fresh_claim
     c.deref-in-Some.result.now c.deref-in-Some-2.result.now c.deref-in-Some.ensures.value c.deref-in-Some-2.ensures.value c.args.steps.now c.note_fresh.new.steps
-    c.args.marked.now.items c.note_fresh.new.marked.items c.note_fresh.ensures.steps c.note_fresh.ensures.marked in
+    c.args.marked.now c.note_fresh.new.marked c.note_fresh.ensures.steps c.note_fresh.ensures.marked in
     told.steps
 
 pub returns-else-not-any_open-clause-marked : goal.returns-else-not-any_open-clause-marked
@@ -154,7 +154,7 @@ returns-else-not-any_open-clause-marked g c =
     let at = place_right k c.index-place.result.now c.index-place.ensures in
     let claim = c.as_slice-2.ensures ∙ claim_right k c.index-place.result.now at c.index-claims.result.now c.index-claims.ensures c.index-as_slice-place.result (claim_read c.as_slice.result.now c.index-claims.result.now c.index-place.result.now c.index-as_slice-place.result c.as_slice.ensures c.index-as_slice-place.is) in
     let some = any_is k c.as_slice-2.result.now claim c.deref.result.now c.deref.ensures.value c.any_open.result true c.any_open.ensures c.if-not-any_open.false in
-    let told = told_none c.self.inside.state.now c.self.inside.orders.now.orders c.self.inside.opens.items c.args.wish c.args.self.now c.self.view_is (new_kept k c.index-place.result.now at some) c.args.bars.now c.args.steps.now c.args.marked.now.items in
+    let told = told_none c.self.inside.state.now c.self.inside.orders.now.orders c.self.inside.opens.items c.args.wish c.args.self.now c.self.view_is (new_kept k c.index-place.result.now at some) c.args.bars.now c.args.steps.now c.args.marked.now in
     told.marked
 
 pub returns-in_default-clause-marked : goal.returns-in_default-clause-marked
@@ -165,7 +165,7 @@ returns-in_default-clause-marked g c =
     let none = any_is k c.as_slice-2.result.now claim c.deref.result.now c.deref.ensures.value c.any_open.result false c.any_open.ensures c.if-not-any_open.true in
     let told =
     told_none c.self.inside.state.now c.self.inside.orders.now.orders c.self.inside.opens.items c.args.wish c.args.self.now c.self.view_is
-    (new_none k c.index-place.result.now at none c.index_mut-then-not-any_open.result.now c.clear.new.self c.index_mut-then-not-any_open.ensures.value c.clear.ensures.row c.clear.result c.in_default.is c.clear.ensures.fresh) c.args.bars.now c.args.steps.now c.args.marked.now.items in
+    (new_none k c.index-place.result.now at none c.index_mut-then-not-any_open.result.now c.clear.new.self c.index_mut-then-not-any_open.ensures.value c.clear.ensures.row c.clear.result c.in_default.is c.clear.ensures.fresh) c.args.bars.now c.args.steps.now c.args.marked.now in
     told.marked
 
 pub returns-in-Some-clause-marked : goal.returns-in-Some-clause-marked
@@ -181,5 +181,5 @@ returns-in-Some-clause-marked g c =
     told_some c.self.inside.state.now c.self.inside.orders.now.orders c.self.inside.opens.items c.self.inside.sure.items c.args.wish p (get_or (line_of c.self.inside.state.now c.self.inside.orders.now.orders p) c.in-Some.next 0) c.args.self.now c.self.view_is
     (new_some k c.index-place.result.now at none c.index_mut-then-not-any_open.result.now c.clear.new.self c.index_mut-then-not-any_open.ensures.value c.clear.ensures.row c.clear.result c.in-Some.next c.in-Some.is lt c.clear.ensures.fresh) c.args.bars.now c.as_slice-in-Some-2.result.now fresh_claim
     c.deref-in-Some.result.now c.deref-in-Some-2.result.now c.deref-in-Some.ensures.value c.deref-in-Some-2.ensures.value c.args.steps.now c.note_fresh.new.steps
-    c.args.marked.now.items c.note_fresh.new.marked.items c.note_fresh.ensures.steps c.note_fresh.ensures.marked in
+    c.args.marked.now c.note_fresh.new.marked c.note_fresh.ensures.steps c.note_fresh.ensures.marked in
     told.marked
