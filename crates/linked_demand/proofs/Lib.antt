@@ -1,3 +1,4 @@
+pub mod Answered
 pub mod Asked
 pub mod Asking
 pub mod BarEach
@@ -12,6 +13,7 @@ pub mod Keeping
 pub mod Keyed
 pub mod Lining
 pub mod Lowered
+pub mod Marked
 pub mod Marking
 pub mod Moving
 pub mod Naming

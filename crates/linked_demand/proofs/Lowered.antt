@@ -19,7 +19,7 @@ use Rattle.linked_demand.specs.Links.{LinksRow}
 use Rattle.linked_demand.specs.Opens.{opens_of}
 use Rattle.linked_demand.specs.Rows.{IsRow, AreRows, CutsAt, AllWait, StayOpen}
 use Rattle.linked_demand.specs.Rounds.{Round, IsRound, IsRoundUnder, bar_each}
-use Rattle.linked_demand.specs.Demand.{over_at, IsAsked, AreUnmarked}
+use Rattle.linked_demand.specs.Demand.{over_at, IsAsked}
 use Rattle.linked_demand.specs.Marks.{is_new, MarksSchools}
 use Rattle.linked_demand.specs.Ticks.{changes_between}
 use Rattle.linked_demand.proofs.Asking.{ranks_stay, answers_all}
@@ -62,7 +62,7 @@ round_built s orders links ceilings free rows is long each free_are rows_are =
 -- a round that is built has all answers, since all schools were asked
 pub answers_built : (links : LinksRow) (bars free : List ℕ) (rows : List (Vec RowWish Global)) → IsRound links bars free rows → (overs : List (Option ℕ)) (marked : List Bool)
     → length overs ≡ length bars → marked ≡ replicate (length bars) true → (beds : List ℕ) (now : List (Vec RowWish Global)) → beds ≡ free → now ≡ rows
-    → (answers : List (Option ℕ)) (last : List Bool) → IsAsked links now beds (λ h. get_or marked h false) overs answers → AreUnmarked (length now) marked last
+    → (answers : List (Option ℕ)) (last : List Bool) → IsAsked links now beds (λ h. get_or marked h false) overs answers → last ≡ replicate (length marked) false
     → IsRoundUnder links bars bars free rows answers last
 answers_built links bars free rows right overs marked long all beds now beds_are now_is answers last asked unmarked =
     let asked_now : IsAsked links rows free (λ h. get_or marked h false) overs answers = rw (← beds_are, ← now_is) asked in
@@ -72,7 +72,7 @@ answers_built links bars free rows right overs marked long all beds now beds_are
       overs_are =
           answers_all links bars free rows right (λ h. get_or marked h false) overs answers (long ∙ right.bars_each) asked_now (λ h lt none.
           absurd (false≢true (sym none ∙ ap (λ (bs : List Bool). get_or bs h false) all ∙ get_or-replicate (length bars) h true false (omega (arith, lt, right.bars_each)))));
-      marked_each = unmarked.as_long ∙ ap length all ∙ length-replicate (length bars) true ∙ right.bars_each;
+      marked_each = ap length unmarked ∙ length-replicate (length marked) false ∙ ap length all ∙ length-replicate (length bars) true ∙ right.bars_each;
     }
 
 module _ (links : LinksRow) (ceilings bars free : List ℕ) (rows : List (Vec RowWish Global)) (overs : List (Option ℕ)) (marked : List Bool) (seen : Round)
@@ -166,16 +166,17 @@ module _ (links : LinksRow) (ceilings bars free : List ℕ) (rows : List (Vec Ro
           ∙ ap (λ (o : List CallOrder). over_at new.state o (set bars i to) h) (sym orders)
 
       -- the whole round
-      pub lowered : (beds : List ℕ) (now : List (Vec RowWish Global)) → beds ≡ free → now ≡ set rows i kept → (answers : List (Option ℕ)) (last : List Bool)
-          → IsAsked new now beds (λ h. get_or (set after i true) h false) overs answers → AreUnmarked (length now) (set after i true) last
+      pub lowered : (beds : List ℕ) (now : List (Vec RowWish Global)) → beds ≡ free → now ≡ set rows i kept → (marks_now : List Bool) → marks_now ≡ set after i true → (answers : List (Option ℕ)) (last : List Bool)
+          → IsAsked new now beds (λ h. get_or marks_now h false) overs answers → last ≡ replicate (length marks_now) false
           → IsRoundUnder new ceilings (set bars i to) free (set rows i kept) answers last
-      lowered beds now beds_are now_is answers last asked unmarked =
-          let asked_now : IsAsked new (set rows i kept) free (λ h. get_or (set after i true) h false) overs answers = rw (← beds_are, ← now_is) asked in
+      lowered beds now beds_are now_is marks_now marks_are answers last asked unmarked =
+          let P = λ (ms : List Bool). IsAsked new now beds (λ h. get_or ms h false) overs answers in
+          let asked_now : IsAsked new (set rows i kept) free (λ h. get_or (set after i true) h false) overs answers = rw (← beds_are, ← now_is) (subst P marks_are asked) in
           record {
             round = round_now;
             ceilings_each = right.ceilings_each ∙ schools;
             overs_are =
                 answers_all new (set bars i to) free (set rows i kept) round_now (λ h. get_or (set after i true) h false) overs answers
                 (omega (arith, overs_long, round_now.rows_each, round_now.bars_each)) asked_now answer_kept;
-            marked_each = omega (arith, unmarked.as_long, marks_long, round_now.rows_each, round_now.bars_each);
+            marked_each = omega (arith, ap length unmarked, length-replicate (length marks_now) false, ap length marks_are, marks_long, round_now.rows_each, round_now.bars_each);
           }

@@ -1,6 +1,6 @@
 -- A round as a system of falling bars.
-use Rattle.std.proofs.Common.{ℕ, ◌<◌, ◌≡◌, Bool, true, false, not, List, [], ◌∷◌, Some, map, length, filter, get_or, refl, sym, ◌∙◌, ap, arith, subst, zero-add, Vec}
-use Rattle.std.specs.Prelude.{slice_get, slice_index, slice_set, Option}
+use Rattle.std.proofs.Common.{ℕ, ◌<◌, ◌≡◌, Bool, true, false, not, List, [], ◌∷◌, Some, None, map, filter, length, get_or, refl, sym, ◌∙◌, ap, arith, subst, zero-add, Vec}
+use Rattle.std.specs.Prelude.{slice_get, slice_index, slice_set, Option, is_some}
 use Rattle.std.specs.List.{enumerate_from, range_with_len}
 use Rattle.std.specs.declared.alloc.Global.{Global}
 use Rattle.std.proofs.lemmas.Bool.{and_parts}
@@ -12,16 +12,20 @@ use Rattle.admit_core.specs.State.{State, entries, is_waiting, free_beds}
 use Rattle.admit_core.specs.declared.ranking.CallOrder.{CallOrder}
 use Rattle.admit_core.specs.Proposals.{is_open, is_barred, is_proposed, proposed, demanded_ranks}
 use Rattle.admit_core.specs.Boarding.{boarding}
-use Rattle.bar_law.specs.Overfilled.{rank_over}
+use Rattle.admit_core.specs.Falls.{is_overfilled}
+use Rattle.bar_law.specs.Overfilled.{rank_over, all_overfilled}
+use Rattle.bar_law.proofs.Listing.{overfilled_by_rank}
 use Rattle.day_state.specs.Kept.{mark_in, wish_in}
 use Rattle.day_state.proofs.Places.{entry_in, entries_by_place}
 use Rattle.linked_demand.specs.declared.rows.RowWish.{RowWish}
 use Rattle.linked_demand.specs.Links.{LinksRow, WaitsAt}
+use Rattle.linked_demand.specs.Listed.{answered}
+use Rattle.linked_demand.proofs.Answered.{filter_agree}
 use Rattle.linked_demand.specs.Opens.{opens_of, is_proposed_by}
 use Rattle.linked_demand.specs.Rounds.{Round, IsRoundUnder, bar_each, is_proposed_in}
 use Rattle.linked_demand.specs.Demand.{is_proposed_at, over_at}
 use Rattle.linked_demand.proofs.BarEach.{bar_each_is, bar_each_set}
-use Rattle.linked_demand.proofs.Closing.{proposed_at_is, length_entries, read_range}
+use Rattle.linked_demand.proofs.Closing.{proposed_at_is, length_entries}
 use Rattle.linked_demand.proofs.Falling.{flag_map}
 use Rattle.linked_demand.proofs.Filling.{entry_there}
 use Rattle.linked_demand.proofs.Lining.{numbered}
@@ -92,9 +96,10 @@ module _ (links : LinksRow) (ceilings bars free : List ℕ) (rows : List (Vec Ro
   answer_within i lt =
       omega (arith, lt, ap (λ (r : Round). length r.bars) is, right.round.bars_each, ap length right.overs_are, length-map-range_with_len (over_at links.state links.orders bars) 0 (length links.state.dossier.schools))
 
-  pub answer_read : (i : ℕ) (x : Option ℕ) → i < length seen.bars → x ≡ get_or overs i x → x ≡ over_at seen.state seen.orders seen.bars i
-  answer_read i x lt read =
-      read_range (over_at links.state links.orders bars) (length links.state.dossier.schools) i overs x right.overs_are (omega (arith, lt, ap (λ (r : Round). length r.bars) is, right.round.bars_each)) read
+  pub answer_read : (i : ℕ) → i < length seen.bars → get_or overs i None ≡ over_at seen.state seen.orders seen.bars i
+  answer_read i lt =
+      ap (λ (os : List (Option ℕ)). get_or os i None) right.overs_are
+      ∙ get_or-map-range_with_len (over_at links.state links.orders bars) 0 (length links.state.dossier.schools) i i None (omega (arith, lt, ap (λ (r : Round). length r.bars) is, right.round.bars_each)) (zero-add i)
       ∙ ap (λ (r : Round). over_at r.state r.orders r.bars i) is
 
   -- the proposed wishes, under the bars and under those that the system tells
@@ -105,6 +110,18 @@ module _ (links : LinksRow) (ceilings bars free : List ℕ) (rows : List (Vec Ro
 
   pub offers_seen : proposed seen.state seen.orders seen.bars ≡ proposed seen.state seen.orders (bar_each seen.ceilings seen.bars)
   offers_seen = ap (proposed seen.state seen.orders) (sym bars_seen)
+
+  -- the schools that have an answer are those that are overfilled
+  pub overfilled_seen : answered overs ≡ all_overfilled (boarding seen.state seen.orders seen.ceilings) (bar_each seen.ceilings seen.bars)
+  overfilled_seen =
+      let sys = boarding seen.state seen.orders seen.ceilings in
+      let low = bar_each seen.ceilings seen.bars in
+      let long : length overs ≡ length seen.ceilings =
+      omega (arith, ap length right.overs_are, length-map-range_with_len (over_at links.state links.orders bars) 0 (length links.state.dossier.schools), right.ceilings_each, ceilings_seen) in
+      ap (λ n. filter (λ h. is_some (get_or overs h None)) (range_with_len 0 n)) long
+      ∙ filter_agree (λ h. is_some (get_or overs h None)) (is_overfilled sys low) 0 (length seen.ceilings) (λ h ge less.
+      let lt : h < length seen.ceilings = omega (arith, less) in
+      ap is_some (over_seen h (get_or overs h None) lt (answer_read h (seen_within_bars h lt))) ∙ sym (overfilled_by_rank sys low h lt))
 
   -- after a fall
   pub bars_fallen : (i to : ℕ) → bar_each ceilings (slice_set bars i to) ≡ slice_set (bar_each seen.ceilings seen.bars) i to

@@ -39,8 +39,3 @@ pub record IsAsked (l : LinksRow) (rows : List (Vec RowWish Global)) (free : Lis
       (h : ℕ) (row : Vec RowWish Global)
       → slice_get rows h ≡ Some row
       → slice_index_or new h None ≡ (if test h then row_over l row.items (slice_index free h) else slice_index_or old h None)
-
--- marks that are taken away from the places below a number
-pub record AreUnmarked (n : ℕ) (old new : List Bool) : Type 0 where
-  pub as_long : length new ≡ length old
-  pub each : (h : ℕ) → slice_index_or new h false ≡ (if nat_lt h n then false else slice_index_or old h false)

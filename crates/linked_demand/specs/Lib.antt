@@ -4,6 +4,7 @@ pub mod Filled
 pub mod Keyed
 pub mod Line
 pub mod Links
+pub mod Listed
 pub mod Marks
 pub mod Opens
 pub mod Rounds

@@ -6,6 +6,7 @@ ghost use Rattle.linked_demand.specs.Marks.{is_new, MarksSchools};
 ghost use Rattle.linked_demand.specs.Rows.{CutsAt, AllWait, StayOpen};
 
 use crate::links::SeatLinks;
+use crate::marks::Marks;
 use crate::rows::RowWish;
 use admit_core::Steps;
 use std::sync::ledger::Ledger;
@@ -17,18 +18,18 @@ pub fn close_past<L: Ledger>(
     row: &mut Vec<RowWish>,
     to: u32,
     bars: &[u32],
-    marked: &mut Vec<bool>,
+    marked: &mut Marks,
     steps: &mut Steps<L>,
 )
     requires row { AllWait links.old.state row.old.items }
     requires bars { length bars.now ≡ length links.old.state.dossier.schools }
-    requires marked { length marked.old.items ≡ length links.old.state.dossier.schools }
+    requires marked { length marked.old ≡ length links.old.state.dossier.schools }
     requires stay { StayOpen links.old bars.now to row.old.items }
     ensures cut { CutsAt to row.old.items links.old.opens row.new.items links.new.opens }
     ensures state { links.new.state ≡ links.old.state }
     ensures orders { links.new.orders ≡ links.old.orders }
     ensures steps { steps.new + length row.new.items ≡ steps.old + length row.old.items + count_by (is_new links.old.state bars.now links.old links.new) (enumerate_from 0 (entries links.old.state)) }
-    ensures marked { MarksSchools links.old.state (is_new links.old.state bars.now links.old links.new) marked.old.items marked.new.items }
+    ensures marked { MarksSchools links.old.state (is_new links.old.state bars.now links.old links.new) marked.old marked.new }
 {
     let mut end = row.len();
     while end > 0 && row[end - 1].rank > to {

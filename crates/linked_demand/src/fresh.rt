@@ -6,6 +6,7 @@ ghost use Rattle.admit_core.specs.declared.state.Mark.{Mark};
 ghost use Rattle.admit_core.specs.Lists.{is_among};
 ghost use Rattle.linked_demand.specs.Marks.{is_fresh, with_mark, MarksSchools};
 
+use crate::marks::Marks;
 use admit_core::Steps;
 use day_state::DayState;
 use demand::{is_open, wish_at};
@@ -23,12 +24,12 @@ fn is_fresh(state: &DayState<'_>, bars: &[u32], opens: &[bool], sure: &[bool], w
 }
 
 /// Marks a school, if there is one.
-fn mark(marked: &mut Vec<bool>, school: Option<u32>)
-    requires { ForSome school (λ h. h < length marked.old.items) }
-    ensures { marked.new.items ≡ with_mark school marked.old.items }
+fn mark(marked: &mut Marks, school: Option<u32>)
+    requires { ForSome school (λ h. h < length marked.old) }
+    ensures { marked.new ≡ with_mark school marked.old }
 {
     if let Some(school) = school {
-        marked[school as usize] = true;
+        marked.set(school);
     }
 }
 
@@ -39,16 +40,16 @@ pub fn note_fresh<L: Ledger>(
     opens: &[bool],
     sure: &[bool],
     claim: &[u32],
-    marked: &mut Vec<bool>,
+    marked: &mut Marks,
     steps: &mut Steps<L>,
 )
     requires claim { All (λ v. v < length state.now.dossier.wishes) claim.now }
     requires bars { length bars.now ≡ length state.now.dossier.schools }
     requires opens { length opens.now ≡ length state.now.dossier.wishes }
     requires sure { length sure.now ≡ length state.now.dossier.wishes }
-    requires marked { length marked.old.items ≡ length state.now.dossier.schools }
+    requires marked { length marked.old ≡ length state.now.dossier.schools }
     ensures steps { steps.new ≡ steps.old + count_by (is_fresh state.now bars.now opens.now sure.now) claim.now }
-    ensures marked { MarksSchools state.now (λ x. is_among x.0 claim.now && is_fresh state.now bars.now opens.now sure.now x.0) marked.old.items marked.new.items }
+    ensures marked { MarksSchools state.now (λ x. is_among x.0 claim.now && is_fresh state.now bars.now opens.now sure.now x.0) marked.old marked.new }
 {
     for wish in claim {
         if is_fresh(state, bars, opens, sure, *wish) {

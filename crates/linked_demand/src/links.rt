@@ -13,6 +13,7 @@ ghost use Rattle.linked_demand.specs.Demand.{is_proposed_at};
 use crate::claims::{Claims, any_open};
 use crate::fresh::note_fresh;
 use crate::line::Line;
+use crate::marks::Marks;
 use crate::seats::seats_of;
 use crate::wishes::wish_count;
 use admit_core::{CallOrders, OutOfMemory, Steps};
@@ -97,15 +98,15 @@ impl<'a, 'd> SeatLinks<'a, 'd> {
         &mut self,
         wish: u32,
         bars: &[u32],
-        marked: &mut Vec<bool>,
+        marked: &mut Marks,
         steps: &mut Steps<L>,
     )
         requires waits { (w : Wish) × (m : Mark) × WaitsAt self.old.state wish w m }
         requires bars { length bars.now ≡ length self.old.state.dossier.schools }
-        requires marked { length marked.old.items ≡ length self.old.state.dossier.schools }
+        requires marked { length marked.old ≡ length self.old.state.dossier.schools }
         ensures value { self.new ≡ record self.old { opens = slice_set self.old.opens wish false } }
         ensures steps { steps.new ≡ steps.old + count_by (is_new self.old.state bars.now self.old self.new) (enumerate_from 0 (entries self.old.state)) }
-        ensures marked { MarksSchools self.old.state (is_new self.old.state bars.now self.old self.new) marked.old.items marked.new.items }
+        ensures marked { MarksSchools self.old.state (is_new self.old.state bars.now self.old self.new) marked.old marked.new }
     {
         let programme = wish_at(self.state, wish).programme as usize;
         let place = self.places[wish as usize];

@@ -1,11 +1,13 @@
 //! The demanded ranks that a row tells.
-ghost use Rattle.std.specs.Prelude.{◌≡◌, ℕ, length, false, slice_get, slice_index_or, IfOk, Vec};
+ghost use Rattle.std.specs.Prelude.{◌≡◌, ℕ, length, false, replicate, slice_get, slice_index_or, IfOk, Vec};
 ghost use Rattle.std.specs.declared.alloc.Global.{Global};
 ghost use Rattle.linked_demand.specs.declared.rows.RowWish.{RowWish};
 ghost use Rattle.linked_demand.specs.Rows.{AllWait};
-ghost use Rattle.linked_demand.specs.Demand.{is_proposed_at, counted, firsts, IsAsked, AreUnmarked};
+ghost use Rattle.linked_demand.specs.Demand.{is_proposed_at, counted, firsts, IsAsked};
 
 use crate::links::SeatLinks;
+use crate::marks::Marks;
+use crate::overs::Overs;
 use crate::rows::RowWish;
 use admit_core::OutOfMemory;
 use demand::Demand;
@@ -58,20 +60,18 @@ pub fn ask_marked(
     links: &SeatLinks<'_, '_>,
     rows: &[Vec<RowWish>],
     free: &[u32],
-    marked: &mut Vec<bool>,
-    overs: &mut Vec<Option<u32>>,
+    marked: &mut Marks,
+    overs: &mut Overs,
 )
     requires rows { (h : ℕ) (row : Vec RowWish Global) → slice_get rows.now h ≡ Some row → AllWait links.now.state row.items }
     requires free { length free.now ≡ length rows.now }
-    requires marked { length marked.old.items ≡ length rows.now }
-    requires overs { length overs.old.items ≡ length rows.now }
-    ensures asked { IsAsked links.now rows.now free.now (λ h. slice_index_or marked.old.items h false) overs.old.items overs.new.items }
-    ensures unmarked { AreUnmarked (length rows.now) marked.old.items marked.new.items }
+    requires marked { length marked.old ≡ length rows.now }
+    requires overs { length overs.old ≡ length rows.now }
+    ensures asked { IsAsked links.now rows.now free.now (λ h. slice_index_or marked.old h false) overs.old overs.new }
+    ensures unmarked { marked.new ≡ replicate (length marked.old) false }
 {
-    for school in 0..rows.len() {
-        if marked[school] {
-            overs[school] = first_over(links, &rows[school], free[school]);
-        }
-        marked[school] = false;
+    while let Some(school) = marked.take() {
+        let place = school as usize;
+        overs.put(school, first_over(links, &rows[place], free[place]));
     }
 }

@@ -10,7 +10,9 @@ ghost use Rattle.linked_demand.specs.Ticks.{changes_between};
 use crate::cut::close_past;
 use crate::fill::{free_of, rows_of};
 use crate::links::SeatLinks;
+use crate::marks::Marks;
 use crate::over::{ask_marked, demands_in};
+use crate::overs::Overs;
 use crate::rows::RowWish;
 use crate::wishes::wish_count;
 use admit_core::{CallOrders, OutOfMemory, Steps};
@@ -21,6 +23,13 @@ use std::alloc::Global;
 use std::marker::Model;
 use std::sync::ledger::Ledger;
 
+/// The number of schools.
+fn school_count(state: &DayState<'_>) -> u32
+    ensures { result ≡ length state.now.dossier.schools }
+{
+    state.dossier().schools.len() as u32
+}
+
 /// The boarding schools (*internats*) of a state, with their ceilings and their present bars. It keeps
 /// who is served in each programme, so that a fall costs what it changes.
 #[derive(Drop)]
@@ -30,8 +39,8 @@ pub struct LinkedRound<'a, 'd> {
     bars: Vec<u32>,
     free: Vec<u32>,
     rows: Vec<Vec<RowWish>>,
-    overs: Vec<Option<u32>>,
-    marked: Vec<bool>,
+    overs: Overs,
+    marked: Marks,
 }
 
 impl<'a, 'd> Model for LinkedRound<'a, 'd> {
@@ -41,7 +50,7 @@ impl<'a, 'd> Model for LinkedRound<'a, 'd> {
 
     ghost view = { λ r. record { state = r.links.state; orders = r.links.orders; ceilings = r.ceilings.items; bars = r.bars.items } };
 
-    ghost invariant = { λ r. IsRoundUnder r.links r.ceilings.items r.bars.items r.free.items r.rows.items r.overs.items r.marked.items };
+    ghost invariant = { λ r. IsRoundUnder r.links r.ceilings.items r.bars.items r.free.items r.rows.items r.overs r.marked };
 }
 
 impl<'a, 'd> LinkedRound<'a, 'd> {
@@ -66,8 +75,9 @@ impl<'a, 'd> LinkedRound<'a, 'd> {
         let links = SeatLinks::build(alloc, state, orders, ceilings)?;
         let free = free_of(alloc, state)?;
         let rows = rows_of(alloc, state, ceilings)?;
-        let mut overs = vec![in alloc; None; ceilings.len()]?;
-        let mut marked = vec![in alloc; true; ceilings.len()]?;
+        let count = school_count(state);
+        let mut overs = Overs::none(alloc, count)?;
+        let mut marked = Marks::all(alloc, count)?;
         ask_marked(&links, &rows, &free, &mut marked, &mut overs);
         let bars = ceilings.to_vec(alloc)?;
         let ceilings = ceilings.to_vec(alloc)?;
@@ -87,7 +97,7 @@ impl<'a, 'd> LinkedRound<'a, 'd> {
         requires { i < length self.now.bars }
         ensures { result ≡ slice_get (demanded_ranks self.now.state self.now.orders self.now.bars i) (free_beds self.now.state i) }
     {
-        self.overs[i as usize]
+        self.overs.get(i)
     }
 
     /// Whether the wish at a place is proposed at the present bars.
@@ -134,7 +144,7 @@ impl Falling for LinkedRound<'_, '_> {
     ghost one_bar_each = { λ r. length-bar_each r.ceilings r.bars };
 
     fn count(&self) -> u32 {
-        self.links.state().dossier().schools.len() as u32
+        school_count(self.links.state())
     }
 
     fn bar(&self, i: u32) -> u32 {
@@ -144,6 +154,11 @@ impl Falling for LinkedRound<'_, '_> {
     fn over(&self, _alloc: Global, i: u32) -> Result<Option<u32>, OutOfMemory> {
         let _ = &self.bars; // learns the invariant
         Ok(self.first_over(i))
+    }
+
+    fn overfilled(&self, alloc: Global) -> Result<Vec<u32>, OutOfMemory> {
+        let _ = &self.bars; // learns the invariant
+        Ok(self.overs.overfilled().to_vec(alloc)?)
     }
 
     fn names(&self, alloc: Global, i: u32, upto: u32) -> Result<Vec<u32>, OutOfMemory> {
@@ -169,7 +184,7 @@ impl Falling for LinkedRound<'_, '_> {
             &mut self.marked,
             steps,
         );
-        self.marked[i as usize] = true;
+        self.marked.set(i);
         ask_marked(
             &self.links,
             &self.rows,

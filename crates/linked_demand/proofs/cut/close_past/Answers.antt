@@ -12,7 +12,7 @@ loop-end-init g c =
     record {
       cut = so_far_start c.args.to c.args.row.now.items start c.len-end.result (omega arith);
       steps = omega (arith, none_new start c.args.bars.now start);
-      marked = none_marked start c.args.bars.now start c.args.marked.now.items;
+      marked = none_marked start c.args.bars.now start c.args.marked.now;
     }
 
 pub loop-end-preserved : goal.loop-end-preserved
@@ -31,7 +31,7 @@ loop-end-preserved g c =
           c.args.steps.now c.loop-end.steps c.tick.new.self c.close.new.steps (omega arith) c.loop-end.invariant.steps c.tick.ensures c.close.ensures.steps;
       marked =
           marks_told start c.args.bars.now c.args.to row c.requires.stay c.loop-end.links c.close.new.self c.loop-end.end n c.index-last.result.now.wish far further c.close.ensures.value
-          c.args.marked.now.items c.loop-end.marked.items c.close.new.marked.items c.loop-end.invariant.marked c.close.ensures.marked;
+          c.args.marked.now c.loop-end.marked c.close.new.marked c.loop-end.invariant.marked c.close.ensures.marked;
     }
 
 pub close-requires : goal.close-requires

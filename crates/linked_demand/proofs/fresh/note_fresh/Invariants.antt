@@ -7,5 +7,5 @@ abbrev pub invariant-loop-wish : goal.invariant-loop-wish
 invariant-loop-wish g l =
     record {
       steps : l.steps ≡ l.initial.steps + count_by (is_fresh l.state l.bars l.opens l.sure) (take l.wish-index l.claim);
-      marked : MarksSchools l.state (λ x. is_among x.0 (take l.wish-index l.claim) && is_fresh l.state l.bars l.opens l.sure x.0) l.initial.marked.items l.marked.items;
+      marked : MarksSchools l.state (λ x. is_among x.0 (take l.wish-index l.claim) && is_fresh l.state l.bars l.opens l.sure x.0) l.initial.marked l.marked;
     }

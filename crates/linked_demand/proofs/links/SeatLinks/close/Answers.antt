@@ -1,4 +1,4 @@
-use Rattle.std.proofs.Common.{◌≡◌, ℕ, arith, ap, length, refl, sym, ◌∙◌, get_or, true, false}
+use Rattle.std.proofs.Common.{rules, ◌≡◌, ℕ, List, arith, ap, length, refl, sym, ◌∙◌, get_or, true, false}
 use Rattle.linked_demand.specs.Links.{LinksRow}
 use Rattle.linked_demand.specs.Opens.{line_of}
 use Rattle.linked_demand.proofs.Closing.{starts_within, closes_read, wish_within, programme_within, place_right, claim_right, claims_each, lines_each, sure_each, row_within, line_within, below_for, any_is, links_cleared, links_kept}
@@ -97,28 +97,28 @@ note_fresh-requires g c =
       marked = c.requires.marked ∙ schools;
     }
 
-pub returns-else-not-any_open-clause-steps : goal.returns-else-not-any_open-clause-steps
-returns-else-not-any_open-clause-steps g c =
+pub returns-else-not-any_open : goal.returns-else-not-any_open
+returns-else-not-any_open g c =
     let k = closes_read c.self.invariant c.args.self.now c.self.view_is c.args.wish c.requires.waits c.wish_at-programme.result c.wish_at-programme.ensures.wish in
     let at = place_right k c.index-place.result.now c.index-place.ensures in
     let claim = claim_right k c.index-place.result.now at c.index-claims.result.now c.index-claims.ensures c.at-claim.result.now c.at-claim.ensures in
     let some = any_is k c.at-claim.result.now claim c.deref.result.now c.deref.ensures.value c.any_open.result true c.any_open.ensures c.if-not-any_open.false in
-    let told = told_none c.self.inside.state.now c.self.inside.orders.now.orders c.self.inside.opens.items c.args.wish c.args.self.now c.self.view_is (new_kept k c.index-place.result.now at some) c.args.bars.now c.args.steps.now c.args.marked.now.items in
-    told.steps
+    let told = told_none c.self.inside.state.now c.self.inside.orders.now.orders c.self.inside.opens.items c.args.wish c.args.self.now c.self.view_is (new_kept k c.index-place.result.now at some) c.args.bars.now c.args.steps.now c.args.marked.now in
+    record { value = search rules; steps = told.steps; marked = told.marked }
 
-pub returns-in_default-clause-steps : goal.returns-in_default-clause-steps
-returns-in_default-clause-steps g c =
+pub returns-in_default : goal.returns-in_default
+returns-in_default g c =
     let k = closes_read c.self.invariant c.args.self.now c.self.view_is c.args.wish c.requires.waits c.wish_at-programme.result c.wish_at-programme.ensures.wish in
     let at = place_right k c.index-place.result.now c.index-place.ensures in
     let claim = claim_right k c.index-place.result.now at c.index-claims.result.now c.index-claims.ensures c.at-claim.result.now c.at-claim.ensures in
     let none = any_is k c.at-claim.result.now claim c.deref.result.now c.deref.ensures.value c.any_open.result false c.any_open.ensures c.if-not-any_open.true in
     let told =
     told_none c.self.inside.state.now c.self.inside.orders.now.orders c.self.inside.opens.items c.args.wish c.args.self.now c.self.view_is
-    (new_none k c.index-place.result.now at none c.index_mut-then-not-any_open.result.now c.clear.new.self c.index_mut-then-not-any_open.ensures.value c.clear.ensures.row c.clear.result c.in_default.is c.clear.ensures.fresh) c.args.bars.now c.args.steps.now c.args.marked.now.items in
-    told.steps
+    (new_none k c.index-place.result.now at none c.index_mut-then-not-any_open.result.now c.clear.new.self c.index_mut-then-not-any_open.ensures.value c.clear.ensures.row c.clear.result c.in_default.is c.clear.ensures.fresh) c.args.bars.now c.args.steps.now c.args.marked.now in
+    record { value = search rules; steps = told.steps; marked = told.marked }
 
-pub returns-in-Some-clause-steps : goal.returns-in-Some-clause-steps
-returns-in-Some-clause-steps g c =
+pub returns-in-Some : goal.returns-in-Some
+returns-in-Some g c =
     let k = closes_read c.self.invariant c.args.self.now c.self.view_is c.args.wish c.requires.waits c.wish_at-programme.result c.wish_at-programme.ensures.wish in
     let at = place_right k c.index-place.result.now c.index-place.ensures in
     let claim = claim_right k c.index-place.result.now at c.index-claims.result.now c.index-claims.ensures c.at-claim.result.now c.at-claim.ensures in
@@ -130,41 +130,5 @@ returns-in-Some-clause-steps g c =
     told_some c.self.inside.state.now c.self.inside.orders.now.orders c.self.inside.opens.items c.self.inside.sure.items c.args.wish p (get_or (line_of c.self.inside.state.now c.self.inside.orders.now.orders p) c.in-Some.next 0) c.args.self.now c.self.view_is
     (new_some k c.index-place.result.now at none c.index_mut-then-not-any_open.result.now c.clear.new.self c.index_mut-then-not-any_open.ensures.value c.clear.ensures.row c.clear.result c.in-Some.next c.in-Some.is lt c.clear.ensures.fresh) c.args.bars.now c.at-claim-in-Some.result.now fresh_claim
     c.deref-in-Some.result.now c.deref-in-Some-2.result.now c.deref-in-Some.ensures.value c.deref-in-Some-2.ensures.value c.args.steps.now c.note_fresh.new.steps
-    c.args.marked.now.items c.note_fresh.new.marked.items c.note_fresh.ensures.steps c.note_fresh.ensures.marked in
-    told.steps
-
-pub returns-else-not-any_open-clause-marked : goal.returns-else-not-any_open-clause-marked
-returns-else-not-any_open-clause-marked g c =
-    let k = closes_read c.self.invariant c.args.self.now c.self.view_is c.args.wish c.requires.waits c.wish_at-programme.result c.wish_at-programme.ensures.wish in
-    let at = place_right k c.index-place.result.now c.index-place.ensures in
-    let claim = claim_right k c.index-place.result.now at c.index-claims.result.now c.index-claims.ensures c.at-claim.result.now c.at-claim.ensures in
-    let some = any_is k c.at-claim.result.now claim c.deref.result.now c.deref.ensures.value c.any_open.result true c.any_open.ensures c.if-not-any_open.false in
-    let told = told_none c.self.inside.state.now c.self.inside.orders.now.orders c.self.inside.opens.items c.args.wish c.args.self.now c.self.view_is (new_kept k c.index-place.result.now at some) c.args.bars.now c.args.steps.now c.args.marked.now.items in
-    told.marked
-
-pub returns-in_default-clause-marked : goal.returns-in_default-clause-marked
-returns-in_default-clause-marked g c =
-    let k = closes_read c.self.invariant c.args.self.now c.self.view_is c.args.wish c.requires.waits c.wish_at-programme.result c.wish_at-programme.ensures.wish in
-    let at = place_right k c.index-place.result.now c.index-place.ensures in
-    let claim = claim_right k c.index-place.result.now at c.index-claims.result.now c.index-claims.ensures c.at-claim.result.now c.at-claim.ensures in
-    let none = any_is k c.at-claim.result.now claim c.deref.result.now c.deref.ensures.value c.any_open.result false c.any_open.ensures c.if-not-any_open.true in
-    let told =
-    told_none c.self.inside.state.now c.self.inside.orders.now.orders c.self.inside.opens.items c.args.wish c.args.self.now c.self.view_is
-    (new_none k c.index-place.result.now at none c.index_mut-then-not-any_open.result.now c.clear.new.self c.index_mut-then-not-any_open.ensures.value c.clear.ensures.row c.clear.result c.in_default.is c.clear.ensures.fresh) c.args.bars.now c.args.steps.now c.args.marked.now.items in
-    told.marked
-
-pub returns-in-Some-clause-marked : goal.returns-in-Some-clause-marked
-returns-in-Some-clause-marked g c =
-    let k = closes_read c.self.invariant c.args.self.now c.self.view_is c.args.wish c.requires.waits c.wish_at-programme.result c.wish_at-programme.ensures.wish in
-    let at = place_right k c.index-place.result.now c.index-place.ensures in
-    let claim = claim_right k c.index-place.result.now at c.index-claims.result.now c.index-claims.ensures c.at-claim.result.now c.at-claim.ensures in
-    let none = any_is k c.at-claim.result.now claim c.deref.result.now c.deref.ensures.value c.any_open.result false c.any_open.ensures c.if-not-any_open.true in
-    let lt = c.in-Some.ensures.place in
-    let fresh_claim = next_claim k c.in-Some.next c.index_mut-then-not-any_open.result.now c.index_mut-then-not-any_open.ensures.value lt c.index-claims-in-Some.result.now c.index-claims-in-Some.ensures c.at-claim-in-Some.result.now c.at-claim-in-Some.ensures in
-    let p : ℕ = c.wish_at-programme.result.programme in
-    let told =
-    told_some c.self.inside.state.now c.self.inside.orders.now.orders c.self.inside.opens.items c.self.inside.sure.items c.args.wish p (get_or (line_of c.self.inside.state.now c.self.inside.orders.now.orders p) c.in-Some.next 0) c.args.self.now c.self.view_is
-    (new_some k c.index-place.result.now at none c.index_mut-then-not-any_open.result.now c.clear.new.self c.index_mut-then-not-any_open.ensures.value c.clear.ensures.row c.clear.result c.in-Some.next c.in-Some.is lt c.clear.ensures.fresh) c.args.bars.now c.at-claim-in-Some.result.now fresh_claim
-    c.deref-in-Some.result.now c.deref-in-Some-2.result.now c.deref-in-Some.ensures.value c.deref-in-Some-2.ensures.value c.args.steps.now c.note_fresh.new.steps
-    c.args.marked.now.items c.note_fresh.new.marked.items c.note_fresh.ensures.steps c.note_fresh.ensures.marked in
-    told.marked
+    c.args.marked.now c.note_fresh.new.marked c.note_fresh.ensures.steps c.note_fresh.ensures.marked in
+    record { value = search rules; steps = told.steps; marked = told.marked }

@@ -1,6 +1,7 @@
-use Rattle.std.proofs.Common.{rules, ◌≡◌, ◌∙◌, sym, ap, ℕ, length, true, arith, List, Vec, subst, Some}
+use Rattle.std.proofs.Common.{rules, ◌≡◌, ◌∙◌, sym, ap, ℕ, length, true, arith, List, Vec, subst, Some, None, Option}
 use Rattle.std.specs.Prelude.{slice_get, replicate}
 use Rattle.std.specs.declared.alloc.Global.{Global}
+use Rattle.std.proofs.lemmas.List.{length-replicate}
 use Rattle.linked_demand.specs.declared.rows.RowWish.{RowWish}
 use Rattle.linked_demand.specs.Rows.{AllWait}
 use Rattle.linked_demand.specs.Rounds.{IsRound}
@@ -23,8 +24,8 @@ ask_marked-requires c =
     record {
       rows = subst P (sym c.deref.ensures.value) (rows_wait links c.args.ceilings.now free rows round);
       free = ap length c.deref-2.ensures.value ∙ one_free_each links c.args.ceilings.now free rows round ∙ ap length (sym c.deref.ensures.value);
-      marked = omega (arith, c.in_ok-marked.ensures.len, long, c.deref.ensures.len);
-      overs = omega (arith, c.in_ok-overs.ensures.len, long, c.deref.ensures.len);
+      marked = omega (arith, ap length c.in_ok-marked.ensures, length-replicate c.school_count-count.result true, c.school_count-count.ensures, c.requires.ceilings, long, ap length c.deref.ensures.value);
+      overs = omega (arith, ap length c.in_ok-overs.ensures, length-replicate {A = Option ℕ} c.school_count-count.result None, c.school_count-count.ensures, c.requires.ceilings, long, ap length c.deref.ensures.value);
     }
 
 pub invariant_of-result : goal.invariant_of-result
@@ -32,11 +33,12 @@ invariant_of-result c =
     let links = c.in_ok-links.links in
     let free = c.in_ok-free.free.items in
     let rows = c.in_ok-rows.rows.items in
+    let count : c.school_count-count.result ≡ length c.args.ceilings.now = c.school_count-count.ensures ∙ sym c.requires.ceilings in
     let bars : c.in_ok-bars.bars.items ≡ c.args.ceilings.now = search rules in
     let ceilings : c.in_ok-ceilings.ceilings.items ≡ c.args.ceilings.now = search rules in
-    let marked : c.in_ok-marked.marked.items ≡ replicate (length c.args.ceilings.now) true = search rules in
+    let marked : c.in_ok-marked.marked ≡ replicate (length c.args.ceilings.now) true = c.in_ok-marked.ensures ∙ ap (λ n. replicate n true) count in
     let round : IsRound links c.args.ceilings.now free rows =
     round_built c.args.state.now c.args.orders.now.orders links c.args.ceilings.now free rows c.in_ok-links.ensures (rw c.marks.ensures.marks at c.marks.ensures.one_each) c.requires.ceilings c.in_ok-free.ensures c.in_ok-rows.ensures in
     rw (bars, ceilings)
-    (answers_built links c.args.ceilings.now free rows round c.in_ok-overs.overs.items c.in_ok-marked.marked.items (omega (arith, c.in_ok-overs.ensures.len)) marked c.deref-2.result.now c.deref.result.now c.deref-2.ensures.value c.deref.ensures.value
-    c.ask_marked.new.overs.items c.ask_marked.new.marked.items c.ask_marked.ensures.asked c.ask_marked.ensures.unmarked)
+    (answers_built links c.args.ceilings.now free rows round c.in_ok-overs.overs c.in_ok-marked.marked (ap length c.in_ok-overs.ensures ∙ length-replicate c.school_count-count.result None ∙ count) marked c.deref-2.result.now c.deref.result.now c.deref-2.ensures.value c.deref.ensures.value
+    c.ask_marked.new.overs c.ask_marked.new.marked c.ask_marked.ensures.asked c.ask_marked.ensures.unmarked)

@@ -1,15 +1,15 @@
-use Rattle.std.proofs.Common.{◌<◌, arith, length}
+use Rattle.std.proofs.Common.{◌∙◌, ◌<◌, arith, length}
 use Rattle.linked_demand.proofs.Rounding.{answer_within, answer_read}
 use Rattle.linked_demand.proofs.round.LinkedRound.first_over.Goals as goal
 
-pub index-requires : goal.index-requires
-index-requires c =
+pub get-requires : goal.get-requires
+get-requires c =
     let r = c.self.inside in
-    let lt : c.args.i < length r.overs.items =
-    answer_within r.links r.ceilings.items r.bars.items r.free.items r.rows.items r.overs.items r.marked.items c.args.self.now c.self.invariant c.self.view_is c.args.i c.requires in
+    let lt : c.args.i < length r.overs =
+    answer_within r.links r.ceilings.items r.bars.items r.free.items r.rows.items r.overs r.marked c.args.self.now c.self.invariant c.self.view_is c.args.i c.requires in
     omega arith
 
 pub returns : goal.returns
 returns c =
     let r = c.self.inside in
-    answer_read r.links r.ceilings.items r.bars.items r.free.items r.rows.items r.overs.items r.marked.items c.args.self.now c.self.invariant c.self.view_is c.args.i c.index.result.now c.requires c.index.ensures
+    c.get.ensures ∙ answer_read r.links r.ceilings.items r.bars.items r.free.items r.rows.items r.overs r.marked c.args.self.now c.self.invariant c.self.view_is c.args.i c.requires

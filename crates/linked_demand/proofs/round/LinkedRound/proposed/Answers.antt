@@ -31,8 +31,8 @@ returns c =
     let places : c.loop-wish.places.items ≡ proposed seen.state seen.orders seen.bars =
     c.loop-wish.invariant
     ∙ ap (λ (n : ℕ). filter (is_proposed_in seen) (range_with_len 0 n)) all
-    ∙ all_seen r.links r.ceilings.items r.bars.items r.free.items r.rows.items r.overs.items r.marked.items seen c.self.invariant c.self.view_is in
+    ∙ all_seen r.links r.ceilings.items r.bars.items r.free.items r.rows.items r.overs r.marked seen c.self.invariant c.self.view_is in
     record {
       places = places;
-      offers = places ∙ offers_seen r.links r.ceilings.items r.bars.items r.free.items r.rows.items r.overs.items r.marked.items seen c.self.invariant c.self.view_is;
+      offers = places ∙ offers_seen r.links r.ceilings.items r.bars.items r.free.items r.rows.items r.overs r.marked seen c.self.invariant c.self.view_is;
     }

@@ -11,7 +11,7 @@ use Rattle.linked_demand.proofs.round.LinkedRoundFalling.names.Goals as goal
 pub demands_in-requires : goal.demands_in-requires
 demands_in-requires c =
     let r = c.self.inside in
-    let within = seen_within_bars r.links r.ceilings.items r.bars.items r.free.items r.rows.items r.overs.items r.marked.items c.args.self.now c.self.invariant c.self.view_is c.args.i c.requires in
+    let within = seen_within_bars r.links r.ceilings.items r.bars.items r.free.items r.rows.items r.overs r.marked c.args.self.now c.self.invariant c.self.view_is c.args.i c.requires in
     scan_waits r.links r.bars.items r.free.items r.rows.items r.ceilings.items c.args.self.now c.self.invariant.round c.self.view_is c.args.i within
     c.index.result.now c.index.ensures c.deref.result.now c.deref.ensures.value
 
@@ -22,8 +22,8 @@ returns c =
     let i = c.args.i in
     let upto = c.args.upto in
     let bars = bar_each seen.ceilings seen.bars in
-    let within = bar_within r.links r.ceilings.items r.bars.items r.free.items r.rows.items r.overs.items r.marked.items seen c.self.invariant c.self.view_is i c.requires in
-    let same : bars ≡ seen.bars = bars_seen r.links r.ceilings.items r.bars.items r.free.items r.rows.items r.overs.items r.marked.items seen c.self.invariant c.self.view_is in
+    let within = bar_within r.links r.ceilings.items r.bars.items r.free.items r.rows.items r.overs r.marked seen c.self.invariant c.self.view_is i c.requires in
+    let same : bars ≡ seen.bars = bars_seen r.links r.ceilings.items r.bars.items r.free.items r.rows.items r.overs r.marked seen c.self.invariant c.self.view_is in
     let demands : c.deref-2.result.now ≡ demands_of seen.state seen.orders bars i =
     c.deref-2.ensures.value ∙ c.in_ok-demands.ensures
     ∙ demands_right r.links r.bars.items r.free.items r.rows.items c.self.invariant.round i within c.index.result.now c.index.ensures c.deref.result.now c.deref.ensures.value

@@ -1,0 +1,72 @@
+use Rattle.std.proofs.Common.{◌≡◌, ℕ, ◌<◌, Bool, true, false, not, List, length, arith, refl, sym, ◌∙◌, ap, subst}
+use Rattle.std.proofs.Math.Bool.{beq}
+use Rattle.std.proofs.lemmas.Bool.{false≢true}
+use Rattle.std.specs.List.Sorted.{IsNonDecreasing}
+use Rattle.linked_demand.proofs.Answered.{was_answered, listed_rises, still_listed, room_for_one, one_listed, listed_within, one_dropped}
+use Rattle.linked_demand.proofs.overs.Overs.put.Goals as goal
+use Rattle.linked_demand.proofs.overs.Overs.put.Goals.{then-is_over-was_over+then-is_over, then-is_over-was_over+else-is_over, else-is_over-was_over}
+
+turned : (a b : Bool) → not (beq a b) ≡ true → b ≡ not a
+turned true true t = absurd (false≢true t)
+turned true false t = refl
+turned false true t = refl
+turned false false t = absurd (false≢true t)
+
+kept : (a b : Bool) → not (beq a b) ≡ false → a ≡ b
+kept true true t = refl
+kept true false t = absurd (false≢true (sym t))
+kept false true t = absurd (false≢true (sym t))
+kept false false t = refl
+
+pub place_of-at-requires : goal.place_of-at-requires
+place_of-at-requires c =
+    let P = λ (ks : List ℕ). IsNonDecreasing ks in
+    subst P (sym c.deref.ensures.value) (listed_rises c.self.inside.ranks.items c.self.inside.overfilled.items _ c.self.invariant)
+
+pub unwrap-requires : goal.unwrap-requires
+unwrap-requires c =
+    let ranks = c.self.inside.ranks.items in
+    let lt : c.args.place < length ranks = omega (arith, c.requires, ap length c.self.view_is) in
+    let was = was_answered ranks c.args.place c.index.result.now c.is_some-was_over.result lt c.index.ensures c.is_some-was_over.ensures in
+    let none = was ∙ turned c.is_some-is_over.result c.is_some-was_over.result c.if-is_over-was_over.true ∙ ap not c.if-is_over.true in
+    c.insert.ensures.succeeds (omega (
+      arith,
+      room_for_one ranks c.self.inside.overfilled.items _ c.self.invariant c.args.place c.args.rank lt c.deref.result.now c.deref.ensures.value c.place_of-at.result c.place_of-at.ensures.within c.place_of-at.ensures.point none,
+      c.deref.ensures.len,
+      ap length c.deref.ensures.value,
+    ))
+
+pub remove-requires : goal.remove-requires
+remove-requires c =
+    let ranks = c.self.inside.ranks.items in
+    let lt : c.args.place < length ranks = omega (arith, c.requires, ap length c.self.view_is) in
+    let was = was_answered ranks c.args.place c.index.result.now c.is_some-was_over.result lt c.index.ensures c.is_some-was_over.ensures in
+    let some = was ∙ turned c.is_some-is_over.result c.is_some-was_over.result c.if-is_over-was_over.true ∙ ap not c.if-is_over.false in
+    omega (
+      arith,
+      listed_within ranks c.self.inside.overfilled.items _ c.self.invariant c.args.place c.args.rank lt c.deref.result.now c.deref.ensures.value c.place_of-at.result c.place_of-at.ensures.within c.place_of-at.ensures.point some,
+      c.deref.ensures.len,
+      ap length c.deref.ensures.value,
+    )
+
+pub invariant_of-self : goal.invariant_of-self
+invariant_of-self c =
+    let ranks = c.self.inside.ranks.items in
+    let places = c.self.inside.overfilled.items in
+    let lt : c.args.place < length ranks = omega (arith, c.requires, ap length c.self.view_is) in
+    let was = was_answered ranks c.args.place c.index.result.now c.is_some-was_over.result lt c.index.ensures c.is_some-was_over.ensures in
+    elim c.if-is_over-was_over.branch [
+      | then-is_over-was_over+then-is_over w ↦
+          let none = was ∙ turned c.is_some-is_over.result c.is_some-was_over.result w.if-is_over-was_over.true ∙ ap not w.if-is_over.true in
+          rw w.self-inside-is
+          (one_listed ranks places _ c.self.invariant c.args.place c.args.rank lt w.deref.result.now w.deref.ensures.value w.place_of-at.result w.place_of-at.ensures.within w.place_of-at.ensures.point none
+          (sym c.is_some-is_over.ensures ∙ w.if-is_over.true) w.insert.new.self.items _ (w.insert.ensures.items ∙ rw w.unwrap.ensures refl) w.insert.ensures.capacity)
+      | then-is_over-was_over+else-is_over w ↦
+          let some = was ∙ turned c.is_some-is_over.result c.is_some-was_over.result w.if-is_over-was_over.true ∙ ap not w.if-is_over.false in
+          rw w.self-inside-is
+          (one_dropped ranks places _ c.self.invariant c.args.place c.args.rank lt w.deref.result.now w.deref.ensures.value w.place_of-at.result w.place_of-at.ensures.within w.place_of-at.ensures.point some
+          (sym c.is_some-is_over.ensures ∙ w.if-is_over.false) w.remove.new.self.items _ w.remove.ensures.items (omega (arith, w.remove.ensures.capacity)))
+      | else-is_over-was_over w ↦
+          rw w.self-inside-is
+          (still_listed ranks places _ c.self.invariant c.args.place c.args.rank lt (sym c.is_some-is_over.ensures ∙ kept c.is_some-is_over.result c.is_some-was_over.result w.if-is_over-was_over.false ∙ sym was))
+    ]
