@@ -39,9 +39,6 @@ and_none false = refl
 pub read_range : {X : Type 0} (f : ℕ → X) (n p : ℕ) (xs : List X) (x : X) → xs ≡ map f (range_with_len 0 n) → p < n → x ≡ get_or xs p x → x ≡ f p
 read_range f n p xs x is lt read = read ∙ ap (λ ys. get_or ys p x) is ∙ get_or-map-range_with_len f 0 n p p x lt (omega arith)
 
-pub read_map : {X : Type 0} (f : ℕ → X) (ns : List ℕ) (x : X) (k : ℕ) (ys : List X) → ys ≡ map f ns → k < length ns → x ≡ get_or ys k x → x ≡ f (get_or ns k 0)
-read_map f ns x k ys is lt read = read ∙ ap (λ zs. get_or zs k x) is ∙ get_or-map f ns k 0 x lt
-
 -- whether a wish of the claim is open
 pub any_of_claim : (t : Wish × Mark → Bool) (es : List (Wish × Mark)) (a : ℕ) (opens : List Bool) → a + length es ≤ length opens
     → list_any (λ v. get_or opens v false) (map (λ x. x.0) (filter (λ x. t x.1) (enumerate_from a es))) ≡ list_any (λ (x : (Wish × Mark) × Bool). t x.0 && x.1) (zip es (drop a opens))
@@ -144,11 +141,14 @@ module _ {s : State} {orders : List CallOrder} {opens : List Bool} {lines : List
 
   -- the claim that is read is that of the wish
   pub claim_right : (place : ℕ) → IsSeatPlace s orders w place → (row : List (List ℕ)) → row ≡ get_or claims w.programme row
-      → (claim : List ℕ) → claim ≡ get_or row place claim → claim ≡ claim_of s w.programme w.candidate
+      → (claim : List ℕ) → claim ≡ get_or row place [] → claim ≡ claim_of s w.programme w.candidate
   claim_right place at row row_read claim claim_read =
       let row_is : row ≡ map (claim_of s w.programme) (line_of s orders w.programme) =
       read_range (λ p. map (claim_of s p) (line_of s orders p)) (length s.dossier.programmes) w.programme claims row k.links.claims_are programme_within row_read in
-      read_map (claim_of s w.programme) (line_of s orders w.programme) claim place row row_is at.within claim_read ∙ ap (claim_of s w.programme) at.here
+      claim_read
+      ∙ ap (λ (r : List (List ℕ)). get_or r place []) row_is
+      ∙ get_or-map (claim_of s w.programme) (line_of s orders w.programme) place 0 [] at.within
+      ∙ ap (claim_of s w.programme) at.here
 
   pub claim_below : All (λ v. v < length opens) (claim_of s w.programme w.candidate)
   claim_below =
@@ -254,11 +254,11 @@ module _ {s : State} {orders : List CallOrder} {opens : List Bool} {lines : List
   lines_each = ap length k.links.lines_are ∙ length-map-range_with_len (seat_row s orders opens) 0 (length s.dossier.programmes)
 
   -- the row that is read has the place
-  pub row_within : (place : ℕ) → IsSeatPlace s orders w place → (row rows : List (List ℕ)) → row ≡ get_or claims w.programme row → rows ≡ row → place < length rows
-  row_within place at row rows read same =
+  pub row_within : (place : ℕ) → IsSeatPlace s orders w place → (row : List (List ℕ)) → row ≡ get_or claims w.programme row → place < length row
+  row_within place at row read =
       let row_is : row ≡ map (claim_of s w.programme) (line_of s orders w.programme) =
       read_range (λ p. map (claim_of s p) (line_of s orders p)) (length s.dossier.programmes) w.programme claims row k.links.claims_are programme_within read in
-      omega (arith, at.within, ap length row_is, ap length same, length-map (line_of s orders w.programme) (claim_of s w.programme))
+      omega (arith, at.within, ap length row_is, length-map (line_of s orders w.programme) (claim_of s w.programme))
 
   -- the line that is read has the place
   pub line_within : (place : ℕ) → IsSeatPlace s orders w place → (line : LineRow) → line ≡ get_or lines w.programme line → place < length line.flags

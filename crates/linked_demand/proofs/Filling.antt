@@ -1,20 +1,18 @@
 -- The rows that are filled in order by rank are those of the schools.
-use Rattle.std.proofs.Common.{ℕ, zero, suc, ◌+◌, ◌≤◌, ◌<◌, ◌≡◌, Bool, true, not, ◌&&◌, List, [], ◌∷◌, ◌++◌, map, length, take, get_or, inl, inr, refl, sym, ◌∙◌, ap, arith, nat_eq, nat_le, filter, Option, Some, None, unwrap_or, zip, subst, zero-add, Vec}
-use Rattle.std.specs.Prelude.{◌⊎◌, slice_get, slice_index, All, if◌then◌else◌}
+use Rattle.std.proofs.Common.{ℕ, zero, suc, ◌+◌, ◌≤◌, ◌<◌, ◌≡◌, Bool, true, not, ◌&&◌, List, [], ◌∷◌, map, length, take, get_or, inl, inr, refl, sym, ◌∙◌, ap, arith, nat_eq, nat_le, filter, Option, Some, None, unwrap_or, zip, subst, zero-add, Vec}
+use Rattle.std.specs.Prelude.{slice_get, slice_index, All}
 use Rattle.std.specs.Option.{is_some}
 use Rattle.std.specs.List.{range_with_len, AllByRecursion}
 use Rattle.std.specs.List.Sorted.{IsPermutation, IsNonDecreasingBy, IsStableByKey}
 use Rattle.std.specs.Ordering.{nat_cmp}
 use Rattle.std.specs.declared.alloc.Global.{Global}
-use Rattle.std.proofs.Math.ListN.{set}
-use Rattle.std.proofs.lemmas.Bool.{cases_Bool, cases_eq, false≢true, eqb-true, eq-eqb, ne_eqb, and_parts, and_from, leb-true, le-leb, or_cases}
-use Rattle.std.proofs.lemmas.List.{length-set, length-append}
+use Rattle.std.proofs.lemmas.Bool.{cases_Bool, false≢true, eqb-true, eq-eqb, and_parts, and_from, leb-true, le-leb, or_cases}
 use Rattle.std.proofs.lemmas.List.Folds.{list_any_at}
 use Rattle.std.proofs.lemmas.List.FromFn.{length-range_with_len, get_or-range_with_len}
 use Rattle.std.proofs.lemmas.List.Kept.{IsNonDecreasingBy-filter}
 use Rattle.std.proofs.lemmas.List.Sorted.{list_any-IsPermutation, All-permutation}
 use Rattle.std.proofs.lemmas.List.Elements.{All-from_recursion}
-use Rattle.std.proofs.lemmas.Option.{slice_get_within, slice_get_read}
+use Rattle.std.proofs.lemmas.Option.{slice_get_within}
 use Rattle.admit_core.specs.declared.dossier.Wish.{Wish}
 use Rattle.admit_core.specs.declared.state.Mark.{Mark}
 use Rattle.admit_core.specs.Lists.{is_among}
@@ -22,15 +20,14 @@ use Rattle.admit_core.proofs.Tests.{Ascends}
 use Rattle.day_state.proofs.Ordering.{stable_own}
 use Rattle.admit_core.specs.State.{State, is_waiting, holds_bed, is_school}
 use Rattle.day_state.specs.Kept.{mark_in, wish_in}
-use Rattle.demand.proofs.Ranking.{picked, passed_over}
 use Rattle.linked_demand.specs.declared.rows.RowWish.{RowWish}
 use Rattle.linked_demand.specs.Rows.{WaitsFor, IsRow, AreRows}
-use Rattle.linked_demand.specs.Filled.{waits_with_school, row_school, is_in_row, rank_in, row_wish, row_among, AreFilled, IsPutIn, AreEmpty, AreByRank}
+use Rattle.linked_demand.specs.Filled.{waits_with_school, row_school, is_in_row, rank_in, row_wish, row_among, AreFilled, AreByRank}
+use Rattle.linked_demand.specs.Keyed.{IsPutIn}
 use Rattle.linked_demand.proofs.Closing.{wish_of}
-use Rattle.linked_demand.proofs.Keeping.{add_none}
+use Rattle.linked_demand.proofs.Keyed.{rows_more}
 use Rattle.linked_demand.proofs.PlaceOrder.{InPlaceOrder, in_order_from, filter_in_order, in_place_order, ascends-filter, ascends-range}
 use Rattle.linked_demand.proofs.Lining.{all_get}
-use Rattle.linked_demand.proofs.RoundFalls.{get_set_here, get_set_other}
 
 -- a wish stands in the row of a school where it waits for it, its candidate has no bed there, and it ranks at most at the bar
 record StandsIn (s : State) (bars : List ℕ) (h : ℕ) (w : Wish) (m : Mark) (school : Option ℕ) : Type 0 where
@@ -215,71 +212,14 @@ rows_right s bars places rows long by_rank filled = record {
   each = λ h row at. let P = λ (xs : List RowWish). IsRow s bars h xs in subst P (sym (filled.each h row at)) (row_right s bars h places long by_rank);
 }
 
--- empty rows, and one more
-get_push : {X : Type 0} (xs : List X) (x y : X) (h : ℕ) → slice_get (xs ++ x ∷ []) h ≡ Some y → (slice_get xs h ≡ Some y) ⊎ (x ≡ y)
-get_push [] x y zero at = inr (ap (λ o. unwrap_or o x) at)
-get_push [] x y (suc h) at = absurd (omega (arith, slice_get_within (x ∷ []) (suc h) y at))
-get_push (z ∷ xs) x y zero at = inl at
-get_push (z ∷ xs) x y (suc h) at = get_push xs x y h at
-
-pub empty_none : AreEmpty 0 []
-empty_none = record { as_many = refl; each = λ h row at. absurd (omega (arith, slice_get_within {A = Vec RowWish Global} [] h row at)) }
-
-pub empty_more : (n : ℕ) (rows : List (Vec RowWish Global)) (row : Vec RowWish Global) → AreEmpty n rows → row.items ≡ [] → AreEmpty (n + 1) (rows ++ row ∷ [])
-empty_more n rows row are none = record {
-  as_many = omega (arith, length-append rows (row ∷ []), are.as_many);
-  each = λ h other at. elim (get_push rows row other h at) [
-    | inl before ↦ are.each h other before
-    | inr last ↦ ap (λ (v : Vec RowWish Global). v.items) (sym last) ∙ none
-  ];
-}
-
-pub put_nowhere : (x : RowWish) (rows : List (Vec RowWish Global)) → IsPutIn None x rows rows
-put_nowhere x rows = record { as_many = refl; each = λ h row at. (row, at, add_none row.items) }
-
-pub put_somewhere : (g : ℕ) (x : RowWish) (rows : List (Vec RowWish Global)) (before after : Vec RowWish Global) → g < length rows → before ≡ get_or rows g before
-    → after.items ≡ before.items ++ x ∷ [] → IsPutIn (Some g) x rows (set rows g after)
-put_somewhere g x rows before after lt read pushed = record {
-  as_many = length-set rows g after;
-  each = λ h row at. elim (cases_eq h g) [
-    | inl here ↦
-        let is : after ≡ row = get_set_here rows g after row (rw here at at) in
-        let found : slice_get rows h ≡ Some before = rw here (slice_get_read rows (length rows) g before refl lt read) in
-        let items : row.items ≡ before.items ++ (if nat_eq g h then x ∷ [] else []) = rw (eq-eqb g h (sym here)) (ap (λ (v : Vec RowWish Global). v.items) (sym is) ∙ pushed) in
-        (before, found, items)
-    | inr other ↦
-        let items : row.items ≡ row.items ++ (if nat_eq g h then x ∷ [] else []) = rw (ne_eqb g h (λ e. other (sym e))) (add_none row.items) in
-        (row, get_set_other rows g h after row other at, items)
-  ];
-}
-
+-- one more wish, put into the row of its school
 pub filled_more : (s : State) (bars places : List ℕ) (i p : ℕ) (school : Option ℕ) (x : RowWish) (rows new : List (Vec RowWish Global)) → i < length places → p ≡ get_or places i 0
     → school ≡ row_school s bars (wish_in s.dossier.wishes p) (mark_in s.marks p) (wish_in s.dossier.wishes p).school → x ≡ row_wish s.dossier.wishes p
-    → AreFilled s bars (take i places) rows → IsPutIn school x rows new → AreFilled s bars (take (i + 1) places) new
+    → AreFilled s bars (take i places) rows → IsPutIn (is_school school) x rows new → AreFilled s bars (take (i + 1) places) new
 filled_more s bars places i p school x rows new lt p_is school_is x_is filled put =
     let ws = s.dossier.wishes in
-    record {
-      one_each = put.as_many ∙ filled.one_each;
-      each = λ h row at.
-          let (before, found, is) = put.each h row at in
-          let was = filled.each h before found in
-          let q = is_in_row s bars h in
-          let f = row_wish ws in
-          let here : is_school school h ≡ q (get_or places i 0) = ap (λ (o : Option ℕ). is_school o h) school_is ∙ ap q p_is in
-          let item : x ≡ f (get_or places i 0) = x_is ∙ ap f p_is in
-          is
-          ∙ ap (λ (ys : List RowWish). ys ++ (if is_school school h then x ∷ [] else [])) was
-          ∙ elim (cases_Bool (q (get_or places i 0))) [
-            | inl passes ↦
-                ap (λ b. map f (filter q (take i places)) ++ (if b then x ∷ [] else [])) (here ∙ passes)
-                ∙ ap (λ (y : RowWish). map f (filter q (take i places)) ++ y ∷ []) item
-                ∙ sym (picked q f places i lt passes)
-            | inr fails ↦
-                ap (λ b. map f (filter q (take i places)) ++ (if b then x ∷ [] else [])) (here ∙ fails)
-                ∙ sym (add_none (map f (filter q (take i places))))
-                ∙ sym (passed_over q f places i lt fails)
-          ];
-    }
+    rows_more (row_wish ws) (is_in_row s bars) (length s.dossier.schools) places i (is_school school) x rows new lt
+    (λ h. ap (λ (o : Option ℕ). is_school o h) school_is ∙ ap (is_in_row s bars h) p_is) (x_is ∙ ap (row_wish ws) p_is) filled put
 
 -- places in order by rank
 pub by_rank : (s : State) (wishes : List Wish) (places sorted : List ℕ) → wishes ≡ s.dossier.wishes

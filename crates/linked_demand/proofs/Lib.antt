@@ -1,6 +1,7 @@
 pub mod Asked
 pub mod Asking
 pub mod BarEach
+pub mod ClaimSpans
 pub mod Closing
 pub mod Counting
 pub mod Cutting
@@ -8,6 +9,7 @@ pub mod Demanded
 pub mod Falling
 pub mod Filling
 pub mod Keeping
+pub mod Keyed
 pub mod Lining
 pub mod Lowered
 pub mod Marking

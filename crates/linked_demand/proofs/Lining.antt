@@ -35,7 +35,7 @@ numbered t f (suc n) a =
       | inr fails ↦ rw fails later
     ]
 
-filter_twice : {X : Type 0} (p q : X → Bool) (xs : List X) → filter p (filter q xs) ≡ filter (λ x. q x && p x) xs
+pub filter_twice : {X : Type 0} (p q : X → Bool) (xs : List X) → filter p (filter q xs) ≡ filter (λ x. q x && p x) xs
 filter_twice p q [] = refl
 filter_twice {X} p q (x ∷ xs) =
     let later = filter_twice p q xs in

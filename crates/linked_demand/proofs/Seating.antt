@@ -2,7 +2,7 @@
 use Rattle.std.proofs.Common.{ℕ, zero, suc, ◌+◌, ◌<◌, ◌≡◌, Bool, true, false, ◌&&◌, ◌||◌, List, [], ◌∷◌, ◌++◌, map, length, take, get_or, inl, inr, refl, sym, ◌∙◌, ap, arith, nat_eq, nat_lt, filter, Option, Some, unwrap_or, subst}
 use Rattle.std.specs.Prelude.{slice_get, option_map, All, if◌then◌else◌}
 use Rattle.std.specs.List.{range_with_len, IsDistinct}
-use Rattle.std.proofs.lemmas.Bool.{cases_Bool, cases_lt, false≢true, eqb-true, eq-eqb, ltb-true, lt-ltb, or_left, or_right, and_parts, and_from}
+use Rattle.std.proofs.lemmas.Bool.{cases_Bool, cases_lt, false≢true, eqb-true, eq-eqb, ltb-true, lt-ltb, or_left, or_right, or_cases, and_parts, and_from}
 use Rattle.std.proofs.lemmas.List.FromFn.{map-range_with_len_more}
 use Rattle.std.proofs.lemmas.Option.{slice_get_within}
 use Rattle.admit_core.specs.declared.dossier.Wish.{Wish}
@@ -25,6 +25,7 @@ use Rattle.linked_demand.specs.Opens.{waits_in, wants_by, line_of, seat_row}
 use Rattle.linked_demand.specs.Seats.{PutAt, AreSeated, is_below, is_passed}
 use Rattle.linked_demand.proofs.Closing.{wish_of}
 use Rattle.linked_demand.proofs.Lining.{among_claim, among_some, waits_claim, placed, need_at}
+use Rattle.day_state.proofs.Ordering.{filter_none}
 
 -- what holds of those who are done holds of fewer
 pub seated_by : (s : State) (orders : List CallOrder) (old new : ℕ → ℕ → Bool) (places : List ℕ) (sure : List Bool)
@@ -117,6 +118,23 @@ module _ (s : State) (orders : List CallOrder) (n : ℕ) (order : List ℕ) (i x
           | inr other ↦ put_sure j w m at ∙ ap (λ b. if b then is_sure else get_or sure j false) other ∙ are.need j w m at (was_done w t other)
         ];
       }
+
+-- where nobody waits for a programme all of its order are done
+pub seated_nobody : (s : State) (orders : List CallOrder) (n : ℕ) (order : List ℕ) (places : List ℕ) (sure : List Bool) → ((c : ℕ) → nat_lt 0 (length (claim_of s n c)) ≡ false)
+    → AreSeated s orders (is_below n) places sure → AreSeated s orders (is_passed n order) places sure
+seated_nobody s orders n order places sure none are =
+    seated_by s orders (is_below n) (is_passed n order) places sure
+    (λ i w m at t. elim (or_cases (nat_lt w.programme n) (nat_eq w.programme n && is_among w.candidate order) t) [
+      | inl below ↦ below
+      | inr here ↦
+          let same = (and_parts (nat_eq w.programme n) (is_among w.candidate order) here).0 in
+          let among : is_among i (claim_of s n w.candidate) ≡ true =
+          among_claim s n w.candidate i w m at ∙ and_from (nat_eq w.candidate w.candidate) (nat_eq w.programme n) (eq-eqb w.candidate w.candidate refl) same in
+          absurd (false≢true (sym (none w.candidate) ∙ among_some i (claim_of s n w.candidate) among))
+    ]) are
+
+pub nobody_waits : (s : State) (n : ℕ) (order : List ℕ) → ((c : ℕ) → nat_lt 0 (length (claim_of s n c)) ≡ false) → filter (waits_in s n) order ≡ []
+nobody_waits s n order none = filter_none (waits_in s n) order (λ k d lt. waits_claim s n (get_or order k d) ∙ none (get_or order k d))
 
 -- the programmes that are gone through
 pub record IsBuilt (s : State) (orders : List CallOrder) (opens : List Bool) (n : ℕ) (lines : List LineRow) (claims : List (List (List ℕ))) (places : List ℕ) (sure : List Bool) : Type 0 where

@@ -1,10 +1,10 @@
 -- What one closing counts and marks.
-use Rattle.std.proofs.Common.{ℕ, ◌+◌, ◌<◌, ◌≡◌, Bool, true, false, not, ◌&&◌, List, map, length, refl, sym, ◌∙◌, ap, arith, get_or, Option, Some, None, count_by, subst, nat_eq}
+use Rattle.std.proofs.Common.{ℕ, ◌+◌, ◌<◌, ◌≡◌, Bool, true, false, not, ◌&&◌, List, [], map, length, refl, sym, ◌∙◌, ap, arith, get_or, Option, Some, None, count_by, subst, nat_eq}
 use Rattle.std.specs.Prelude.{slice_get, All}
 use Rattle.std.proofs.Math.ListN.{set}
 use Rattle.std.specs.List.{list_any, enumerate_from}
 use Rattle.std.proofs.lemmas.Bool.{and_left, and_parts}
-use Rattle.std.proofs.lemmas.List.{length-map}
+use Rattle.std.proofs.lemmas.List.{get_or-map, length-map}
 use Rattle.std.proofs.lemmas.List.Elements.{All-from_recursion}
 use Rattle.admit_core.specs.declared.dossier.Wish.{Wish}
 use Rattle.admit_core.specs.declared.state.Mark.{Mark}
@@ -18,7 +18,7 @@ use Rattle.linked_demand.specs.Opens.{flagged, is_flagged_in, wants_by, line_of,
 use Rattle.linked_demand.specs.Links.{LinksRow, IsSeatPlace, claim_of, WaitsAt}
 use Rattle.linked_demand.specs.Demand.{is_proposed_at}
 use Rattle.linked_demand.specs.Marks.{is_new, is_fresh, MarksSchools}
-use Rattle.linked_demand.proofs.Closing.{Closes, line_right, row_is, row_kept, any_right, read_range, read_map, programme_within, places_below, length_entries}
+use Rattle.linked_demand.proofs.Closing.{Closes, line_right, row_is, row_kept, any_right, read_range, programme_within, places_below, length_entries}
 use Rattle.linked_demand.proofs.Counting.{count_claim, count_nothing}
 use Rattle.linked_demand.proofs.Filling.{entry_is}
 use Rattle.linked_demand.proofs.Lining.{among_claim}
@@ -77,13 +77,15 @@ module _ {s : State} {orders : List CallOrder} {opens : List Bool} {lines : List
   row_read : (row : List (List ℕ)) → row ≡ get_or claims w.programme row → row ≡ map (claim_of s w.programme) (line_of s orders w.programme)
   row_read row got = read_range (λ p. map (claim_of s p) (line_of s orders p)) (length s.dossier.programmes) w.programme claims row k.links.claims_are (programme_within k) got
 
-  pub next_in_row : (row rows : List (List ℕ)) → row ≡ get_or claims w.programme row → rows ≡ row → next < length rows
-  next_in_row row rows got same =
-      omega (arith, next_in_line, ap length (row_read row got), ap length same, length-map (line_of s orders w.programme) (claim_of s w.programme))
+  pub next_in_row : (row : List (List ℕ)) → row ≡ get_or claims w.programme row → next < length row
+  next_in_row row got = omega (arith, next_in_line, ap length (row_read row got), length-map (line_of s orders w.programme) (claim_of s w.programme))
 
-  pub next_claim : (row rows : List (List ℕ)) → row ≡ get_or claims w.programme row → rows ≡ row → (claim : List ℕ) → claim ≡ get_or rows next claim
+  pub next_claim : (row : List (List ℕ)) → row ≡ get_or claims w.programme row → (claim : List ℕ) → claim ≡ get_or row next []
       → claim ≡ claim_of s w.programme (get_or (line_of s orders w.programme) next 0)
-  next_claim row rows got same claim claim_got = read_map (claim_of s w.programme) (line_of s orders w.programme) claim next rows (same ∙ row_read row got) next_in_line claim_got
+  next_claim row got claim claim_got =
+      claim_got
+      ∙ ap (λ (r : List (List ℕ)). get_or r next []) (row_read row got)
+      ∙ get_or-map (claim_of s w.programme) (line_of s orders w.programme) next 0 [] next_in_line
 
 pub claim_fits : {s : State} {orders : List CallOrder} {opens : List Bool} {lines : List LineRow} {claims : List (List (List ℕ))} {places : List ℕ} {sure : List Bool} {i : ℕ} {w : Wish}
     → Closes s orders opens lines claims places sure i w → (p c : ℕ) (claim : List ℕ) → claim ≡ claim_of s p c → (n : ℕ) → n ≡ length s.dossier.wishes → All (λ v. v < n) claim

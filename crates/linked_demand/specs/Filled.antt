@@ -1,5 +1,5 @@
 -- The rows of the schools, filled from the wishes that wait with a school, in order by rank.
-use Rattle.std.specs.Prelude.{◌≡◌, ℕ, ◌<◌, Bool, not, ◌&&◌, List, [], ◌∷◌, ◌++◌, length, map, filter, nat_le, Option, Some, None, slice_get, slice_index, All, if◌then◌else◌, Vec}
+use Rattle.std.specs.Prelude.{◌<◌, ℕ, Bool, not, ◌&&◌, List, length, map, filter, nat_le, Option, Some, None, slice_index, All, if◌then◌else◌, Vec}
 use Rattle.std.specs.Option.{is_some}
 use Rattle.std.specs.List.{range_with_len}
 use Rattle.std.specs.List.Sorted.{IsPermutation, IsNonDecreasingBy, IsStableByKey}
@@ -10,6 +10,7 @@ use Rattle.admit_core.specs.declared.dossier.Wish.{Wish}
 use Rattle.admit_core.specs.declared.state.Mark.{Mark}
 use Rattle.admit_core.specs.State.{State, is_waiting, holds_bed, is_school}
 use Rattle.linked_demand.specs.declared.rows.RowWish.{RowWish}
+use Rattle.linked_demand.specs.Keyed.{AreRowsOf}
 
 -- the wish at a place waits, and has a school
 abbrev pub waits_with_school : State → ℕ → Bool
@@ -35,22 +36,8 @@ abbrev pub row_among : State → List ℕ → List ℕ → ℕ → List RowWish
 row_among s bars places h = map (row_wish s.dossier.wishes) (filter (is_in_row s bars h) places)
 
 -- one row for each school
-pub record AreFilled (s : State) (bars places : List ℕ) (rows : List (Vec RowWish Global)) : Type 0 where
-  pub one_each : length rows ≡ length s.dossier.schools
-  pub each : (h : ℕ) (row : Vec RowWish Global) → slice_get rows h ≡ Some row → row.items ≡ row_among s bars places h
-
--- an item is put at the end of one row, if of any
-pub record IsPutIn (school : Option ℕ) (x : RowWish) (old new : List (Vec RowWish Global)) : Type 0 where
-  pub as_many : length new ≡ length old
-  pub each :
-      (h : ℕ) (row : Vec RowWish Global)
-      → slice_get new h ≡ Some row
-      → (before : Vec RowWish Global) × (slice_get old h ≡ Some before) × (row.items ≡ before.items ++ (if is_school school h then x ∷ [] else []))
-
--- empty rows
-pub record AreEmpty (n : ℕ) (rows : List (Vec RowWish Global)) : Type 0 where
-  pub as_many : length rows ≡ n
-  pub each : (h : ℕ) (row : Vec RowWish Global) → slice_get rows h ≡ Some row → row.items ≡ []
+abbrev pub AreFilled : State → List ℕ → List ℕ → List (Vec RowWish Global) → Type 0
+AreFilled s bars places rows = AreRowsOf (row_wish s.dossier.wishes) (is_in_row s bars) (length s.dossier.schools) places rows
 
 -- the places of the wishes that wait with a school, in order by rank, and those of one rank as before
 pub record AreByRank (s : State) (places : List ℕ) : Type 0 where

@@ -1,5 +1,7 @@
+pub mod Claims
 pub mod Demand
 pub mod Filled
+pub mod Keyed
 pub mod Line
 pub mod Links
 pub mod Marks

@@ -1,64 +1,84 @@
-//! The waiting wishes of one candidate in one programme.
-ghost use Rattle.std.specs.Prelude.{◌≡◌, ◌<◌, ◌&&◌, not, false, nat_lt, length, filter, All, IfOk, slice_index_or};
+//! The claims of those who wait for a programme: each candidate's waiting wishes in it.
+ghost use Rattle.std.specs.Prelude.{◌≡◌, ◌<◌, ◌≤◌, ◌^◌, ◌&&◌, [], not, true, false, nat_lt, nat_le, length, map, All, IfOk, slice_index_or};
 ghost use Rattle.std.specs.List.{list_any};
-ghost use Rattle.admit_core.specs.OwnWishes.{own_places};
-ghost use Rattle.linked_demand.specs.Links.{claim_of};
-ghost use Rattle.linked_demand.specs.Opens.{wants_by};
-ghost use Rattle.linked_demand.specs.Seats.{waits_at};
+ghost use Rattle.std.specs.List.Sorted.{IsNonDecreasingBy, IsPartitionPoint};
+ghost use Rattle.day_state.specs.Kept.{candidate_in};
+ghost use Rattle.linked_demand.specs.Claims.{IsWithin, part_of, IsSpanOf};
 
 use admit_core::OutOfMemory;
 use day_state::DayState;
-use demand::{is_waiting, mark_at, wish_at};
+use demand::wish_at;
 use std::alloc::Global;
+use std::marker::Model;
 
-/// Whether the wish at a place waits for a programme.
-fn waits_at(state: &DayState<'_>, programme: u32, place: u32) -> bool
-    requires { place < length state.now.dossier.wishes }
-    ensures { result ≡ waits_at state.now programme place }
-{
-    is_waiting(mark_at(state, place)) && wish_at(state, place).programme == programme
+/// Where in a list a claim begins and ends.
+#[derive(Clone, Copy)]
+pub struct Span {
+    pub from: u32,
+    pub to: u32,
 }
 
-/// Those of these wishes that wait for a programme.
-fn waiting_among(
+/// The part of a list that a span marks.
+pub fn part(wishes: &[u32], span: Span) -> &[u32]
+    requires { IsWithin (length wishes.now) span }
+    ensures { result.now ≡ part_of wishes.now span }
+{
+    &wishes[span.from as usize..span.to as usize]
+}
+
+/// The candidates of wishes.
+pub fn candidates_of(
     alloc: Global,
     state: &DayState<'_>,
-    programme: u32,
-    own: &[u32],
+    wishes: &[u32],
 ) -> Result<Vec<u32>, OutOfMemory>
-    requires { All (λ k. k < length state.now.dossier.wishes) own.now }
-    ensures { IfOk result (λ v. v.items ≡ filter (waits_at state.now programme) own.now) }
+    requires { All (λ k. k < length state.now.dossier.wishes) wishes.now }
+    ensures { IfOk result (λ v. v.items ≡ map (candidate_in state.now.dossier.wishes) wishes.now) }
 {
-    let mut claim = Vec::new(alloc);
-    for place in own {
-        if waits_at(state, programme, *place) {
-            claim.push(*place)?;
-        }
+    let mut candidates = Vec::with_capacity(alloc, wishes.len())?;
+    for wish in wishes {
+        candidates.push(wish_at(state, *wish).candidate)?;
     }
-    Ok(claim)
+    Ok(candidates)
 }
 
-/// A candidate's waiting wishes in a programme, by place.
-pub fn claim_of(
-    alloc: Global,
-    state: &DayState<'_>,
-    programme: u32,
-    candidate: u32,
-) -> Result<Vec<u32>, OutOfMemory>
-    ensures claim { IfOk result (λ v. v.items ≡ claim_of state.now programme candidate) }
-    ensures within { IfOk result (λ v. All (λ k. k < length state.now.dossier.wishes) v.items) }
+/// The first place in a rising list of candidates that isn't below this one.
+fn first_not_below(candidates: &[u32], candidate: u32) -> usize
+    requires { IsNonDecreasingBy (λ k. k) candidates.now }
+    ensures within { result ≤ length candidates.now }
+    ensures point { IsPartitionPoint (λ k. nat_lt k candidate ≡ true) (λ k. nat_lt k candidate ≡ false) candidates.now result }
 {
-    let _ = state.marks(); // one for each wish
-    let own = state.own_wishes(candidate);
-    let claim = waiting_among(alloc, state, programme, own)?;
-    Ok(claim)
+    candidates.partition_point(|other| *other < candidate)
 }
 
-/// Whether a claim has a wish.
-pub fn has_wish(claim: &[u32]) -> bool
-    ensures { result ≡ nat_lt 0 (length claim.now) }
+/// The first place in a rising list of candidates that is above this one, from the first place that
+/// isn't below: a candidate has few wishes in a programme.
+fn first_above(candidates: &[u32], candidate: u32, from: usize) -> usize
+    requires rises { IsNonDecreasingBy (λ k. k) candidates.now }
+    requires begins { from ≤ length candidates.now }
+    requires point { IsPartitionPoint (λ k. nat_lt k candidate ≡ true) (λ k. nat_lt k candidate ≡ false) candidates.now from }
+    ensures within { result ≤ length candidates.now }
+    ensures point { IsPartitionPoint (λ k. nat_le k candidate ≡ true) (λ k. nat_le k candidate ≡ false) candidates.now result }
 {
-    !claim.is_empty()
+    let mut to = from;
+    while to < candidates.len() && candidates[to] == candidate {
+        to += 1;
+    }
+    to
+}
+
+/// Where a candidate stands in a rising list of candidates.
+pub fn span_of(candidates: &[u32], candidate: u32) -> Span
+    requires rises { IsNonDecreasingBy (λ k. k) candidates.now }
+    requires few { length candidates.now < 2 ^ 32 }
+    ensures { IsSpanOf candidates.now candidate result }
+{
+    let from = first_not_below(candidates, candidate);
+    let to = first_above(candidates, candidate, from);
+    Span {
+        from: from as u32,
+        to: to as u32,
+    }
 }
 
 /// Whether a wish of a claim is open.
@@ -70,27 +90,44 @@ pub fn any_open(claim: &[u32], opens: &[bool]) -> bool
 }
 
 /// Whether one who has an open wish in a programme or none, and is live there or not, wants a seat.
-fn wants(has_open: bool, is_live: bool) -> bool
+pub fn wants_seat(has_open: bool, is_live: bool) -> bool
     ensures { result ≡ (has_open && not is_live) }
 {
     has_open && !is_live
 }
 
-/// Whether a candidate wants a seat of a programme, where these are his waiting wishes in it.
-pub fn wants_seat(
-    state: &DayState<'_>,
-    opens: &[bool],
-    programme: u32,
-    candidate: u32,
-    claim: &[u32],
-) -> bool
-    requires claim { claim.now ≡ claim_of state.now programme candidate }
-    requires opens { length opens.now ≡ length state.now.dossier.wishes }
-    ensures { result ≡ wants_by state.now opens.now programme candidate }
-{
-    let _ = state.marks(); // one for each wish
-    wants(
-        any_open(claim, opens),
-        state.is_live_in_programme(candidate, programme),
-    )
+/// The claims of those who stand in a line, by place: spans of the list of the wishes that wait.
+#[derive(Drop)]
+pub struct Claims {
+    wishes: Vec<u32>,
+    spans: Vec<Span>,
+}
+
+impl Model for Claims {
+    ghost use Rattle.std.specs.Prelude.{ℕ, List, length, map, All};
+    ghost use Rattle.linked_demand.specs.Claims.{IsWithin, part_of};
+
+    ghost Value = { List (List ℕ) };
+
+    ghost view = { λ c. map (part_of c.wishes.items) c.spans.items };
+
+    ghost invariant = { λ c. All (IsWithin (length c.wishes.items)) c.spans.items };
+}
+
+impl Claims {
+    /// The claims that stand in a list of wishes at these spans.
+    pub fn new(wishes: Vec<u32>, spans: Vec<Span>) -> Claims
+        requires { All (IsWithin (length wishes.items)) spans.items }
+        ensures { result ≡ map (part_of wishes.items) spans.items }
+    {
+        Claims { wishes, spans }
+    }
+
+    /// The wishes of the claim at a place.
+    pub fn at(&self, place: usize) -> &[u32]
+        requires { place < length self.now }
+        ensures { result.now ≡ slice_index_or self.now place [] }
+    {
+        part(self.wishes.as_slice(), self.spans[place])
+    }
 }

@@ -4,11 +4,12 @@ ghost use Rattle.std.specs.Option.{ForSome};
 ghost use Rattle.std.specs.List.{range_with_len};
 ghost use Rattle.std.specs.List.Sorted.{IsPermutation, IsNonDecreasingBy, IsStableByKey};
 ghost use Rattle.std.specs.Ordering.{nat_cmp};
-ghost use Rattle.admit_core.specs.State.{free_beds};
-ghost use Rattle.linked_demand.specs.Filled.{waits_with_school, row_school, rank_in, AreFilled, IsPutIn, AreEmpty, AreByRank};
+ghost use Rattle.admit_core.specs.State.{free_beds, is_school};
+ghost use Rattle.linked_demand.specs.Filled.{waits_with_school, row_school, rank_in, AreFilled, AreByRank};
+ghost use Rattle.linked_demand.specs.Keyed.{IsPutIn};
 ghost use Rattle.linked_demand.specs.Rows.{AreRows};
 
-use crate::rows::RowWish;
+use crate::rows::{RowWish, empty_rows, put_in};
 use crate::wishes::wish_count;
 use admit_core::{Mark, OutOfMemory, Wish};
 use day_state::DayState;
@@ -85,33 +86,18 @@ fn row_school(state: &DayState<'_>, bars: &[u32], wish: &Wish, mark: Mark) -> Op
     }
 }
 
-/// Empty rows.
-fn empty_rows(alloc: Global, count: usize) -> Result<Vec<Vec<RowWish>>, OutOfMemory>
-    ensures { IfOk result (λ v. AreEmpty count v.items) }
-{
-    let mut rows = Vec::new(alloc);
-    for _row in 0..count {
-        let empty = Vec::new(alloc);
-        rows.push(empty)?;
-    }
-    Ok(rows)
-}
-
 /// Puts an item at the end of the row of a school, if there is one.
-fn put_in(
+fn put_in_school(
     rows: &mut Vec<Vec<RowWish>>,
     school: Option<u32>,
     item: RowWish,
 ) -> Result<(), OutOfMemory>
     requires { ForSome school (λ h. h < length rows.old.items) }
-    ensures { OnOk result (IsPutIn school item rows.old.items rows.new.items) }
+    ensures { OnOk result (IsPutIn (is_school school) item rows.old.items rows.new.items) }
 {
     match school {
         None => Ok(()),
-        Some(school) => {
-            rows[school as usize].push(item)?;
-            Ok(())
-        }
+        Some(school) => put_in(rows, school, item),
     }
 }
 
@@ -134,7 +120,7 @@ fn fill_rows(
             rank: wish.board_rank,
             wish: *place,
         };
-        put_in(&mut rows, school, item)?;
+        put_in_school(&mut rows, school, item)?;
     }
     Ok(rows)
 }

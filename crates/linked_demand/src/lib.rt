@@ -13,6 +13,7 @@ mod over;
 mod round;
 mod rows;
 mod seats;
+mod waiting;
 mod wishes;
 
 pub use law::law_of_changes;

@@ -10,12 +10,12 @@ ghost use Rattle.admit_core.specs.declared.state.Mark.{Mark};
 ghost use Rattle.linked_demand.specs.Links.{LinksRow, WaitsAt};
 ghost use Rattle.linked_demand.specs.Demand.{is_proposed_at};
 
-use crate::claims::any_open;
+use crate::claims::{Claims, any_open};
 use crate::fresh::note_fresh;
 use crate::line::Line;
 use crate::seats::seats_of;
 use crate::wishes::wish_count;
-use admit_core::{CallOrders, OutOfMemory, Sequence, Steps};
+use admit_core::{CallOrders, OutOfMemory, Steps};
 use day_state::DayState;
 use demand::{is_open, wish_at};
 use std::alloc::Global;
@@ -51,7 +51,7 @@ pub struct SeatLinks<'a, 'd> {
     orders: &'a CallOrders,
     opens: Vec<bool>,
     lines: Vec<Line>,
-    claims: Vec<Sequence<Sequence<u32>>>,
+    claims: Vec<Claims>,
     places: Vec<usize>,
     sure: Vec<bool>,
 }
@@ -111,17 +111,17 @@ impl<'a, 'd> SeatLinks<'a, 'd> {
         let place = self.places[wish as usize];
         self.opens[wish as usize] = false;
         let claims = &self.claims[programme];
-        let claim = &claims.as_slice()[place];
-        if !any_open(claim.as_slice(), &self.opens) {
+        let claim = claims.at(place);
+        if !any_open(claim, &self.opens) {
             if let Some(next) = self.lines[programme].clear(place) {
                 let claims = &self.claims[programme];
-                let claim = &claims.as_slice()[next];
+                let claim = claims.at(next);
                 note_fresh(
                     self.state,
                     bars,
                     &self.opens,
                     &self.sure,
-                    claim.as_slice(),
+                    claim,
                     marked,
                     steps,
                 );

@@ -4,16 +4,19 @@ ghost use Rattle.std.specs.List.{IsDistinct};
 ghost use Rattle.admit_core.specs.CallOrder.{AreCallOrders};
 ghost use Rattle.admit_core.specs.Proposals.{order_of};
 ghost use Rattle.demand.specs.Called.{AreCalled};
+ghost use Rattle.linked_demand.specs.Claims.{AreWaiting};
 ghost use Rattle.linked_demand.specs.Links.{claim_of, IsLinked};
 ghost use Rattle.linked_demand.specs.Opens.{wants_by, line_of};
 ghost use Rattle.linked_demand.specs.Seats.{PutAt, AreSeated, is_below, is_passed};
 
-use crate::claims::{claim_of, has_wish, wants_seat};
+use crate::claims::{Claims, any_open, candidates_of, part, span_of, wants_seat};
 use crate::line::Line;
-use admit_core::{CallOrders, OutOfMemory, Sequence};
+use crate::waiting::waiting_by_programme;
+use admit_core::{CallOrders, OutOfMemory};
 use day_state::DayState;
 use demand::{call_everyone, limit_of, order_of, programme_count};
 use std::alloc::Global;
+use std::mem;
 use vacancies::seats_left;
 
 /// No candidate stands twice in a call order. The call does nothing.
@@ -39,11 +42,11 @@ fn note(places: &mut Vec<usize>, sure: &mut Vec<bool>, claim: &[u32], place: usi
     }
 }
 
-/// For one programme, those who wait for it in call order: their waiting wishes, and whether each
-/// wants a seat.
+/// For one programme, those who wait for it in call order: their claims, and whether each wants a
+/// seat.
 #[derive(Drop)]
 pub struct Waiting {
-    pub claims: Vec<Sequence<u32>>,
+    pub claims: Claims,
     pub wants: Vec<bool>,
 }
 
@@ -55,12 +58,14 @@ fn is_sure(is_live: bool, before: usize, limit: u32) -> bool
 }
 
 /// Goes along the call order of a programme, and notes what is known of the wishes that wait for it.
+/// Where none does, it goes nowhere.
 fn wait_for(
     alloc: Global,
     state: &DayState<'_>,
     orders: &CallOrders,
     opens: &[bool],
     programme: u32,
+    wishes: Vec<u32>,
     places: &mut Vec<usize>,
     sure: &mut Vec<bool>,
 ) -> Result<Waiting, OutOfMemory>
@@ -68,32 +73,34 @@ fn wait_for(
     requires orders { AreCalled state.now.dossier orders.now.orders }
     requires once { IsDistinct nat_eq (order_of state.now.dossier orders.now.orders programme) }
     requires opens { length opens.now ≡ length state.now.dossier.wishes }
+    requires wishes { AreWaiting state.now programme wishes.items }
     requires seated { AreSeated state.now orders.now.orders (is_below programme) places.old.items sure.old.items }
-    ensures claims { IfOk result (λ x. x.claims.items ≡ map (claim_of state.now programme) (line_of state.now orders.now.orders programme)) }
+    ensures claims { IfOk result (λ x. x.claims ≡ map (claim_of state.now programme) (line_of state.now orders.now.orders programme)) }
     ensures wants { IfOk result (λ x. x.wants.items ≡ map (wants_by state.now opens.now programme) (line_of state.now orders.now.orders programme)) }
     ensures seated { OnOk result (AreSeated state.now orders.now.orders (is_passed programme (order_of state.now.dossier orders.now.orders programme)) places.new.items sure.new.items) }
 {
     let _ = state.marks(); // one for each wish
+    let mut spans = Vec::new(alloc);
+    let mut wants = Vec::new(alloc);
+    if wishes.is_empty() {
+        let claims = Claims::new(wishes, spans);
+        return Ok(Waiting { claims, wants });
+    }
     let order = order_of(state, orders, programme);
     let limit = limit_of(state, programme);
-    let mut claims = Vec::new(alloc);
-    let mut wants = Vec::new(alloc);
+    let candidates = candidates_of(alloc, state, &wishes)?;
     for (before, candidate) in order.iter().enumerate() {
-        let claim = claim_of(alloc, state, programme, *candidate)?;
-        let own = claim.as_slice();
-        if has_wish(own) {
-            let is_live = state.is_live_in_programme(*candidate, programme);
-            note(
-                places,
-                sure,
-                own,
-                claims.len(),
-                is_sure(is_live, before, limit),
-            );
-            wants.push(wants_seat(state, opens, programme, *candidate, own))?;
-            claims.push(Sequence::from_vec(claim))?;
+        let span = span_of(&candidates, *candidate);
+        let claim = part(&wishes, span);
+        if let Some(wish) = claim.first() {
+            let is_live = state.is_live_in_its_programme(*wish);
+            let is_sure = is_sure(is_live, before, limit);
+            note(places, sure, claim, spans.len(), is_sure);
+            wants.push(wants_seat(any_open(claim, opens), is_live))?;
+            spans.push(span)?;
         }
     }
+    let claims = Claims::new(wishes, spans);
     Ok(Waiting { claims, wants })
 }
 
@@ -101,7 +108,7 @@ fn wait_for(
 #[derive(Drop)]
 pub struct Seats {
     pub lines: Vec<Line>,
-    pub claims: Vec<Sequence<Sequence<u32>>>,
+    pub claims: Vec<Claims>,
     pub places: Vec<usize>,
     pub sure: Vec<bool>,
 }
@@ -125,20 +132,23 @@ pub fn seats_of(
     let mut sure = vec![in alloc; false; count]?;
     let mut lines = Vec::new(alloc);
     let mut claims = Vec::new(alloc);
+    let mut rows = waiting_by_programme(alloc, state)?;
     let programmes = programme_count(state);
     for programme in 0..programmes {
+        let wishes = mem::replace(&mut rows[programme as usize], Vec::new(alloc));
         let waiting = wait_for(
             alloc,
             state,
             orders,
             opens,
             programme,
+            wishes,
             &mut places,
             &mut sure,
         )?;
         let left = seats_left(state, programme) as usize;
         lines.push(Line::new(waiting.wants, left))?;
-        claims.push(Sequence::from_vec(waiting.claims))?;
+        claims.push(waiting.claims)?;
     }
     Ok(Seats {
         lines,

@@ -1,12 +1,9 @@
-use Rattle.std.proofs.Common.{◌≡◌, ℕ, List, arith, ap, length, refl, sym, ◌∙◌, get_or, true, false}
+use Rattle.std.proofs.Common.{◌≡◌, ℕ, arith, ap, length, refl, sym, ◌∙◌, get_or, true, false}
 use Rattle.linked_demand.specs.Links.{LinksRow}
 use Rattle.linked_demand.specs.Opens.{line_of}
 use Rattle.linked_demand.proofs.Closing.{starts_within, closes_read, wish_within, programme_within, place_right, claim_right, claims_each, lines_each, sure_each, row_within, line_within, below_for, any_is, links_cleared, links_kept}
 use Rattle.linked_demand.proofs.Ticking.{new_none, new_some, new_kept, next_in_row, next_claim, claim_fits, told_none, told_some}
 use Rattle.linked_demand.proofs.links.SeatLinks.close.Goals as goal
-
-claim_read : (rows row : List (List ℕ)) (place : ℕ) (claim : List ℕ) → rows ≡ row → claim ≡ get_or rows place claim → claim ≡ get_or row place claim
-claim_read rows row place claim same read = read ∙ ap (λ (r : List (List ℕ)). get_or r place claim) same
 
 pub wish_at-programme-requires : goal.wish_at-programme-requires
 wish_at-programme-requires g c =
@@ -27,24 +24,18 @@ index-claims-requires g c =
     let k = closes_read c.self.invariant c.args.self.now c.self.view_is c.args.wish c.requires.waits c.wish_at-programme.result c.wish_at-programme.ensures.wish in
     omega (arith, programme_within k, claims_each k)
 
-pub offset_bounds-as_slice-place : goal.offset_bounds-as_slice-place
-offset_bounds-as_slice-place g c =
+pub at-claim-requires : goal.at-claim-requires
+at-claim-requires g c =
     let k = closes_read c.self.invariant c.args.self.now c.self.view_is c.args.wish c.requires.waits c.wish_at-programme.result c.wish_at-programme.ensures.wish in
     let at = place_right k c.index-place.result.now c.index-place.ensures in
-    omega (arith, row_within k c.index-place.result.now at c.index-claims.result.now c.as_slice.result.now c.index-claims.ensures c.as_slice.ensures, c.as_slice.type_inv)
-
-pub bounds-as_slice-place : goal.bounds-as_slice-place
-bounds-as_slice-place g c =
-    let k = closes_read c.self.invariant c.args.self.now c.self.view_is c.args.wish c.requires.waits c.wish_at-programme.result c.wish_at-programme.ensures.wish in
-    let at = place_right k c.index-place.result.now c.index-place.ensures in
-    row_within k c.index-place.result.now at c.index-claims.result.now c.as_slice.result.now c.index-claims.ensures c.as_slice.ensures
+    row_within k c.index-place.result.now at c.index-claims.result.now c.index-claims.ensures
 
 pub any_open-requires : goal.any_open-requires
 any_open-requires g c =
     let k = closes_read c.self.invariant c.args.self.now c.self.view_is c.args.wish c.requires.waits c.wish_at-programme.result c.wish_at-programme.ensures.wish in
     let at = place_right k c.index-place.result.now c.index-place.ensures in
-    let claim = c.as_slice-2.ensures ∙ claim_right k c.index-place.result.now at c.index-claims.result.now c.index-claims.ensures c.index-as_slice-place.result (claim_read c.as_slice.result.now c.index-claims.result.now c.index-place.result.now c.index-as_slice-place.result c.as_slice.ensures c.index-as_slice-place.is) in
-    below_for k c.as_slice-2.result.now claim (length c.deref.result.now) (omega (arith, c.deref.ensures.len))
+    let claim = claim_right k c.index-place.result.now at c.index-claims.result.now c.index-claims.ensures c.at-claim.result.now c.at-claim.ensures in
+    below_for k c.at-claim.result.now claim (length c.deref.result.now) (omega (arith, c.deref.ensures.len))
 
 pub index_mut-requires-then-not-any_open : goal.index_mut-requires-then-not-any_open
 index_mut-requires-then-not-any_open g c =
@@ -62,50 +53,44 @@ index-claims-requires-in-Some g c =
     let k = closes_read c.self.invariant c.args.self.now c.self.view_is c.args.wish c.requires.waits c.wish_at-programme.result c.wish_at-programme.ensures.wish in
     omega (arith, programme_within k, claims_each k)
 
-pub offset_bounds-as_slice-next : goal.offset_bounds-as_slice-next
-offset_bounds-as_slice-next g c =
+pub at-claim-requires-in-Some : goal.at-claim-requires-in-Some
+at-claim-requires-in-Some g c =
     let k = closes_read c.self.invariant c.args.self.now c.self.view_is c.args.wish c.requires.waits c.wish_at-programme.result c.wish_at-programme.ensures.wish in
     let lt = c.in-Some.ensures.place in
-    omega (arith, next_in_row k c.in-Some.next c.index_mut-then-not-any_open.result.now c.index_mut-then-not-any_open.ensures.value lt c.index-claims-in-Some.result.now c.as_slice-in-Some.result.now c.index-claims-in-Some.ensures c.as_slice-in-Some.ensures, c.as_slice-in-Some.type_inv)
-
-pub bounds-as_slice-next : goal.bounds-as_slice-next
-bounds-as_slice-next g c =
-    let k = closes_read c.self.invariant c.args.self.now c.self.view_is c.args.wish c.requires.waits c.wish_at-programme.result c.wish_at-programme.ensures.wish in
-    let lt = c.in-Some.ensures.place in
-    next_in_row k c.in-Some.next c.index_mut-then-not-any_open.result.now c.index_mut-then-not-any_open.ensures.value lt c.index-claims-in-Some.result.now c.as_slice-in-Some.result.now c.index-claims-in-Some.ensures c.as_slice-in-Some.ensures
+    next_in_row k c.in-Some.next c.index_mut-then-not-any_open.result.now c.index_mut-then-not-any_open.ensures.value lt c.index-claims-in-Some.result.now c.index-claims-in-Some.ensures
 
 pub invariant_of-self : goal.invariant_of-self
 invariant_of-self g c =
     let k = closes_read c.self.invariant c.args.self.now c.self.view_is c.args.wish c.requires.waits c.wish_at-programme.result c.wish_at-programme.ensures.wish in
     let at = place_right k c.index-place.result.now c.index-place.ensures in
-    let claim = c.as_slice-2.ensures ∙ claim_right k c.index-place.result.now at c.index-claims.result.now c.index-claims.ensures c.index-as_slice-place.result (claim_read c.as_slice.result.now c.index-claims.result.now c.index-place.result.now c.index-as_slice-place.result c.as_slice.ensures c.index-as_slice-place.is) in
-    let none = any_is k c.as_slice-2.result.now claim c.deref.result.now c.deref.ensures.value c.any_open.result false c.any_open.ensures c.if-not-any_open.true in
+    let claim = claim_right k c.index-place.result.now at c.index-claims.result.now c.index-claims.ensures c.at-claim.result.now c.at-claim.ensures in
+    let none = any_is k c.at-claim.result.now claim c.deref.result.now c.deref.ensures.value c.any_open.result false c.any_open.ensures c.if-not-any_open.true in
     links_cleared k c.index-place.result.now at c.index_mut-then-not-any_open.result.now c.clear.new.self c.index_mut-then-not-any_open.ensures.value c.clear.ensures.row none
 
 pub invariant_of-self-in_default : goal.invariant_of-self-in_default
 invariant_of-self-in_default g c =
     let k = closes_read c.self.invariant c.args.self.now c.self.view_is c.args.wish c.requires.waits c.wish_at-programme.result c.wish_at-programme.ensures.wish in
     let at = place_right k c.index-place.result.now c.index-place.ensures in
-    let claim = c.as_slice-2.ensures ∙ claim_right k c.index-place.result.now at c.index-claims.result.now c.index-claims.ensures c.index-as_slice-place.result (claim_read c.as_slice.result.now c.index-claims.result.now c.index-place.result.now c.index-as_slice-place.result c.as_slice.ensures c.index-as_slice-place.is) in
-    let none = any_is k c.as_slice-2.result.now claim c.deref.result.now c.deref.ensures.value c.any_open.result false c.any_open.ensures c.if-not-any_open.true in
+    let claim = claim_right k c.index-place.result.now at c.index-claims.result.now c.index-claims.ensures c.at-claim.result.now c.at-claim.ensures in
+    let none = any_is k c.at-claim.result.now claim c.deref.result.now c.deref.ensures.value c.any_open.result false c.any_open.ensures c.if-not-any_open.true in
     links_cleared k c.index-place.result.now at c.index_mut-then-not-any_open.result.now c.clear.new.self c.index_mut-then-not-any_open.ensures.value c.clear.ensures.row none
 
 pub invariant_of-self-else-not-any_open : goal.invariant_of-self-else-not-any_open
 invariant_of-self-else-not-any_open g c =
     let k = closes_read c.self.invariant c.args.self.now c.self.view_is c.args.wish c.requires.waits c.wish_at-programme.result c.wish_at-programme.ensures.wish in
     let at = place_right k c.index-place.result.now c.index-place.ensures in
-    let claim = c.as_slice-2.ensures ∙ claim_right k c.index-place.result.now at c.index-claims.result.now c.index-claims.ensures c.index-as_slice-place.result (claim_read c.as_slice.result.now c.index-claims.result.now c.index-place.result.now c.index-as_slice-place.result c.as_slice.ensures c.index-as_slice-place.is) in
+    let claim = claim_right k c.index-place.result.now at c.index-claims.result.now c.index-claims.ensures c.at-claim.result.now c.at-claim.ensures in
     links_kept k c.index-place.result.now at
-    (any_is k c.as_slice-2.result.now claim c.deref.result.now c.deref.ensures.value c.any_open.result true c.any_open.ensures c.if-not-any_open.false)
+    (any_is k c.at-claim.result.now claim c.deref.result.now c.deref.ensures.value c.any_open.result true c.any_open.ensures c.if-not-any_open.false)
 
 pub note_fresh-requires : goal.note_fresh-requires
 note_fresh-requires g c =
     let k = closes_read c.self.invariant c.args.self.now c.self.view_is c.args.wish c.requires.waits c.wish_at-programme.result c.wish_at-programme.ensures.wish in
     let lt = c.in-Some.ensures.place in
-    let fresh_claim = c.as_slice-in-Some-2.ensures ∙ next_claim k c.in-Some.next c.index_mut-then-not-any_open.result.now c.index_mut-then-not-any_open.ensures.value lt c.index-claims-in-Some.result.now c.as_slice-in-Some.result.now c.index-claims-in-Some.ensures c.as_slice-in-Some.ensures c.index-as_slice-next.result c.index-as_slice-next.is in
+    let fresh_claim = next_claim k c.in-Some.next c.index_mut-then-not-any_open.result.now c.index_mut-then-not-any_open.ensures.value lt c.index-claims-in-Some.result.now c.index-claims-in-Some.ensures c.at-claim-in-Some.result.now c.at-claim-in-Some.ensures in
     let schools : length c.args.self.now.state.dossier.schools ≡ length c.self.inside.state.now.dossier.schools = ap (λ (r : LinksRow). length r.state.dossier.schools) (sym c.self.view_is) in
     record {
-      claim = claim_fits k _ _ c.as_slice-in-Some-2.result.now fresh_claim (length c.self.inside.state.now.dossier.wishes) refl;
+      claim = claim_fits k _ _ c.at-claim-in-Some.result.now fresh_claim (length c.self.inside.state.now.dossier.wishes) refl;
       bars = c.requires.bars ∙ schools;
       opens = omega (arith, c.deref-in-Some.ensures.len, c.self.invariant.opens_each);
       sure = omega (arith, c.deref-in-Some-2.ensures.len, sure_each k);
@@ -116,8 +101,8 @@ pub returns-else-not-any_open-clause-steps : goal.returns-else-not-any_open-clau
 returns-else-not-any_open-clause-steps g c =
     let k = closes_read c.self.invariant c.args.self.now c.self.view_is c.args.wish c.requires.waits c.wish_at-programme.result c.wish_at-programme.ensures.wish in
     let at = place_right k c.index-place.result.now c.index-place.ensures in
-    let claim = c.as_slice-2.ensures ∙ claim_right k c.index-place.result.now at c.index-claims.result.now c.index-claims.ensures c.index-as_slice-place.result (claim_read c.as_slice.result.now c.index-claims.result.now c.index-place.result.now c.index-as_slice-place.result c.as_slice.ensures c.index-as_slice-place.is) in
-    let some = any_is k c.as_slice-2.result.now claim c.deref.result.now c.deref.ensures.value c.any_open.result true c.any_open.ensures c.if-not-any_open.false in
+    let claim = claim_right k c.index-place.result.now at c.index-claims.result.now c.index-claims.ensures c.at-claim.result.now c.at-claim.ensures in
+    let some = any_is k c.at-claim.result.now claim c.deref.result.now c.deref.ensures.value c.any_open.result true c.any_open.ensures c.if-not-any_open.false in
     let told = told_none c.self.inside.state.now c.self.inside.orders.now.orders c.self.inside.opens.items c.args.wish c.args.self.now c.self.view_is (new_kept k c.index-place.result.now at some) c.args.bars.now c.args.steps.now c.args.marked.now.items in
     told.steps
 
@@ -125,8 +110,8 @@ pub returns-in_default-clause-steps : goal.returns-in_default-clause-steps
 returns-in_default-clause-steps g c =
     let k = closes_read c.self.invariant c.args.self.now c.self.view_is c.args.wish c.requires.waits c.wish_at-programme.result c.wish_at-programme.ensures.wish in
     let at = place_right k c.index-place.result.now c.index-place.ensures in
-    let claim = c.as_slice-2.ensures ∙ claim_right k c.index-place.result.now at c.index-claims.result.now c.index-claims.ensures c.index-as_slice-place.result (claim_read c.as_slice.result.now c.index-claims.result.now c.index-place.result.now c.index-as_slice-place.result c.as_slice.ensures c.index-as_slice-place.is) in
-    let none = any_is k c.as_slice-2.result.now claim c.deref.result.now c.deref.ensures.value c.any_open.result false c.any_open.ensures c.if-not-any_open.true in
+    let claim = claim_right k c.index-place.result.now at c.index-claims.result.now c.index-claims.ensures c.at-claim.result.now c.at-claim.ensures in
+    let none = any_is k c.at-claim.result.now claim c.deref.result.now c.deref.ensures.value c.any_open.result false c.any_open.ensures c.if-not-any_open.true in
     let told =
     told_none c.self.inside.state.now c.self.inside.orders.now.orders c.self.inside.opens.items c.args.wish c.args.self.now c.self.view_is
     (new_none k c.index-place.result.now at none c.index_mut-then-not-any_open.result.now c.clear.new.self c.index_mut-then-not-any_open.ensures.value c.clear.ensures.row c.clear.result c.in_default.is c.clear.ensures.fresh) c.args.bars.now c.args.steps.now c.args.marked.now.items in
@@ -136,14 +121,14 @@ pub returns-in-Some-clause-steps : goal.returns-in-Some-clause-steps
 returns-in-Some-clause-steps g c =
     let k = closes_read c.self.invariant c.args.self.now c.self.view_is c.args.wish c.requires.waits c.wish_at-programme.result c.wish_at-programme.ensures.wish in
     let at = place_right k c.index-place.result.now c.index-place.ensures in
-    let claim = c.as_slice-2.ensures ∙ claim_right k c.index-place.result.now at c.index-claims.result.now c.index-claims.ensures c.index-as_slice-place.result (claim_read c.as_slice.result.now c.index-claims.result.now c.index-place.result.now c.index-as_slice-place.result c.as_slice.ensures c.index-as_slice-place.is) in
-    let none = any_is k c.as_slice-2.result.now claim c.deref.result.now c.deref.ensures.value c.any_open.result false c.any_open.ensures c.if-not-any_open.true in
+    let claim = claim_right k c.index-place.result.now at c.index-claims.result.now c.index-claims.ensures c.at-claim.result.now c.at-claim.ensures in
+    let none = any_is k c.at-claim.result.now claim c.deref.result.now c.deref.ensures.value c.any_open.result false c.any_open.ensures c.if-not-any_open.true in
     let lt = c.in-Some.ensures.place in
-    let fresh_claim = c.as_slice-in-Some-2.ensures ∙ next_claim k c.in-Some.next c.index_mut-then-not-any_open.result.now c.index_mut-then-not-any_open.ensures.value lt c.index-claims-in-Some.result.now c.as_slice-in-Some.result.now c.index-claims-in-Some.ensures c.as_slice-in-Some.ensures c.index-as_slice-next.result c.index-as_slice-next.is in
+    let fresh_claim = next_claim k c.in-Some.next c.index_mut-then-not-any_open.result.now c.index_mut-then-not-any_open.ensures.value lt c.index-claims-in-Some.result.now c.index-claims-in-Some.ensures c.at-claim-in-Some.result.now c.at-claim-in-Some.ensures in
     let p : ℕ = c.wish_at-programme.result.programme in
     let told =
     told_some c.self.inside.state.now c.self.inside.orders.now.orders c.self.inside.opens.items c.self.inside.sure.items c.args.wish p (get_or (line_of c.self.inside.state.now c.self.inside.orders.now.orders p) c.in-Some.next 0) c.args.self.now c.self.view_is
-    (new_some k c.index-place.result.now at none c.index_mut-then-not-any_open.result.now c.clear.new.self c.index_mut-then-not-any_open.ensures.value c.clear.ensures.row c.clear.result c.in-Some.next c.in-Some.is lt c.clear.ensures.fresh) c.args.bars.now c.as_slice-in-Some-2.result.now fresh_claim
+    (new_some k c.index-place.result.now at none c.index_mut-then-not-any_open.result.now c.clear.new.self c.index_mut-then-not-any_open.ensures.value c.clear.ensures.row c.clear.result c.in-Some.next c.in-Some.is lt c.clear.ensures.fresh) c.args.bars.now c.at-claim-in-Some.result.now fresh_claim
     c.deref-in-Some.result.now c.deref-in-Some-2.result.now c.deref-in-Some.ensures.value c.deref-in-Some-2.ensures.value c.args.steps.now c.note_fresh.new.steps
     c.args.marked.now.items c.note_fresh.new.marked.items c.note_fresh.ensures.steps c.note_fresh.ensures.marked in
     told.steps
@@ -152,8 +137,8 @@ pub returns-else-not-any_open-clause-marked : goal.returns-else-not-any_open-cla
 returns-else-not-any_open-clause-marked g c =
     let k = closes_read c.self.invariant c.args.self.now c.self.view_is c.args.wish c.requires.waits c.wish_at-programme.result c.wish_at-programme.ensures.wish in
     let at = place_right k c.index-place.result.now c.index-place.ensures in
-    let claim = c.as_slice-2.ensures ∙ claim_right k c.index-place.result.now at c.index-claims.result.now c.index-claims.ensures c.index-as_slice-place.result (claim_read c.as_slice.result.now c.index-claims.result.now c.index-place.result.now c.index-as_slice-place.result c.as_slice.ensures c.index-as_slice-place.is) in
-    let some = any_is k c.as_slice-2.result.now claim c.deref.result.now c.deref.ensures.value c.any_open.result true c.any_open.ensures c.if-not-any_open.false in
+    let claim = claim_right k c.index-place.result.now at c.index-claims.result.now c.index-claims.ensures c.at-claim.result.now c.at-claim.ensures in
+    let some = any_is k c.at-claim.result.now claim c.deref.result.now c.deref.ensures.value c.any_open.result true c.any_open.ensures c.if-not-any_open.false in
     let told = told_none c.self.inside.state.now c.self.inside.orders.now.orders c.self.inside.opens.items c.args.wish c.args.self.now c.self.view_is (new_kept k c.index-place.result.now at some) c.args.bars.now c.args.steps.now c.args.marked.now.items in
     told.marked
 
@@ -161,8 +146,8 @@ pub returns-in_default-clause-marked : goal.returns-in_default-clause-marked
 returns-in_default-clause-marked g c =
     let k = closes_read c.self.invariant c.args.self.now c.self.view_is c.args.wish c.requires.waits c.wish_at-programme.result c.wish_at-programme.ensures.wish in
     let at = place_right k c.index-place.result.now c.index-place.ensures in
-    let claim = c.as_slice-2.ensures ∙ claim_right k c.index-place.result.now at c.index-claims.result.now c.index-claims.ensures c.index-as_slice-place.result (claim_read c.as_slice.result.now c.index-claims.result.now c.index-place.result.now c.index-as_slice-place.result c.as_slice.ensures c.index-as_slice-place.is) in
-    let none = any_is k c.as_slice-2.result.now claim c.deref.result.now c.deref.ensures.value c.any_open.result false c.any_open.ensures c.if-not-any_open.true in
+    let claim = claim_right k c.index-place.result.now at c.index-claims.result.now c.index-claims.ensures c.at-claim.result.now c.at-claim.ensures in
+    let none = any_is k c.at-claim.result.now claim c.deref.result.now c.deref.ensures.value c.any_open.result false c.any_open.ensures c.if-not-any_open.true in
     let told =
     told_none c.self.inside.state.now c.self.inside.orders.now.orders c.self.inside.opens.items c.args.wish c.args.self.now c.self.view_is
     (new_none k c.index-place.result.now at none c.index_mut-then-not-any_open.result.now c.clear.new.self c.index_mut-then-not-any_open.ensures.value c.clear.ensures.row c.clear.result c.in_default.is c.clear.ensures.fresh) c.args.bars.now c.args.steps.now c.args.marked.now.items in
@@ -172,14 +157,14 @@ pub returns-in-Some-clause-marked : goal.returns-in-Some-clause-marked
 returns-in-Some-clause-marked g c =
     let k = closes_read c.self.invariant c.args.self.now c.self.view_is c.args.wish c.requires.waits c.wish_at-programme.result c.wish_at-programme.ensures.wish in
     let at = place_right k c.index-place.result.now c.index-place.ensures in
-    let claim = c.as_slice-2.ensures ∙ claim_right k c.index-place.result.now at c.index-claims.result.now c.index-claims.ensures c.index-as_slice-place.result (claim_read c.as_slice.result.now c.index-claims.result.now c.index-place.result.now c.index-as_slice-place.result c.as_slice.ensures c.index-as_slice-place.is) in
-    let none = any_is k c.as_slice-2.result.now claim c.deref.result.now c.deref.ensures.value c.any_open.result false c.any_open.ensures c.if-not-any_open.true in
+    let claim = claim_right k c.index-place.result.now at c.index-claims.result.now c.index-claims.ensures c.at-claim.result.now c.at-claim.ensures in
+    let none = any_is k c.at-claim.result.now claim c.deref.result.now c.deref.ensures.value c.any_open.result false c.any_open.ensures c.if-not-any_open.true in
     let lt = c.in-Some.ensures.place in
-    let fresh_claim = c.as_slice-in-Some-2.ensures ∙ next_claim k c.in-Some.next c.index_mut-then-not-any_open.result.now c.index_mut-then-not-any_open.ensures.value lt c.index-claims-in-Some.result.now c.as_slice-in-Some.result.now c.index-claims-in-Some.ensures c.as_slice-in-Some.ensures c.index-as_slice-next.result c.index-as_slice-next.is in
+    let fresh_claim = next_claim k c.in-Some.next c.index_mut-then-not-any_open.result.now c.index_mut-then-not-any_open.ensures.value lt c.index-claims-in-Some.result.now c.index-claims-in-Some.ensures c.at-claim-in-Some.result.now c.at-claim-in-Some.ensures in
     let p : ℕ = c.wish_at-programme.result.programme in
     let told =
     told_some c.self.inside.state.now c.self.inside.orders.now.orders c.self.inside.opens.items c.self.inside.sure.items c.args.wish p (get_or (line_of c.self.inside.state.now c.self.inside.orders.now.orders p) c.in-Some.next 0) c.args.self.now c.self.view_is
-    (new_some k c.index-place.result.now at none c.index_mut-then-not-any_open.result.now c.clear.new.self c.index_mut-then-not-any_open.ensures.value c.clear.ensures.row c.clear.result c.in-Some.next c.in-Some.is lt c.clear.ensures.fresh) c.args.bars.now c.as_slice-in-Some-2.result.now fresh_claim
+    (new_some k c.index-place.result.now at none c.index_mut-then-not-any_open.result.now c.clear.new.self c.index_mut-then-not-any_open.ensures.value c.clear.ensures.row c.clear.result c.in-Some.next c.in-Some.is lt c.clear.ensures.fresh) c.args.bars.now c.at-claim-in-Some.result.now fresh_claim
     c.deref-in-Some.result.now c.deref-in-Some-2.result.now c.deref-in-Some.ensures.value c.deref-in-Some-2.ensures.value c.args.steps.now c.note_fresh.new.steps
     c.args.marked.now.items c.note_fresh.new.marked.items c.note_fresh.ensures.steps c.note_fresh.ensures.marked in
     told.marked

@@ -1,0 +1,36 @@
+-- The claims of a programme as spans of the list of the wishes that wait for it.
+use Rattle.std.specs.Prelude.{◌≡◌, ℕ, ◌≤◌, ◌<◌, ◌^◌, true, false, ◌==◌, List, length, filter, nat_lt, nat_le, Some, slice_get, slice_range, All, Vec}
+use Rattle.std.specs.declared.alloc.Global.{Global}
+use Rattle.std.specs.List.Sorted.{IsNonDecreasingBy, IsPartitionPoint}
+use Rattle.admit_core.specs.State.{State}
+use Rattle.day_state.specs.Kept.{candidate_in}
+use Rattle.linked_demand.specs.declared.claims.Span.{Span}
+use Rattle.linked_demand.specs.Links.{claim_of}
+
+-- a span lies in a list of this length
+pub record IsWithin (n : ℕ) (span : Span) : Type 0 where
+  pub rises : span.from ≤ span.to
+  pub within : span.to ≤ n
+
+-- the part of a list that a span marks
+abbrev pub part_of : List ℕ → Span → List ℕ
+part_of wishes span = slice_range wishes span.from span.to
+
+-- in a list that does not fall, the span begins at the first number that is not below this one, and ends at the first that is above
+pub record IsSpanOf (xs : List ℕ) (c : ℕ) (span : Span) : Type 0 where
+  pub begins : span.from ≤ length xs
+  pub ends : span.to ≤ length xs
+  pub lower : IsPartitionPoint (λ k. nat_lt k c ≡ true) (λ k. nat_lt k c ≡ false) xs span.from
+  pub upper : IsPartitionPoint (λ k. nat_le k c ≡ true) (λ k. nat_le k c ≡ false) xs span.to
+
+-- the wishes that wait for a programme, by candidate: each candidate's stand together, and are his claim
+pub record AreWaiting (s : State) (p : ℕ) (wishes : List ℕ) : Type 0 where
+  pub few : length wishes < 2 ^ 32
+  pub within : All (λ k. k < length s.dossier.wishes) wishes
+  pub rises : IsNonDecreasingBy (candidate_in s.dossier.wishes) wishes
+  pub own : (c : ℕ) → filter (λ k. candidate_in s.dossier.wishes k == c) wishes ≡ claim_of s p c
+
+-- a list for each programme; from one on they are those that wait for it
+pub record AreWaitingFrom (s : State) (n : ℕ) (rows : List (Vec ℕ Global)) : Type 0 where
+  pub one_each : length rows ≡ length s.dossier.programmes
+  pub each : (p : ℕ) (row : Vec ℕ Global) → n ≤ p → slice_get rows p ≡ Some row → AreWaiting s p row.items
