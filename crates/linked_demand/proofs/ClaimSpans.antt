@@ -10,7 +10,7 @@ use Rattle.std.proofs.lemmas.List.{get_or-map, get_or_default, length-map, lengt
 use Rattle.std.proofs.lemmas.List.Elements.{All-filter, filter_passes}
 use Rattle.std.proofs.lemmas.List.Filters.{length-filter_both}
 use Rattle.std.proofs.lemmas.List.Kept.{IsNonDecreasingBy-filter}
-use Rattle.std.proofs.lemmas.Option.{slice_get_within, slice_get_read}
+use Rattle.std.proofs.lemmas.Option.{slice_get_within}
 use Rattle.admit_core.specs.DossierRows.{candidate_of}
 use Rattle.admit_core.specs.State.{State, is_waiting}
 use Rattle.day_state.specs.Kept.{mark_in, wish_in, candidate_in, IsIndex}
@@ -60,10 +60,7 @@ waiting_from s order rows long few index are = record {
   each = λ p row le at. waiting_in s order p row.items long few index (are.each p row at ∙ map-id (filter (waits_at s p) order));
 }
 
--- the list of the programme that comes next, which is taken out
-pub waiting_next : (s : State) (n : ℕ) (rows : List (Vec ℕ Global)) (row : Vec ℕ Global) → n < length s.dossier.programmes → AreWaitingFrom s n rows → row ≡ get_or rows n row → AreWaiting s n row.items
-waiting_next s n rows row lt are read = are.each n row (omega arith) (slice_get_read rows (length rows) n row refl (omega (arith, lt, are.one_each)) read)
-
+-- once the list of a programme is taken out, the later ones are left
 pub waiting_later : (s : State) (n : ℕ) (rows : List (Vec ℕ Global)) (row : Vec ℕ Global) → AreWaitingFrom s n rows → AreWaitingFrom s (n + 1) (set rows n row)
 waiting_later s n rows row are = record {
   one_each = length-set rows n row ∙ are.one_each;

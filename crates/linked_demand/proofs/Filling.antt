@@ -1,33 +1,33 @@
--- The rows that are filled in order by rank are those of the schools.
+-- The rows that are filled by place and put in order by rank are those of the schools.
 use Rattle.std.proofs.Common.{ℕ, zero, suc, ◌+◌, ◌≤◌, ◌<◌, ◌≡◌, Bool, true, not, ◌&&◌, List, [], ◌∷◌, map, length, take, get_or, inl, inr, refl, sym, ◌∙◌, ap, arith, nat_eq, nat_le, filter, Option, Some, None, unwrap_or, zip, subst, zero-add, Vec}
 use Rattle.std.specs.Prelude.{slice_get, slice_index, All}
-use Rattle.std.specs.Option.{is_some}
-use Rattle.std.specs.List.{range_with_len, AllByRecursion}
+use Rattle.std.specs.List.{list_any, range_with_len}
 use Rattle.std.specs.List.Sorted.{IsPermutation, IsNonDecreasingBy, IsStableByKey}
 use Rattle.std.specs.Ordering.{nat_cmp}
 use Rattle.std.specs.declared.alloc.Global.{Global}
-use Rattle.std.proofs.lemmas.Bool.{cases_Bool, false≢true, eqb-true, eq-eqb, and_parts, and_from, leb-true, le-leb, or_cases}
+use Rattle.std.proofs.Math.ListN.{set}
+use Rattle.std.proofs.lemmas.Bool.{cases_Bool, cases_eq, false≢true, eqb-true, eq-eqb, and_parts, and_from, leb-true, le-leb, or_cases, or_left, or_right}
+use Rattle.std.proofs.lemmas.List.{get_or_default, get_or-map, length-map, length-set}
+use Rattle.std.proofs.lemmas.List.Elements.{All-filter, filter_passes}
 use Rattle.std.proofs.lemmas.List.Folds.{list_any_at}
 use Rattle.std.proofs.lemmas.List.FromFn.{length-range_with_len, get_or-range_with_len}
-use Rattle.std.proofs.lemmas.List.Kept.{IsNonDecreasingBy-filter}
 use Rattle.std.proofs.lemmas.List.Sorted.{list_any-IsPermutation, All-permutation}
-use Rattle.std.proofs.lemmas.List.Elements.{All-from_recursion}
-use Rattle.std.proofs.lemmas.Option.{slice_get_within}
+use Rattle.std.proofs.lemmas.Option.{slice_get_within, slice_get_read, unwrap_or-slice_get}
 use Rattle.admit_core.specs.declared.dossier.Wish.{Wish}
 use Rattle.admit_core.specs.declared.state.Mark.{Mark}
 use Rattle.admit_core.specs.Lists.{is_among}
-use Rattle.admit_core.proofs.Tests.{Ascends}
-use Rattle.day_state.proofs.Ordering.{stable_own}
 use Rattle.admit_core.specs.State.{State, is_waiting, holds_bed, is_school}
+use Rattle.admit_core.proofs.Tests.{Ascends}
 use Rattle.day_state.specs.Kept.{mark_in, wish_in}
+use Rattle.day_state.proofs.Ordering.{stable_own}
 use Rattle.linked_demand.specs.declared.rows.RowWish.{RowWish}
 use Rattle.linked_demand.specs.Rows.{WaitsFor, IsRow, AreRows}
-use Rattle.linked_demand.specs.Filled.{waits_with_school, row_school, is_in_row, rank_in, row_wish, row_among, AreFilled, AreByRank}
-use Rattle.linked_demand.specs.Keyed.{IsPutIn}
+use Rattle.linked_demand.specs.Filled.{row_school, is_in_row, row_wish, row_by_place, AreFilled}
+use Rattle.linked_demand.specs.Keyed.{IsPutIn, AreRowsOf}
 use Rattle.linked_demand.proofs.Closing.{wish_of}
 use Rattle.linked_demand.proofs.Keyed.{rows_more}
-use Rattle.linked_demand.proofs.PlaceOrder.{InPlaceOrder, in_order_from, filter_in_order, in_place_order, ascends-filter, ascends-range}
-use Rattle.linked_demand.proofs.Lining.{all_get}
+use Rattle.linked_demand.proofs.PlaceOrder.{InPlaceOrder, in_order_from, in_place_order, ascends-filter, ascends-range}
+use Rattle.linked_demand.proofs.RoundFalls.{get_set_here, get_set_other}
 
 -- a wish stands in the row of a school where it waits for it, its candidate has no bed there, and it ranks at most at the bar
 record StandsIn (s : State) (bars : List ℕ) (h : ℕ) (w : Wish) (m : Mark) (school : Option ℕ) : Type 0 where
@@ -68,35 +68,6 @@ stands_back s bars h w m (Some g) in_row =
     (le-leb w.board_rank (slice_index bars g) (subst Q (sym is) in_row.low)) in
     rw passes in_row.has
 
--- what stands at a place of a list that is made of another
-map_read : {X : Type 0} (f : ℕ → X) (ks : List ℕ) (j : ℕ) (x : X) → slice_get (map f ks) j ≡ Some x → (j < length ks) × (f (get_or ks j 0) ≡ x)
-map_read f [] j x at = absurd (omega (arith, slice_get_within (map f []) j x at))
-map_read f (k ∷ ks) zero x at = (omega arith, ap (λ o. unwrap_or o x) at)
-map_read f (k ∷ ks) (suc j) x at = let (lt, is) = map_read f ks j x at in (omega arith, is)
-
-map_there : {X : Type 0} (f : ℕ → X) (ks : List ℕ) (j : ℕ) → j < length ks → slice_get (map f ks) j ≡ Some (f (get_or ks j 0))
-map_there f [] j lt = absurd (omega arith)
-map_there f (k ∷ ks) zero lt = refl
-map_there f (k ∷ ks) (suc j) lt = map_there f ks j (omega arith)
-
-all_pass : (q : ℕ → Bool) (ks : List ℕ) → AllByRecursion (λ k. q k ≡ true) (filter q ks)
-all_pass q [] = tt
-all_pass q (k ∷ ks) =
-    elim (cases_Bool (q k)) [
-      | inl passes ↦ rw passes (passes, all_pass q ks)
-      | inr fails ↦ rw fails (all_pass q ks)
-    ]
-
-all_below : (n : ℕ) (q : ℕ → Bool) (ks : List ℕ) → All (λ k. k < n) ks → AllByRecursion (λ k. k < n) (filter q ks)
-all_below n q [] all = tt
-all_below n q (k ∷ ks) all =
-    let rest = all_below n q ks (λ j d lt. all (suc j) d (omega arith)) in
-    let first : k < n = all 0 k (omega arith) in
-    elim (cases_Bool (q k)) [
-      | inl passes ↦ rw passes (first, rest)
-      | inr fails ↦ rw fails rest
-    ]
-
 among_kept : (q : ℕ → Bool) (k : ℕ) (ks : List ℕ) → q k ≡ true → is_among k ks ≡ true → is_among k (filter q ks) ≡ true
 among_kept q k [] passes t = t
 among_kept q k (x ∷ ks) passes t =
@@ -107,14 +78,6 @@ among_kept q k (x ∷ ks) passes t =
       | inr other ↦
           let later = among_kept q k ks passes (rw other at t) in
           elim (cases_Bool (q x)) [ inl kept ↦ rw (kept, other) later | inr dropped ↦ rw dropped later ]
-    ]
-
-among_place : (k : ℕ) (ks : List ℕ) → is_among k ks ≡ true → (j : ℕ) × (j < length ks) × (get_or ks j 0 ≡ k)
-among_place k [] t = absurd (false≢true t)
-among_place k (x ∷ ks) t =
-    elim (or_cases (nat_eq k x) (is_among k ks) t) [
-      | inl here ↦ (0, omega arith, sym (eqb-true k x here))
-      | inr later ↦ let (j, lt, is) = among_place k ks later in (suc j, omega arith, is)
     ]
 
 pub entry_there : (ws : List Wish) (ms : List Mark) (k : ℕ) → length ms ≡ length ws → k < length ws → slice_get (zip ws ms) k ≡ Some (wish_in ws k, mark_in ms k)
@@ -129,112 +92,168 @@ entry_is (v ∷ ws) [] k w m at = absurd (omega (arith, slice_get_within (zip (v
 entry_is (v ∷ ws) (n ∷ ms) zero w m at = (ap (λ (o : Option (Wish × Mark)). (unwrap_or o (w, m)).0) at, ap (λ (o : Option (Wish × Mark)). (unwrap_or o (w, m)).1) at)
 entry_is (v ∷ ws) (n ∷ ms) (suc k) w m at = entry_is ws ms k w m at
 
-some_school : (o : Option ℕ) (h : ℕ) → is_school o h ≡ true → is_some o ≡ true
-some_school None h t = absurd (false≢true t)
-some_school (Some g) h t = refl
+-- what holds of each item of the row of a school
+record IsInRow (s : State) (bars : List ℕ) (h : ℕ) (x : RowWish) : Type 0 where
+  wish : Wish
+  mark : Mark
+  waits : WaitsFor s h x wish mark
+  low : x.rank ≤ slice_index bars h
 
--- places in order by rank: those of one rank ascend
-by_place : (s : State) (places : List ℕ) → AreByRank s places → InPlaceOrder (rank_in s.dossier.wishes) places
-by_place s places by_rank =
-    let n = length s.dossier.wishes in
-    let waiting = filter (waits_with_school s) (range_with_len 0 n) in
-    in_order_from (rank_in s.dossier.wishes) places (λ r.
-    let P = λ (ks : List ℕ). Ascends ks in
-    subst P (sym (stable_own (rank_in s.dossier.wishes) waiting places by_rank.same by_rank.stable r))
-    (ascends-filter (λ k. nat_eq (rank_in s.dossier.wishes k) r) waiting (ascends-filter (waits_with_school s) (range_with_len 0 n) (ascends-range 0 n))))
+row_each : (s : State) (bars : List ℕ) (h : ℕ) → length s.marks ≡ length s.dossier.wishes → All (IsInRow s bars h) (row_by_place s bars h)
+row_each s bars h long k d lt =
+    let ws = s.dossier.wishes in
+    let n = length ws in
+    let q = is_in_row s bars h in
+    let ys = filter q (range_with_len 0 n) in
+    let f = row_wish ws in
+    let k_in : k < length ys = omega (arith, lt, length-map ys f) in
+    let p = get_or ys k 0 in
+    let below : All (λ j. j < n) ys = All-filter q (λ j. j < n) (range_with_len 0 n) (λ j e j_lt. omega (arith, get_or-range_with_len 0 n j e (omega (arith, j_lt, length-range_with_len 0 n)), j_lt, length-range_with_len 0 n)) in
+    let p_in : p < n = below k 0 k_in in
+    let in_row = stands s bars h (wish_in ws p) (mark_in s.marks p) (wish_in ws p).school (filter_passes q (range_with_len 0 n) k 0 k_in) in
+    let P = λ (x : RowWish). IsInRow s bars h x in
+    subst P (sym (get_or-map f ys k 0 d k_in)) (record {
+      wish = wish_in ws p;
+      mark = mark_in s.marks p;
+      waits = record {
+        waits = record { here = entry_there ws s.marks p long p_in; waits = in_row.waits };
+        has = in_row.has;
+        no_bed = in_row.no_bed;
+        rank = refl;
+      };
+      low = in_row.low;
+    })
 
--- the row of a school that is filled in order by rank
-row_right : (s : State) (bars : List ℕ) (h : ℕ) (places : List ℕ) → length s.marks ≡ length s.dossier.wishes → AreByRank s places → IsRow s bars h (row_among s bars places h)
-row_right s bars h places long by_rank =
+-- the items that are equal to one
+abbrev is_item : RowWish → RowWish → Bool
+is_item x y = nat_eq x.rank y.rank && nat_eq x.wish y.wish
+
+any_item : (x : RowWish) (f : ℕ → RowWish) (p : ℕ) (ks : List ℕ) → f p ≡ x → is_among p ks ≡ true → list_any (is_item x) (map f ks) ≡ true
+any_item x f p [] is t = absurd (false≢true t)
+any_item x f p (k ∷ ks) is t =
+    elim (or_cases (nat_eq p k) (is_among p ks) t) [
+      | inl here ↦
+          let same : f k ≡ x = ap f (sym (eqb-true p k here)) ∙ is in
+          or_left (is_item x (f k)) (list_any (is_item x) (map f ks))
+          (and_from (nat_eq x.rank (f k).rank) (nat_eq x.wish (f k).wish) (eq-eqb x.rank (f k).rank (ap (λ (z : RowWish). z.rank) (sym same))) (eq-eqb x.wish (f k).wish (ap (λ (z : RowWish). z.wish) (sym same))))
+      | inr later ↦ or_right (is_item x (f k)) (list_any (is_item x) (map f ks)) (any_item x f p ks is later)
+    ]
+
+item_place : (x : RowWish) (xs : List RowWish) → list_any (is_item x) xs ≡ true → (k : ℕ) × (slice_get xs k ≡ Some x)
+item_place x [] t = absurd (false≢true t)
+item_place x (y ∷ xs) t =
+    elim (or_cases (is_item x y) (list_any (is_item x) xs) t) [
+      | inl here ↦
+          let parts = and_parts (nat_eq x.rank y.rank) (nat_eq x.wish y.wish) here in
+          let rank : y.rank ≡ x.rank = sym (eqb-true x.rank y.rank parts.0) in
+          let wish : y.wish ≡ x.wish = sym (eqb-true x.wish y.wish parts.1) in
+          let item : y ≡ x = ap (λ (r : ℕ). let z : RowWish = record { rank = r; wish = y.wish } in z) rank ∙ ap (λ (k : ℕ). let z : RowWish = record { rank = x.rank; wish = k } in z) wish in
+          (0, ap (λ (z : RowWish). Some z) item)
+      | inr later ↦ let (k, at) = item_place x xs later in (suc k, at)
+    ]
+
+row_all : (s : State) (bars : List ℕ) (h : ℕ) (x : RowWish) (w : Wish) (m : Mark) → WaitsFor s h x w m → x.rank ≤ slice_index bars h → list_any (is_item x) (row_by_place s bars h) ≡ true
+row_all s bars h x w m waits low =
     let ws = s.dossier.wishes in
     let ms = s.marks in
     let n = length ws in
-    let ys = filter (is_in_row s bars h) places in
-    let low_in : (k : ℕ) → k < length ys → StandsIn s bars h (wish_in ws (get_or ys k 0)) (mark_in ms (get_or ys k 0)) (wish_in ws (get_or ys k 0)).school =
-    λ k lt. let p = get_or ys k 0 in
-    stands s bars h (wish_in ws p) (mark_in ms p) (wish_in ws p).school (all_get (λ j. is_in_row s bars h j ≡ true) ys (all_pass (is_in_row s bars h) places) k lt) in
+    let p = x.wish in
+    let (wish, mark) = entry_is ws ms p w m waits.waits.here in
+    let p_in : p < n = slice_get_within ws p w (wish_of ws ms p w m waits.waits.here) in
+    let school : is_school (row_school s bars w m w.school) h ≡ true =
+    stands_back s bars h w m w.school (record { waits = waits.waits.waits; has = waits.has; no_bed = waits.no_bed; low = omega (arith, waits.rank, low) }) in
+    let P = λ (v : Wish). is_school (row_school s bars v m v.school) h ≡ true in
+    let Q = λ (o : Mark). is_school (row_school s bars (wish_in ws p) o (wish_in ws p).school) h ≡ true in
+    let in_row : is_in_row s bars h p ≡ true = subst Q (sym mark) (subst P (sym wish) school) in
+    let at_p : get_or (range_with_len 0 n) p 0 ≡ p = get_or-range_with_len 0 n p 0 p_in ∙ zero-add p in
+    let in_range : is_among p (range_with_len 0 n) ≡ true = list_any_at (nat_eq p) (range_with_len 0 n) p 0 (omega (arith, p_in, length-range_with_len 0 n)) (eq-eqb p (get_or (range_with_len 0 n) p 0) (sym at_p)) in
+    let rank : (wish_in ws p).board_rank ≡ x.rank = ap (λ (v : Wish). v.board_rank) wish ∙ sym waits.rank in
+    any_item x (row_wish ws) p (filter (is_in_row s bars h) (range_with_len 0 n)) (ap (λ (r : ℕ). let z : RowWish = record { rank = r; wish = p } in z) rank)
+    (among_kept (is_in_row s bars h) p (range_with_len 0 n) in_row in_range)
+
+-- those items that pass a test, by place
+places_kept : (f : ℕ → RowWish) (q : RowWish → Bool) (ks : List ℕ) → ((k : ℕ) → (f k).wish ≡ k) → map (λ x. x.wish) (filter q (map f ks)) ≡ filter (λ k. q (f k)) ks
+places_kept f q [] own = refl
+places_kept f q (k ∷ ks) own =
+    elim (cases_Bool (q (f k))) [
+      | inl kept ↦ rw kept (ap (λ (j : ℕ). j ∷ map (λ (x : RowWish). x.wish) (filter q (map f ks))) (own k) ∙ ap (λ (js : List ℕ). k ∷ js) (places_kept f q ks own))
+      | inr dropped ↦ rw dropped (places_kept f q ks own)
+    ]
+
+-- a row that is put in order by rank is that of its school
+row_sorted : (s : State) (bars : List ℕ) (h : ℕ) (row : List RowWish) → length s.marks ≡ length s.dossier.wishes → IsPermutation (row_by_place s bars h) row
+    → IsNonDecreasingBy (λ x. x.rank) row → IsStableByKey (λ x. x.rank) nat_cmp (row_by_place s bars h) row → IsRow s bars h row
+row_sorted s bars h row long moved rises stable =
+    let ws = s.dossier.wishes in
+    let items = row_by_place s bars h in
+    let q = is_in_row s bars h in
+    let range = range_with_len 0 (length ws) in
+    let rank_of : RowWish → ℕ = λ x. x.rank in
+    let all : All (IsInRow s bars h) row = All-permutation (IsInRow s bars h) items row moved (row_each s bars h long) in
+    let read : (k : ℕ) (x : RowWish) → slice_get row k ≡ Some x → (k < length row) × (get_or row k x ≡ x) =
+    λ k x at. (slice_get_within row k x at, sym (unwrap_or-slice_get row k x) ∙ ap (λ (o : Option RowWish). unwrap_or o x) at) in
+    let in_row : (k : ℕ) (x : RowWish) → slice_get row k ≡ Some x → IsInRow s bars h x = λ k x at. let P = λ (z : RowWish). IsInRow s bars h z in subst P (read k x at).1 (all k x (read k x at).0) in
+    let order : InPlaceOrder rank_of (λ x. x.wish) row =
+    in_order_from rank_of (λ x. x.wish) row (λ r.
+    let same : map (λ (x : RowWish). x.wish) (filter (λ x. nat_eq x.rank r) row) ≡ filter (λ k. nat_eq (row_wish ws k).rank r) (filter q range) =
+    ap (map (λ (x : RowWish). x.wish)) (stable_own rank_of items row moved stable r) ∙ places_kept (row_wish ws) (λ x. nat_eq x.rank r) (filter q range) (λ k. refl) in
+    let P = λ (ks : List ℕ). Ascends ks in
+    subst P (sym same) (ascends-filter (λ k. nat_eq (row_wish ws k).rank r) (filter q range) (ascends-filter q range (ascends-range 0 (length ws))))) in
     record {
       rises = λ j k x y le a b.
-          let (j_in, j_is) = map_read (row_wish ws) ys j x a in
-          let (k_in, k_is) = map_read (row_wish ws) ys k y b in
-          omega (arith, IsNonDecreasingBy-filter (rank_in ws) (is_in_row s bars h) places by_rank.rises j k 0 le k_in, ap (λ (z : RowWish). z.rank) j_is, ap (λ (z : RowWish). z.rank) k_is);
-      in_order = λ j k x y lt a b same.
-          let (j_in, j_is) = map_read (row_wish ws) ys j x a in
-          let (k_in, k_is) = map_read (row_wish ws) ys k y b in
-          let ranks : rank_in ws (get_or ys j 0) ≡ rank_in ws (get_or ys k 0) = ap (λ (z : RowWish). z.rank) j_is ∙ same ∙ sym (ap (λ (z : RowWish). z.rank) k_is) in
-          let below = in_place_order (rank_in ws) ys (filter_in_order (rank_in ws) (is_in_row s bars h) places (by_place s places by_rank)) j k lt k_in ranks in
-          omega (arith, below, ap (λ (z : RowWish). z.wish) j_is, ap (λ (z : RowWish). z.wish) k_is);
-      each = λ k x at.
-          let (k_in, is) = map_read (row_wish ws) ys k x at in
-          let p = get_or ys k 0 in
-          let p_in : p < n = all_get (λ j. j < n) ys (all_below n (is_in_row s bars h) places by_rank.within) k k_in in
-          let in_row = low_in k k_in in
-          let P = λ (z : RowWish). (w : Wish) × (m : Mark) × WaitsFor s h z w m in
-          subst P is (
-            wish_in ws p,
-            mark_in ms p,
-            record {
-              waits = record { here = entry_there ws ms p long p_in; waits = in_row.waits };
-              has = in_row.has;
-              no_bed = in_row.no_bed;
-              rank = refl;
-            },
-          );
-      below = λ k x at.
-          let (k_in, is) = map_read (row_wish ws) ys k x at in
-          omega (arith, (low_in k k_in).low, ap (λ (z : RowWish). z.rank) is);
-      all = λ x w m waits low.
-          let p = x.wish in
-          let (wish, mark) = entry_is ws ms p w m waits.waits.here in
-          let p_in : p < n = slice_get_within ws p w (wish_of ws ms p w m waits.waits.here) in
-          let school : is_school (row_school s bars w m w.school) h ≡ true =
-          stands_back s bars h w m w.school (record { waits = waits.waits.waits; has = waits.has; no_bed = waits.no_bed; low = omega (arith, waits.rank, low) }) in
-          let P = λ (v : Wish). is_school (row_school s bars v m v.school) h ≡ true in
-          let Q = λ (o : Mark). is_school (row_school s bars (wish_in ws p) o (wish_in ws p).school) h ≡ true in
-          let in_row : is_in_row s bars h p ≡ true = subst Q (sym mark) (subst P (sym wish) school) in
-          let R = λ (v : Wish). (is_waiting m && is_some v.school) ≡ true in
-          let S = λ (o : Mark). (is_waiting o && is_some (wish_in ws p).school) ≡ true in
-          let has_school : waits_with_school s p ≡ true = subst S (sym mark) (subst R (sym wish) (and_from (is_waiting m) (is_some w.school) waits.waits.waits (some_school w.school h waits.has))) in
-          let at_p : get_or (range_with_len 0 n) p 0 ≡ p = get_or-range_with_len 0 n p 0 p_in ∙ zero-add p in
-          let in_range : is_among p (range_with_len 0 n) ≡ true = list_any_at (nat_eq p) (range_with_len 0 n) p 0 (omega (arith, p_in, length-range_with_len 0 n)) (eq-eqb p (get_or (range_with_len 0 n) p 0) (sym at_p)) in
-          let among : is_among p places ≡ true =
-          sym (list_any-IsPermutation (nat_eq p) (filter (waits_with_school s) (range_with_len 0 n)) places by_rank.same) ∙ among_kept (waits_with_school s) p (range_with_len 0 n) has_school in_range in
-          let (j, j_in, j_is) = among_place p ys (among_kept (is_in_row s bars h) p places in_row among) in
-          let rank : rank_in ws p ≡ x.rank = ap (λ (v : Wish). v.board_rank) wish ∙ sym waits.rank in
-          let item : row_wish ws (get_or ys j 0) ≡ x = ap (row_wish ws) j_is ∙ ap (λ (r : ℕ). let z : RowWish = record { rank = r; wish = p } in z) rank in
-          (j, map_there (row_wish ws) ys j j_in ∙ ap (λ (z : RowWish). Some z) item);
+          let (k_in, k_is) = read k y b in
+          let (j_in, j_is) = read j x a in
+          omega (arith, rises j k y le k_in, ap rank_of k_is, ap rank_of (get_or_default row j y x j_in ∙ j_is));
+      in_order = λ j k x y lt a b same. in_place_order rank_of (λ x. x.wish) row order j k x y lt a b same;
+      each = λ k x at. let one = in_row k x at in (one.wish, one.mark, one.waits);
+      below = λ k x at. (in_row k x at).low;
+      all = λ x w m waits low. item_place x row (sym (list_any-IsPermutation (is_item x) items row moved) ∙ row_all s bars h x w m waits low);
     }
 
-pub rows_right : (s : State) (bars places : List ℕ) (rows : List (Vec RowWish Global)) → length s.marks ≡ length s.dossier.wishes → AreByRank s places → AreFilled s bars places rows
-    → AreRows s bars rows
-rows_right s bars places rows long by_rank filled = record {
-  one_each = filled.one_each;
-  each = λ h row at. let P = λ (xs : List RowWish). IsRow s bars h xs in subst P (sym (filled.each h row at)) (row_right s bars h places long by_rank);
+-- the rows below a number are in order by rank, and the others by place
+pub record AreSortedBelow (s : State) (bars : List ℕ) (n : ℕ) (rows : List (Vec RowWish Global)) : Type 0 where
+  pub one_each : length rows ≡ length s.dossier.schools
+  pub done : (h : ℕ) (row : Vec RowWish Global) → h < n → slice_get rows h ≡ Some row → IsRow s bars h row.items
+  pub rest : (h : ℕ) (row : Vec RowWish Global) → n ≤ h → slice_get rows h ≡ Some row → row.items ≡ row_by_place s bars h
+
+pub sorted_none : (s : State) (bars : List ℕ) (rows : List (Vec RowWish Global)) → AreFilled s bars rows → AreSortedBelow s bars 0 rows
+sorted_none s bars rows filled = record { one_each = filled.one_each; done = λ h row lt at. absurd (omega (arith, lt)); rest = λ h row le at. filled.each h row at }
+
+pub sorted_more : (s : State) (bars : List ℕ) (n : ℕ) (rows : List (Vec RowWish Global)) (before after : Vec RowWish Global) → length s.marks ≡ length s.dossier.wishes
+    → AreSortedBelow s bars n rows → n < length rows → before ≡ get_or rows n before → IsPermutation before.items after.items
+    → IsNonDecreasingBy (λ x. x.rank) after.items → IsStableByKey (λ x. x.rank) nat_cmp before.items after.items → AreSortedBelow s bars (n + 1) (set rows n after)
+sorted_more s bars n rows before after long are lt read moved rises stable =
+    let was : before.items ≡ row_by_place s bars n = are.rest n before (omega arith) (slice_get_read rows (length rows) n before refl lt read) in
+    let P = λ (xs : List RowWish). IsPermutation xs after.items in
+    let Q = λ (xs : List RowWish). IsStableByKey (λ x. x.rank) nat_cmp xs after.items in
+    let right : IsRow s bars n after.items = row_sorted s bars n after.items long (subst P was moved) rises (subst Q was stable) in
+    record {
+      one_each = length-set rows n after ∙ are.one_each;
+      done = λ h row h_lt at. elim (cases_eq h n) [
+        | inl here ↦
+            let is : after ≡ row = get_set_here rows n after row (rw here at at) in
+            let R = λ (v : Vec RowWish Global). IsRow s bars h v.items in
+            let S = λ (k : ℕ). IsRow s bars k after.items in
+            subst R is (subst S (sym here) right)
+        | inr other ↦ are.done h row (omega (arith, h_lt, other)) (get_set_other rows n h after row other at)
+      ];
+      rest = λ h row le at. are.rest h row (omega (arith, le)) (get_set_other rows n h after row (λ e. omega (arith, le, e)) at);
+    }
+
+pub sorted_all : (s : State) (bars : List ℕ) (n : ℕ) (rows : List (Vec RowWish Global)) → AreSortedBelow s bars n rows → length rows ≤ n → AreRows s bars rows
+sorted_all s bars n rows are le = record {
+  one_each = are.one_each;
+  each = λ h row at. are.done h row (omega (arith, le, slice_get_within rows h row at)) at;
 }
 
 -- one more wish, put into the row of its school
-pub filled_more : (s : State) (bars places : List ℕ) (i p : ℕ) (school : Option ℕ) (x : RowWish) (rows new : List (Vec RowWish Global)) → i < length places → p ≡ get_or places i 0
-    → school ≡ row_school s bars (wish_in s.dossier.wishes p) (mark_in s.marks p) (wish_in s.dossier.wishes p).school → x ≡ row_wish s.dossier.wishes p
-    → AreFilled s bars (take i places) rows → IsPutIn (is_school school) x rows new → AreFilled s bars (take (i + 1) places) new
-filled_more s bars places i p school x rows new lt p_is school_is x_is filled put =
+pub filled_more : (s : State) (bars : List ℕ) (place : ℕ) (school : Option ℕ) (x : RowWish) (rows new : List (Vec RowWish Global)) → place < length s.dossier.wishes
+    → school ≡ row_school s bars (wish_in s.dossier.wishes place) (mark_in s.marks place) (wish_in s.dossier.wishes place).school → x ≡ row_wish s.dossier.wishes place
+    → AreRowsOf (row_wish s.dossier.wishes) (is_in_row s bars) (length s.dossier.schools) (take place (range_with_len 0 (length s.dossier.wishes))) rows → IsPutIn (is_school school) x rows new
+    → AreRowsOf (row_wish s.dossier.wishes) (is_in_row s bars) (length s.dossier.schools) (take (place + 1) (range_with_len 0 (length s.dossier.wishes))) new
+filled_more s bars place school x rows new lt school_is x_is filled put =
     let ws = s.dossier.wishes in
-    rows_more (row_wish ws) (is_in_row s bars) (length s.dossier.schools) places i (is_school school) x rows new lt
-    (λ h. ap (λ (o : Option ℕ). is_school o h) school_is ∙ ap (is_in_row s bars h) p_is) (x_is ∙ ap (row_wish ws) p_is) filled put
-
--- places in order by rank
-pub by_rank : (s : State) (wishes : List Wish) (places sorted : List ℕ) → wishes ≡ s.dossier.wishes
-    → places ≡ filter (waits_with_school s) (range_with_len 0 (length s.dossier.wishes)) → IsPermutation places sorted → IsNonDecreasingBy (rank_in wishes) sorted
-    → IsStableByKey (rank_in wishes) nat_cmp places sorted → AreByRank s sorted
-by_rank s wishes places sorted wishes_are are moved rises stable =
-    let n = length s.dossier.wishes in
-    let P = λ (ks : List ℕ). IsPermutation ks sorted in
-    let Q = λ (ws : List Wish). IsNonDecreasingBy (rank_in ws) sorted in
-    let R = λ (ks : List ℕ). IsStableByKey (rank_in wishes) nat_cmp ks sorted in
-    let S = λ (ws : List Wish). IsStableByKey (rank_in ws) nat_cmp (filter (waits_with_school s) (range_with_len 0 n)) sorted in
-    let same : IsPermutation (filter (waits_with_school s) (range_with_len 0 n)) sorted = subst P are moved in
-    record {
-      within = All-permutation (λ k. k < n) (filter (waits_with_school s) (range_with_len 0 n)) sorted same (All-from_recursion (λ k. k < n) (filter (waits_with_school s) (range_with_len 0 n)) (all_below n (waits_with_school s) (range_with_len 0 n) (λ j d lt. omega (arith, get_or-range_with_len 0 n j d (omega (arith, lt, length-range_with_len 0 n)), lt, length-range_with_len 0 n))));
-      same = same;
-      rises = subst Q wishes_are rises;
-      stable = subst S wishes_are (subst R are stable);
-    }
+    let n = length ws in
+    let here : get_or (range_with_len 0 n) place 0 ≡ place = get_or-range_with_len 0 n place 0 lt ∙ zero-add place in
+    rows_more (row_wish ws) (is_in_row s bars) (length s.dossier.schools) (range_with_len 0 n) place (is_school school) x rows new (omega (arith, lt, length-range_with_len 0 n))
+    (λ h. ap (λ (o : Option ℕ). is_school o h) school_is ∙ ap (is_in_row s bars h) (sym here)) (x_is ∙ ap (row_wish ws) (sym here)) filled put

@@ -1,7 +1,6 @@
 -- What a filter keeps of one more.
-use Rattle.std.proofs.Common.{ℕ, ◌+◌, ◌<◌, ◌≡◌, Bool, true, false, List, [], ◌∷◌, ◌++◌, length, take, get_or, refl, sym, ◌∙◌, ap, arith, filter}
+use Rattle.std.proofs.Common.{ℕ, ◌+◌, ◌≡◌, Bool, true, false, List, [], ◌∷◌, ◌++◌, refl, sym, ◌∙◌, ap, arith, filter}
 use Rattle.std.specs.List.{range_with_len}
-use Rattle.std.proofs.lemmas.List.{take_more}
 use Rattle.std.proofs.lemmas.List.Elements.{filter-append}
 use Rattle.day_state.proofs.Ordering.{range_more}
 
@@ -20,13 +19,6 @@ push_kept p xs x passes = filter-append p xs (x ∷ []) ∙ ap (λ (ys : List �
 
 push_left : (p : ℕ → Bool) (xs : List ℕ) (x : ℕ) → p x ≡ false → filter p (xs ++ x ∷ []) ≡ filter p xs
 push_left p xs x fails = filter-append p xs (x ∷ []) ∙ ap (λ (ys : List ℕ). filter p xs ++ ys) (one_left p x fails) ∙ sym (add_none (filter p xs))
-
--- of the front of a list
-pub front_kept : (p : ℕ → Bool) (xs : List ℕ) (i : ℕ) → i < length xs → p (get_or xs i 0) ≡ true → filter p (take (i + 1) xs) ≡ filter p (take i xs) ++ get_or xs i 0 ∷ []
-front_kept p xs i lt passes = ap (filter p) (take_more xs i 0 lt) ∙ push_kept p (take i xs) (get_or xs i 0) passes
-
-pub front_left : (p : ℕ → Bool) (xs : List ℕ) (i : ℕ) → i < length xs → p (get_or xs i 0) ≡ false → filter p (take (i + 1) xs) ≡ filter p (take i xs)
-front_left p xs i lt fails = ap (filter p) (take_more xs i 0 lt) ∙ push_left p (take i xs) (get_or xs i 0) fails
 
 -- of a range
 pub range_kept : (p : ℕ → Bool) (n : ℕ) → p n ≡ true → filter p (range_with_len 0 (n + 1)) ≡ filter p (range_with_len 0 n) ++ n ∷ []

@@ -1,13 +1,15 @@
--- Places of which those of one key ascend.
-use Rattle.std.proofs.Common.{ℕ, ◌+◌, ◌<◌, ◌≡◌, Bool, true, List, [], ◌∷◌, length, get_or, inl, inr, refl, sym, arith, filter, zero, suc, nat_eq}
+-- Items of which those of one key ascend.
+use Rattle.std.proofs.Common.{ℕ, ◌+◌, ◌<◌, ◌≡◌, Bool, true, List, [], ◌∷◌, map, inl, inr, refl, sym, ap, arith, filter, zero, suc, nat_eq, Some, unwrap_or, subst}
+use Rattle.std.specs.Prelude.{slice_get}
 use Rattle.std.specs.List.{range_with_len, AllByRecursion}
 use Rattle.std.proofs.lemmas.Bool.{cases_Bool, eq-eqb, both_ways}
+use Rattle.std.proofs.lemmas.Option.{slice_get_within}
 use Rattle.admit_core.proofs.Tests.{Ascends}
 
--- each place is below the later ones of its key
-abbrev pub InPlaceOrder : (ℕ → ℕ) → List ℕ → Type 0
-InPlaceOrder key [] = Unit {0}
-InPlaceOrder key (k ∷ ks) = AllByRecursion (λ j. key k ≡ key j → k < j) ks × InPlaceOrder key ks
+-- each item stands at a lower place than the later ones of its key
+abbrev pub InPlaceOrder : {X : Type 0} → (X → ℕ) → (X → ℕ) → List X → Type 0
+InPlaceOrder key place [] = Unit {0}
+InPlaceOrder key place (x ∷ xs) = AllByRecursion (λ y. key x ≡ key y → place x < place y) xs × InPlaceOrder key place xs
 
 all-filter : (P : ℕ → Type 0) (t : ℕ → Bool) (ks : List ℕ) → AllByRecursion P ks → AllByRecursion P (filter t ks)
 all-filter P t [] all = tt
@@ -17,17 +19,15 @@ all-filter P t (k ∷ ks) all =
       | inr dropped ↦ rw dropped (all-filter P t ks all.1)
     ]
 
-all_of_filter : (P : ℕ → Type 0) (t : ℕ → Bool) (ks : List ℕ) → AllByRecursion P (filter t ks) → AllByRecursion (λ k. t k ≡ true → P k) ks
-all_of_filter P t [] all = tt
-all_of_filter P t (k ∷ ks) all =
-    elim (cases_Bool (t k)) [
-      | inl kept ↦ let both = rw kept at all in (λ _. both.0, all_of_filter P t ks both.1)
-      | inr dropped ↦ (λ passes. absurd (both_ways (t k) dropped passes), all_of_filter P t ks (rw dropped at all))
+-- the later ones that pass a test are above, where their places are
+above_later : {X : Type 0} (key place : X → ℕ) (t : X → Bool) (x : X) (xs : List X) → ((y : X) → key x ≡ key y → t y ≡ true)
+    → AllByRecursion (λ m. place x < m) (map place (filter t xs)) → AllByRecursion (λ y. key x ≡ key y → place x < place y) xs
+above_later key place t x [] own all = tt
+above_later key place t x (y ∷ ys) own all =
+    elim (cases_Bool (t y)) [
+      | inl kept ↦ let both = rw kept at all in (λ same. both.0, above_later key place t x ys own both.1)
+      | inr dropped ↦ (λ same. absurd (both_ways (t y) dropped (own y same)), above_later key place t x ys own (rw dropped at all))
     ]
-
-weaker : (P Q : ℕ → Type 0) → ((k : ℕ) → P k → Q k) → (ks : List ℕ) → AllByRecursion P ks → AllByRecursion Q ks
-weaker P Q h [] all = tt
-weaker P Q h (k ∷ ks) all = (h k all.0, weaker P Q h ks all.1)
 
 pub ascends-filter : (t : ℕ → Bool) (ks : List ℕ) → Ascends ks → Ascends (filter t ks)
 ascends-filter t [] rises = tt
@@ -46,33 +46,27 @@ ascends-range a zero = tt
 ascends-range a (suc n) = (range_above a (a + 1) n (omega arith), ascends-range (a + 1) n)
 
 -- where the places of each key ascend
-pub in_order_from : (key : ℕ → ℕ) (ks : List ℕ) → ((r : ℕ) → Ascends (filter (λ k. nat_eq (key k) r) ks)) → InPlaceOrder key ks
-in_order_from key [] rises = tt
-in_order_from key (k ∷ ks) rises =
-    let own = rw (eq-eqb (key k) (key k) refl) at (rises (key k)) in
-    let later = all_of_filter (λ m. k < m) (λ j. nat_eq (key j) (key k)) ks own.0 in (
-      weaker (λ j. nat_eq (key j) (key k) ≡ true → k < j) (λ j. key k ≡ key j → k < j) (λ j h same. h (eq-eqb (key j) (key k) (sym same))) ks later,
-      in_order_from key ks (λ r. elim (cases_Bool (nat_eq (key k) r)) [
+pub in_order_from : {X : Type 0} (key place : X → ℕ) (xs : List X) → ((r : ℕ) → Ascends (map place (filter (λ x. nat_eq (key x) r) xs))) → InPlaceOrder key place xs
+in_order_from key place [] rises = tt
+in_order_from key place (x ∷ xs) rises =
+    let own = rw (eq-eqb (key x) (key x) refl) at (rises (key x)) in (
+      above_later key place (λ y. nat_eq (key y) (key x)) x xs (λ y same. eq-eqb (key y) (key x) (sym same)) own.0,
+      in_order_from key place xs (λ r. elim (cases_Bool (nat_eq (key x) r)) [
         | inl here ↦ (rw here at (rises r)).1
         | inr other ↦ rw other at (rises r)
       ]),
     )
 
-pub filter_in_order : (key : ℕ → ℕ) (t : ℕ → Bool) (ks : List ℕ) → InPlaceOrder key ks → InPlaceOrder key (filter t ks)
-filter_in_order key t [] order = tt
-filter_in_order key t (k ∷ ks) order =
-    elim (cases_Bool (t k)) [
-      | inl kept ↦ rw kept (all-filter (λ j. key k ≡ key j → k < j) t ks order.0, filter_in_order key t ks order.1)
-      | inr dropped ↦ rw dropped (filter_in_order key t ks order.1)
-    ]
+all_read : {X : Type 0} (P : X → Type 0) (xs : List X) → AllByRecursion P xs → (j : ℕ) (y : X) → slice_get xs j ≡ Some y → P y
+all_read P [] all j y at = absurd (omega (arith, slice_get_within [] j y at))
+all_read P (x ∷ xs) all zero y at = subst P (ap (λ o. unwrap_or o x) at) all.0
+all_read P (x ∷ xs) all (suc j) y at = all_read P xs all.1 j y at
 
-all_at : (P : ℕ → Type 0) (ks : List ℕ) → AllByRecursion P ks → (j : ℕ) → j < length ks → P (get_or ks j 0)
-all_at P [] all j lt = absurd (omega arith)
-all_at P (k ∷ ks) all zero lt = all.0
-all_at P (k ∷ ks) all (suc j) lt = all_at P ks all.1 j (omega arith)
-
-pub in_place_order : (key : ℕ → ℕ) (ks : List ℕ) → InPlaceOrder key ks → (i j : ℕ) → i < j → j < length ks → key (get_or ks i 0) ≡ key (get_or ks j 0) → get_or ks i 0 < get_or ks j 0
-in_place_order key [] order i j lt within same = absurd (omega arith)
-in_place_order key (k ∷ ks) order i zero lt within same = absurd (omega arith)
-in_place_order key (k ∷ ks) order zero (suc j) lt within same = all_at (λ m. key k ≡ key m → k < m) ks order.0 j (omega arith) same
-in_place_order key (k ∷ ks) order (suc i) (suc j) lt within same = in_place_order key ks order.1 i j (omega arith) (omega arith) same
+pub in_place_order : {X : Type 0} (key place : X → ℕ) (xs : List X) → InPlaceOrder key place xs → (i j : ℕ) (x y : X) → i < j → slice_get xs i ≡ Some x → slice_get xs j ≡ Some y
+    → key x ≡ key y → place x < place y
+in_place_order key place [] order i j x y lt at_i at_j same = absurd (omega (arith, slice_get_within [] j y at_j))
+in_place_order key place (z ∷ xs) order i zero x y lt at_i at_j same = absurd (omega arith)
+in_place_order {X} key place (z ∷ xs) order zero (suc j) x y lt at_i at_j same =
+    let P = λ (u : X). key u ≡ key y → place u < place y in
+    subst P (ap (λ o. unwrap_or o z) at_i) (all_read (λ u. key z ≡ key u → place z < place u) xs order.0 j y at_j) same
+in_place_order key place (z ∷ xs) order (suc i) (suc j) x y lt at_i at_j same = in_place_order key place xs order.1 i j x y (omega arith) at_i at_j same

@@ -38,11 +38,6 @@ seated_by s orders old new places sure fewer are = record {
   need = λ i w m at t. are.need i w m at (fewer i w m at t);
 }
 
-none_yet : (below here : Bool) → (below || (here && false)) ≡ true → below ≡ true
-none_yet true here t = refl
-none_yet false true t = t
-none_yet false false t = t
-
 still_passed : (below here among one : Bool) → (below || (here && (among || one))) ≡ true → (one && here) ≡ false → (below || (here && among)) ≡ true
 still_passed true here among one t differs = refl
 still_passed false true true one t differs = refl
