@@ -1,4 +1,4 @@
-use Rattle.std.proofs.Common.{rules, ◌≡◌, ℕ, List, arith, ap, length, refl, sym, ◌∙◌, get_or, true, false}
+use Rattle.std.proofs.Common.{rules, ◌≡◌, ℕ, arith, ap, length, refl, sym, ◌∙◌, get_or, true, false}
 use Rattle.linked_demand.specs.Links.{LinksRow}
 use Rattle.linked_demand.specs.Opens.{line_of}
 use Rattle.linked_demand.proofs.Closing.{starts_within, closes_read, wish_within, programme_within, place_right, claim_right, claims_each, lines_each, sure_each, row_within, line_within, below_for, any_is, links_cleared, links_kept}
