@@ -26,13 +26,13 @@ pub struct Overs {
 
 impl Model for Overs {
     ghost use Rattle.std.specs.Prelude.{List, Option, ℕ, vec_capacity};
-    ghost use Rattle.linked_demand.specs.Listed.{AreAnswered};
+    ghost use Rattle.linked_demand.specs.Listed.{AnswersAreListed};
 
     ghost Value = { List (Option ℕ) };
 
     ghost view = { λ o. o.ranks.items };
 
-    ghost invariant = { λ o. AreAnswered o.ranks.items o.overfilled.items (vec_capacity o.overfilled) };
+    ghost invariant = { λ o. AnswersAreListed o.ranks.items o.overfilled.items (vec_capacity o.overfilled) };
 }
 
 impl Overs {
