@@ -1,5 +1,5 @@
 //! The answers of places, with a list of those that have one.
-ghost use Rattle.std.specs.Prelude.{◌≡◌, ℕ, ◌<◌, ◌≤◌, true, false, None, length, nat_lt, replicate, slice_index_or, slice_set, IfOk};
+ghost use Rattle.std.specs.Prelude.{◌≡◌, ◌<◌, ◌≤◌, true, false, None, length, nat_lt, replicate, slice_index_or, slice_set, IfOk};
 ghost use Rattle.std.specs.List.Sorted.{IsNonDecreasing, IsPartitionPoint};
 ghost use Rattle.linked_demand.specs.Listed.{answered};
 
