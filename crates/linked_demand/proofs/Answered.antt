@@ -11,7 +11,7 @@ use Rattle.std.proofs.lemmas.List.Elements.{All-filter, filter-append}
 use Rattle.std.proofs.lemmas.List.FromFn.{length-range_with_len, get_or-range_with_len}
 use Rattle.std.proofs.lemmas.List.Kept.{IsNonDecreasingBy-filter}
 use Rattle.std.proofs.lemmas.List.Sums.{length-filter, count_by-le-length}
-use Rattle.linked_demand.specs.Listed.{answered, AreAnswered}
+use Rattle.linked_demand.specs.Listed.{answered, AnswersAreListed}
 
 -- whether a place that is read has an answer
 pub was_answered : (ranks : List (Option ℕ)) (k : ℕ) (x : Option ℕ) (b : Bool) → k < length ranks → x ≡ get_or ranks k x → b ≡ is_some x → is_some (get_or ranks k None) ≡ b
@@ -96,7 +96,7 @@ none_answered : (n a : ℕ) → filter (λ h. is_some (get_or {A = Option ℕ} (
 none_answered n a =
     filter_agree (λ h. is_some (get_or {A = Option ℕ} (replicate n None) h None)) (λ h. false) a n (λ h ge lt. ap is_some (get_or-none n h)) ∙ none_pass (range_with_len a n)
 
-pub none_listed_yet : (n : ℕ) (ranks : List (Option ℕ)) (places : List ℕ) (room : ℕ) → ranks ≡ replicate n None → places ≡ [] → n ≤ room → AreAnswered ranks places room
+pub none_listed_yet : (n : ℕ) (ranks : List (Option ℕ)) (places : List ℕ) (room : ℕ) → ranks ≡ replicate n None → places ≡ [] → n ≤ room → AnswersAreListed ranks places room
 none_listed_yet n ranks places room ranks_are places_are le =
     let long : length ranks ≡ n = ap length ranks_are ∙ length-replicate n None in
     record {
@@ -104,7 +104,7 @@ none_listed_yet n ranks places room ranks_are places_are le =
       room = omega (arith, long, le);
     }
 
-module _ (ranks : List (Option ℕ)) (places : List ℕ) (room : ℕ) (right : AreAnswered ranks places room) where
+module _ (ranks : List (Option ℕ)) (places : List ℕ) (room : ℕ) (right : AnswersAreListed ranks places room) where
   pub listed_rises : IsNonDecreasing places
   listed_rises = let P = λ (ks : List ℕ). IsNonDecreasing ks in subst P (sym right.listed) (IsNonDecreasingBy-filter (λ (h : ℕ). h) (λ h. is_some (get_or ranks h None)) (range_with_len 0 (length ranks)) (range_rises (length ranks)))
 
@@ -139,7 +139,7 @@ module _ (ranks : List (Option ℕ)) (places : List ℕ) (room : ℕ) (right : A
     long_now = length-set ranks k x
 
     -- a place that stays in the list, or out of it
-    pub still_listed : is_some x ≡ has k → AreAnswered (set ranks k x) places room
+    pub still_listed : is_some x ≡ has k → AnswersAreListed (set ranks k x) places room
     still_listed same = record {
       listed = listed_before ∙ ap (λ b. low ++ cond b (k ∷ high) high) (sym same) ∙ sym listed_now;
       room = omega (arith, long_now, right.room);
@@ -177,7 +177,7 @@ module _ (ranks : List (Option ℕ)) (places : List ℕ) (room : ℕ) (right : A
               length-range_with_len (k + 1) (n - (k + 1)),
             )
 
-        pub one_listed : is_some x ≡ true → (new : List ℕ) (now_room : ℕ) → new ≡ insert places i k → room ≤ now_room → AreAnswered (set ranks k x) new now_room
+        pub one_listed : is_some x ≡ true → (new : List ℕ) (now_room : ℕ) → new ≡ insert places i k → room ≤ now_room → AnswersAreListed (set ranks k x) new now_room
         one_listed some new now_room new_is le =
             let at = found high before high_fails in
             record {
@@ -196,7 +196,7 @@ module _ (ranks : List (Option ℕ)) (places : List ℕ) (room : ℕ) (right : A
         pub listed_within : i < length places
         listed_within = omega (arith, found (k ∷ high) there own_fails, ap length there, length-append low (k ∷ high))
 
-        pub one_dropped : is_some x ≡ false → (new : List ℕ) (now_room : ℕ) → new ≡ remove places i → room ≤ now_room → AreAnswered (set ranks k x) new now_room
+        pub one_dropped : is_some x ≡ false → (new : List ℕ) (now_room : ℕ) → new ≡ remove places i → room ≤ now_room → AnswersAreListed (set ranks k x) new now_room
         one_dropped none new now_room new_is le =
             let at = found (k ∷ high) there own_fails in
             record {

@@ -1,6 +1,6 @@
 -- The marked schools are asked one after another.
-use Rattle.std.proofs.Common.{ℕ, zero, suc, ◌<◌, ◌≡◌, Bool, true, false, not, ◌&&◌, List, length, inl, inr, refl, sym, ◌∙◌, ap, arith, get_or, Option, Some, None, Vec, unwrap_or}
-use Rattle.std.specs.Prelude.{slice_get, slice_index, replicate}
+use Rattle.std.proofs.Common.{ℕ, ◌<◌, ◌≡◌, Bool, true, false, not, ◌&&◌, List, length, inl, inr, refl, sym, ◌∙◌, ap, arith, get_or, Option, Some, None, Vec, unwrap_or}
+use Rattle.std.specs.Prelude.{slice_get, slice_index}
 use Rattle.std.specs.declared.alloc.Global.{Global}
 use Rattle.std.proofs.Math.ListN.{set}
 use Rattle.std.proofs.lemmas.Bool.{cases_eq}
@@ -14,16 +14,6 @@ use Rattle.linked_demand.proofs.Marked.{marked_within}
 no_more : (b : Bool) → (b && not b) ≡ false
 no_more true = refl
 no_more false = refl
-
-still : (b : Bool) → (b && not false) ≡ b
-still true = refl
-still false = refl
-
--- no mark is among marks that are all taken away
-no_mark : (n h : ℕ) → get_or (replicate n false) h false ≡ false
-no_mark zero h = refl
-no_mark (suc n) zero = refl
-no_mark (suc n) (suc h) = no_mark n h
 
 -- the schools whose marks were taken away are asked
 pub record AskedSoFar (l : LinksRow) (rows : List (Vec RowWish Global)) (free : List ℕ) (old now : List Bool) (start overs : List (Option ℕ)) : Type 0 where
@@ -63,12 +53,3 @@ module _ (l : LinksRow) (rows : List (Vec RowWish Global)) (free : List ℕ) (ol
             ];
           };
         }
-
-    pub asked_all : now ≡ replicate (length now) false → IsAsked l rows free (λ h. get_or old h false) start overs
-    asked_all none = record {
-      as_long = so_far.asked.as_long;
-      each = λ h row at.
-          let gone : get_or now h false ≡ false = ap (λ (bs : List Bool). get_or bs h false) none ∙ no_mark (length now) h in
-          let all : (get_or old h false && not (get_or now h false)) ≡ get_or old h false = ap (λ b. get_or old h false && not b) gone ∙ still (get_or old h false) in
-          rw (← all) (so_far.asked.each h row at);
-    }

@@ -3,19 +3,15 @@ use Rattle.std.proofs.Common.{ℕ, zero, suc, ◌+◌, ◌-◌, ◌≤◌, ◌<�
 use Rattle.std.specs.Prelude.{replicate}
 use Rattle.std.proofs.Math.ListN.{set}
 use Rattle.std.proofs.lemmas.Bool.{false≢true}
-use Rattle.std.proofs.lemmas.List.{length-set, length-replicate, get_or-set_same, set-get_or, reverse-append, length-reverse}
+use Rattle.std.proofs.lemmas.List.{length-set, get_or-set_same, reverse-append, length-reverse}
 use Rattle.std.proofs.lemmas.List.Sums.{count_by-le-length, sum_by-set}
-use Rattle.linked_demand.specs.Listed.{AreMarked, AreMarks}
+use Rattle.linked_demand.specs.Listed.{AreMarked, MarksAreListed}
 
 -- a mark that is set where there was none, and taken away again
 set_back : (flags : List Bool) (h : ℕ) → get_or flags h false ≡ false → set (set flags h true) h false ≡ flags
 set_back [] h clear = refl
 set_back (b ∷ flags) zero clear = ap (λ c. c ∷ flags) (sym clear)
 set_back (b ∷ flags) (suc h) clear = ap (λ fs. b ∷ fs) (set_back flags h clear)
-
--- one that is set already
-pub set_again : (flags : List Bool) (h : ℕ) → get_or flags h false ≡ true → flags ≡ set flags h true
-set_again flags h marked = sym (set-get_or flags h false) ∙ ap (λ b. set flags h b) marked
 
 pub marked_within : (flags : List Bool) (h : ℕ) → get_or flags h false ≡ true → h < length flags
 marked_within [] h marked = absurd (false≢true marked)
@@ -35,17 +31,7 @@ listed_count : (hs : List ℕ) (flags : List Bool) → AreMarked hs flags → le
 listed_count [] flags none = sym (ap (count_by (λ b. b)) none ∙ none_counted (length flags))
 listed_count (h ∷ hs) flags (marked, rest) = omega (arith, listed_count hs (set flags h false) rest, count_cleared flags h marked)
 
--- no place is marked yet
-pub none_marked_yet : (n : ℕ) (flags : List Bool) (places : List ℕ) (room : ℕ) → flags ≡ replicate n false → places ≡ [] → n ≤ room → AreMarks flags places room
-none_marked_yet n flags places room flags_are places_are le =
-    let P = λ (ps : List ℕ). AreMarked (reverse ps) flags in
-    let long : length flags ≡ n = ap length flags_are ∙ length-replicate n false in
-    record {
-      listed = subst P (sym places_are) (flags_are ∙ ap (λ k. replicate k false) (sym long));
-      room = omega (arith, long, le);
-    }
-
-module _ (flags : List Bool) (places : List ℕ) (room : ℕ) (right : AreMarks flags places room) where
+module _ (flags : List Bool) (places : List ℕ) (room : ℕ) (right : MarksAreListed flags places room) where
   -- there is room for a place that is not marked
   pub has_room : (h : ℕ) → h < length flags → get_or flags h false ≡ false → length places < room
   has_room h lt clear =
@@ -53,7 +39,7 @@ module _ (flags : List Bool) (places : List ℕ) (room : ℕ) (right : AreMarks 
       let back = ap (count_by (λ (b : Bool). b)) (set_back flags h clear) in
       omega (arith, listed_count (reverse places) flags right.listed, length-reverse places, more, back, count_by-le-length (λ (b : Bool). b) (set flags h true), length-set flags h true, right.room)
 
-  pub one_marked : (h : ℕ) → h < length flags → get_or flags h false ≡ false → (new : List ℕ) (now_room : ℕ) → new ≡ places ++ h ∷ [] → room ≤ now_room → AreMarks (set flags h true) new now_room
+  pub one_marked : (h : ℕ) → h < length flags → get_or flags h false ≡ false → (new : List ℕ) (now_room : ℕ) → new ≡ places ++ h ∷ [] → room ≤ now_room → MarksAreListed (set flags h true) new now_room
   one_marked h lt clear new now_room new_is le =
       let P = λ (hs : List ℕ). AreMarked hs (set flags h true) in
       let Q = λ (fs : List Bool). AreMarked (reverse places) fs in
@@ -61,21 +47,6 @@ module _ (flags : List Bool) (places : List ℕ) (room : ℕ) (right : AreMarks 
         listed = subst P (sym (ap reverse new_is ∙ reverse-append places (h ∷ []))) (get_or-set_same flags h true false lt, subst Q (sym (set_back flags h clear)) right.listed);
         room = omega (arith, length-set flags h true, right.room, le);
       }
-
-  -- the last one of the list was marked
-  module _ (rest : List ℕ) (h : ℕ) (is : places ≡ rest ++ h ∷ []) where
-    taken : (get_or flags h false ≡ true) × AreMarked (reverse rest) (set flags h false)
-    taken = let P = λ (hs : List ℕ). AreMarked hs flags in subst P (ap reverse is ∙ reverse-append rest (h ∷ [])) right.listed
-
-    pub was_marked : get_or flags h false ≡ true
-    was_marked = taken.0
-
-    pub one_taken : (now_room : ℕ) → room ≤ now_room → AreMarks (set flags h false) rest now_room
-    one_taken now_room le = record { listed = taken.1; room = omega (arith, length-set flags h false, right.room, le) }
-
-  -- with an empty list no place is marked
-  pub none_left : places ≡ [] → flags ≡ replicate (length flags) false
-  none_left is = let P = λ (ps : List ℕ). AreMarked (reverse ps) flags in subst P is right.listed
 
 -- the places are marked one after another
 set_next : (i m : ℕ) → set (replicate i true ++ replicate (suc m) false) i true ≡ replicate (suc i) true ++ replicate m false

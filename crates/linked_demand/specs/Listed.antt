@@ -8,7 +8,7 @@ AreMarked [] flags = flags ≡ replicate (length flags) false
 AreMarked (h ∷ hs) flags = (slice_index_or flags h false ≡ true) × AreMarked hs (slice_set flags h false)
 
 -- the marked places, of which the last one goes first, and room for all places
-pub record AreMarks (flags : List Bool) (places : List ℕ) (capacity : ℕ) : Type 0 where
+pub record MarksAreListed (flags : List Bool) (places : List ℕ) (capacity : ℕ) : Type 0 where
   pub listed : AreMarked (reverse places) flags
   pub room : length flags ≤ capacity
 
@@ -17,6 +17,6 @@ abbrev pub answered : {X : Type 0} → List (Option X) → List ℕ
 answered answers = filter (λ h. is_some (slice_index_or answers h None)) (range_with_len 0 (length answers))
 
 -- the places that have an answer, and room for all places
-pub record AreAnswered (answers : List (Option ℕ)) (places : List ℕ) (capacity : ℕ) : Type 0 where
+pub record AnswersAreListed (answers : List (Option ℕ)) (places : List ℕ) (capacity : ℕ) : Type 0 where
   pub listed : places ≡ answered answers
   pub room : length answers ≤ capacity

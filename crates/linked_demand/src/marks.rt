@@ -15,13 +15,13 @@ pub struct Marks {
 
 impl Model for Marks {
     ghost use Rattle.std.specs.Prelude.{List, Bool, vec_capacity};
-    ghost use Rattle.linked_demand.specs.Listed.{AreMarks};
+    ghost use Rattle.linked_demand.specs.Listed.{MarksAreListed};
 
     ghost Value = { List Bool };
 
     ghost view = { λ m. m.flags.items };
 
-    ghost invariant = { λ m. AreMarks m.flags.items m.places.items (vec_capacity m.places) };
+    ghost invariant = { λ m. MarksAreListed m.flags.items m.places.items (vec_capacity m.places) };
 }
 
 impl Marks {

@@ -1,5 +1,5 @@
 //! The answers of places, with a list of those that have one.
-ghost use Rattle.std.specs.Prelude.{◌≡◌, ℕ, ◌<◌, ◌≤◌, true, false, None, length, nat_lt, replicate, slice_index_or, slice_set, IfOk};
+ghost use Rattle.std.specs.Prelude.{◌≡◌, ◌<◌, ◌≤◌, true, false, None, length, nat_lt, replicate, slice_index_or, slice_set, IfOk};
 ghost use Rattle.std.specs.List.Sorted.{IsNonDecreasing, IsPartitionPoint};
 ghost use Rattle.linked_demand.specs.Listed.{answered};
 
@@ -26,13 +26,13 @@ pub struct Overs {
 
 impl Model for Overs {
     ghost use Rattle.std.specs.Prelude.{List, Option, ℕ, vec_capacity};
-    ghost use Rattle.linked_demand.specs.Listed.{AreAnswered};
+    ghost use Rattle.linked_demand.specs.Listed.{AnswersAreListed};
 
     ghost Value = { List (Option ℕ) };
 
     ghost view = { λ o. o.ranks.items };
 
-    ghost invariant = { λ o. AreAnswered o.ranks.items o.overfilled.items (vec_capacity o.overfilled) };
+    ghost invariant = { λ o. AnswersAreListed o.ranks.items o.overfilled.items (vec_capacity o.overfilled) };
 }
 
 impl Overs {
