@@ -8,11 +8,12 @@ use Rattle.std.proofs.lemmas.List.Sums.{length-filter}
 use Rattle.std.specs.List as std_list
 use Rattle.admit_core.specs.Lists.{is_among}
 
-abbrev up_to : ℕ → List ℕ → List ℕ
+-- the front of a list before the first place of a number
+abbrev pub up_to : ℕ → List ℕ → List ℕ
 up_to c [] = []
 up_to c (x ∷ xs) = cond (nat_eq c x) [] (x ∷ up_to c xs)
 
-before_is : (c : ℕ) (xs : List ℕ) → before_first (nat_eq c) xs ≡ up_to c xs
+pub before_is : (c : ℕ) (xs : List ℕ) → before_first (nat_eq c) xs ≡ up_to c xs
 before_is c [] = refl
 before_is c (x ∷ xs) =
     elim (cases_Bool (nat_eq c x)) [

@@ -1,8 +1,8 @@
 -- What the flags of open wishes say is what the bars say, and how it changes where a bar falls or one wish is closed.
-use Rattle.std.proofs.Common.{ℕ, ◌+◌, ◌≤◌, ◌<◌, ◌≡◌, Bool, true, false, not, ◌&&◌, ◌||◌, List, [], ◌∷◌, map, length, inl, inr, refl, sym, ◌∙◌, ap, arith, nat_eq, nat_lt, count_by, filter, zero, suc, get_or, take, Option, Some, None, cond, zip}
+use Rattle.std.proofs.Common.{ℕ, ◌≤◌, ◌<◌, ◌≡◌, Bool, true, false, not, ◌&&◌, ◌||◌, List, [], ◌∷◌, map, length, inl, inr, refl, sym, ◌∙◌, ap, arith, nat_eq, nat_lt, count_by, filter, zero, suc, get_or, take, Option, Some, None, cond, zip}
 use Rattle.std.proofs.Math.ListN.{set}
 use Rattle.std.specs.Prelude.{slice_index, slice_set, slice_get}
-use Rattle.std.specs.List.{list_any, before_first, prefix_len}
+use Rattle.std.specs.List.{list_any, before_first}
 use Rattle.std.proofs.lemmas.Bool.{cases_Bool, and_parts, and_left, and_right, or_cases, or_left, or_right, false≢true, ltb-true, lt-ltb, eqb-true, eqb-false, ne_eqb, eq-eqb}
 use Rattle.std.proofs.lemmas.List.Sums.{length-filter}
 use Rattle.std.proofs.lemmas.List.{get_or-set_same, get_or-set_other}
@@ -12,6 +12,7 @@ use Rattle.admit_core.specs.declared.ranking.CallOrder.{CallOrder}
 use Rattle.admit_core.specs.State.{State, entries, is_waiting, holds_seat, holds_bed, is_school, seats_left}
 use Rattle.admit_core.specs.Proposals.{is_behind_bar, is_open, is_open_in, wants_seat, ahead, before, order_of, is_proposed}
 use Rattle.admit_core.proofs.Tests.{Implies}
+use Rattle.demand.proofs.Front.{up_to, before_is}
 use Rattle.linked_demand.specs.Line.{LineRow, set_count, is_reached}
 use Rattle.linked_demand.specs.Links.{IsPlaceOf, IsSeatPlace}
 use Rattle.linked_demand.specs.Opens.{opens_of, flagged, is_flagged_in, wants_by, ahead_by, is_proposed_by, waits_in, line_of, seat_row, is_past}
@@ -78,21 +79,6 @@ wants_waits s opens p c t =
     any_zip_first (is_flagged_in p c) (λ (e : Wish × Mark). is_waiting e.1 && (nat_eq e.0.candidate c) && (nat_eq e.0.programme p))
     (λ e flag. and_drop (is_waiting e.1) flag (nat_eq e.0.candidate c) (nat_eq e.0.programme p))
     (entries s) opens (and_parts (list_any (is_flagged_in p c) (flagged s opens)) (not (holds_seat s c p)) t).0
-
--- those before a number
-abbrev up_to : ℕ → List ℕ → List ℕ
-up_to c [] = []
-up_to c (x ∷ xs) = cond (nat_eq c x) [] (x ∷ up_to c xs)
-
-before_is : (c : ℕ) (xs : List ℕ) → before_first (nat_eq c) xs ≡ up_to c xs
-before_is c [] = refl
-before_is c (x ∷ xs) =
-    elim (cases_Bool (nat_eq c x)) [
-      | inl here ↦ rw here refl
-      | inr other ↦
-          let one : 1 + prefix_len (λ y. not (nat_eq c y)) xs ≡ suc (prefix_len (λ y. not (nat_eq c y)) xs) = omega arith in
-          rw (other, one) (ap (λ (ys : List ℕ). x ∷ ys) (before_is c xs))
-    ]
 
 -- those who fail a test that the counted pass may be left out
 filter_up_to : (q f : ℕ → Bool) (c : ℕ) → Implies q f → f c ≡ true → (order : List ℕ)

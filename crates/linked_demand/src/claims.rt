@@ -5,6 +5,7 @@ ghost use Rattle.std.specs.List.Sorted.{IsNonDecreasingBy, IsPartitionPoint};
 ghost use Rattle.day_state.specs.Kept.{candidate_in};
 ghost use Rattle.linked_demand.specs.Claims.{IsWithin, part_of, IsSpanOf};
 
+use crate::rising::first_not_below;
 use admit_core::OutOfMemory;
 use day_state::DayState;
 use demand::wish_at;
@@ -40,15 +41,6 @@ pub fn candidates_of(
         candidates.push(wish_at(state, *wish).candidate)?;
     }
     Ok(candidates)
-}
-
-/// The first place in a rising list of candidates that isn't below this one.
-fn first_not_below(candidates: &[u32], candidate: u32) -> usize
-    requires { IsNonDecreasingBy (λ k. k) candidates.now }
-    ensures within { result ≤ length candidates.now }
-    ensures point { IsPartitionPoint (λ k. nat_lt k candidate ≡ true) (λ k. nat_lt k candidate ≡ false) candidates.now result }
-{
-    candidates.partition_point(|other| *other < candidate)
 }
 
 /// The first place in a rising list of candidates that is above this one, from the first place that

@@ -12,6 +12,7 @@ mod links;
 mod marks;
 mod over;
 mod overs;
+mod rising;
 mod round;
 mod rows;
 mod seats;

@@ -1,20 +1,11 @@
 //! The answers of places, with a list of those that have one.
-ghost use Rattle.std.specs.Prelude.{◌≡◌, ◌<◌, ◌≤◌, true, false, None, length, nat_lt, replicate, slice_index_or, slice_set, IfOk};
-ghost use Rattle.std.specs.List.Sorted.{IsNonDecreasing, IsPartitionPoint};
+ghost use Rattle.std.specs.Prelude.{◌≡◌, ◌<◌, None, length, replicate, slice_index_or, slice_set, IfOk};
 ghost use Rattle.linked_demand.specs.Listed.{answered};
 
+use crate::rising::first_not_below;
 use admit_core::OutOfMemory;
 use std::alloc::Global;
 use std::marker::Model;
-
-/// Where a number stands in a rising list, or would stand.
-fn place_of(numbers: &[u32], number: u32) -> usize
-    requires { IsNonDecreasing numbers.now }
-    ensures within { result ≤ length numbers.now }
-    ensures point { IsPartitionPoint (λ n. nat_lt n number ≡ true) (λ n. nat_lt n number ≡ false) numbers.now result }
-{
-    numbers.partition_point(|other| *other < number)
-}
 
 /// For each place, counted from 0, the first rank that has no bed, if there is one: then the place is
 /// overfilled.
@@ -61,7 +52,7 @@ impl Overs {
         let was_over = self.ranks[place as usize].is_some();
         let is_over = rank.is_some();
         if is_over != was_over {
-            let at = place_of(&self.overfilled, place);
+            let at = first_not_below(&self.overfilled, place);
             if is_over {
                 self.overfilled.insert(at, place).unwrap();
             } else {

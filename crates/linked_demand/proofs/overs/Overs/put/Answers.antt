@@ -18,8 +18,8 @@ kept true false t = absurd (false≢true (sym t))
 kept false true t = absurd (false≢true (sym t))
 kept false false t = refl
 
-pub place_of-at-requires : goal.place_of-at-requires
-place_of-at-requires c =
+pub first_not_below-at-requires : goal.first_not_below-at-requires
+first_not_below-at-requires c =
     let P = λ (ks : List ℕ). IsNonDecreasing ks in
     subst P (sym c.deref.ensures.value) (listed_rises c.self.inside.ranks.items c.self.inside.overfilled.items _ c.self.invariant)
 
@@ -31,7 +31,7 @@ unwrap-requires c =
     let none = was ∙ turned c.is_some-is_over.result c.is_some-was_over.result c.if-is_over-was_over.true ∙ ap not c.if-is_over.true in
     c.insert.ensures.succeeds (omega (
       arith,
-      room_for_one ranks c.self.inside.overfilled.items _ c.self.invariant c.args.place c.args.rank lt c.deref.result.now c.deref.ensures.value c.place_of-at.result c.place_of-at.ensures.within c.place_of-at.ensures.point none,
+      room_for_one ranks c.self.inside.overfilled.items _ c.self.invariant c.args.place c.args.rank lt c.deref.result.now c.deref.ensures.value c.first_not_below-at.result c.first_not_below-at.ensures.within c.first_not_below-at.ensures.point none,
       c.deref.ensures.len,
       ap length c.deref.ensures.value,
     ))
@@ -44,7 +44,7 @@ remove-requires c =
     let some = was ∙ turned c.is_some-is_over.result c.is_some-was_over.result c.if-is_over-was_over.true ∙ ap not c.if-is_over.false in
     omega (
       arith,
-      listed_within ranks c.self.inside.overfilled.items _ c.self.invariant c.args.place c.args.rank lt c.deref.result.now c.deref.ensures.value c.place_of-at.result c.place_of-at.ensures.within c.place_of-at.ensures.point some,
+      listed_within ranks c.self.inside.overfilled.items _ c.self.invariant c.args.place c.args.rank lt c.deref.result.now c.deref.ensures.value c.first_not_below-at.result c.first_not_below-at.ensures.within c.first_not_below-at.ensures.point some,
       c.deref.ensures.len,
       ap length c.deref.ensures.value,
     )
@@ -59,12 +59,12 @@ invariant_of-self c =
       | then-is_over-was_over+then-is_over w ↦
           let none = was ∙ turned c.is_some-is_over.result c.is_some-was_over.result w.if-is_over-was_over.true ∙ ap not w.if-is_over.true in
           rw w.self-inside-is
-          (one_listed ranks places _ c.self.invariant c.args.place c.args.rank lt w.deref.result.now w.deref.ensures.value w.place_of-at.result w.place_of-at.ensures.within w.place_of-at.ensures.point none
+          (one_listed ranks places _ c.self.invariant c.args.place c.args.rank lt w.deref.result.now w.deref.ensures.value w.first_not_below-at.result w.first_not_below-at.ensures.within w.first_not_below-at.ensures.point none
           (sym c.is_some-is_over.ensures ∙ w.if-is_over.true) w.insert.new.self.items _ (w.insert.ensures.items ∙ rw w.unwrap.ensures refl) w.insert.ensures.capacity)
       | then-is_over-was_over+else-is_over w ↦
           let some = was ∙ turned c.is_some-is_over.result c.is_some-was_over.result w.if-is_over-was_over.true ∙ ap not w.if-is_over.false in
           rw w.self-inside-is
-          (one_dropped ranks places _ c.self.invariant c.args.place c.args.rank lt w.deref.result.now w.deref.ensures.value w.place_of-at.result w.place_of-at.ensures.within w.place_of-at.ensures.point some
+          (one_dropped ranks places _ c.self.invariant c.args.place c.args.rank lt w.deref.result.now w.deref.ensures.value w.first_not_below-at.result w.first_not_below-at.ensures.within w.first_not_below-at.ensures.point some
           (sym c.is_some-is_over.ensures ∙ w.if-is_over.false) w.remove.new.self.items _ w.remove.ensures.items (omega (arith, w.remove.ensures.capacity)))
       | else-is_over-was_over w ↦
           rw w.self-inside-is
