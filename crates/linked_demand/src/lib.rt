@@ -1,5 +1,6 @@
-//! The boarding schools of a state as a system of falling bars that keeps who is served, so that a
-//! fall costs what it changes.
+//! The boarding schools of a state as a system of falling bars that keeps who is served and which
+//! schools are overfilled: a fall costs the rows of the schools whose demand it changes, not a look at
+//! all schools or all wishes.
 #![tactic(auto)]
 
 mod claims;

@@ -31,7 +31,8 @@ fn school_count(state: &DayState<'_>) -> u32
 }
 
 /// The boarding schools (*internats*) of a state, with their ceilings and their present bars. It keeps
-/// who is served in each programme, so that a fall costs what it changes.
+/// who is served in each programme and which schools are overfilled: a fall costs the rows of the
+/// schools whose demand it changes.
 #[derive(Drop)]
 pub struct LinkedRound<'a, 'd> {
     links: SeatLinks<'a, 'd>,
