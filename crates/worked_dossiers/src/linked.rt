@@ -51,7 +51,8 @@ fn agree<F: Falling, G: Falling>(alloc: Global, one: &F, other: &G) -> Result<bo
     Ok(one.count() == other.count() && one.overfilled(alloc)? == other.overfilled(alloc)?)
 }
 
-/// Whether a linked round tells of each wish whether it is proposed under the present bars.
+/// Whether a linked round tells of each wish whether it is proposed under the present bars, and lists
+/// those that are.
 fn tells_proposed(
     alloc: Global,
     state: &DayState<'_>,
@@ -66,6 +67,9 @@ fn tells_proposed(
         return Ok(false);
     }
     let places = proposed(alloc, state, orders, &bars)?;
+    if round.proposed(alloc)? != places {
+        return Ok(false);
+    }
     for wish in 0..state.dossier().wishes.len() as u32 {
         if round.is_proposed(wish) != places.contains(&wish) {
             return Ok(false);
