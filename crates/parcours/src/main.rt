@@ -2,25 +2,8 @@
 //! writes to standard output.
 #![tactic(auto)]
 
-mod command;
-mod exit;
-mod orders;
-mod pickers;
-mod replay;
-mod reply;
-mod request;
-mod run;
-mod sample;
-mod stop;
-mod tables;
-mod terms;
-#[cfg(test)]
-mod tests;
-mod words;
-
-use crate::exit::Exit;
-use crate::pickers::Pickers;
 use bar_fixpoint::{FirstPicker, LastPicker, TurnPicker};
+use replay_cli::{Exit, Pickers, run};
 use shelf_io::{DirShelf, StdSink};
 use std::alloc::AllocError;
 use std::process::ExitCode;
@@ -54,7 +37,7 @@ fn start(rt: HostRuntime) -> Result<Exit, AllocError> {
         last: Some(Box::new(alloc, LastPicker::new(alloc))?),
         turn: Some(Box::new(alloc, TurnPicker::new(alloc))?),
     };
-    Ok(run::run(
+    Ok(run(
         alloc,
         &words,
         &mut DirShelf::new(rt),
