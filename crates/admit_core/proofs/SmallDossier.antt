@@ -34,7 +34,8 @@ small_dossier_holds =
       ids = record { groups = one_distinct 1; programmes = one_distinct 10; schools = one_distinct 5; wishes = one_distinct 1 };
       groups = one IsValidGroup _ (record {
         id = number 1 (lit≤ tt) (lit≤ tt);
-        ranking = record { scholar_pct = lit≤ tt; resident_pct = lit≤ tt; size = lit≤ tt; ranks = one_rising 1; candidates = one_distinct 11 };
+        ranking = record { scholar_pct = lit≤ tt; resident_pct = lit≤ tt; ranks = one_rising 1; candidates = one_distinct 11 };
+        size = lit≤ tt;
         list = one IsValidRanked _ (record { candidate = number 11 (lit≤ tt) (lit≤ tt); rank = number 1 (lit≤ tt) (lit≤ tt) });
       });
       programmes = one (IsValidProgramme d) (programme 10 0 1) (record { id = number 10 (lit≤ tt) (lit≤ tt); group = lit< tt; seats = lit≤ tt; limit = lit≤ tt });

@@ -1,7 +1,6 @@
 -- The numbers that each column of the slots may have.
 use Rattle.std.specs.Prelude.{ℕ, ◌≤◌, List, length, All}
 use Rattle.std.specs.Option.{ForSome}
-use Rattle.admit_core.specs.declared.dossier.TheConstants.{MAX_ROWS, MAX_NUMBER, MAX_DAY}
 use Rattle.admit_core.specs.declared.tables.GroupRow.{GroupRow}
 use Rattle.admit_core.specs.declared.tables.ProgrammeRow.{ProgrammeRow}
 use Rattle.admit_core.specs.declared.tables.SchoolRow.{SchoolRow}
@@ -16,12 +15,12 @@ use Rattle.admit_core.specs.declared.tables.Tables.{Tables}
 -- an id or a rank
 pub record IsNumber (n : ℕ) : Type 0 where
   pub from_one : 1 ≤ n
-  pub at_most : n ≤ MAX_NUMBER
+  pub at_most : n ≤ 2000000000
 
 -- a day of a campaign
 pub record IsDay (n : ℕ) : Type 0 where
   pub from_one : 1 ≤ n
-  pub at_most : n ≤ MAX_DAY
+  pub at_most : n ≤ 366
 
 pub record IsGroupRow (r : GroupRow) : Type 0 where
   pub id : IsNumber r.id
@@ -31,13 +30,13 @@ pub record IsGroupRow (r : GroupRow) : Type 0 where
 pub record IsProgrammeRow (r : ProgrammeRow) : Type 0 where
   pub id : IsNumber r.id
   pub group : IsNumber r.group
-  pub seats : r.seats ≤ MAX_NUMBER
-  pub limit : r.limit ≤ MAX_NUMBER
+  pub seats : r.seats ≤ 2000000000
+  pub limit : r.limit ≤ 2000000000
 
 pub record IsSchoolRow (r : SchoolRow) : Type 0 where
   pub id : IsNumber r.id
-  pub beds : r.beds ≤ MAX_NUMBER
-  pub ceiling : r.ceiling ≤ MAX_NUMBER
+  pub beds : r.beds ≤ 2000000000
+  pub ceiling : r.ceiling ≤ 2000000000
 
 pub record IsRankRow (r : RankRow) : Type 0 where
   pub group : IsNumber r.group
@@ -54,7 +53,7 @@ pub record IsWishRow (r : WishRow) : Type 0 where
   pub candidate : IsNumber r.candidate
   pub programme : IsNumber r.programme
   pub school : ForSome r.school IsNumber
-  pub preference : r.preference ≤ MAX_NUMBER
+  pub preference : r.preference ≤ 2000000000
 
 pub record IsStateRow (r : StateRow) : Type 0 where
   pub wish : IsNumber r.wish
@@ -62,7 +61,7 @@ pub record IsStateRow (r : StateRow) : Type 0 where
 pub record IsCeilingRow (r : CeilingRow) : Type 0 where
   pub day : IsDay r.day
   pub school : IsNumber r.school
-  pub ceiling : r.ceiling ≤ MAX_NUMBER
+  pub ceiling : r.ceiling ≤ 2000000000
 
 pub record IsAnswerRow (r : AnswerRow) : Type 0 where
   pub day : IsDay r.day
@@ -70,7 +69,7 @@ pub record IsAnswerRow (r : AnswerRow) : Type 0 where
 
 -- rows of a slot: not too many, and each in the ranges of its columns
 pub record AreRows {R : Type 0} (IsRow : R → Type 0) (rows : List R) : Type 0 where
-  pub size : length rows ≤ MAX_ROWS
+  pub size : length rows ≤ 16000000
   pub each : All IsRow rows
 
 pub record AreTables (t : Tables) : Type 0 where

@@ -3,7 +3,6 @@ use Rattle.std.specs.Prelude.{◌≡◌, ◌↔◌, ℕ, ◌≤◌, ◌<◌, map
 use Rattle.std.specs.Option.{ForSome}
 use Rattle.std.specs.List.{IsDistinct}
 use Rattle.std.specs.List.Sorted.{IsNonDecreasing, IsStrictlyIncreasing}
-use Rattle.admit_core.specs.declared.dossier.TheConstants.{MAX_ROWS, MAX_NUMBER}
 use Rattle.admit_core.specs.declared.ranking.Ranked.{Ranked}
 use Rattle.admit_core.specs.declared.ranking.RankGroup.{RankGroup}
 use Rattle.admit_core.specs.declared.dossier.Programme.{Programme}
@@ -27,25 +26,25 @@ pub record IsValidRanked (r : Ranked) : Type 0 where
 pub record IsRanking (g : RankGroup) : Type 0 where
   pub scholar_pct : g.scholar_pct ≤ 100
   pub resident_pct : g.resident_pct ≤ 100
-  pub size : length g.list ≤ MAX_ROWS
   pub ranks : IsStrictlyIncreasing (map (λ r. r.rank) g.list)
   pub candidates : IsDistinct nat_eq (map (λ r. r.candidate) g.list)
 
 pub record IsValidGroup (g : RankGroup) : Type 0 where
   pub id : IsNumber g.id
   pub ranking : IsRanking g
+  pub size : length g.list ≤ 16000000
   pub list : All IsValidRanked g.list
 
 pub record IsValidProgramme (d : DossierRows) (p : Programme) : Type 0 where
   pub id : IsNumber p.id
   pub group : p.group < length d.groups
-  pub seats : p.seats ≤ MAX_NUMBER
-  pub limit : p.limit ≤ MAX_NUMBER
+  pub seats : p.seats ≤ 2000000000
+  pub limit : p.limit ≤ 2000000000
 
 pub record IsValidSchool (h : School) : Type 0 where
   pub id : IsNumber h.id
-  pub beds : h.beds ≤ MAX_NUMBER
-  pub ceiling : h.ceiling ≤ MAX_NUMBER
+  pub beds : h.beds ≤ 2000000000
+  pub ceiling : h.ceiling ≤ 2000000000
 
 -- a wish with a school has a rank there, and one without has 0
 abbrev pub HasBoardRank : Option ℕ → ℕ → Type 0
@@ -59,7 +58,7 @@ pub record IsValidWish (d : DossierRows) (w : Wish) : Type 0 where
   pub school : ForSome w.school (λ h. h < length d.schools)
   pub ranked : IsTrue (is_among w.candidate (map (λ r. r.candidate) (ranking_of d w.programme)))
   pub board_rank : HasBoardRank w.school w.board_rank
-  pub preference : w.preference ≤ MAX_NUMBER
+  pub preference : w.preference ≤ 2000000000
 
 -- two wishes of one candidate differ in programme or school; their preferences are both 0, or both positive and different
 pub record IsApart (v w : Wish) : Type 0 where
@@ -75,7 +74,7 @@ NotBothAccepted v w = v.0.candidate ≡ w.0.candidate → v.1 ≡ Accepted → w
 pub record IsValidCeiling (d : DossierRows) (c : CeilingChange) : Type 0 where
   pub day : IsDay c.day
   pub school : c.school < length d.schools
-  pub ceiling : c.ceiling ≤ MAX_NUMBER
+  pub ceiling : c.ceiling ≤ 2000000000
 
 -- no school has two ceilings of one day
 abbrev pub NotSameDay : CeilingChange → CeilingChange → Type 0
@@ -94,13 +93,13 @@ pub record IsValidAnswer (d : DossierRows) (a : Answer) : Type 0 where
 
 -- no list is too long; the rankings count together
 pub record HasSize (d : DossierRows) : Type 0 where
-  pub groups : length d.groups ≤ MAX_ROWS
-  pub ranked : sum (map (λ g. length g.list) d.groups) ≤ MAX_ROWS
-  pub programmes : length d.programmes ≤ MAX_ROWS
-  pub schools : length d.schools ≤ MAX_ROWS
-  pub wishes : length d.wishes ≤ MAX_ROWS
-  pub ceilings : length d.ceilings ≤ MAX_ROWS
-  pub answers : length d.answers ≤ MAX_ROWS
+  pub groups : length d.groups ≤ 16000000
+  pub ranked : sum (map (λ g. length g.list) d.groups) ≤ 16000000
+  pub programmes : length d.programmes ≤ 16000000
+  pub schools : length d.schools ≤ 16000000
+  pub wishes : length d.wishes ≤ 16000000
+  pub ceilings : length d.ceilings ≤ 16000000
+  pub answers : length d.answers ≤ 16000000
 
 -- no id stands twice
 pub record HasOwnIds (d : DossierRows) : Type 0 where

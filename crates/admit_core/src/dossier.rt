@@ -1,4 +1,5 @@
 //! The rows that a campaign works on, with places for ids.
+ghost use Rattle.std.specs.Prelude.{◌≡◌};
 
 use crate::ranking::RankGroup;
 use crate::sequence::Sequence;
@@ -13,6 +14,14 @@ pub const MAX_NUMBER: u32 = 2_000_000_000;
 
 /// The last day that a campaign may have; the first is 1.
 pub const MAX_DAY: u32 = 366;
+
+/// The limits of the code are those of the rules. It does nothing when it is called: its clauses are
+/// theorems.
+pub fn limits_of_rules()
+    ensures rows { MAX_ROWS ≡ 16000000 }
+    ensures numbers { MAX_NUMBER ≡ 2000000000 }
+    ensures days { MAX_DAY ≡ 366 }
+{}
 
 /// A programme.
 ///

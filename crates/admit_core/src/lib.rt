@@ -27,7 +27,7 @@ pub use chain::{Chain, ChainFault, ChainReason, CheckReason, DayChain, FallLine,
 pub use chain_laws::laws_of_chains;
 pub use dossier::{
     Answer, AnswerKind, CeilingChange, Dossier, MAX_DAY, MAX_NUMBER, MAX_ROWS, Programme, School,
-    Wish,
+    Wish, limits_of_rules,
 };
 pub use evening_laws::laws_of_evenings;
 pub use explanation::{BarCause, Explanation};

@@ -1,5 +1,5 @@
 //! Call orders by a plain scan: for each position all who remain are gone through.
-ghost use Rattle.std.specs.Prelude.{IfOk, ◌≡◌, ◌≤◌, ◌<◌, ◌^◌, ◌&&◌, length, find, count_by, option_copied};
+ghost use Rattle.std.specs.Prelude.{IfOk, ◌≡◌, ◌&&◌, find, count_by, option_copied};
 ghost use Rattle.std.specs.List.{list_any};
 ghost use Rattle.admit_core.specs.Lists.{is_among};
 ghost use Rattle.admit_core.specs.CallOrder.{called, remaining, binds, bound_after, may_be_called, next_after, IsCallOrder};
@@ -59,8 +59,7 @@ fn any_remain(group: &RankGroup, before: &[u32], favoured: Favoured) -> bool
 
 /// How many of the favoured were called.
 fn count_called(group: &RankGroup, before: &[u32], favoured: Favoured) -> usize
-    ensures count { result ≡ count_by (is_favoured favoured) (called group.now before.now) }
-    ensures bound { result ≤ length group.now.list }
+    ensures { result ≡ count_by (is_favoured favoured) (called group.now before.now) }
 {
     group
         .list
@@ -73,13 +72,11 @@ fn count_called(group: &RankGroup, before: &[u32], favoured: Favoured) -> usize
 
 /// Whether the rate of the favoured binds.
 fn rate_binds(group: &RankGroup, before: &[u32], favoured: Favoured) -> bool
-    requires ranking { IsRanking group.now }
-    requires called { length before.now < 2 ^ 32 }
     ensures { result ≡ binds (rate_of favoured group.now) (is_favoured favoured) group.now before.now }
 {
     any_remain(group, before, favoured)
-        && 100 * count_called(group, before, favoured)
-            < favoured.rate(group) as usize * (before.len() + 1)
+        && 100 * (count_called(group, before, favoured) as u128)
+            < u128::from(favoured.rate(group)) * (before.len() as u128 + 1)
 }
 
 /// Whether a resident scholar remains.
@@ -96,8 +93,6 @@ fn both_remain(group: &RankGroup, before: &[u32]) -> bool
 
 /// Which rates bind the next call.
 fn bound_after(group: &RankGroup, before: &[u32]) -> Bound
-    requires ranking { IsRanking group.now }
-    requires called { length before.now < 2 ^ 32 }
     ensures { result ≡ bound_after group.now before.now }
 {
     match (
@@ -139,8 +134,7 @@ fn first_eligible<'a>(group: &'a RankGroup, before: &[u32], bound: Bound) -> Opt
 /// The next one and his bound, or none where nobody remains.
 #[tactic(auto, using(admit_core::proofs::LeastFirst::next_is_first))]
 fn next_after(group: &RankGroup, before: &[u32]) -> Option<(u32, Bound)>
-    requires ranking { IsRanking group.now }
-    requires called { length before.now < 2 ^ 32 }
+    requires { IsRanking group.now }
     ensures { result ≡ next_after group.now before.now }
 {
     let bound = bound_after(group, before);

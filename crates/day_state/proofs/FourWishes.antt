@@ -95,7 +95,8 @@ four_wishes_valid first ranks =
       ids = record { groups = distinct (1 ∷ []); programmes = distinct (10 ∷ 20 ∷ []); schools = distinct (5 ∷ []); wishes = distinct (1 ∷ 2 ∷ 3 ∷ 4 ∷ []) };
       groups = All-cons IsValidGroup _ [] (record {
         id = number 1 (lit≤ tt) (lit≤ tt);
-        ranking = record { scholar_pct = lit≤ tt; resident_pct = lit≤ tt; size = lit≤ tt; ranks = increasing-ascending (1 ∷ 2 ∷ []); candidates = distinct (11 ∷ 12 ∷ []) };
+        ranking = record { scholar_pct = lit≤ tt; resident_pct = lit≤ tt; ranks = increasing-ascending (1 ∷ 2 ∷ []); candidates = distinct (11 ∷ 12 ∷ []) };
+        size = lit≤ tt;
         list = All-cons IsValidRanked (ranked 11 1 false false) (ranked 12 2 false false ∷ []) (record { candidate = number 11 (lit≤ tt) (lit≤ tt); rank = number 1 (lit≤ tt) (lit≤ tt) })
             (All-cons IsValidRanked (ranked 12 2 false false) [] (record { candidate = number 12 (lit≤ tt) (lit≤ tt); rank = number 2 (lit≤ tt) (lit≤ tt) }) (All-nil IsValidRanked));
       }) (All-nil IsValidGroup);

@@ -1,8 +1,7 @@
 -- The keys of rows give their places.
 use Rattle.std.proofs.Common.{◌≡◌, ℕ, ◌≤◌, List, length, map, ap, arith}
-use Rattle.admit_core.specs.declared.dossier.TheConstants.{MAX_ROWS}
 use Rattle.dossier_check.specs.Keys.{ArePlaces}
 use Rattle.dossier_check.proofs.Firsts.{length-map-here}
 
-pub are_places : {R : Type 0} (id : R → ℕ) (rows : List R) (keys : List ℕ) → keys ≡ map id rows → length rows ≤ MAX_ROWS → ArePlaces keys (map id rows)
+pub are_places : {R : Type 0} (id : R → ℕ) (rows : List R) (keys : List ℕ) → keys ≡ map id rows → length rows ≤ 16000000 → ArePlaces keys (map id rows)
 are_places id rows keys same size = record { same = same; few = omega (arith, ap length same, length-map-here id rows) }

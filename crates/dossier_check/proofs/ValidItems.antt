@@ -17,7 +17,7 @@ use Rattle.dossier_check.proofs.NoFault.{HasNoFault}
 use Rattle.dossier_check.proofs.Places.{place_within}
 use Rattle.dossier_check.proofs.RowFacts.{group_ids_apart, programme_ids_apart, school_ids_apart, wish_ids_apart, groups_known}
 use Rattle.dossier_check.proofs.SortedLists.{IsPermutation-sorted_by}
-use Rattle.dossier_check.proofs.ValidRankings.{ranking_of}
+use Rattle.dossier_check.proofs.ValidRankings.{ranking_of, ranked_few}
 
 module _ (t : Tables) (ranges : AreTables t) (fine : HasNoFault t) where
   pub own_ids : HasOwnIds (dossier_of t)
@@ -38,6 +38,7 @@ module _ (t : Tables) (ranges : AreTables t) (fine : HasNoFault t) where
   valid_group g row = record {
     id = row.id;
     ranking = ranking_of t ranges.rankings fine.rankings g row;
+    size = ranked_few t ranges.rankings fine.rankings g;
     list = All-permutation IsValidRanked (ranked_in t.rankings g.id) (group_of_row t g).list (IsPermutation-sorted_by (λ r. r.rank) (ranked_in t.rankings g.id)) (valid_ranked g.id);
   }
 

@@ -84,10 +84,14 @@ module _ (t : Tables) (ranges : AreRows IsRankRow t.rankings) (fine : PassesAll 
       record {
         scholar_pct = row.scholar_pct;
         resident_pct = row.resident_pct;
-        size = omega (arith, length-sorted_by (λ r. r.rank) own, length-ranked_in-le t.rankings g.id, ranges.size);
         ranks = IsStrictlyIncreasing-sorted_by (λ r. r.rank) own distinct_ranks;
         candidates = IsDistinct-sorted_by (λ r. r.rank) (λ r. r.candidate) own distinct_candidates;
       }
+
+  -- a group has no more candidates than the slot has rows
+  pub ranked_few : (g : GroupRow) → length (group_of_row t g).list ≤ 16000000
+  ranked_few g =
+      omega (arith, length-sorted_by (λ r. r.rank) (ranked_in t.rankings g.id), length-ranked_in-le t.rankings g.id, ranges.size)
 
   -- each group's ranking has a call order
   pub rankings_of : AreRows IsGroupRow t.groups → All IsRanking (map (group_of_row t) t.groups)

@@ -7,7 +7,6 @@ use Rattle.std.proofs.lemmas.Map.Keys.{IsDistinct-head, IsDistinct-tail}
 use Rattle.admit_core.specs.declared.tables.GroupRow.{GroupRow}
 use Rattle.admit_core.specs.declared.tables.RankRow.{RankRow}
 use Rattle.admit_core.specs.declared.tables.Tables.{Tables}
-use Rattle.admit_core.specs.declared.dossier.TheConstants.{MAX_ROWS}
 use Rattle.admit_core.specs.Ranges.{AreTables}
 use Rattle.admit_core.specs.Relations.{group_ids}
 use Rattle.admit_core.specs.Standing.{ranked_row, ranked_in, group_of_row, programme_of_row, school_of_row, wish_of_row, ceiling_of_row, answer_of_row, dossier_of}

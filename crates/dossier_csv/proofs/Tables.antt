@@ -6,7 +6,6 @@ use Rattle.csv.specs.declared.reader.Reader.{Reader}
 use Rattle.std.specs.List.{list_any}
 use Rattle.std.proofs.Common.{length-append}
 use Rattle.std.proofs.lemmas.List.Elements.{All-push}
-use Rattle.admit_core.specs.declared.dossier.TheConstants.{MAX_ROWS}
 use Rattle.admit_core.specs.Ranges.{AreRows}
 use Rattle.dossier_csv.specs.Rest.{GivesNext, HasLeft}
 use Rattle.dossier_csv.specs.Layout.{Layout}
@@ -72,7 +71,7 @@ one-more layout width rem b done items count len fields left v whole next value 
     (others, has, e ∙ more-rows layout width done items count len fields left others v first value grown longer)
 
 -- the same of the ranges
-pub more-in-range : {A : Type 0} (P : A → Type 0) (done items : List A) (v : A) → AreRows P done → length done < MAX_ROWS → P v → items ≡ done ++ (v ∷ []) → AreRows P items
+pub more-in-range : {A : Type 0} (P : A → Type 0) (done items : List A) (v : A) → AreRows P done → length done < 16000000 → P v → items ≡ done ++ (v ∷ []) → AreRows P items
 more-in-range P done items v so_far room good grown = rw grown (record {
   size = omega (arith, length-append done (v ∷ []));
   each = All-push P done v so_far.each good;

@@ -7,7 +7,6 @@ use Rattle.std.specs.List.{list_all}
 use Rattle.std.specs.Option.{ok_or}
 use Rattle.std.specs.Str.Parse.{digits_value}
 use Rattle.csv.specs.Records.{field_at}
-use Rattle.admit_core.specs.declared.dossier.TheConstants.{MAX_DAY, MAX_NUMBER}
 use Rattle.admit_core.specs.declared.refusal.Reason.{Reason}
 use Rattle.admit_core.specs.declared.refusal.Reason.TheVariants.{NotDate, NotFlag, NotNumber, NotWord, OutOfRange}
 use Rattle.admit_core.specs.declared.tables.Since.{Since}
@@ -22,11 +21,11 @@ abbrev pub ◌>>=◌ : {A B : Type 0} → Result A Reason → (A → Result B Re
 
 -- ids and ranks
 abbrev pub ids : Limits
-ids = record { least = 1; most = MAX_NUMBER }
+ids = record { least = 1; most = 2000000000 }
 
 -- seats, beds, ceilings, preferences and call limits
 abbrev pub amounts : Limits
-amounts = record { least = 0; most = MAX_NUMBER }
+amounts = record { least = 0; most = 2000000000 }
 
 -- percentages
 abbrev pub percents : Limits
@@ -34,7 +33,7 @@ percents = record { least = 0; most = 100 }
 
 -- days of a campaign
 abbrev pub days : Limits
-days = record { least = 1; most = MAX_DAY }
+days = record { least = 1; most = 366 }
 
 -- the bytes of the field at a position from 1 on, none where there is no such field
 abbrev pub text_at : List (List ℕ) → ℕ → List ℕ

@@ -3,7 +3,6 @@ use Rattle.std.specs.Prelude.{◌≡◌, ℕ, ◌+◌, ◌==◌, Bool, List, [],
 use Rattle.std.specs.Cmp.Lexicographic.{pointwise}
 use Rattle.std.specs.List.{list_any}
 use Rattle.csv.specs.Reading.{default_config, records, strip_bom}
-use Rattle.admit_core.specs.declared.dossier.TheConstants.{MAX_ROWS}
 use Rattle.admit_core.specs.declared.slot.Slot.{Slot}
 use Rattle.admit_core.specs.declared.refusal.Reason.{Reason}
 use Rattle.admit_core.specs.declared.refusal.Reason.TheVariants.{Header, FieldCount, TooManyRows}
@@ -15,7 +14,7 @@ use Rattle.dossier_csv.specs.Layout.{Layout}
 -- what a row says, by its number and by the width of the header above it
 abbrev pub row_of : {A : Type 0} → Layout A → ℕ → ℕ → List (List ℕ) → Result A Reason
 row_of layout width number fields =
-    if nat_le (MAX_ROWS + 2) number then Err TooManyRows
+    if nat_le (16000002) number then Err TooManyRows
     else if length fields == width then layout.row fields
     else Err (FieldCount (length fields))
 

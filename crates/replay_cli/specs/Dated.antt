@@ -2,7 +2,6 @@
 use Rattle.std.specs.Prelude.{◌≡◌, ◌≤◌, ℕ, ℤ, pos, ◌+ℤ◌, ◌-ℤ◌, List, Option, All, find, length, map, nat_eq, option_map, unwrap_or}
 use Rattle.std.specs.Option.{option_and_then}
 use Rattle.admit_core.specs.DossierRows.{DossierRows}
-use Rattle.admit_core.specs.declared.dossier.TheConstants.{MAX_DAY}
 use Rattle.admit_core.specs.declared.records.Terms.{Terms}
 use Rattle.admit_core.specs.declared.tables.Since.{Since}
 use Rattle.admit_core.specs.declared.tables.StateRow.{StateRow}
@@ -45,6 +44,6 @@ terms_in dated = option_map (λ x. x.terms) dated
 -- the terms have a day for each wish, and all dates that come of them can be written
 pub record AreDatedFor (d : DossierRows) (dated : DatedTerms) : Type 0 where
   pub start : IsStart dated.start
-  pub term : dated.terms.term ≤ MAX_DAY
+  pub term : dated.terms.term ≤ 366
   pub one_each : length dated.terms.before ≡ length d.wishes
   pub before : All (λ day. IsRead (date_on dated.start day)) dated.terms.before

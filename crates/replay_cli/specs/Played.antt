@@ -2,7 +2,6 @@
 use Rattle.std.specs.Prelude.{◌≡◌, ℕ, ◌+◌, ◌<◌, ◌≤◌, List, [], ◌∷◌, ◌++◌, Option, IsSomeAnd, Result, Ok, Err, flat_map, length, ⊤}
 use Rattle.admit_core.specs.Days.{Days, unfit_on}
 use Rattle.admit_core.specs.State.{State}
-use Rattle.admit_core.specs.declared.dossier.TheConstants.{MAX_DAY}
 use Rattle.admit_core.specs.declared.ranking.CallOrder.{CallOrder}
 use Rattle.admit_core.specs.declared.records.DayRecord.{DayRecord}
 use Rattle.admit_core.specs.declared.state.Mark.{Mark}
@@ -47,7 +46,7 @@ PicksDay request before after (Err refusals.OutOfMemory) = ⊤
 
 -- a mark of a campaign: its day is one of the campaign, or 0
 abbrev pub IsStamped : Mark → Type 0
-IsStamped m = m.stamp.day ≤ MAX_DAY
+IsStamped m = m.stamp.day ≤ 366
 
 -- how a run ends after its days, and what is then written after some text: the final state, or the refusal of an answer that does not fit
 abbrev pub IsEndedBy : Result (Unit {0}) DayRefusal → List ℕ → State → Option DatedTerms → Exit → List ℕ → Type 0

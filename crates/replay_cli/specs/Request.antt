@@ -1,7 +1,6 @@
 -- What the words after the program's name ask for.
 use Rattle.std.specs.Prelude.{ℕ, ◌&&◌, List, [], ◌∷◌, ◌≡◌, ◌≤◌, Option, Some, None, Result, Ok, Err, IfSome, IsSomeAnd, codes, nat_le, option_map, unwrap_or, if◌then◌else◌, ℤ, pos, ◌+ℤ◌, ◌≤ℤ◌}
 use Rattle.std.specs.Option.{ok_or, option_and_then}
-use Rattle.admit_core.specs.declared.dossier.TheConstants.{MAX_DAY, MAX_NUMBER}
 use Rattle.calendar.specs.Dates.{date_of, first_day, last_read_day}
 use Rattle.calendar.specs.Texts.{date_in}
 use Rattle.clap.specs.Words.{Kinds, Row, Text, fault_of, first_of, matches_of}
@@ -76,7 +75,7 @@ deadlines_with _ _ = Err BadWords
 unfoldable pub deadlines_option : List Row → Result (Option Deadlines) Stop
 deadlines_option rows = do
   start ← start_option rows
-  term ← number_option (codes "term") 0 MAX_DAY rows
+  term ← number_option (codes "term") 0 366 rows
   deadlines_with start term
 
 -- a date of day 1: the day before it and all deadlines are dates
@@ -86,11 +85,11 @@ pub record IsStart (start : ℤ) : Type 0 where
 
 pub record IsDeadlines (deadlines : Deadlines) : Type 0 where
   pub start : IsStart deadlines.start
-  pub term : deadlines.term ≤ MAX_DAY
+  pub term : deadlines.term ≤ 366
 
 -- what is known of a request that was read
 pub record IsRequest (request : Request) : Type 0 where
-  pub days : request.days ≤ MAX_DAY
+  pub days : request.days ≤ 366
   pub candidates : HasNumber request.mode request.number
   pub deadlines : IfSome request.deadlines IsDeadlines
 
@@ -98,9 +97,9 @@ pub record IsRequest (request : Request) : Type 0 where
 unfoldable pub request_in : List Row → Result Request Stop
 request_in rows = do
   mode ← mode_option rows
-  days ← number_option (codes "days") 1 MAX_DAY rows
-  wish ← number_option (codes "wish") 1 MAX_NUMBER rows
-  school ← number_option (codes "school") 1 MAX_NUMBER rows
+  days ← number_option (codes "days") 1 366 rows
+  wish ← number_option (codes "wish") 1 2000000000 rows
+  school ← number_option (codes "school") 1 2000000000 rows
   picker ← picker_option rows
   number ← candidates_option mode rows
   deadlines ← deadlines_option rows

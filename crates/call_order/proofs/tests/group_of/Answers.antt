@@ -49,7 +49,6 @@ returns c =
     record {
       scholar_pct = c.requires.scholar_pct;
       resident_pct = c.requires.resident_pct;
-      size = rw (c.from_vec.ensures, rows, length-map-range_with_len (row s.offset s.scholar_each s.resident_from) 1 s.count) (omega (arith, c.requires.count));
       ranks = rw (c.from_vec.ensures, rows) (rows_rise s.offset s.scholar_each s.resident_from s.count);
       candidates = rw (c.from_vec.ensures, rows) (rows_differ s.offset s.scholar_each s.resident_from s.count);
     }

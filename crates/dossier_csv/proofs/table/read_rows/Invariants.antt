@@ -1,5 +1,4 @@
 use Rattle.std.proofs.Common.{◌≡◌, ◌+◌, ◌-◌, ℕ, List, Some, Bor, vec_len}
-use Rattle.admit_core.specs.declared.dossier.TheConstants.{MAX_ROWS}
 use Rattle.admit_core.specs.Ranges.{AreRows}
 use Rattle.dossier_csv.specs.Rest.{HasLeft}
 use Rattle.dossier_csv.specs.Shape.{rows_from}
@@ -15,4 +14,4 @@ invariant-rows g l = record {
 }
 
 abbrev pub decreases-rows : goal.decreases-rows
-decreases-rows g l = MAX_ROWS - vec_len l.rows
+decreases-rows g l = 16000000 - vec_len l.rows
