@@ -12,7 +12,7 @@ use Rattle.admit_core.specs.declared.ranking.RankGroup.{RankGroup}
 use Rattle.admit_core.specs.declared.ranking.CallOrder.{CallOrder}
 use Rattle.admit_core.specs.Lists.{is_among}
 use Rattle.admit_core.specs.CallOrder.{called, remaining, binds, scholar_rate_binds, resident_rate_binds, bound_of, bound_after, may_be_called, IsCallOrder}
-use Rattle.admit_core.specs.CallOrderLaws.{ranked_candidates, KeepsRate, IsLeastThatKeeps, ScholarOrderIsLeast, ResidentOrderIsLeast}
+use Rattle.admit_core.specs.CallOrderLaws.{ranked_candidates, KeepsRate, IsLeastThatKeeps, OfCallOrders, IsLeastByScholars, IsLeastByResidents}
 use Rattle.admit_core.specs.Validity.{IsRanking}
 use Rattle.admit_core.proofs.OrderPermutes.{nat_eq_turn, take_next, distinct_filter}
 use Rattle.admit_core.proofs.CalledCounts.{count_called_push, count_remaining_push}
@@ -95,13 +95,13 @@ under_residents : (t both : Bool) (r : Ranked) → (t ≡ true → r.resident �
 under_residents false both r h = refl
 under_residents true both r h = h refl
 
-pub scholar_order_least : ScholarOrderIsLeast
+pub scholar_order_least : OfCallOrders IsLeastByScholars
 scholar_order_least g order ranking calls none =
     least g.scholar_pct (λ (r : Ranked). r.scholar) g order ranking calls (λ before s h.
     rw (never_binds g.resident_pct (λ (r : Ranked). r.resident) g before none)
     (under_scholars (scholar_rate_binds g before) (list_any (λ (r : Ranked). r.scholar && r.resident) (remaining g before)) s h))
 
-pub resident_order_least : ResidentOrderIsLeast
+pub resident_order_least : OfCallOrders IsLeastByResidents
 resident_order_least g order ranking calls none =
     least g.resident_pct (λ (r : Ranked). r.resident) g order ranking calls (λ before s h.
     rw (never_binds g.scholar_pct (λ (r : Ranked). r.scholar) g before none)

@@ -18,6 +18,7 @@ pub mod LeastFirst
 pub mod LeastOrder
 pub mod NextCalls
 pub mod OneOrder
+pub mod OrderLaws
 pub mod OrderPermutes
 pub mod RatesKept
 pub mod Remaining

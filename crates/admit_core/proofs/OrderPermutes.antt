@@ -15,7 +15,7 @@ use Rattle.admit_core.specs.declared.ranking.Bound.{Bound}
 use Rattle.admit_core.specs.declared.ranking.CallOrder.{CallOrder}
 use Rattle.admit_core.specs.Lists.{is_among}
 use Rattle.admit_core.specs.CallOrder.{remaining, may_be_called, next_after, IsCallOrder}
-use Rattle.admit_core.specs.CallOrderLaws.{ranked_candidates, OrdersPermuteRankings, OrdersAreWhole, NobodyIsCalledTwice, ExactlyTheRankedAreCalled}
+use Rattle.admit_core.specs.CallOrderLaws.{ranked_candidates, OfCallOrders}
 use Rattle.admit_core.specs.Validity.{IsRanking}
 use Rattle.admit_core.proofs.LeastFirst.{found_has, all_filter}
 use Rattle.admit_core.proofs.NextCalls.{next_none, next_some, remaining_push, remaining_first}
@@ -131,19 +131,19 @@ none_remains g order ranking calls =
     next_none g order.list ranking.ranks (rw (take_all n order.list (omega arith)) at next)
 
 -- the list of a call order is a permutation of its ranking's candidates
-pub order_permutes : OrdersPermuteRankings
+pub order_permutes : OfCallOrders (λ g order. IsPermutation (ranked_candidates g) order.list)
 order_permutes g order ranking calls =
     let n = length order.list in
     let parts = parts_at g order ranking calls n (omega arith) in
     rw (take_all n order.list (omega arith), none_remains g order ranking calls, append-nil) at parts
 
-pub length-order : OrdersAreWhole
+pub length-order : OfCallOrders (λ g order. length order.list ≡ length g.list)
 length-order g order ranking calls = length_permutation (ranked_candidates g) order.list (order_permutes g order ranking calls) ∙ length-map g.list (λ (r : Ranked). r.candidate)
 
-pub distinct-order : NobodyIsCalledTwice
+pub distinct-order : OfCallOrders (λ g order. IsDistinct nat_eq order.list)
 distinct-order g order ranking calls =
     IsDistinct-IsPermutation nat_eq nat_eq_turn (ranked_candidates g) order.list (order_permutes g order ranking calls) ranking.candidates
 
-pub among-order : ExactlyTheRankedAreCalled
+pub among-order : OfCallOrders (λ g order. (c : ℕ) → is_among c order.list ≡ is_among c (ranked_candidates g))
 among-order g order ranking calls c =
     sym (list_any-IsPermutation (nat_eq c) (ranked_candidates g) order.list (order_permutes g order ranking calls))

@@ -10,7 +10,7 @@ use Rattle.admit_core.specs.declared.ranking.Bound.{Bound}
 use Rattle.admit_core.specs.declared.ranking.Bound.TheVariants.{Alone}
 use Rattle.admit_core.specs.declared.ranking.CallOrder.{CallOrder}
 use Rattle.admit_core.specs.CallOrder.{called, remaining, binds, scholar_rate_binds, resident_rate_binds, bound_of, may_be_called, IsCallOrder}
-use Rattle.admit_core.specs.CallOrderLaws.{KeepsRateAfter, ScholarRateIsKept, ResidentRateIsKept}
+use Rattle.admit_core.specs.CallOrderLaws.{KeepsRateAfter, OfCallOrders, KeepsScholarRate, KeepsResidentRate}
 use Rattle.admit_core.specs.Validity.{IsRanking}
 use Rattle.admit_core.proofs.NextCalls.{find_passes, remaining_push}
 use Rattle.admit_core.proofs.CalledCounts.{count_called_push}
@@ -86,7 +86,7 @@ resident_called true true true r e other may = (and_parts r.scholar r.resident m
 resident_called true true false r e other may = absurd (other refl)
 resident_called s false both r e other may = absurd (false≢true e)
 
-pub scholar_rate_kept : ScholarRateIsKept
+pub scholar_rate_kept : OfCallOrders KeepsScholarRate
 scholar_rate_kept g order ranking calls n =
     fronts_keep g.scholar_pct (λ (r : Ranked). r.scholar) g order ranking.scholar_pct ranking calls n
     (λ k r b lt call binding.
@@ -95,7 +95,7 @@ scholar_rate_kept g order ranking calls n =
     scholar_called (scholar_rate_binds g front) (resident_rate_binds g front) (list_any (λ (x : Ranked). x.scholar && x.resident) (remaining g front)) r binding
     (ap (λ under. may_be_called under r) call.bound ∙ may))
 
-pub resident_rate_kept : ResidentRateIsKept
+pub resident_rate_kept : OfCallOrders KeepsResidentRate
 resident_rate_kept g order ranking calls n never =
     fronts_keep g.resident_pct (λ (r : Ranked). r.resident) g order ranking.resident_pct ranking calls n
     (λ k r b lt call binding.

@@ -10,7 +10,7 @@ use Rattle.admit_core.specs.declared.ranking.Bound.TheVariants.{Free, Scholar, R
 use Rattle.admit_core.specs.declared.ranking.CallOrder.{CallOrder}
 use Rattle.admit_core.specs.Lists.{is_among}
 use Rattle.admit_core.specs.CallOrder.{remaining, may_be_called}
-use Rattle.admit_core.specs.CallOrderLaws.{ResidentScholarsComeFirst}
+use Rattle.admit_core.specs.CallOrderLaws.{OfCallOrders, CallsResidentScholarsFirst}
 use Rattle.admit_core.specs.Validity.{IsRanking}
 use Rattle.admit_core.proofs.LeastFirst.{rises_by_key, rises_filter}
 use Rattle.admit_core.proofs.OrderPermutes.{distinct-order}
@@ -35,7 +35,7 @@ called_is_least g order k r s b ranking call has may differ =
       | inr less ↦ less
     ]
 
-pub scholars_come_first : ResidentScholarsComeFirst
+pub scholars_come_first : OfCallOrders CallsResidentScholarsFirst
 scholars_come_first g order ranking calls r s i j has_r has_s at_i at_j lt both =
     let key = λ (x : Ranked). x.candidate in
     let apart = distinct-order g order ranking calls in

@@ -1,11 +1,12 @@
 -- Wishes that block a state: their candidates would rather have a seat that is vacant, or that another holds with less right.
-use Rattle.std.specs.Prelude.{ℕ, Bool, true, false, not, ◌&&◌, ◌||◌, List, [], ◌∷◌, map, drop, Option, Some, None, nat_lt, ◌==◌, filter}
-use Rattle.std.specs.List.{list_any, enumerate_from}
+use Rattle.std.specs.Prelude.{ℕ, Bool, true, false, not, ◌&&◌, ◌||◌, List, [], ◌∷◌, drop, Option, Some, None, nat_lt, ◌==◌, filter, is_some}
+use Rattle.std.specs.List.{list_any}
 use Rattle.admit_core.specs.declared.dossier.Wish.{Wish}
 use Rattle.admit_core.specs.declared.state.Status.{Status}
 use Rattle.admit_core.specs.declared.state.Status.TheVariants.{Waiting, AutoRefused, AutoWithdrawn}
 use Rattle.admit_core.specs.declared.state.Mark.{Mark}
 use Rattle.admit_core.specs.declared.ranking.CallOrder.{CallOrder}
+use Rattle.admit_core.specs.Lists.{places_where}
 use Rattle.admit_core.specs.State.{State, entries, is_live, holds_seat, seats_left}
 use Rattle.admit_core.specs.Proposals.{order_of, position_of}
 
@@ -48,7 +49,7 @@ wants_more s w m =
 
 -- somebody behind the candidate is live in the programme
 abbrev pub has_envy : State → List CallOrder → Wish → Bool
-has_envy s orders w = list_any (λ c. holds_seat s c w.programme) (behind s orders w)
+has_envy s orders w = is_some (last_envied s orders w)
 
 -- such a wish blocks where a seat of its programme is vacant, or somebody behind is live there
 abbrev pub is_blocking : State → List CallOrder → Wish → Mark → Bool
@@ -56,4 +57,4 @@ is_blocking s orders w m = wants_more s w m && (nat_lt 0 (seats_left s w.program
 
 -- the places of the wishes that block
 abbrev pub blocking : State → List CallOrder → List ℕ
-blocking s orders = map (λ x. x.0) (filter (λ x. is_blocking s orders x.1.0 x.1.1) (enumerate_from 0 (entries s)))
+blocking s orders = places_where (λ x. is_blocking s orders x.0 x.1) (entries s)

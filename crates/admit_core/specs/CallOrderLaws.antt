@@ -14,30 +14,6 @@ use Rattle.admit_core.specs.Validity.{IsRanking}
 abbrev pub ranked_candidates : RankGroup → List ℕ
 ranked_candidates g = map (λ r. r.candidate) g.list
 
--- what holds of every call order of every ranking
-abbrev pub OfCallOrders : (RankGroup → CallOrder → Type 0) → Type 0
-OfCallOrders Holds = (g : RankGroup) (order : CallOrder) → IsRanking g → IsCallOrder g order → Holds g order
-
--- a call order has the candidates of its ranking, in an order of its own
-abbrev pub OrdersPermuteRankings : Type 0
-OrdersPermuteRankings = OfCallOrders (λ g order. IsPermutation (ranked_candidates g) order.list)
-
--- a call order is as long as its ranking
-abbrev pub OrdersAreWhole : Type 0
-OrdersAreWhole = OfCallOrders (λ g order. length order.list ≡ length g.list)
-
--- nobody is called twice
-abbrev pub NobodyIsCalledTwice : Type 0
-NobodyIsCalledTwice = OfCallOrders (λ g order. IsDistinct nat_eq order.list)
-
--- exactly the ranked candidates are called
-abbrev pub ExactlyTheRankedAreCalled : Type 0
-ExactlyTheRankedAreCalled = OfCallOrders (λ g order. (c : ℕ) → is_among c order.list ≡ is_among c (ranked_candidates g))
-
--- each ranking has exactly one call order
-abbrev pub EachRankingHasOneOrder : Type 0
-EachRankingHasOneOrder = (g : RankGroup) → IsRanking g → (order : CallOrder) × IsCallOrder g order × ((other : CallOrder) → IsCallOrder g other → other ≡ order)
-
 -- while some of a kind remain, they are at least the rate's part of those called so far
 abbrev pub KeepsRateAfter : ℕ → (Ranked → Bool) → RankGroup → List ℕ → Type 0
 KeepsRateAfter rate kind g before =
@@ -50,25 +26,16 @@ KeepsRate rate kind g list = (n : ℕ) → KeepsRateAfter rate kind g (take n li
 abbrev pub KeepsScholarRate : RankGroup → CallOrder → Type 0
 KeepsScholarRate g order = KeepsRate g.scholar_pct (λ r. r.scholar) g order.list
 
-abbrev pub ScholarRateIsKept : Type 0
-ScholarRateIsKept = OfCallOrders KeepsScholarRate
-
 -- the residents' rate is kept up to the first position at which scholarship alone ruled
 abbrev pub KeepsResidentRate : RankGroup → CallOrder → Type 0
 KeepsResidentRate g order =
     (n : ℕ) → ((k : ℕ) → k < n → slice_get order.trace k ≢ Some Alone) → KeepsRateAfter g.resident_pct (λ r. r.resident) g (take n order.list)
-
-abbrev pub ResidentRateIsKept : Type 0
-ResidentRateIsKept = OfCallOrders KeepsResidentRate
 
 -- nobody of greater rank is called before a resident scholar
 abbrev pub CallsResidentScholarsFirst : RankGroup → CallOrder → Type 0
 CallsResidentScholarsFirst g order =
     (r s : Ranked) (i j : ℕ) → Contains g.list r → Contains g.list s → slice_get order.list i ≡ Some r.candidate → slice_get order.list j ≡ Some s.candidate
     → i < j → (s.scholar && s.resident) ≡ true → r.rank < s.rank
-
-abbrev pub ResidentScholarsComeFirst : Type 0
-ResidentScholarsComeFirst = OfCallOrders CallsResidentScholarsFirst
 
 -- where two lists first differ, the first of them has the lesser rank
 abbrev pub HasLesserRank : RankGroup → List ℕ → List ℕ → Type 0
@@ -85,12 +52,34 @@ IsLeastThatKeeps rate kind g list =
 abbrev pub IsLeastByScholars : RankGroup → CallOrder → Type 0
 IsLeastByScholars g order = g.resident_pct ≡ 0 → IsLeastThatKeeps g.scholar_pct (λ r. r.scholar) g order.list
 
-abbrev pub ScholarOrderIsLeast : Type 0
-ScholarOrderIsLeast = OfCallOrders IsLeastByScholars
-
 -- and where the scholars' rate is 0, the least that keeps the residents' rate
 abbrev pub IsLeastByResidents : RankGroup → CallOrder → Type 0
 IsLeastByResidents g order = g.scholar_pct ≡ 0 → IsLeastThatKeeps g.resident_pct (λ r. r.resident) g order.list
 
-abbrev pub ResidentOrderIsLeast : Type 0
-ResidentOrderIsLeast = OfCallOrders IsLeastByResidents
+-- the laws of call orders
+pub record KeepsOrderLaws (g : RankGroup) (order : CallOrder) : Type 0 where
+  -- it has the candidates of its ranking, each once and nobody else
+  pub permutation : IsPermutation (ranked_candidates g) order.list
+  pub whole : length order.list ≡ length g.list
+  pub distinct : IsDistinct nat_eq order.list
+  pub candidates : (c : ℕ) → is_among c order.list ≡ is_among c (ranked_candidates g)
+  -- no other order is a call order of the ranking
+  pub only : (other : CallOrder) → IsCallOrder g other → other ≡ order
+  -- its fronts keep the rates
+  pub scholar_rate : KeepsScholarRate g order
+  pub resident_rate : KeepsResidentRate g order
+  pub resident_scholars : CallsResidentScholarsFirst g order
+  -- with one rate alone, it is the least that keeps it
+  pub least_by_scholars : IsLeastByScholars g order
+  pub least_by_residents : IsLeastByResidents g order
+
+-- what holds of every call order of every ranking
+abbrev pub OfCallOrders : (RankGroup → CallOrder → Type 0) → Type 0
+OfCallOrders Holds = (g : RankGroup) (order : CallOrder) → IsRanking g → IsCallOrder g order → Holds g order
+
+abbrev pub CallOrdersKeepLaws : Type 0
+CallOrdersKeepLaws = OfCallOrders KeepsOrderLaws
+
+-- each ranking has exactly one call order
+abbrev pub EachRankingHasOneOrder : Type 0
+EachRankingHasOneOrder = (g : RankGroup) → IsRanking g → (order : CallOrder) × IsCallOrder g order × ((other : CallOrder) → IsCallOrder g other → other ≡ order)

@@ -1,6 +1,6 @@
 -- Words on lists that the rules use.
-use Rattle.std.specs.Prelude.{ℕ, Bool, List, [], ◌∷◌, Option, Some, None, nat_eq, nat_lt, nat_le, if◌then◌else◌}
-use Rattle.std.specs.List.{list_any}
+use Rattle.std.specs.Prelude.{ℕ, Bool, List, [], ◌∷◌, Option, Some, None, nat_eq, nat_lt, nat_le, map, filter, if◌then◌else◌}
+use Rattle.std.specs.List.{list_any, enumerate_from}
 use Rattle.std.specs.Set.{unique_keys}
 
 -- whether a number is in the list
@@ -20,6 +20,10 @@ put_in n (m ∷ ms) = if nat_lt n m then (n ∷ m ∷ ms) else if nat_eq n m the
 abbrev pub ascending : List ℕ → List ℕ
 ascending [] = []
 ascending (n ∷ ns) = put_in n (ascending ns)
+
+-- the places at which a test holds
+abbrev pub places_where : {X : Type 0} → (X → Bool) → List X → List ℕ
+places_where test xs = map (λ x. x.0) (filter (λ x. test x.1) (enumerate_from 0 xs))
 
 -- the one with the lesser key
 abbrev pub lesser : {X : Type 0} → (X → ℕ) → X → Option X → X

@@ -1,5 +1,5 @@
 -- Worked days: what passes, answers, lapses and automatic answers leave, and how the wishes are then explained.
-use Rattle.std.specs.Prelude.{◌≡◌, ℕ, pos, List, [], ◌∷◌, map, Some, None, zip}
+use Rattle.std.specs.Prelude.{◌≡◌, ℕ, pos, List, [], ◌∷◌, map, Some, None}
 use Rattle.admit_core.specs.declared.ranking.CallOrder.{CallOrder}
 use Rattle.admit_core.specs.declared.ranking.Bound.TheVariants.{Free}
 use Rattle.admit_core.specs.declared.dossier.Answer.{Answer}
@@ -16,12 +16,12 @@ use Rattle.admit_core.specs.declared.explanation.Explanation.{Explanation}
 use Rattle.admit_core.specs.declared.explanation.Explanation.TheVariants.{Gone, Live, Barred, NoSeat}
 use Rattle.admit_core.specs.declared.explanation.BarCause.TheVariants.{Ceiling, Full}
 use Rattle.admit_core.specs.DossierRows.{DossierRows}
-use Rattle.admit_core.specs.State.{State, entries, seats_left, free_beds}
+use Rattle.admit_core.specs.State.{State, seats_left, free_beds}
 use Rattle.admit_core.specs.Proposals.{proposed, demanded_ranks}
 use Rattle.admit_core.specs.AutoAnswer.{auto_all}
 use Rattle.admit_core.specs.Answers.{after_all}
 use Rattle.admit_core.specs.Days.{Days, first_evening, ceilings_of, morning, unfit_on, closing}
-use Rattle.admit_core.specs.Explanations.{explanation}
+use Rattle.admit_core.specs.Explanations.{explained}
 use Rattle.admit_core.specs.WorkedRows.{programme, limited, school, wish, boarder, rows, state, order, marked, two_offers, two_orders, realistic, realistic_order, first_marks, last_marks}
 
 abbrev pub fall : ℕ → ℕ → ℕ → List ℕ → Fall
@@ -233,8 +233,8 @@ Deadline =
     × (unfit_on (Some one_day_each) 2 (evening_one (accepts 0 ∷ [])) ≡ None)
 
 -- what is said of all wishes in an evening
-abbrev pub explained : State → List CallOrder → List ℕ → List ℕ → List Mark → List Explanation
-explained opening orders ceilings bars marks = map (λ x. explanation opening orders ceilings bars x.0 x.1.0 x.1.1) (zip marks (entries opening))
+abbrev pub explained_after : State → List CallOrder → List ℕ → List ℕ → List Mark → List Explanation
+explained_after opening orders ceilings bars marks = explained (record { opening = opening; orders = orders; ceilings = ceilings; bars = bars }) marks
 
 abbrev pub realistic_at : List Mark → State
 realistic_at marks = record { dossier = realistic; marks = marks }
@@ -246,7 +246,7 @@ second_opening = closing (first_evening realistic) (realistic_order ∷ []) (10 
 -- the realistic dossier after its first day, whose last pass has the bar 0, and after its second
 abbrev pub FirstDayExplained : Type 0
 FirstDayExplained =
-    explained second_opening (realistic_order ∷ []) (10 ∷ []) (0 ∷ []) first_marks
+    explained_after second_opening (realistic_order ∷ []) (10 ∷ []) (0 ∷ []) first_marks
     ≡ Live Offered (record { day = 1; pass = 1 })
     ∷ Live Offered (record { day = 1; pass = 1 })
     ∷ Gone AutoRefused (record { day = 1; pass = 1 })
@@ -259,7 +259,7 @@ FirstDayExplained =
 
 abbrev pub SecondDayExplained : Type 0
 SecondDayExplained =
-    explained (morning None 2 (realistic_at first_marks)) (realistic_order ∷ []) (10 ∷ []) (10 ∷ []) last_marks
+    explained_after (morning None 2 (realistic_at first_marks)) (realistic_order ∷ []) (10 ∷ []) (10 ∷ []) last_marks
     ≡ Live Accepted (record { day = 2; pass = 0 })
     ∷ Gone Refused (record { day = 2; pass = 0 })
     ∷ Gone AutoRefused (record { day = 1; pass = 1 })
@@ -273,7 +273,7 @@ SecondDayExplained =
 -- barred by the ceiling, and by a bed that is held
 abbrev pub BarsExplained : Type 0
 BarsExplained =
-    (explained (first_evening edges) edge_orders (4 ∷ 0 ∷ 2000000000 ∷ []) (1 ∷ 0 ∷ 2000000000 ∷ []) edge_marks
+    (explained_after (first_evening edges) edge_orders (4 ∷ 0 ∷ 2000000000 ∷ []) (1 ∷ 0 ∷ 2000000000 ∷ []) edge_marks
     ≡ Barred 0 2 1 (Full 0) ∷ Barred 1 1 0 Ceiling ∷ Live Offered (record { day = 1; pass = 1 }) ∷ [])
-    × (explained (first_evening bed_is_held) two_candidates (9 ∷ []) (1 ∷ []) (marked Accepted 0 0 ∷ marked Waiting 0 0 ∷ [])
+    × (explained_after (first_evening bed_is_held) two_candidates (9 ∷ []) (1 ∷ []) (marked Accepted 0 0 ∷ marked Waiting 0 0 ∷ [])
     ≡ Live Accepted (record { day = 0; pass = 0 }) ∷ Barred 0 2 1 (Full 1) ∷ [])
