@@ -11,10 +11,10 @@ use Rattle.admit_core.specs.declared.chain.CheckReason.TheVariants.{NotOver, Wro
 use Rattle.admit_core.specs.declared.ranking.CallOrder.{CallOrder}
 use Rattle.admit_core.specs.declared.state.Stamp.{Stamp}
 use Rattle.admit_core.specs.State.{State}
-use Rattle.admit_core.specs.Falls.{AreFalls, IsRun, is_overfilled, is_settled, bars_after, fallen, falls_by}
+use Rattle.admit_core.specs.Falls.{AreFalls, IsRun, is_overfilled, is_settled, bars_after, fallen, falls_by, fall_of, first_over}
 use Rattle.admit_core.specs.Boarding.{boarding}
 use Rattle.admit_core.specs.Days.{IsPassEnd, Passes}
-use Rattle.admit_core.specs.Chains.{school_of_line, is_over, names_fall, tells_bars, fall_there, IsFallLine, lowered, bars_by, AreFallLines, IsPassChain, closing_by, frees_nothing_by, ArePassChains, line_fault, lines_fault, first_overfilled, pass_fault, passes_fault}
+use Rattle.admit_core.specs.Chains.{school_of_line, shows_ranks, tells_bars, IsFallLine, lowered, bars_by, AreFallLines, IsPassChain, closing_by, frees_nothing_by, ArePassChains, line_fault, lines_fault, first_overfilled, pass_fault, passes_fault}
 use Rattle.admit_core.specs.ChainLaws.{falls_told, pass_told, passes_told, NoFaultWhereValid, ChainsTellTheDay}
 use Rattle.admit_core.proofs.Rows.{passes_with}
 
@@ -59,7 +59,9 @@ tests_hold false b c e = absurd (cc)
 module _ (s : State) (orders : List CallOrder) (ceilings : List ℕ) where
   line_valid : (bars : List ℕ) (line : FallLine) → line_fault s orders ceilings bars line ≡ None → IsFallLine s orders ceilings bars line
   line_valid bars line e =
-      let t = tests_hold (is_over s orders ceilings bars line) (names_fall s orders ceilings bars line) (tells_bars s orders ceilings bars line) e in
+      let sys = boarding s orders ceilings in
+      let h = school_of_line s line in
+      let t = tests_hold (is_overfilled sys bars h) (shows_ranks s orders bars h (first_over sys bars h) line.wishes) (tells_bars line (fall_of sys bars h)) e in
       record { over = t.0; names = t.1; tells = t.2 }
 
   valid_line : (bars : List ℕ) (line : FallLine) → IsFallLine s orders ceilings bars line → line_fault s orders ceilings bars line ≡ None
@@ -100,7 +102,7 @@ module _ (s : State) (orders : List CallOrder) (ceilings : List ℕ) where
       × (bars_after bars (falls_by (boarding s orders ceilings) bars (map (school_of_line s) lines)) ≡ bars_by s bars lines)
   lines_are_falls bars [] are = (tt, refl)
   lines_are_falls bars (line ∷ lines) are =
-      let f = fall_there s orders ceilings bars line in
+      let f = fall_of (boarding s orders ceilings) bars (school_of_line s line) in
       let told = (and_parts (nat_eq line.from f.from) (nat_eq line.to f.to) are.0.tells).1 in
       let low : lowered s bars line ≡ fallen bars f = ap (slice_set bars (school_of_line s line)) (eqb-true line.to f.to told) in
       let later = lines_are_falls (fallen bars f) lines (subst (λ (b : List ℕ). AreFallLines s orders ceilings b lines) low are.1) in

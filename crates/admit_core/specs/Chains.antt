@@ -1,5 +1,5 @@
 -- Which chains are valid: the falls of a day, written down so that a reader can test them without making them.
-use Rattle.std.specs.Prelude.{◌≡◌, ℕ, ◌+◌, Bool, not, ◌&&◌, List, [], ◌∷◌, map, length, Option, Some, None, option_map, find, zip, nat_eq, ◌==◌, slice_set, if◌then◌else◌, IsTrue, ⊤}
+use Rattle.std.specs.Prelude.{ℕ, ◌+◌, Bool, not, ◌&&◌, List, [], ◌∷◌, map, length, Option, Some, None, option_map, find, zip, nat_eq, ◌==◌, slice_set, if◌then◌else◌, IsTrue, ⊤}
 use Rattle.std.specs.List.{list_any, list_all, range_with_len}
 use Rattle.std.specs.Option.{option_or}
 use Rattle.admit_core.specs.declared.chain.FallLine.{FallLine}
@@ -15,22 +15,11 @@ use Rattle.admit_core.specs.Standing.{place_of}
 use Rattle.admit_core.specs.Proposals.{demands_bed}
 use Rattle.admit_core.specs.Falls.{FallingSystem, is_overfilled, is_settled, first_over, fall_of}
 use Rattle.admit_core.specs.Boarding.{boarding}
-use Rattle.admit_core.specs.Days.{closing, freed_after, frees_nothing}
+use Rattle.admit_core.specs.Days.{closing, freed_after, frees_nothing, GoesOn}
 
 -- the place of the school that a line names; past the end where no school has the id
 abbrev pub school_of_line : State → FallLine → ℕ
 school_of_line s line = place_of (map (λ h. h.id) s.dossier.schools) line.school
-
--- the school of the line is overfilled
-abbrev pub is_over : State → List CallOrder → List ℕ → List ℕ → FallLine → Bool
-is_over s orders ceilings bars line = is_overfilled (boarding s orders ceilings) bars (school_of_line s line)
-
--- its fall, and the ranks that the fall is to show
-abbrev pub fall_there : State → List CallOrder → List ℕ → List ℕ → FallLine → Fall
-fall_there s orders ceilings bars line = fall_of (boarding s orders ceilings) bars (school_of_line s line)
-
-abbrev pub ranks_there : State → List CallOrder → List ℕ → List ℕ → FallLine → List ℕ
-ranks_there s orders ceilings bars line = first_over (boarding s orders ceilings) bars (school_of_line s line)
 
 -- the wish with this id demands a bed of the school at this rank
 abbrev pub shows_rank : State → List CallOrder → List ℕ → ℕ → ℕ → ℕ → Bool
@@ -41,21 +30,15 @@ abbrev pub shows_ranks : State → List CallOrder → List ℕ → ℕ → List 
 shows_ranks s orders bars h ranks ids =
     nat_eq (length ids) (length ranks) && list_all (λ (r, id). shows_rank s orders bars h r id) (zip ranks ids)
 
--- the line's wishes show the ranks of the fall
-abbrev pub names_fall : State → List CallOrder → List ℕ → List ℕ → FallLine → Bool
-names_fall s orders ceilings bars line =
-    shows_ranks s orders bars (school_of_line s line) (ranks_there s orders ceilings bars line) line.wishes
-
 -- the line tells the bar before the fall and after it
-abbrev pub tells_bars : State → List CallOrder → List ℕ → List ℕ → FallLine → Bool
-tells_bars s orders ceilings bars line =
-    (line.from == (fall_there s orders ceilings bars line).from) && (line.to == (fall_there s orders ceilings bars line).to)
+abbrev pub tells_bars : FallLine → Fall → Bool
+tells_bars line fall = (line.from == fall.from) && (line.to == fall.to)
 
--- a valid line at these bars: it tells a fall of an overfilled school, and names wishes that show it
+-- a valid line at these bars: its school is overfilled, its wishes show the ranks of the fall, and it tells both bars
 pub record IsFallLine (s : State) (orders : List CallOrder) (ceilings bars : List ℕ) (line : FallLine) : Type 0 where
-  pub over : IsTrue (is_over s orders ceilings bars line)
-  pub names : IsTrue (names_fall s orders ceilings bars line)
-  pub tells : IsTrue (tells_bars s orders ceilings bars line)
+  pub over : IsTrue (is_overfilled (boarding s orders ceilings) bars (school_of_line s line))
+  pub names : IsTrue (shows_ranks s orders bars (school_of_line s line) (first_over (boarding s orders ceilings) bars (school_of_line s line)) line.wishes)
+  pub tells : IsTrue (tells_bars line (fall_of (boarding s orders ceilings) bars (school_of_line s line)))
 
 -- the bars after a line, and after many
 abbrev pub lowered : State → List ℕ → FallLine → List ℕ
@@ -83,28 +66,27 @@ closing_by s orders ceilings stamp pass = closing s orders (bars_by s ceilings p
 abbrev pub frees_nothing_by : State → List CallOrder → List ℕ → Stamp → PassChain → Bool
 frees_nothing_by s orders ceilings stamp pass = frees_nothing (freed_after s orders (bars_by s ceilings pass.falls) stamp)
 
--- valid passes of a day from the opening s on, numbered from k: the last is the first whose automatic answers free nothing
+-- valid passes of a day, at least one, from the opening s on and numbered from k, and the evening that the last of them leaves
 abbrev pub ArePassChains : List CallOrder → List ℕ → ℕ → ℕ → State → List PassChain → State → Type 0
 ArePassChains orders ceilings day k s [] evening = ⊥
-ArePassChains orders ceilings day k s (pass ∷ []) evening =
+ArePassChains orders ceilings day k s (pass ∷ rest) evening =
     let stamp : Stamp = record { day = day; pass = k } in
-    IsPassChain s orders ceilings pass × IsTrue (frees_nothing_by s orders ceilings stamp pass) × (evening ≡ closing_by s orders ceilings stamp pass)
-ArePassChains orders ceilings day k s (pass ∷ next ∷ rest) evening =
-    let stamp : Stamp = record { day = day; pass = k } in
-    IsPassChain s orders ceilings pass
-    × IsTrue (not (frees_nothing_by s orders ceilings stamp pass))
-    × ArePassChains orders ceilings day (k + 1) (closing_by s orders ceilings stamp pass) (next ∷ rest) evening
+    let after = closing_by s orders ceilings stamp pass in
+    GoesOn (IsPassChain s orders ceilings pass) (frees_nothing_by s orders ceilings stamp pass) rest after evening
+    (ArePassChains orders ceilings day (k + 1) after rest evening)
 
 -- a valid day, from its morning to its evening
 abbrev pub IsDayChain : List CallOrder → List ℕ → ℕ → State → DayChain → State → Type 0
 IsDayChain orders ceilings day morning chain evening = ArePassChains orders ceilings day 1 morning chain.passes evening
 
--- why a line is not valid: the first of the three that stands
+-- why a line is not valid: the first of the three that does not hold
 abbrev pub line_fault : State → List CallOrder → List ℕ → List ℕ → FallLine → Option CheckReason
 line_fault s orders ceilings bars line =
-    if not (is_over s orders ceilings bars line) then Some NotOver
-    else if not (names_fall s orders ceilings bars line) then Some WrongWishes
-    else if not (tells_bars s orders ceilings bars line) then Some WrongBar
+    let sys = boarding s orders ceilings in
+    let h = school_of_line s line in
+    if not (is_overfilled sys bars h) then Some NotOver
+    else if not (shows_ranks s orders bars h (first_over sys bars h) line.wishes) then Some WrongWishes
+    else if not (tells_bars line (fall_of sys bars h)) then Some WrongBar
     else None
 
 -- the row and the reason of the first line that is not valid
