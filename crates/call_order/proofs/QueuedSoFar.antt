@@ -10,6 +10,9 @@ use Rattle.admit_core.specs.declared.ranking.RankGroup.{RankGroup}
 use Rattle.admit_core.specs.declared.ranking.Bound.{Bound}
 use Rattle.admit_core.specs.Lists.{is_among}
 use Rattle.admit_core.specs.CallOrder.{called, remaining, bound_after, may_be_called, next_after, IsCallOrder}
+use Rattle.admit_core.specs.CallOrderLaws.{KeepsOrderLaws}
+use Rattle.admit_core.specs.Validity.{IsRanking}
+use Rattle.admit_core.proofs.OrderLaws.{laws_kept}
 use Rattle.admit_core.proofs.LeastFirst.{next_is_first}
 use Rattle.admit_core.proofs.NextCalls.{find_passes, next_none, mapped_none, mapped_some, remaining_push, remaining_first}
 use Rattle.admit_core.proofs.OrderPermutes.{distinct_filter}
@@ -19,13 +22,14 @@ use Rattle.call_queues.specs.Kinds.{kind_of, is_of, head_of, without_head}
 use Rattle.call_queues.proofs.Firsts.{length-without_first}
 use Rattle.call_order.specs.declared.queued.Rates.{Rates}
 use Rattle.call_order.specs.declared.queued.Tally.{Tally}
-use Rattle.call_order.specs.QueuedCalls.{more_called, call_by}
+use Rattle.call_order.specs.QueuedCalls.{ranking_by, more_called, call_by}
 use Rattle.call_order.proofs.ByKinds.{head_of_own_kind, without_first-filter}
 
--- a ranking whose queues can be built: its ranks rise, and nobody is ranked twice
-pub record IsQueued (g : RankGroup) : Type 0 where
-  pub ranks : IsStrictlyIncreasing (map (λ r. r.rank) g.list)
-  pub candidates : IsDistinct nat_eq (map (λ r. r.candidate) g.list)
+-- what stands in the queues is a ranking
+pub ranking_from : {q r : ℕ} {list : List Ranked} → q ≤ 100 → r ≤ 100 → IsStrictlyIncreasing (map (λ r. r.rank) list)
+    → IsDistinct nat_eq (map (λ r. r.candidate) list) → IsRanking (ranking_by q r list)
+ranking_from scholar resident ranks candidates =
+    record { scholar_pct = scholar; resident_pct = resident; ranks = ranks; candidates = candidates }
 
 abbrev rates_of : RankGroup → Rates
 rates_of g = record { scholar_pct = g.scholar_pct; resident_pct = g.resident_pct }
@@ -75,18 +79,18 @@ pub record QueuedCall (g : RankGroup) (list : List ℕ) (trace : List Bound) (ta
   pub residents : tally.residents ≤ tally.calls
   pub still : QueuedSoFar g (list ++ r.candidate ∷ []) (trace ++ b ∷ []) (more_called tally r) (without_head (kind_of r) rs)
 
-tally_push : (g : RankGroup) (list : List ℕ) (r : Ranked) (b : Bound) → IsQueued g → find (may_be_called b) (remaining g list) ≡ Some r
+tally_push : (g : RankGroup) (list : List ℕ) (r : Ranked) (b : Bound) → IsRanking g → find (may_be_called b) (remaining g list) ≡ Some r
     → more_called (tally_of g list) r ≡ tally_of g (list ++ r.candidate ∷ [])
-tally_push g list r b queued found =
+tally_push g list r b ranking found =
     rw (
       length_push list r.candidate,
-      count_called_push (λ (x : Ranked). x.scholar) (may_be_called b) g list r queued.candidates found,
-      count_called_push (λ (x : Ranked). x.resident) (may_be_called b) g list r queued.candidates found,
+      count_called_push (λ (x : Ranked). x.scholar) (may_be_called b) g list r ranking.candidates found,
+      count_called_push (λ (x : Ranked). x.resident) (may_be_called b) g list r ranking.candidates found,
     ) refl
 
 pub queued_push : {g : RankGroup} {list : List ℕ} {trace : List Bound} {tally : Tally} {rs : List Ranked} {r : Ranked} {b : Bound} → QueuedSoFar g list trace tally rs
-    → IsQueued g → call_by (rates_of g) tally rs ≡ Some (r, b) → QueuedCall g list trace tally rs r b
-queued_push {g} {list} {trace} {tally} {rs} {r} {b} so_far queued e =
+    → IsRanking g → call_by (rates_of g) tally rs ≡ Some (r, b) → QueuedCall g list trace tally rs r b
+queued_push {g} {list} {trace} {tally} {rs} {r} {b} so_far ranking e =
     let key = λ (x : Ranked). x.candidate in
     let here = remaining g list in
     let under = bound_after g list in
@@ -95,9 +99,9 @@ queued_push {g} {list} {trace} {tally} {rs} {r} {b} so_far queued e =
     let first = at_first ∙ ap Some (ap (λ (y : Ranked × Bound). y.0) is) in
     let found : find (may_be_called b) here ≡ Some r = ap (λ under. find (may_be_called under) here) (sym bound) ∙ first in
     let may = find_passes (may_be_called b) here r found in
-    let next : next_after g list ≡ Some (r.candidate, b) = next_is_first g list queued.ranks ∙ rw first (rw bound refl) in
+    let next : next_after g list ≡ Some (r.candidate, b) = next_is_first g list ranking.ranks ∙ rw first (rw bound refl) in
     let own = head_of_own_kind b here r found may in
-    let apart = distinct_filter key (λ (x : Ranked). not (is_among x.candidate list)) g.list queued.candidates in
+    let apart = distinct_filter key (λ (x : Ranked). not (is_among x.candidate list)) g.list ranking.candidates in
     let fewer = length-without_first (is_of (kind_of r)) here r own in
     let goes = without_first-filter key (is_of (kind_of r)) here r apart own ∙ sym (remaining_push g list r.candidate) in
     let parts = length-parts g list in
@@ -116,23 +120,26 @@ queued_push {g} {list} {trace} {tally} {rs} {r} {b} so_far queued e =
             calls = calls_push g list trace r.candidate b so_far.calls next;
             remaining = rw so_far.remaining goes;
             count = rw (so_far.remaining, length_push list r.candidate) (omega (arith, so_far.count, long, fewer));
-            tally = rw so_far.tally (tally_push g list r b queued found);
+            tally = rw so_far.tally (tally_push g list r b ranking found);
           };
     }
 
 -- where nobody is called, the order is whole and nobody remains
 pub record QueuedEnd (g : RankGroup) (list : List ℕ) (trace : List Bound) (rs : List Ranked) : Type 0 where
   pub order : IsCallOrder g (record { list = list; trace = trace })
+  pub laws : KeepsOrderLaws g (record { list = list; trace = trace })
   pub nobody : rs ≡ []
 
-pub queued_done : {g : RankGroup} {list : List ℕ} {trace : List Bound} {tally : Tally} {rs : List Ranked} → QueuedSoFar g list trace tally rs → IsQueued g
+pub queued_done : {g : RankGroup} {list : List ℕ} {trace : List Bound} {tally : Tally} {rs : List Ranked} → QueuedSoFar g list trace tally rs → IsRanking g
     → call_by (rates_of g) tally rs ≡ None → QueuedEnd g list trace rs
-queued_done {g} {list} {trace} {tally} {rs} so_far queued e =
+queued_done {g} {list} {trace} {tally} {rs} so_far ranking e =
     let here = remaining g list in
     let bound = bound_after g list in
     let none = mapped_none (with_bound bound) (find (may_be_called bound) here) (sym (call_is g list trace tally rs so_far) ∙ e) in
-    let next : next_after g list ≡ None = next_is_first g list queued.ranks ∙ rw none refl in
+    let next : next_after g list ≡ None = next_is_first g list ranking.ranks ∙ rw none refl in
+    let order = calls_done g list trace so_far.calls next in
     record {
-      order = calls_done g list trace so_far.calls next;
-      nobody = so_far.remaining ∙ next_none g list queued.ranks next;
+      order = order;
+      laws = laws_kept g (record { list = list; trace = trace }) ranking order;
+      nobody = so_far.remaining ∙ next_none g list ranking.ranks next;
     }

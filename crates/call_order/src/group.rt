@@ -1,9 +1,7 @@
 //! The call orders of ranking groups.
-ghost use Rattle.std.specs.Prelude.{◌≡◌, ◌<◌, length, nat_eq, All, IfOk};
-ghost use Rattle.std.specs.List.{IsDistinct};
-ghost use Rattle.std.specs.List.Sorted.{IsPermutation};
+ghost use Rattle.std.specs.Prelude.{◌≡◌, ◌<◌, All, IfOk};
 ghost use Rattle.admit_core.specs.CallOrder.{AreCallOrders, IsCallOrder};
-ghost use Rattle.admit_core.specs.CallOrderLaws.{ranked_candidates, CallsResidentScholarsFirst, KeepsScholarRate, KeepsResidentRate, IsLeastByScholars, IsLeastByResidents};
+ghost use Rattle.admit_core.specs.CallOrderLaws.{KeepsOrderLaws};
 ghost use Rattle.admit_core.specs.Validity.{IsRanking};
 
 use crate::queued::call_order_queued;
@@ -40,14 +38,7 @@ fn counted<L: Ledger>(
 pub fn call_order(alloc: Global, group: &RankGroup) -> Result<CallOrder, OutOfMemory>
     requires { IsRanking group.now }
     ensures order { IfOk result (IsCallOrder group.now) }
-    ensures permutation { IfOk result (λ order. IsPermutation (ranked_candidates group.now) order.list) }
-    ensures distinct { IfOk result (λ order. IsDistinct nat_eq order.list) }
-    ensures length { IfOk result (λ order. length order.list ≡ length group.now.list) }
-    ensures resident_scholars { IfOk result (CallsResidentScholarsFirst group.now) }
-    ensures scholar_rate { IfOk result (KeepsScholarRate group.now) }
-    ensures resident_rate { IfOk result (KeepsResidentRate group.now) }
-    ensures least_by_scholars { IfOk result (IsLeastByScholars group.now) }
-    ensures least_by_residents { IfOk result (IsLeastByResidents group.now) }
+    ensures laws { IfOk result (KeepsOrderLaws group.now) }
 {
     counted::<Brand>(alloc, Blank::new(1), group)
 }

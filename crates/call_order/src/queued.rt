@@ -3,6 +3,7 @@ ghost use Rattle.std.specs.Prelude.{◌≡◌, ◌+◌, ◌++◌, ◌<◌, ◌�
 ghost use Rattle.std.specs.List.{list_any, IsDistinct};
 ghost use Rattle.std.specs.List.Sorted.{IsStrictlyIncreasing};
 ghost use Rattle.admit_core.specs.CallOrder.{may_be_called, IsCallOrder};
+ghost use Rattle.admit_core.specs.CallOrderLaws.{KeepsOrderLaws};
 ghost use Rattle.call_queues.specs.Kinds.{is_of};
 ghost use Rattle.call_order.specs.QueuedCalls.{ranking_by, earlier_of, more_called, too_few, bound_by, call_by};
 
@@ -150,6 +151,7 @@ pub fn call_order_queued<L: Ledger>(
     requires resident_pct { resident_pct ≤ 100 }
     requires candidates { IsDistinct nat_eq (map (λ r. r.candidate) queues.old.remaining) }
     ensures order { IfOk result (IsCallOrder (ranking_by scholar_pct resident_pct queues.old.remaining)) }
+    ensures laws { IfOk result (KeepsOrderLaws (ranking_by scholar_pct resident_pct queues.old.remaining)) }
     ensures emptied { IfOk result (λ order. queues.new.remaining ≡ []) }
     ensures taken { IfOk result (λ order. queues.new.taken ≡ queues.old.taken ++ order.list) }
     ensures steps { IfOk result (λ order. steps.new ≡ steps.old + length queues.old.remaining) }
