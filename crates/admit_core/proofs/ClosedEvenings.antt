@@ -130,7 +130,7 @@ module _ (o : State) (orders : List CallOrder) (bars : List ℕ) (stamp : Stamp)
       let in_h = λ (u : Wish). has_school u h in
       let proposed : is_proposed o orders bars w m ≡ true =
       and_from (is_open o bars w m) (needs_no_seat o orders w || nat_lt (ahead o orders bars w) (seats_left o w.programme)) d.opens d.seat in
-      let live : is_live (offers w m) ≡ true = rw proposed (offered_lives m.status m.stamp stamp) in
+      let live : is_live (offers w m) ≡ true = rw proposed (offered_lives m stamp) in
       let here : lives_with in_h w.candidate (marked_by offers x) ≡ true =
       and_from (is_live (offers w m) && nat_eq w.candidate w.candidate) (has_school w h)
       (and_from (is_live (offers w m)) (nat_eq w.candidate w.candidate) live (eq-eqb w.candidate w.candidate refl)) d.has in

@@ -1,8 +1,8 @@
 -- After a pass whose automatic answers free nothing, a programme has seats left only where each waiting wish of it is barred.
-use Rattle.std.proofs.Common.{ℕ, zero, suc, ◌≤◌, ◌<◌, ◌≡◌, ◌⊎◌, Bool, true, false, cond, not, ◌&&◌, ◌||◌, List, [], ◌∷◌, length, take, inl, inr, refl, sym, ◌∙◌, arith, nat_eq, nat_lt, count_by, get_or, Option, Some, None}
-use Rattle.std.specs.Prelude.{slice_get, option_map, unwrap_or}
+use Rattle.std.proofs.Common.{ℕ, zero, suc, ◌≤◌, ◌<◌, ◌≡◌, ◌⊎◌, Bool, true, false, cond, not, ◌&&◌, ◌||◌, List, [], ◌∷◌, length, take, inl, inr, refl, sym, ◌∙◌, ap, arith, nat_eq, nat_lt, count_by, get_or, Option, Some, None}
+use Rattle.std.specs.Prelude.{◌==◌, slice_get, option_map, unwrap_or}
 use Rattle.std.specs.List.{IsDistinct, AllZip, All, position_or_len, before_first}
-use Rattle.std.proofs.lemmas.Bool.{and_parts, and_from, or_parts, or_right, cases_Bool, eqb-true, false≢true, lt-ltb, ltb-false, and_cases, both_ways}
+use Rattle.std.proofs.lemmas.Bool.{and_parts, and_from, or_parts, or_right, eqb-true, false≢true, lt-ltb, ltb-false, and_cases, both_ways}
 use Rattle.std.proofs.lemmas.List.Sums.{prefix_len-le-length, length-filter}
 use Rattle.std.proofs.lemmas.List.Elements.{All-head, All-tail}
 use Rattle.std.proofs.lemmas.List.Folds.{Any-from_list_any, list_any_at}
@@ -11,99 +11,39 @@ use Rattle.std.proofs.lemmas.List.{get_or-take, length-take-le}
 use Rattle.admit_core.specs.declared.dossier.Wish.{Wish}
 use Rattle.admit_core.specs.declared.state.Mark.{Mark}
 use Rattle.admit_core.specs.declared.state.Stamp.{Stamp}
-use Rattle.admit_core.specs.declared.state.Status.{Status}
-use Rattle.admit_core.specs.declared.state.Status.TheVariants.{Waiting, Offered, Accepted, Refused, Withdrawn, Quit, AutoRefused, AutoWithdrawn, Lapsed}
+use Rattle.admit_core.specs.declared.state.Status.TheVariants.{Offered}
 use Rattle.admit_core.specs.declared.ranking.RankGroup.{RankGroup}
 use Rattle.admit_core.specs.declared.ranking.CallOrder.{CallOrder}
 use Rattle.admit_core.specs.DossierRows.{DossierRows, candidates_of, group_of}
 use Rattle.admit_core.specs.CallOrder.{IsCallOrder, AreCallOrders}
 use Rattle.admit_core.specs.Validity.{IsValid, IsValidGroup}
-use Rattle.admit_core.specs.State.{State, entries, is_live, is_waiting, holds_seat, seats_left, changed_to}
+use Rattle.admit_core.specs.State.{State, entries, is_live, is_waiting, is_live_status, is_waiting_status, holds_seat, seats_left, changed_to}
 use Rattle.admit_core.specs.Proposals.{is_open, is_open_in, wants_seat, has_open_wish, order_of, ahead, needs_no_seat, is_proposed}
 use Rattle.admit_core.specs.AutoAnswer.{auto_mark}
 use Rattle.admit_core.specs.Days.{offered, closing}
 use Rattle.admit_core.proofs.OrderPermutes.{distinct-order}
+use Rattle.admit_core.proofs.Statuses.{changed_status, live_before_answer, waiting_before_answer, status_of_auto}
 use Rattle.admit_core.proofs.Holders.{lives_with, marked_by, holds_after, holds_kept, holder_has_wish}
 use Rattle.admit_core.proofs.Counting.{count_front, first_at_most, served, pass_at_most, split_count}
 
 -- what a mark is that was changed: an offered or accepted wish is live, one that was given up is not, and none waits
-pub offered_lives : (status : Status) (old stamp : Stamp) → is_live (changed_to Offered stamp (record { status = status; stamp = old })) ≡ true
-offered_lives Waiting old stamp = refl
-offered_lives Offered old stamp = refl
-offered_lives Accepted old stamp = refl
-offered_lives Refused old stamp = refl
-offered_lives Withdrawn old stamp = refl
-offered_lives Quit old stamp = refl
-offered_lives AutoRefused old stamp = refl
-offered_lives AutoWithdrawn old stamp = refl
-offered_lives Lapsed old stamp = refl
+pub offered_lives : (m : Mark) (stamp : Stamp) → is_live (changed_to Offered stamp m) ≡ true
+offered_lives m stamp = ap is_live_status (changed_status Offered stamp m)
 
-offered_waits_not : (status : Status) (old stamp : Stamp) → is_waiting (changed_to Offered stamp (record { status = status; stamp = old })) ≡ false
-offered_waits_not Waiting old stamp = refl
-offered_waits_not Offered old stamp = refl
-offered_waits_not Accepted old stamp = refl
-offered_waits_not Refused old stamp = refl
-offered_waits_not Withdrawn old stamp = refl
-offered_waits_not Quit old stamp = refl
-offered_waits_not AutoRefused old stamp = refl
-offered_waits_not AutoWithdrawn old stamp = refl
-offered_waits_not Lapsed old stamp = refl
-
-accepted_waits_not : (status : Status) (old stamp : Stamp) → is_waiting (changed_to Accepted stamp (record { status = status; stamp = old })) ≡ false
-accepted_waits_not Waiting old stamp = refl
-accepted_waits_not Offered old stamp = refl
-accepted_waits_not Accepted old stamp = refl
-accepted_waits_not Refused old stamp = refl
-accepted_waits_not Withdrawn old stamp = refl
-accepted_waits_not Quit old stamp = refl
-accepted_waits_not AutoRefused old stamp = refl
-accepted_waits_not AutoWithdrawn old stamp = refl
-accepted_waits_not Lapsed old stamp = refl
-
-refused_waits_not : (status : Status) (old stamp : Stamp) → is_waiting (changed_to AutoRefused stamp (record { status = status; stamp = old })) ≡ false
-refused_waits_not Waiting old stamp = refl
-refused_waits_not Offered old stamp = refl
-refused_waits_not Accepted old stamp = refl
-refused_waits_not Refused old stamp = refl
-refused_waits_not Withdrawn old stamp = refl
-refused_waits_not Quit old stamp = refl
-refused_waits_not AutoRefused old stamp = refl
-refused_waits_not AutoWithdrawn old stamp = refl
-refused_waits_not Lapsed old stamp = refl
-
-withdrawn_lives_not : (status : Status) (old stamp : Stamp) → is_live (changed_to AutoWithdrawn stamp (record { status = status; stamp = old })) ≡ false
-withdrawn_lives_not Waiting old stamp = refl
-withdrawn_lives_not Offered old stamp = refl
-withdrawn_lives_not Accepted old stamp = refl
-withdrawn_lives_not Refused old stamp = refl
-withdrawn_lives_not Withdrawn old stamp = refl
-withdrawn_lives_not Quit old stamp = refl
-withdrawn_lives_not AutoRefused old stamp = refl
-withdrawn_lives_not AutoWithdrawn old stamp = refl
-withdrawn_lives_not Lapsed old stamp = refl
-
-withdrawn_waits_not : (status : Status) (old stamp : Stamp) → is_waiting (changed_to AutoWithdrawn stamp (record { status = status; stamp = old })) ≡ false
-withdrawn_waits_not Waiting old stamp = refl
-withdrawn_waits_not Offered old stamp = refl
-withdrawn_waits_not Accepted old stamp = refl
-withdrawn_waits_not Refused old stamp = refl
-withdrawn_waits_not Withdrawn old stamp = refl
-withdrawn_waits_not Quit old stamp = refl
-withdrawn_waits_not AutoRefused old stamp = refl
-withdrawn_waits_not AutoWithdrawn old stamp = refl
-withdrawn_waits_not Lapsed old stamp = refl
+offered_waits_not : (m : Mark) (stamp : Stamp) → is_waiting (changed_to Offered stamp m) ≡ false
+offered_waits_not m stamp = ap is_waiting_status (changed_status Offered stamp m)
 
 -- the mark of a wish after the offers of a pass
 abbrev pub offer_if : Stamp → Bool → Mark → Mark
 offer_if stamp b m = cond b (changed_to Offered stamp m) m
 
 pub live_stays : (stamp : Stamp) (b : Bool) (m : Mark) → is_live m ≡ true → is_live (offer_if stamp b m) ≡ true
-live_stays stamp true m live = offered_lives m.status m.stamp stamp
+live_stays stamp true m live = offered_lives m stamp
 live_stays stamp false m live = live
 
 -- who waits after the offers waited, and got none
 pub waits_still : (stamp : Stamp) (b : Bool) (m : Mark) → is_waiting (offer_if stamp b m) ≡ true → (b ≡ false) × (is_waiting m ≡ true)
-waits_still stamp true m waits = absurd (false≢true (sym (offered_waits_not m.status m.stamp stamp) ∙ waits))
+waits_still stamp true m waits = absurd (false≢true (sym (offered_waits_not m stamp) ∙ waits))
 waits_still stamp false m waits = (refl, waits)
 
 -- who is live after the offers was so before, or got one
@@ -115,31 +55,13 @@ live_or_offered stamp false m live = inr live
 pub auto_live : (stamp : Stamp) (best : Option (Wish × Mark)) (w : Wish) (m : Mark) → is_live (auto_mark stamp best w m) ≡ true → is_live m ≡ true
 auto_live stamp None w m live = live
 auto_live stamp (Some best) w m live =
-    elim (cases_Bool (is_live m)) [
-      | inl was ↦ was
-      | inr was_not ↦
-          elim (cases_Bool (is_waiting m && nat_lt best.0.preference w.preference)) [
-            | inl behind ↦ absurd (false≢true (sym (withdrawn_lives_not m.status m.stamp stamp) ∙ rw (was_not, behind) at live))
-            | inr ahead ↦ rw (was_not, ahead) at live
-          ]
-    ]
+    live_before_answer m.status (w.preference == best.0.preference) (nat_lt best.0.preference w.preference) (sym (ap is_live_status (status_of_auto stamp best w m)) ∙ live)
 
 -- nor do they make one wait
 pub auto_waits : (stamp : Stamp) (best : Option (Wish × Mark)) (w : Wish) (m : Mark) → is_waiting (auto_mark stamp best w m) ≡ true → is_waiting m ≡ true
 auto_waits stamp None w m waits = waits
 auto_waits stamp (Some best) w m waits =
-    elim (cases_Bool (is_live m)) [
-      | inl live ↦
-          elim (cases_Bool (nat_eq w.preference best.0.preference)) [
-            | inl is_best ↦ absurd (false≢true (sym (accepted_waits_not m.status m.stamp stamp) ∙ rw (live, is_best) at waits))
-            | inr is_other ↦ absurd (false≢true (sym (refused_waits_not m.status m.stamp stamp) ∙ rw (live, is_other) at waits))
-          ]
-      | inr not_live ↦
-          elim (cases_Bool (is_waiting m && nat_lt best.0.preference w.preference)) [
-            | inl behind ↦ absurd (false≢true (sym (withdrawn_waits_not m.status m.stamp stamp) ∙ rw (not_live, behind) at waits))
-            | inr ahead ↦ rw (not_live, ahead) at waits
-          ]
-    ]
+    waiting_before_answer m.status (w.preference == best.0.preference) (nat_lt best.0.preference w.preference) (sym (ap is_waiting_status (status_of_auto stamp best w m)) ∙ waits)
 
 -- in a valid dossier the call order of each programme has nobody twice
 abbrev list_at : List CallOrder → ℕ → List ℕ
@@ -198,7 +120,7 @@ module _ (o : State) (orders : List CallOrder) (bars : List ℕ) (stamp : Stamp)
       let in_p = λ (w : Wish). nat_eq w.programme p in
       let lives : lives_with in_p c (marked_by offer x) ≡ true =
       and_from (is_live (offer x.0 x.1) && nat_eq x.0.candidate c) (nat_eq x.0.programme p)
-      (and_from (is_live (offer x.0 x.1)) (nat_eq x.0.candidate c) (rw proposed (offered_lives x.1.status x.1.stamp stamp)) inner.1) outer.1 in
+      (and_from (is_live (offer x.0 x.1)) (nat_eq x.0.candidate c) (rw proposed (offered_lives x.1 stamp)) inner.1) outer.1 in
       let now : holds_seat answered c p ≡ true =
       holds_after in_p o offer c ∙ list_any_at (λ (e : Wish × Mark). lives_with in_p c (marked_by offer e)) (entries o) k x lt (rw at lives) in
       and_from (holds_seat answered c p) (not (holds_seat o c p)) now parts.1

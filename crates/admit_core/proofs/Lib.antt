@@ -26,5 +26,6 @@ pub mod Rows
 pub mod ScholarsFirst
 pub mod SlotFacts
 pub mod SmallDossier
+pub mod Statuses
 pub mod Tests
 pub mod WorkedFaultRows

@@ -1,19 +1,19 @@
 -- Where automatic answers free something, a live wish is refused.
 use Rattle.std.proofs.Common.{ℕ, zero, suc, ◌<◌, ◌≡◌, Bool, true, false, not, cond, ◌&&◌, List, [], ◌∷◌, length, inl, inr, refl, sym, ◌∙◌, ap, arith, nat_eq, sum_by, count_by, zip, Option, Some, None}
-use Rattle.std.specs.Prelude.{◌==◌}
+use Rattle.std.specs.Prelude.{◌==◌, nat_lt}
 use Rattle.std.specs.List.{list_any, range_with_len}
 use Rattle.std.proofs.lemmas.Bool.{cases_Bool, cases_eq, eq-eqb, and_parts, and_from, and_cases, or_left, or_right, or_cases, false≢true, false_from_ne_true, not-true}
 use Rattle.std.proofs.lemmas.List.Sums.{sum_by-cons, sum-map}
 use Rattle.admit_core.specs.declared.dossier.Wish.{Wish}
-use Rattle.admit_core.specs.declared.state.Status.{Status}
-use Rattle.admit_core.specs.declared.state.Status.TheVariants.{Waiting, Offered, Accepted, Refused, Withdrawn, Quit, AutoRefused, AutoWithdrawn, Lapsed}
+use Rattle.admit_core.specs.declared.state.Status.TheVariants.{AutoRefused}
 use Rattle.admit_core.specs.declared.state.Mark.{Mark}
 use Rattle.admit_core.specs.declared.state.Stamp.{Stamp}
 use Rattle.admit_core.specs.DossierRows.{candidates_of}
-use Rattle.admit_core.specs.State.{State, is_live, is_live_status, has_school, holds_seat, holds_bed, changed_to}
+use Rattle.admit_core.specs.State.{State, is_live, is_live_status, has_school, holds_seat, holds_bed}
 use Rattle.admit_core.specs.AutoAnswer.{auto_mark, best_live, auto_all, seats_freed, beds_freed, freed}
 use Rattle.day_state.specs.Kept.{mark_in, wish_in, holds_one}
 use Rattle.day_state.proofs.Along.{mark_in-with_marks, length-with_marks}
+use Rattle.admit_core.proofs.Statuses.{status_of_auto, given_up_by_answer}
 use Rattle.auto_answer.specs.Laws.{IsRefusedAt, FreeingRefuses}
 use Rattle.auto_answer.proofs.Answering.{all_mark}
 use Rattle.auto_answer.proofs.OwnMarks.{holds}
@@ -58,39 +58,13 @@ place_passes t (w ∷ ws) [] k lt lt_too here = absurd (omega arith)
 place_passes t (w ∷ ws) (m ∷ ms) zero lt lt_too here = or_left (t (w, m)) (list_any t (zip ws ms)) here
 place_passes t (w ∷ ws) (m ∷ ms) (suc k) lt lt_too here = or_right (t (w, m)) (list_any t (zip ws ms)) (place_passes t ws ms k (omega arith) (omega arith) here)
 
-refused_status : (status : Status) (old stamp : Stamp) → is_live_status status ≡ true
-    → (changed_to AutoRefused stamp (record { status = status; stamp = old })).status ≡ AutoRefused
-refused_status Waiting old stamp live = absurd (cc)
-refused_status Offered old stamp live = refl
-refused_status Accepted old stamp live = refl
-refused_status Refused old stamp live = absurd (cc)
-refused_status Withdrawn old stamp live = absurd (cc)
-refused_status Quit old stamp live = absurd (cc)
-refused_status AutoRefused old stamp live = refl
-refused_status AutoWithdrawn old stamp live = absurd (cc)
-refused_status Lapsed old stamp live = absurd (cc)
-
-accepted_lives : (status : Status) (old stamp : Stamp) → is_live_status status ≡ true
-    → is_live (changed_to Accepted stamp (record { status = status; stamp = old })) ≡ true
-accepted_lives Waiting old stamp live = absurd (cc)
-accepted_lives Offered old stamp live = refl
-accepted_lives Accepted old stamp live = refl
-accepted_lives Refused old stamp live = absurd (cc)
-accepted_lives Withdrawn old stamp live = absurd (cc)
-accepted_lives Quit old stamp live = absurd (cc)
-accepted_lives AutoRefused old stamp live = absurd (cc)
-accepted_lives AutoWithdrawn old stamp live = absurd (cc)
-accepted_lives Lapsed old stamp live = absurd (cc)
-
 -- a live wish that is live no longer was refused
 pub live_no_longer : (stamp : Stamp) (best : Option (Wish × Mark)) (w : Wish) (m : Mark) → is_live m ≡ true → is_live (auto_mark stamp best w m) ≡ false
     → (auto_mark stamp best w m).status ≡ AutoRefused
 live_no_longer stamp None w m live gone = absurd (false≢true (sym gone ∙ live))
 live_no_longer stamp (Some best) w m live gone =
-    elim (cases_Bool (w.preference == best.0.preference)) [
-      | inl first ↦ absurd (false≢true (sym (rw (live, first) at gone) ∙ accepted_lives m.status m.stamp stamp live))
-      | inr other ↦ rw (live, other) (refused_status m.status m.stamp stamp live)
-    ]
+    let is = status_of_auto stamp best w m in
+    is ∙ given_up_by_answer m.status (w.preference == best.0.preference) (nat_lt best.0.preference w.preference) live (sym (ap is_live_status is) ∙ gone)
 
 -- a candidate who was live where a test says, and no longer is, has a wish that was refused
 refused_of : (test : Wish → Bool) (s : State) (stamp : Stamp) (c : ℕ) → length s.marks ≡ length s.dossier.wishes

@@ -12,54 +12,10 @@ use Rattle.admit_core.specs.declared.state.Stamp.{Stamp}
 use Rattle.admit_core.specs.declared.state.Change.{Change}
 use Rattle.admit_core.specs.State.{State, is_live, is_waiting, is_live_status, is_waiting_status, status_number, changed_to}
 use Rattle.admit_core.specs.Proposals.{is_proposed}
-use Rattle.admit_core.specs.AutoAnswer.{auto_mark, best_live}
+use Rattle.admit_core.specs.AutoAnswer.{auto_mark, auto_status, best_live}
+use Rattle.admit_core.proofs.Statuses.{changed_status, status_of_auto}
 use Rattle.admit_core.specs.Days.{offered, closing, changes}
 use Rattle.day_run.specs.Changes.{is_answered_change, answered_changes}
-
--- statuses with one number are one
-numbered : ℕ → Status
-numbered n =
-    cond (nat_eq n 0) Waiting (cond (nat_eq n 1) Offered (cond (nat_eq n 2) Accepted (cond (nat_eq n 3) Refused (cond (nat_eq n 4) Withdrawn
-    (cond (nat_eq n 5) Quit (cond (nat_eq n 6) AutoRefused (cond (nat_eq n 7) AutoWithdrawn Lapsed)))))))
-
-numbered-number : (x : Status) → numbered (status_number x) ≡ x
-unfolding numbered
-numbered-number Waiting = refl
-numbered-number Offered = refl
-numbered-number Accepted = refl
-numbered-number Refused = refl
-numbered-number Withdrawn = refl
-numbered-number Quit = refl
-numbered-number AutoRefused = refl
-numbered-number AutoWithdrawn = refl
-numbered-number Lapsed = refl
-
-pub changed_status : (x : Status) (stamp : Stamp) (m : Mark) → (changed_to x stamp m).status ≡ x
-changed_status x stamp m =
-    elim (cases_Bool (status_number m.status == status_number x)) [
-      | inl same ↦ rw same (sym (numbered-number m.status) ∙ ap numbered (eqb-true (status_number m.status) (status_number x) same) ∙ numbered-number x)
-      | inr other ↦ rw other refl
-    ]
-
--- the status that an automatic answer leads to
-abbrev pub auto_status : Status → Bool → Bool → Status
-auto_status status best worse =
-    if is_live_status status then (if best then Accepted else AutoRefused)
-    else if is_waiting_status status && worse then AutoWithdrawn else status
-
-pub status_of_auto : (stamp : Stamp) (best : Wish × Mark) (w : Wish) (m : Mark)
-    → (auto_mark stamp (Some best) w m).status ≡ auto_status m.status (w.preference == best.0.preference) (nat_lt best.0.preference w.preference)
-status_of_auto stamp best w m =
-    elim (cases_Bool (is_live m)) [
-      | inl live ↦ rw live (elim (cases_Bool (w.preference == best.0.preference)) [
-        | inl first ↦ rw first (changed_status Accepted stamp m)
-        | inr other ↦ rw other (changed_status AutoRefused stamp m)
-      ])
-      | inr dead ↦ rw dead (elim (cases_Bool (is_waiting m && nat_lt best.0.preference w.preference)) [
-        | inl worse ↦ rw worse (changed_status AutoWithdrawn stamp m)
-        | inr stays ↦ rw stays refl
-      ])
-    ]
 
 number_same : (n : ℕ) → (n == n) ≡ true
 number_same n = eq-eqb n n refl

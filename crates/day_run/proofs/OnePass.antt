@@ -22,7 +22,9 @@ use Rattle.auto_answer.proofs.Answering.{all_mark}
 use Rattle.auto_answer.proofs.Freeing.{freeing_refuses}
 use Rattle.day_run.specs.Changes.{answered_changes}
 use Rattle.day_run.specs.DayPasses.{open_wishes}
-use Rattle.day_run.proofs.ChangedMarks.{changes_alike, changed_status, auto_status, status_of_auto, proposed_waits}
+use Rattle.admit_core.specs.AutoAnswer.{auto_status}
+use Rattle.admit_core.proofs.Statuses.{changed_status, status_of_auto}
+use Rattle.day_run.proofs.ChangedMarks.{changes_alike, proposed_waits}
 
 pub closed : (s off close : State) (orders : List CallOrder) (bars : List ℕ) (stamp : Stamp)
     → off ≡ offered s orders bars stamp → close ≡ auto_all off stamp → close ≡ closing s orders bars stamp

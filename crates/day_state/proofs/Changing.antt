@@ -1,5 +1,5 @@
 -- Changes along a candidate's own wishes, with what they free.
-use Rattle.std.proofs.Common.{ℕ, ◌+◌, ◌<◌, ◌≡◌, Bool, true, false, ◌&&◌, ◌||◌, List, length, inl, inr, refl, sym, ◌∙◌, ap, arith}
+use Rattle.std.proofs.Common.{ℕ, ◌+◌, ◌<◌, ◌≡◌, Bool, true, false, ◌||◌, List, length, inl, inr, refl, sym, ◌∙◌, ap, arith}
 use Rattle.std.specs.Prelude.{slice_index, nat_lt, ◌==◌, if◌then◌else◌}
 use Rattle.std.proofs.lemmas.Bool.{cases_Bool}
 use Rattle.admit_core.specs.declared.dossier.Wish.{Wish}
@@ -7,11 +7,12 @@ use Rattle.admit_core.specs.declared.state.Mark.{Mark}
 use Rattle.admit_core.specs.declared.state.Stamp.{Stamp}
 use Rattle.admit_core.specs.declared.state.Freed.{Freed}
 use Rattle.admit_core.specs.declared.state.Status.{Status}
-use Rattle.admit_core.specs.declared.state.Status.TheVariants.{Refused, Quit, AutoWithdrawn}
+use Rattle.admit_core.specs.declared.state.Status.TheVariants.{Refused, Quit}
 use Rattle.admit_core.specs.DossierRows.{DossierRows, candidate_of}
 use Rattle.admit_core.specs.OwnWishes.{own_places}
 use Rattle.admit_core.specs.State.{State, is_live, is_waiting, is_live_status, status_number, has_school, with_mark_at, changed_to}
-use Rattle.admit_core.specs.AutoAnswer.{freed_by}
+use Rattle.admit_core.specs.AutoAnswer.{auto_status, freed_by}
+use Rattle.admit_core.proofs.Statuses.{changed_status, live_before_answer}
 use Rattle.admit_core.specs.Validity.{IsValid}
 use Rattle.day_state.specs.declared.mark.OwnChange.{OwnChange}
 use Rattle.day_state.specs.declared.mark.OwnChange.TheVariants.{RefuseLive, QuitOpen, TakeBest}
@@ -33,10 +34,8 @@ pub changed_falls : (change : OwnChange) (stamp : Stamp) (w : Wish) (m : Mark) �
 changed_falls RefuseLive stamp w m t = ends_if (is_live m) Refused stamp m refl t
 changed_falls QuitOpen stamp w m t = ends_if (is_live m || is_waiting m) Quit stamp m refl t
 changed_falls (TakeBest best) stamp w m t =
-    elim (cases_Bool (is_live m)) [
-      | inl lives ↦ lives
-      | inr ended ↦ ends_if (is_waiting m && nat_lt best w.preference) AutoWithdrawn stamp m refl (rw ended at t)
-    ]
+    live_before_answer m.status (w.preference == best) (nat_lt best w.preference)
+    (sym (ap is_live_status (changed_status (auto_status m.status (w.preference == best) (nat_lt best w.preference)) stamp m)) ∙ t)
 
 -- the way along a candidate's own wishes, and what was freed on it
 pub record IsChanging (change : OwnChange) (stamp : Stamp) (c : ℕ) (own : List ℕ) (start now : State) (freed : Freed) (i : ℕ) : Type 0 where

@@ -1,15 +1,16 @@
 -- The automatic answer of one candidate.
-use Rattle.std.proofs.Common.{ℕ, ◌<◌, ◌≡◌, Bool, true, false, ◌&&◌, [], length, inl, inr, refl, sym, ◌∙◌, arith, Option, Some, None}
+use Rattle.std.proofs.Common.{ℕ, ◌<◌, ◌≡◌, Bool, true, false, [], length, inl, inr, refl, sym, ◌∙◌, arith, Option, Some, None}
 use Rattle.std.specs.Prelude.{◌==◌, nat_lt, option_map, if◌then◌else◌}
 use Rattle.std.proofs.lemmas.Bool.{cases_Bool, eqb-true}
 use Rattle.std.proofs.lemmas.Option.{unwrap_or-slice_get}
 use Rattle.admit_core.specs.declared.dossier.Wish.{Wish}
 use Rattle.admit_core.specs.declared.state.Mark.{Mark}
 use Rattle.admit_core.specs.declared.state.Stamp.{Stamp}
-use Rattle.admit_core.specs.declared.state.Status.TheVariants.{Accepted, AutoRefused, AutoWithdrawn}
+use Rattle.admit_core.specs.declared.state.Status.TheVariants.{Accepted}
 use Rattle.admit_core.specs.DossierRows.{DossierRows}
-use Rattle.admit_core.specs.State.{State, with_marks, is_live, is_waiting, changed_to}
+use Rattle.admit_core.specs.State.{State, with_marks}
 use Rattle.admit_core.specs.AutoAnswer.{best_live, auto_mark, auto_one}
+use Rattle.admit_core.proofs.Statuses.{accepted_is_best, status_of_auto}
 use Rattle.admit_core.specs.OwnWishes.{IsOneAccepted}
 use Rattle.admit_core.specs.Validity.{IsValid}
 use Rattle.day_state.specs.declared.mark.OwnChange.TheVariants.{TakeBest}
@@ -17,7 +18,7 @@ use Rattle.day_state.specs.Kept.{mark_in, wish_in}
 use Rattle.day_state.specs.Along.{change_own, changed_by}
 use Rattle.day_state.specs.Whole.{IsDayState}
 use Rattle.day_state.proofs.Along.{same_state, same_marks, mark_in-with_marks, length-with_marks}
-use Rattle.day_state.proofs.OneAccepted.{one_from_places, one_at_places, not_new, not_new_if, accepted_lives}
+use Rattle.day_state.proofs.OneAccepted.{one_from_places, one_at_places}
 use Rattle.day_state.proofs.Best.{best_ranked}
 
 mapped_none : {X Y : Type 0} (f : X → Y) (o : Option X) → None ≡ option_map f o → o ≡ None
@@ -51,26 +52,11 @@ auto_best s c best stamp e =
     let found = mapped_some (λ (x : Wish × Mark). x.0.preference) (best_live s c) best e in
     found_best s c best stamp found.0 found.1 found.2
 
-refused_not : AutoRefused ≡ Accepted → ⊥
-refused_not e = (cc)
-
--- an accepted wish of his is one of the best preference
+-- an accepted wish of theirs is one of the best preference
 only_best : (x : Wish × Mark) (stamp : Stamp) (w : Wish) (m : Mark) → (auto_mark stamp (Some x) w m).status ≡ Accepted → w.preference ≡ x.0.preference
 only_best x stamp w m t =
-    elim (cases_Bool (is_live m)) [
-      | inl lives ↦ elim (cases_Bool (w.preference == x.0.preference)) [
-        | inl same ↦ eqb-true w.preference x.0.preference same
-        | inr differs ↦
-            let refused : (changed_to AutoRefused stamp m).status ≡ Accepted = rw (lives, differs) at t in
-            let was : m.status ≡ Accepted = not_new AutoRefused stamp m refused_not refused in
-            let other : (changed_to AutoRefused stamp m).status ≡ AutoRefused = rw was refl in
-            absurd (refused_not (sym other ∙ refused))
-      ]
-      | inr ended ↦
-          let was : m.status ≡ Accepted = not_new_if (is_waiting m && nat_lt x.0.preference w.preference) AutoWithdrawn stamp m (λ e. (cc)) (rw ended at t) in
-          let lives = accepted_lives m was in
-          absurd (cc)
-    ]
+    let same = accepted_is_best m.status (w.preference == x.0.preference) (nat_lt x.0.preference w.preference) (sym (status_of_auto stamp x w m) ∙ t) in
+    eqb-true w.preference x.0.preference same
 
 -- at most one wish of each candidate stays accepted
 one_taken : (s : State) (c : ℕ) (stamp : Stamp) (x : Wish × Mark) → IsValid s.dossier → length s.marks ≡ length s.dossier.wishes → best_live s c ≡ Some x

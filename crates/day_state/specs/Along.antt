@@ -1,9 +1,10 @@
 -- Changes of one mark after another.
-use Rattle.std.specs.Prelude.{ℕ, ◌&&◌, ◌||◌, nat_lt, List, [], ◌∷◌, ◌==◌, if◌then◌else◌}
+use Rattle.std.specs.Prelude.{ℕ, ◌||◌, nat_lt, List, [], ◌∷◌, ◌==◌, if◌then◌else◌}
 use Rattle.admit_core.specs.declared.dossier.Wish.{Wish}
-use Rattle.admit_core.specs.declared.state.Status.TheVariants.{Accepted, Refused, Quit, AutoRefused, AutoWithdrawn}
+use Rattle.admit_core.specs.declared.state.Status.TheVariants.{Refused, Quit}
 use Rattle.admit_core.specs.declared.state.Stamp.{Stamp}
 use Rattle.admit_core.specs.declared.state.Mark.{Mark}
+use Rattle.admit_core.specs.AutoAnswer.{auto_status}
 use Rattle.admit_core.specs.State.{State, with_mark_at, with_marks, is_live, is_waiting, changed_to}
 use Rattle.day_state.specs.declared.mark.OwnChange.{OwnChange}
 use Rattle.day_state.specs.declared.mark.OwnChange.TheVariants.{RefuseLive, QuitOpen, TakeBest}
@@ -22,7 +23,4 @@ change_own f c s = with_marks s (λ w m. if w.candidate == c then f w m else m)
 abbrev pub changed_by : OwnChange → Stamp → Wish → Mark → Mark
 changed_by RefuseLive stamp w m = if is_live m then changed_to Refused stamp m else m
 changed_by QuitOpen stamp w m = if is_live m || is_waiting m then changed_to Quit stamp m else m
-changed_by (TakeBest best) stamp w m =
-    if is_live m then (if w.preference == best then changed_to Accepted stamp m else changed_to AutoRefused stamp m)
-    else if is_waiting m && nat_lt best w.preference then changed_to AutoWithdrawn stamp m
-    else m
+changed_by (TakeBest best) stamp w m = changed_to (auto_status m.status (w.preference == best) (nat_lt best w.preference)) stamp m

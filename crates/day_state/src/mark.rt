@@ -1,7 +1,7 @@
 //! Tests of wishes and their marks.
 ghost use Rattle.std.specs.Prelude.{◌≡◌, ◌<◌, ◌≤◌, ◌+◌, ◌^◌, ◌&&◌, ◌==◌, length, IsTrue, not, pos, negsuc, ◌≤ℤ◌, slice_index_or, if◌then◌else◌};
 ghost use Rattle.admit_core.specs.State.{changed_to, is_live, is_waiting, is_live_status, is_waiting_status};
-ghost use Rattle.admit_core.specs.declared.state.Status.TheVariants.{Accepted, AutoRefused};
+ghost use Rattle.admit_core.specs.AutoAnswer.{auto_status};
 ghost use Rattle.admit_core.specs.Days.{first_mark};
 ghost use Rattle.admit_core.specs.Lapses.{lapses, offer_day};
 ghost use Rattle.day_state.specs.Along.{changed_by};
@@ -102,25 +102,25 @@ pub fn changed_by(change: OwnChange, wish: Wish, mark: Mark, stamp: Stamp) -> Ma
         OwnChange::QuitOpen if is_live(mark) || is_waiting(mark) => {
             changed_to(mark, Status::Quit, stamp)
         }
-        OwnChange::TakeBest(best) if is_live(mark) => {
+        OwnChange::TakeBest(best) => {
             let is_best = wish.preference == best;
-            changed_to(mark, taken_or_refused(is_best), stamp)
+            let is_behind = best < wish.preference;
+            changed_to(mark, auto_status(mark.status, is_best, is_behind), stamp)
         }
-        OwnChange::TakeBest(best) if is_waiting(mark) && best < wish.preference => {
-            changed_to(mark, Status::AutoWithdrawn, stamp)
-        }
-        _ => mark,
+        OwnChange::RefuseLive | OwnChange::QuitOpen => mark,
     }
 }
 
-/// What becomes of a live wish whose candidate is answered for.
-fn taken_or_refused(is_best: bool) -> Status
-    ensures { result ≡ (if is_best then Accepted else AutoRefused) }
+/// The status of a wish whose candidate is answered for: it is their best live one, or stands behind
+/// that.
+fn auto_status(status: Status, is_best: bool, is_behind: bool) -> Status
+    ensures { result ≡ auto_status status is_best is_behind }
 {
-    if is_best {
-        Status::Accepted
-    } else {
-        Status::AutoRefused
+    match status {
+        Status::Offered | Status::Accepted if is_best => Status::Accepted,
+        Status::Offered | Status::Accepted => Status::AutoRefused,
+        Status::Waiting if is_behind => Status::AutoWithdrawn,
+        _ => status,
     }
 }
 
