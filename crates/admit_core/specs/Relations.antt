@@ -1,7 +1,7 @@
 -- The first fault of tables: what each row is compared with, by slot.
 use Rattle.std.specs.Prelude.{ℕ, Bool, true, false, not, ◌&&◌, ◌||◌, List, [], ◌∷◌, Option, Some, None, map, option_map, nat_eq, nat_lt, find, if◌then◌else◌}
 use Rattle.std.specs.List.{list_any, enumerate_from}
-use Rattle.std.specs.Option.{option_or, option_map_or}
+use Rattle.std.specs.Option.{option_map_or}
 use Rattle.admit_core.specs.declared.slot.Slot.TheVariants as slots
 use Rattle.admit_core.specs.declared.refusal.Reason.TheVariants.{Unranked, NoBoardingRank, PreferenceMixed, PreferenceTaken, TwoAccepted, DayFalls}
 use Rattle.admit_core.specs.declared.refusal.Refusal.{Refusal}
@@ -20,7 +20,7 @@ use Rattle.admit_core.specs.declared.tables.CeilingRow.{CeilingRow}
 use Rattle.admit_core.specs.declared.tables.AnswerRow.{AnswerRow}
 use Rattle.admit_core.specs.declared.tables.Tables.{Tables}
 use Rattle.admit_core.specs.Lists.{is_among}
-use Rattle.admit_core.specs.Faults.{Test, first_row, first_in, repeats, takes_rank, names_unknown}
+use Rattle.admit_core.specs.Faults.{Test, first_row, first_of, first_in, repeats, takes_rank, names_unknown}
 
 -- the ids of the rows of a slot, by place
 abbrev pub group_ids : Tables → List ℕ
@@ -186,12 +186,15 @@ answer_tests t =
 -- the first fault, by slot, then by row, then by reason and field; tables without one are valid
 abbrev pub first_fault : Tables → Option Refusal
 first_fault t =
-    option_or (first_in slots.Groups group_tests t.groups)
-    (option_or (first_in slots.Programmes (programme_tests t) t.programmes)
-    (option_or (first_in slots.Schools school_tests t.schools)
-    (option_or (first_in slots.Rankings (ranking_tests t) t.rankings)
-    (option_or (first_in slots.Boarding (boarding_tests t) t.boarding)
-    (option_or (first_in slots.Wishes (wish_tests t) t.wishes)
-    (option_or (first_in slots.State (state_tests t) t.state)
-    (option_or (first_in slots.Ceilings (ceiling_tests t) t.ceilings)
-    (first_in slots.Answers (answer_tests t) t.answers))))))))
+    first_of (
+        first_in slots.Groups group_tests t.groups
+        ∷ first_in slots.Programmes (programme_tests t) t.programmes
+        ∷ first_in slots.Schools school_tests t.schools
+        ∷ first_in slots.Rankings (ranking_tests t) t.rankings
+        ∷ first_in slots.Boarding (boarding_tests t) t.boarding
+        ∷ first_in slots.Wishes (wish_tests t) t.wishes
+        ∷ first_in slots.State (state_tests t) t.state
+        ∷ first_in slots.Ceilings (ceiling_tests t) t.ceilings
+        ∷ first_in slots.Answers (answer_tests t) t.answers
+        ∷ []
+    )

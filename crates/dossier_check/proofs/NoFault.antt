@@ -31,7 +31,8 @@ no_fault t none =
     let state : Option Refusal = first_in slots.State (state_tests t) t.state in
     let ceilings : Option Refusal = first_in slots.Ceilings (ceiling_tests t) t.ceilings in
     let answers : Option Refusal = first_in slots.Answers (answer_tests t) t.answers in
-    let after_state = option_or ceilings answers in
+    let after_ceilings = option_or answers None in
+    let after_state = option_or ceilings after_ceilings in
     let after_wishes = option_or state after_state in
     let after_boarding = option_or wishes after_wishes in
     let after_rankings = option_or boarding after_boarding in
@@ -45,7 +46,8 @@ no_fault t none =
     let p5 = none_or boarding after_boarding p4.1 in
     let p6 = none_or wishes after_wishes p5.1 in
     let p7 = none_or state after_state p6.1 in
-    let p8 = none_or ceilings answers p7.1 in
+    let p8 = none_or ceilings after_ceilings p7.1 in
+    let p9 = none_or answers None p8.1 in
     record {
       groups = pass_all slots.Groups group_tests t.groups p1.0;
       programmes = pass_all slots.Programmes (programme_tests t) t.programmes p2.0;
@@ -55,5 +57,5 @@ no_fault t none =
       wishes = pass_all slots.Wishes (wish_tests t) t.wishes p6.0;
       state = pass_all slots.State (state_tests t) t.state p7.0;
       ceilings = pass_all slots.Ceilings (ceiling_tests t) t.ceilings p8.0;
-      answers = pass_all slots.Answers (answer_tests t) t.answers p8.1;
+      answers = pass_all slots.Answers (answer_tests t) t.answers p9.0;
     }

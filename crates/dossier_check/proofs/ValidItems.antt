@@ -1,12 +1,10 @@
 -- The ids, the groups, the programmes and the schools of the dossier are valid.
-use Rattle.std.proofs.Common.{◌≡◌, ℕ, ◌<◌, true, nat_eq, List, length, map, filter, get_or, sym, subst, arith, All}
+use Rattle.std.proofs.Common.{ℕ, ◌<◌, nat_eq, length, filter, get_or, sym, subst, All}
 use Rattle.std.specs.List.{IsDistinct}
 use Rattle.std.proofs.lemmas.List.Elements.{All-map, All-filter}
 use Rattle.std.proofs.lemmas.List.Sorted.{All-permutation}
 use Rattle.admit_core.specs.declared.tables.GroupRow.{GroupRow}
-use Rattle.admit_core.specs.declared.tables.RankRow.{RankRow}
 use Rattle.admit_core.specs.declared.tables.Tables.{Tables}
-use Rattle.admit_core.specs.declared.ranking.Ranked.{Ranked}
 use Rattle.admit_core.specs.Ranges.{AreTables, IsGroupRow}
 use Rattle.admit_core.specs.Relations.{group_ids}
 use Rattle.admit_core.specs.Standing.{place_of, ranked_row, ranked_in, group_of_row, programme_of_row, school_of_row, wish_of_row, dossier_of}

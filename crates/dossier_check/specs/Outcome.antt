@@ -1,13 +1,12 @@
 -- What a check answers.
-use Rattle.std.specs.Prelude.{◌≡◌, Option, Some, None, Result, Ok, Err}
+use Rattle.std.specs.Prelude.{◌≡◌, [], ◌∷◌, Option, Some, None, Result, Ok, Err}
 use Rattle.admit_core.specs.declared.refusal.Refusal.{Refusal}
 use Rattle.admit_core.specs.declared.refusal.InFault.{InFault}
 use Rattle.admit_core.specs.declared.refusal.InFault.TheVariants.{Refused, OutOfMemory}
 use Rattle.admit_core.specs.declared.slot.Slot.TheVariants as slots
 use Rattle.admit_core.specs.declared.tables.Tables.{Tables}
-use Rattle.admit_core.specs.Faults.{first_in}
+use Rattle.admit_core.specs.Faults.{first_of, first_in}
 use Rattle.admit_core.specs.Relations.{wish_tests, state_tests, ceiling_tests, answer_tests}
-use Rattle.std.specs.Option.{option_or}
 
 -- exactly the fault, or a value where there is none; want of memory may come at any time
 abbrev pub AnswersFault : {A : Type 0} → Result A InFault → Option Refusal → Type 0
@@ -18,7 +17,10 @@ AnswersFault (Err OutOfMemory) fault = Unit {0}
 -- the first fault of the slots from the wishes on
 unfoldable pub first_from_wishes : Tables → Option Refusal
 first_from_wishes t =
-    option_or (first_in slots.Wishes (wish_tests t) t.wishes)
-    (option_or (first_in slots.State (state_tests t) t.state)
-    (option_or (first_in slots.Ceilings (ceiling_tests t) t.ceilings)
-    (first_in slots.Answers (answer_tests t) t.answers)))
+    first_of (
+        first_in slots.Wishes (wish_tests t) t.wishes
+        ∷ first_in slots.State (state_tests t) t.state
+        ∷ first_in slots.Ceilings (ceiling_tests t) t.ceilings
+        ∷ first_in slots.Answers (answer_tests t) t.answers
+        ∷ []
+    )

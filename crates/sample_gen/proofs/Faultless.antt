@@ -1,5 +1,5 @@
 -- A sample has no fault.
-use Rattle.std.proofs.Common.{◌≡◌, ℕ, ◌≤◌, [], None, arith}
+use Rattle.std.proofs.Common.{refl, ◌≡◌, ℕ, ◌≤◌, [], None, arith}
 use Rattle.admit_core.specs.declared.slot.Slot.TheVariants as slots
 use Rattle.admit_core.specs.Relations.{state_tests, ceiling_tests, answer_tests, first_fault}
 use Rattle.sample_gen.specs.Samples.{sample_tables}
@@ -18,4 +18,5 @@ sample_faultless n high =
     (none_or_none (wishes_fine n)
     (none_or_none (none_in slots.State (state_tests (sample_tables n)) [] (record { at = λ k d lt. absurd (omega arith) }))
     (none_or_none (none_in slots.Ceilings (ceiling_tests (sample_tables n)) [] (record { at = λ k d lt. absurd (omega arith) }))
-    (none_in slots.Answers (answer_tests (sample_tables n)) [] (record { at = λ k d lt. absurd (omega arith) })))))))))
+    (none_or_none (none_in slots.Answers (answer_tests (sample_tables n)) [] (record { at = λ k d lt. absurd (omega arith) }))
+    refl))))))))

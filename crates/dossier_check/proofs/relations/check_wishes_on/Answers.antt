@@ -1,9 +1,8 @@
-use Rattle.std.proofs.Common.{rules, ◌≡◌, Option, None}
-use Rattle.std.specs.Option.{option_or}
+use Rattle.std.proofs.Common.{refl, Option}
 use Rattle.admit_core.specs.declared.refusal.Refusal.{Refusal}
 use Rattle.admit_core.specs.declared.slot.Slot.TheVariants as slots
 use Rattle.admit_core.specs.Faults.{first_in}
-use Rattle.admit_core.specs.Relations.{group_tests, programme_tests, school_tests, ranking_tests, boarding_tests, wish_tests, state_tests, ceiling_tests, answer_tests}
+use Rattle.admit_core.specs.Relations.{wish_tests, state_tests, ceiling_tests, answer_tests}
 use Rattle.dossier_check.specs.Outcome.{AnswersFault, first_from_wishes}
 use Rattle.dossier_check.proofs.Outcomes.{after_none, first_here, handed_on, none_then}
 use Rattle.dossier_check.proofs.relations.check_wishes_on.Goals as goal
@@ -44,7 +43,7 @@ returns-in_err-check_answers-clause-fault c =
     let ceilings : Option Refusal = first_in slots.Ceilings (ceiling_tests t) t.ceilings in
     let answers : Option Refusal = first_in slots.Answers (answer_tests t) t.answers in
     let here : AnswersFault c.from_residual-in_err-check_answers.result answers = handed_on _ _ _ c.from_residual-in_err-check_answers.ensures.1 c.in_err-check_answers.ensures in
-    after_none c.from_residual-in_err-check_answers.result wishes _ c.in_ok-wishes.ensures.fault (after_none c.from_residual-in_err-check_answers.result state _ c.in_ok-state.ensures.fault (after_none c.from_residual-in_err-check_answers.result ceilings _ c.in_ok-check_ceilings.ensures here))
+    after_none c.from_residual-in_err-check_answers.result wishes _ c.in_ok-wishes.ensures.fault (after_none c.from_residual-in_err-check_answers.result state _ c.in_ok-state.ensures.fault (after_none c.from_residual-in_err-check_answers.result ceilings _ c.in_ok-check_ceilings.ensures (first_here c.from_residual-in_err-check_answers.result answers _ c.from_residual-in_err-check_answers.ensures.0 here)))
 
 pub returns-clause-fault : goal.returns-clause-fault
 unfolding first_from_wishes
@@ -53,4 +52,5 @@ returns-clause-fault c =
     let wishes : Option Refusal = first_in slots.Wishes (wish_tests t) t.wishes in
     let state : Option Refusal = first_in slots.State (state_tests t) t.state in
     let ceilings : Option Refusal = first_in slots.Ceilings (ceiling_tests t) t.ceilings in
-    none_then wishes _ c.in_ok-wishes.ensures.fault (none_then state _ c.in_ok-state.ensures.fault (none_then ceilings _ c.in_ok-check_ceilings.ensures c.in_ok-check_answers.ensures))
+    let answers : Option Refusal = first_in slots.Answers (answer_tests t) t.answers in
+    none_then wishes _ c.in_ok-wishes.ensures.fault (none_then state _ c.in_ok-state.ensures.fault (none_then ceilings _ c.in_ok-check_ceilings.ensures (none_then answers _ c.in_ok-check_answers.ensures refl)))
