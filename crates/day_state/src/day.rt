@@ -186,7 +186,7 @@ impl<'d> DayState<'d> {
         self.live.is_live_in_its_school(wish)
     }
 
-    /// Gives a wish a status.
+    /// Gives a wish a status. Its stamp stays where it has that status already.
     pub fn set(&mut self, wish: u32, status: Status, stamp: Stamp)
         requires place { wish < length self.old.dossier.wishes }
         requires one_accepted { IsOneAccepted (change_at self.old wish status stamp) }
