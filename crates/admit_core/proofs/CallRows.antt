@@ -124,7 +124,7 @@ least_found key test r s (x ∷ xs) rises e has t =
           ]
     ]
 
--- ---- fronts of lists of ids
+-- ---- prefixes of lists of ids
 at_place : (P : ℕ → Type 0) (xs : List ℕ) (j c : ℕ) → AllByRecursion P xs → slice_get xs j ≡ Some c → P c
 at_place P [] j c all e = absurd (cc)
 at_place P (x ∷ xs) zero c all e = let same : x ≡ c = (cc) in rw (← same) all.0

@@ -37,14 +37,14 @@ use Rattle.admit_core.proofs.Counting.{split_count, nothing_freed}
 use Rattle.admit_core.proofs.FilledSeats.{live_stays, offered_lives, live_or_offered, waits_still, auto_waits, order_distinct, takers_fill}
 use Rattle.admit_core.proofs.Evenings.{entry_wish, same_rank, offer, after_offers, closed, answer, held_after_offers, full_in_evening, no_bed}
 
--- a candidate's rank in a school, by his first wish with it
+-- a candidate's rank in a school, by their first wish with it
 abbrev wants_bed_of : ℕ → ℕ → Wish → Bool
 wants_bed_of h c w = has_school w h && nat_eq w.candidate c
 
 abbrev rank_in : DossierRows → ℕ → ℕ → ℕ
 rank_in d h c = unwrap_or (option_map (λ (w : Wish). w.board_rank) (find (wants_bed_of h c) d.wishes)) 0
 
--- it is that of each of his wishes with the school
+-- it is that of each of their wishes with the school
 rank_is : (d : DossierRows) → IsValid d → (h k : ℕ) (w : Wish) → k < length d.wishes → w ≡ get_or d.wishes k w → has_school w h ≡ true → rank_in d h w.candidate ≡ w.board_rank
 rank_is d valid h k w lt at has =
     let ws = d.wishes in
@@ -84,7 +84,7 @@ some_of : (r : ℕ) (xs : List ℕ) → is_among r xs ≡ true → 0 < length xs
 some_of r [] t = absurd (false≢true t)
 some_of r (x ∷ xs) t = omega arith
 
--- the school of a wish of a valid dossier is there, and ranks him from 1
+-- the school of a wish of a valid dossier is there, and ranks them from 1
 school_there : (n : ℕ) (school : Option ℕ) (h : ℕ) → ForSome school (λ g. g < n) → school ≡ Some h → h < n
 school_there n school h there is = let h_there : ForSome (Some h) (λ g. g < n) = subst (λ (o : Option ℕ). ForSome o (λ g. g < n)) is there in h_there h refl
 
@@ -187,8 +187,8 @@ module _ (o : State) (orders : List CallOrder) (bars : List ℕ) (stamp : Stamp)
       elim (live_or_offered stamp (is_proposed o orders bars v e.1) e.1 inner.0) [
         | inl offered ↦
             let parts = and_parts (is_open o bars v e.1) (needs_no_seat o orders v || nat_lt (ahead o orders bars v) (seats_left o v.programme)) offered in
-            let his : seat ≡ true = same_seat o orders bars v w (eqb-true v.candidate c inner.1) (eqb-true v.programme p outer.1) parts.1 in
-            both_ways (is_proposed o orders bars w m) not_proposed (and_from (is_open o bars w m) seat opens his)
+            let own_seat : seat ≡ true = same_seat o orders bars v w (eqb-true v.candidate c inner.1) (eqb-true v.programme p outer.1) parts.1 in
+            both_ways (is_proposed o orders bars w m) not_proposed (and_from (is_open o bars w m) seat opens own_seat)
         | inr was_live ↦
             let here : lives_with in_p c e ≡ true = and_from (is_live e.1 && nat_eq v.candidate c) (nat_eq v.programme p) (and_from (is_live e.1) (nat_eq v.candidate c) was_live inner.1) outer.1 in
             let seated : holds_seat o c p ≡ true = list_any_at (lives_with in_p c) (entries o) j e lt (rw at here) in

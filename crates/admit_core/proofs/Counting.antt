@@ -19,7 +19,7 @@ step_yes p xs n lt t = rw (← add-one n) (count_by_more_yes p xs n 0 lt t)
 step_no : (p : ℕ → Bool) (xs : List ℕ) (n : ℕ) → n < length xs → p (get_or xs n 0) ≡ false → count_by p (take (suc n) xs) ≡ count_by p (take n xs)
 step_no p xs n lt t = rw (← add-one n) (count_by_more_no p xs n 0 lt t)
 
--- a longer front counts at least as many
+-- a longer prefix counts at least as many
 pub count_front : (p : ℕ → Bool) (xs : List ℕ) (j k : ℕ) → j ≤ k → count_by p (take j xs) ≤ count_by p (take k xs)
 count_front p xs j k le =
     let part : sum_by (λ (x : ℕ). cond (p x) 1 0) (take j (take k xs)) ≤ count_by p (take k xs) = sum_by-take-le (λ (x : ℕ). cond (p x) 1 0) (take k xs) j in
@@ -33,7 +33,7 @@ first_at_most c xs k at =
       | inr le ↦ le
     ]
 
--- where each one who wants takes as long as fewer than `left` who want stand before him, the first `left` of those who want take
+-- where each one who wants takes as long as fewer than `left` who want stand before them, the first `left` of those who want take
 pub served : (wants takes : ℕ → Bool) (left : ℕ) (xs : List ℕ) (n : ℕ) → n ≤ length xs
     → ((k : ℕ) → k < n → wants (get_or xs k 0) ≡ true → count_by wants (take k xs) < left → takes (get_or xs k 0) ≡ true)
     → (left ≤ count_by takes (take n xs)) ⊎ (count_by wants (take n xs) ≤ count_by takes (take n xs))
@@ -45,10 +45,10 @@ served wants takes left xs (suc n) le h =
       | inl full ↦ inl (omega (arith, full, grows))
       | inr all ↦
           elim (cases_Bool (wants (get_or xs n 0))) [
-            | inr not_him ↦ inr (omega (arith, step_no wants xs n lt not_him, all, grows))
-            | inl him ↦
+            | inr wants_none ↦ inr (omega (arith, step_no wants xs n lt wants_none, all, grows))
+            | inl wants_one ↦
                 elim (cases_lt (count_by wants (take n xs)) left) [
-                  | inl early ↦ inr (omega (arith, step_yes wants xs n lt him, step_yes takes xs n lt (h n (omega arith) him early), all))
+                  | inl early ↦ inr (omega (arith, step_yes wants xs n lt wants_one, step_yes takes xs n lt (h n (omega arith) wants_one early), all))
                   | inr late ↦ inl (omega (arith, late, all, grows))
                 ]
           ]

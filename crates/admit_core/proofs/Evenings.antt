@@ -133,7 +133,7 @@ module _ (o : State) (orders : List CallOrder) (bars : List ℕ) (stamp : Stamp)
             both_ways (holds_bed o c h) (not-true (holds_bed o c h) free) held_bed
       ])
 
-  -- so he is behind it in the evening
+  -- so they are behind it in the evening
   still_behind : IsValid o.dossier → (k : ℕ) (x : Wish × Mark) → k < length (entries o) → get_or (entries o) k x ≡ x → (school : Option ℕ) → x.0.school ≡ school
       → is_behind_bar o bars x.0 school ≡ true → is_behind_bar closed bars x.0 school ≡ true
   still_behind valid k x lt at None is t = t

@@ -102,7 +102,7 @@ module _ (o : State) (orders : List CallOrder) (bars : List ℕ) (stamp : Stamp)
   abbrev takes : ℕ → ℕ → Bool
   takes p c = holds_seat answered c p && not (holds_seat o c p)
 
-  -- who wants a seat and has fewer before him than seats are left takes one
+  -- who wants a seat and has fewer before them than seats are left takes one
   takes_early : (p c : ℕ) → wants_seat o bars p c ≡ true
       → count_by (wants_seat o bars p) (before_first (nat_eq c) (order_of o.dossier orders p)) < seats_left o p → takes p c ≡ true
   takes_early p c wants early =

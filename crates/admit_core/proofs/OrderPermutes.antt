@@ -101,7 +101,7 @@ parts_push g before c b ranking next parts =
     rw (← called.candidate, remaining_push g before r.candidate)
     (IsPermutation-pop_more (ranked_candidates g) before (map key rs) (map key others) r.candidate parts goes)
 
--- what stands at a place of a list is one more of its front
+-- what stands at a place of a list is one more of its prefix
 pub take_next : {X : Type 0} (xs : List X) (k : ℕ) (x : X) → slice_get xs k ≡ Some x → take (suc k) xs ≡ take k xs ++ x ∷ []
 take_next [] k x e = absurd (cc)
 take_next (y ∷ ys) zero x e = let same : y ≡ x = (cc) in rw same refl

@@ -1,4 +1,4 @@
--- The minimum rates are kept in each front of a call order.
+-- The minimum rates are kept in each prefix of a call order.
 use Rattle.std.proofs.Common.{ℕ, zero, suc, ◌+◌, ◌*◌, ◌≤◌, ◌<◌, ◌≡◌, Bool, true, false, not, ◌&&◌, List, [], ◌∷◌, ◌++◌, map, length, take, inl, inr, refl, sym, ◌∙◌, ap, arith, filter, Some, nat_eq, nat_lt, count_by}
 use Rattle.std.specs.Prelude.{◌≢◌}
 use Rattle.std.specs.List.{find, list_any, IsDistinct}
@@ -54,7 +54,7 @@ rate_step rate kind test g before r most apart found bound kept remain =
           ]
     ]
 
--- each front keeps a rate, if at each place before its end where the rate binds one of the kind is called
+-- each prefix keeps a rate, if at each place before its end where the rate binds one of the kind is called
 fronts_keep : (rate : ℕ) (kind : Ranked → Bool) (g : RankGroup) (order : CallOrder) → rate ≤ 100 → IsRanking g → IsCallOrder g order → (n : ℕ)
     → ((k : ℕ) (r : Ranked) (b : Bound) → k < n → IsCallAt g order k r b → binds rate kind g (take k order.list) ≡ true → kind r ≡ true)
     → KeepsRateAfter rate kind g (take n order.list)

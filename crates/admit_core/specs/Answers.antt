@@ -34,7 +34,7 @@ fits s a = kind_fits a.kind (status_at s a.target)
 abbrev pub change_at : State → ℕ → Status → Stamp → State
 change_at s place status stamp = with_mark_at s place (changed_to status stamp (mark_at s place))
 
--- the state in which a candidate's live wishes become refused, and that in which all his live and waiting ones become quit
+-- the state in which a candidate's live wishes become refused, and that in which all their live and waiting ones become quit
 abbrev pub refuse_live : State → ℕ → Stamp → State
 refuse_live s c stamp = with_marks s (λ w m. if is_live m && (w.candidate == c) then changed_to Refused stamp m else m)
 
@@ -68,6 +68,6 @@ is_own_kind Refuse s c target = candidate_at s target == c
 is_own_kind Withdraw s c target = candidate_at s target == c
 is_own_kind Quit s c target = target == c
 
--- the answers of a list that speak of a candidate or of his wishes
+-- the answers of a list that speak of a candidate or of their wishes
 abbrev pub own : State → ℕ → List Answer → List Answer
 own s c answers = filter (λ a. is_own_kind a.kind s c a.target) answers

@@ -10,7 +10,7 @@ use Rattle.admit_core.specs.Lists.{places_where}
 use Rattle.admit_core.specs.State.{State, entries, is_live, holds_seat, seats_left}
 use Rattle.admit_core.specs.Proposals.{order_of, position_of}
 
--- a wish that its candidate has not given up himself, and that is not live
+-- a wish that its candidate did not give up themself, and that is not live
 abbrev pub is_missed : Status → Bool
 is_missed Waiting = true
 is_missed AutoRefused = true
@@ -21,7 +21,7 @@ abbrev pub lacks_school : Option ℕ → Bool
 lacks_school None = true
 lacks_school (Some h) = false
 
--- the candidate has a live wish that he prefers
+-- the candidate has a live wish that they prefer
 abbrev pub has_better : State → Wish → Bool
 has_better s w = list_any (λ (v, m). is_live m && (v.candidate == w.candidate) && nat_lt v.preference w.preference) (entries s)
 
@@ -42,7 +42,7 @@ last_of (c ∷ (d ∷ rest)) = last_of (d ∷ rest)
 abbrev pub last_envied : State → List CallOrder → Wish → Option ℕ
 last_envied s orders w = last_of (envied s orders w)
 
--- the candidate has nothing that is as good: he ranks the wish, is not live in its programme and has no live wish that he prefers
+-- the candidate has nothing that is as good: they rank the wish, are not live in its programme and have no live wish that they prefer
 abbrev pub wants_more : State → Wish → Mark → Bool
 wants_more s w m =
     lacks_school w.school && nat_lt 0 w.preference && is_missed m.status && not (holds_seat s w.candidate w.programme) && not (has_better s w)

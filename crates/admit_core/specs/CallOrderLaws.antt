@@ -19,7 +19,7 @@ abbrev pub KeepsRateAfter : ℕ → (Ranked → Bool) → RankGroup → List ℕ
 KeepsRateAfter rate kind g before =
     list_any kind (remaining g before) ≡ true → rate * length before ≤ 100 * count_by kind (called g before)
 
--- each front of a list keeps a rate
+-- each prefix of a list keeps a rate
 abbrev pub KeepsRate : ℕ → (Ranked → Bool) → RankGroup → List ℕ → Type 0
 KeepsRate rate kind g list = (n : ℕ) → KeepsRateAfter rate kind g (take n list)
 
@@ -65,7 +65,7 @@ pub record KeepsOrderLaws (g : RankGroup) (order : CallOrder) : Type 0 where
   pub candidates : (c : ℕ) → is_among c order.list ≡ is_among c (ranked_candidates g)
   -- no other order is a call order of the ranking
   pub only : (other : CallOrder) → IsCallOrder g other → other ≡ order
-  -- its fronts keep the rates
+  -- its prefixes keep the rates
   pub scholar_rate : KeepsScholarRate g order
   pub resident_rate : KeepsResidentRate g order
   pub resident_scholars : CallsResidentScholarsFirst g order

@@ -21,9 +21,12 @@ abbrev pub ascending : List ℕ → List ℕ
 ascending [] = []
 ascending (n ∷ ns) = put_in n (ascending ns)
 
--- the places at which a test holds
+-- what passes a test, each with its place, and the places alone
+abbrev pub placed_where : {X : Type 0} → (X → Bool) → List X → List (ℕ × X)
+placed_where test xs = filter (λ x. test x.1) (enumerate_from 0 xs)
+
 abbrev pub places_where : {X : Type 0} → (X → Bool) → List X → List ℕ
-places_where test xs = map (λ x. x.0) (filter (λ x. test x.1) (enumerate_from 0 xs))
+places_where test xs = map (λ x. x.0) (placed_where test xs)
 
 -- the one with the lesser key
 abbrev pub lesser : {X : Type 0} → (X → ℕ) → X → Option X → X

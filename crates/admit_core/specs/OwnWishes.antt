@@ -1,4 +1,4 @@
--- The wishes of one candidate, and the rule that he accepts one at most.
+-- The wishes of one candidate, and the rule that at most one of them is accepted.
 use Rattle.std.specs.Prelude.{◌≡◌, ℕ, List, length, filter, ◌==◌, AllPairs}
 use Rattle.std.specs.List.{range_with_len}
 use Rattle.admit_core.specs.declared.dossier.Wish.{Wish}

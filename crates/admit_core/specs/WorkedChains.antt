@@ -87,7 +87,7 @@ SeatIsVacant =
     let s = one_seat_ranked AutoRefused Refused in
     (blocking s two_candidates ≡ 0 ∷ []) × (seats_left s 0 ≡ 1) × (last_envied s two_candidates (wish 1 11 0 1) ≡ None)
 
--- a wish that its candidate refused, and one that is live, block nothing; nor does one behind a live wish that he prefers
+-- a wish that its candidate refused, and one that is live, block nothing; nor does one behind a live wish that they prefer
 abbrev pub NoneBlocks : Type 0
 NoneBlocks =
     (blocking (one_seat_ranked Refused Accepted) two_candidates ≡ [])

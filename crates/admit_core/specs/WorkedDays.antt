@@ -173,7 +173,7 @@ AcceptedStays =
     (after_all three_wishes (record { day = 2; pass = 0 }) (accepts 1 ∷ [])).marks
     ≡ marked Refused 2 0 ∷ marked Accepted 1 0 ∷ marked Waiting 0 0 ∷ marked Offered 1 1 ∷ []
 
--- what is answered for a candidate who has accepted: nothing while he has no better offer, and that one once he has it
+-- what is answered for a candidate who has accepted: nothing while they have no better offer, and that one once they have it
 abbrev pub ranks_two : List Mark → State
 ranks_two marks = record { dossier = rows (programme 10 0 1 ∷ programme 20 0 1 ∷ []) [] (wish 1 81 0 2 ∷ wish 2 81 1 1 ∷ []) []; marks = marks }
 
@@ -205,7 +205,7 @@ HoldersStandAside =
     let orders = in_order (71 ∷ 72 ∷ []) ∷ [] in
     (proposed live_in_both orders (0 ∷ []) ≡ 1 ∷ 2 ∷ 3 ∷ []) × (demanded_ranks live_in_both orders (0 ∷ []) 0 ≡ [])
 
--- who quits loses all his live and waiting wishes, and the seat is offered on the same day
+-- who quits loses all their live and waiting wishes, and the seat is offered on the same day
 abbrev pub Quits : Type 0
 Quits =
     Leave (one_seat (quits 11 ∷ [])) two_candidates

@@ -46,8 +46,8 @@ pub struct School {
 /// A wish (*vœu*).
 ///
 /// `programme` and `school` are places, and `board_rank`, the candidate's rank in the school, is 0
-/// without a school. A `preference` of 0 says that the candidate answers himself; else 1 is the
-/// best.
+/// without a school. A `preference` of 0 says that the candidate answers in person; else 1 is
+/// the best.
 #[derive(Clone, Copy, Debug, PartialEq, Eq)]
 pub struct Wish {
     pub id: u32,
@@ -58,7 +58,7 @@ pub struct Wish {
     pub preference: u32,
 }
 
-/// What a candidate answers to an offer, of a waiting wish, or of all his wishes.
+/// What a candidate answers to an offer, of a waiting wish, or of all their wishes.
 #[derive(Clone, Copy, Debug, PartialEq, Eq)]
 pub enum AnswerKind {
     Accept,

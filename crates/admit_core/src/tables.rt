@@ -47,7 +47,7 @@ pub struct BoardRow {
     pub rank: u32,
 }
 
-/// A wish; a `preference` of 0 says that the candidate answers himself.
+/// A wish; a `preference` of 0 says that the candidate answers in person.
 #[derive(Clone, Copy, Debug, PartialEq, Eq)]
 pub struct WishRow {
     pub id: u32,

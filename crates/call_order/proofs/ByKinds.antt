@@ -116,7 +116,7 @@ find_any_kind rs rising =
     rw (← find_resident rs rising, ← find_either (is_of Neither) (is_of ScholarOnly) no_resident (λ r. refl) rs rising)
     (find_either no_resident (λ r. r.resident) (λ r. true) (λ r. by_both_flags r.scholar r.resident) rs rising)
 
--- ---- who is found is the head of his kind, and goes alone
+-- ---- who is found is the head of their kind, and goes alone
 find_stronger : {X : Type 0} (p q : X → Bool) → ((x : X) → q x ≡ true → p x ≡ true) → (xs : List X) (y : X) → find p xs ≡ Some y → q y ≡ true → find q xs ≡ Some y
 find_stronger p q h [] y e own = absurd (cc)
 find_stronger p q h (x ∷ xs) y e own =

@@ -126,7 +126,7 @@ fn first_eligible(queues: &Queues, bound: Bound) -> Option<Ranked>
     }
 }
 
-/// The next one and his bound. `None` where nobody remains.
+/// The next candidate, with their bound. `None` where nobody remains.
 fn next_call(queues: &Queues, rates: Rates, tally: Tally) -> Option<(Ranked, Bound)>
     requires { IsStrictlyIncreasing (map (λ r. r.rank) queues.now.remaining) }
     ensures { result ≡ call_by rates tally queues.now.remaining }

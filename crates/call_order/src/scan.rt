@@ -131,7 +131,7 @@ fn first_eligible<'a>(group: &'a RankGroup, before: &[u32], bound: Bound) -> Opt
         .find(|ranked| may_be_called(bound, ranked))
 }
 
-/// The next one and his bound, or none where nobody remains.
+/// The next candidate, with their bound, or none where nobody remains.
 #[tactic(auto, using(admit_core::proofs::LeastFirst::next_is_first))]
 fn next_after(group: &RankGroup, before: &[u32]) -> Option<(u32, Bound)>
     requires { IsRanking group.now }

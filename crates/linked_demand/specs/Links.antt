@@ -1,9 +1,10 @@
 -- The lines of the programmes, and where each waiting wish stands in them.
-use Rattle.std.specs.Prelude.{◌≡◌, ℕ, ◌<◌, Bool, true, false, ◌&&◌, List, map, length, Some, ◌==◌, nat_eq, filter, slice_get, slice_index, slice_index_or}
-use Rattle.std.specs.List.{enumerate_from, range_with_len}
+use Rattle.std.specs.Prelude.{◌≡◌, ℕ, ◌<◌, Bool, true, false, ◌&&◌, List, map, length, Some, ◌==◌, nat_eq, slice_get, slice_index, slice_index_or}
+use Rattle.std.specs.List.{range_with_len}
 use Rattle.admit_core.specs.declared.dossier.Wish.{Wish}
 use Rattle.admit_core.specs.declared.state.Mark.{Mark}
 use Rattle.admit_core.specs.declared.ranking.CallOrder.{CallOrder}
+use Rattle.admit_core.specs.Lists.{places_where}
 use Rattle.admit_core.specs.State.{State, entries, is_waiting}
 use Rattle.admit_core.specs.Proposals.{needs_no_seat}
 use Rattle.linked_demand.specs.Line.{LineRow}
@@ -28,7 +29,7 @@ IsSeatPlace s orders w k = IsPlaceOf w.candidate (line_of s orders w.programme) 
 -- the candidate's waiting wishes in the programme, by place
 abbrev pub claim_of : State → ℕ → ℕ → List ℕ
 claim_of s p c =
-    map (λ x. x.0) (filter (λ x. is_waiting x.1.1 && (x.1.0.candidate == c) && (x.1.0.programme == p)) (enumerate_from 0 (entries s)))
+    places_where (λ x. is_waiting x.1 && (x.0.candidate == c) && (x.0.programme == p)) (entries s)
 
 -- the wish at a place, where it waits
 pub record WaitsAt (s : State) (i : ℕ) (w : Wish) (m : Mark) : Type 0 where
