@@ -37,9 +37,9 @@ abbrev pub own_ceilings : DossierRows → List ℕ
 own_ceilings d = map (λ school. school.ceiling) d.schools
 
 -- no day was run: the bars and the ceilings are the schools' own ceilings
-pub record IsBegun (d : DossierRows) (orders : List CallOrder) (terms : Option Terms) (p : Progress) : Type 0 where
-  pub orders : p.orders ≡ orders
-  pub terms : p.terms ≡ terms
+pub record IsBegun (d : DossierRows) (called : List CallOrder) (given : Option Terms) (p : Progress) : Type 0 where
+  pub orders : p.orders ≡ called
+  pub terms : p.terms ≡ given
   pub day : p.day ≡ 0
   pub has_day : p.has_day ≡ false
   pub present : p.present ≡ first_evening d
@@ -62,7 +62,7 @@ moment_of stage =
 
 -- the next day came about, under its own ceilings
 pub record RunsDay (before : Stage) (done : DayRecord) (after : Stage) : Type 0 where
-  pub done : IsDayDone before.course.terms before.course.orders (ceilings_of before.course.present.dossier (before.course.day + 1))
+  pub is_done : IsDayDone before.course.terms before.course.orders (ceilings_of before.course.present.dossier (before.course.day + 1))
       (before.course.day + 1) (moment_of before) done (moment_of after)
   pub bars : after.course.bars ≡ last_bars done.passes
   pub ceilings : after.course.ceilings ≡ ceilings_of before.course.present.dossier (before.course.day + 1)

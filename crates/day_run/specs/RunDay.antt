@@ -31,7 +31,7 @@ KeepsStamps day old evening = (last : ℕ) → day ≤ last → All (IsStampedBy
 -- a day that came about
 pub record IsDayDone (terms : Option Terms) (orders : List CallOrder) (ceilings : List ℕ) (day : ℕ) (before : Moment) (done : DayRecord) (after : Moment) : Type 0 where
   pub number : done.day ≡ day
-  pub day : IsDay terms orders ceilings before.desk.present done after.desk.present
+  pub is_day : IsDay terms orders ceilings before.desk.present done after.desk.present
   pub laws : KeepsLaws terms orders ceilings before.desk.present done after.desk.present
   pub few : length done.passes ≤ length before.desk.present.dossier.wishes + 1
   pub opening : after.desk.opening ≡ last_opening orders day 1 (morning terms day before.desk.present) done.passes
