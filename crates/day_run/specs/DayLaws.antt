@@ -8,6 +8,7 @@ use Rattle.admit_core.specs.declared.records.Terms.{Terms}
 use Rattle.admit_core.specs.State.{State, entries}
 use Rattle.admit_core.specs.Proposals.{proposed}
 use Rattle.admit_core.specs.Falls.{IsGreatest}
+use Rattle.admit_core.specs.CallOrder.{AreCallOrders}
 use Rattle.admit_core.specs.Boarding.{boarding}
 use Rattle.admit_core.specs.EveningLaws.{IsFilled, last_bars}
 use Rattle.admit_core.specs.Days.{IsDay, Days, morning}
@@ -37,14 +38,17 @@ OnlyFallsDiffer =
     → IsDay terms orders ceilings old other night
     → (evening ≡ night) × SameDayButFalls one other
 
--- the same of as many days of a campaign: whichever schools were picked, they lead to one evening, and differ in their falls alone
-abbrev pub OnlyFallsDifferOverDays : Type 0
-OnlyFallsDifferOverDays =
-    (terms : Option Terms) (orders : List CallOrder) (first : ℕ) (old : State) (days others : List DayRecord) (evening night : State)
-    → length days ≡ length others
+-- the days of a campaign depend on the dossier, the terms and the day alone: whichever schools were picked, as many days from one evening lead to one evening,
+-- and differ in their falls alone
+abbrev pub CampaignsAreFixed : Type 0
+CampaignsAreFixed =
+    (terms : Option Terms) (orders others : List CallOrder) (first : ℕ) (old : State) (days twins : List DayRecord) (evening night : State)
+    → AreCallOrders old.dossier.groups orders
+    → AreCallOrders old.dossier.groups others
+    → length days ≡ length twins
     → Days terms orders first old days evening
-    → Days terms orders first old others night
-    → (evening ≡ night) × AllZip SameDayButFalls days others
+    → Days terms others first old twins night
+    → (evening ≡ night) × AllZip SameDayButFalls days twins
 
 -- what holds of a day that came about. Each of its passes keeps the laws of passes. In its evening a programme has seats left only where each waiting wish of it
 -- is barred under the bars of the last pass, and under the evening's own greatest bars no wish is proposed; and every day of its number from the same evening

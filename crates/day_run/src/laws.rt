@@ -1,8 +1,8 @@
 //! The laws of days, over definitions alone.
-ghost use Rattle.day_run.specs.DayLaws.{OnlyFallsDiffer, OnlyFallsDifferOverDays};
+ghost use Rattle.day_run.specs.DayLaws.{OnlyFallsDiffer, CampaignsAreFixed};
 
 /// The laws of days. The call does nothing.
 pub fn laws_of_days()
     ensures day { OnlyFallsDiffer }
-    ensures days { OnlyFallsDifferOverDays }
+    ensures campaign { CampaignsAreFixed }
 {}
