@@ -19,7 +19,7 @@ returns-in_err-fall-clause-told g c =
     let f = g.F.Falling in
     let over =
     overfilled_from_list (f.system c.args.system.now) (f.bars c.args.system.now) _ _ _ c.as_slice.ensures.value c.in_ok-places.ensures c.in_ok-school.ensures.0 in
-    on_err _ (told_one (f.system c.args.system.now) _ _ _ _ over c.in_ok-school.ensures.1.1.0)
+    on_err _ (told_one (f.system c.args.system.now) _ _ _ _ _ _ _ c.as_slice.ensures.value c.in_ok-places.ensures over c.in_ok-school.ensures.1.0 c.in_ok-school.ensures.1.1.0)
 
 pub returns-clause-fall : goal.returns-clause-fall
 returns-clause-fall g c =
