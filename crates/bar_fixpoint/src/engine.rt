@@ -62,7 +62,8 @@ fn fall_once<F: Falling, L: Ledger>(
     ensures choice { choice picker.new ≡ choice picker.old }
 {
     let places = system.overfilled(alloc)?;
-    if places.is_empty() {
+    let is_settled = places.is_empty();
+    if is_settled {
         return Ok(None);
     }
     let school = picker.pick(places.as_slice())?;
