@@ -1,0 +1,1 @@
+-- The dates of day 1.
