@@ -1,6 +1,6 @@
 -- The command is one of which the matches and the faults are a function of the words.
 use Rattle.std.proofs.Common.{◌≡◌, ◌≢◌, ◌∙◌, List, [], ◌∷◌, true, ap, refl, subst, sym, inl, inr}
-use Rattle.std.specs.Prelude.{Option, Some, None, Result, Ok, Err, IfOk, ◌↔◌}
+use Rattle.std.specs.Prelude.{Option, Some, None, Result, Ok, Err, IfOk, IsErrAnd, ◌↔◌}
 use Rattle.std.proofs.lemmas.Result.{IfOk-weaker}
 use Rattle.clap.specs.Words.{App, FailsBy, HasKind, HasMatchesOf, Kinds, Row, Text, fault_of, found_of, is_simple, is_simple_and_free, kind_of, matches_of, rows_of}
 use Rattle.clap.specs.declared.error.Error.{Error}
@@ -55,10 +55,15 @@ pub words_ask : (words : List Text) (rows : List Row) (request : Request) → fa
 unfolding request_of_named
 words_ask words rows request sound same is = rw (sound, ← same, ← is) refl
 
-pub words_are_bad : (words : List Text) (rows : List Row) (bad : BadWords) → fault_of parcours words ≡ [] → rows ≡ matches_of parcours words
+words_are_bad : (words : List Text) (rows : List Row) (bad : BadWords) → fault_of parcours words ≡ [] → rows ≡ matches_of parcours words
     → Err bad ≡ request_in rows → request_of_named words ≡ None
 unfolding request_of_named
 words_are_bad words rows bad sound same is = rw (sound, ← same, ← is) refl
+
+pub bad_reads : (words : List Text) (rows : List Row) (bad : BadWords) (r : Result Request WordsRefusal) → fault_of parcours words ≡ [] → rows ≡ matches_of parcours words
+    → Err bad ≡ request_in rows → IsErrAnd r (λ refusal. refusal ≡ refusals.Bad) → Reads r (request_of_named words)
+bad_reads words rows bad (Ok request) sound same is from = absurd from
+bad_reads words rows bad (Err refusal) sound same is from = rw from (words_are_bad words rows bad sound same is)
 
 -- the same of two equal lists of words
 pub read_as : (ws us vs : List Text) (r : Result Request WordsRefusal) → ws ≡ us → us ≡ vs → Reads r (request_of_named ws) → Reads r (request_of_named vs)
