@@ -4,6 +4,7 @@ ghost use Rattle.std.specs.Prelude.{◌≡◌, ◌≢◌, AllPairs};
 ghost use Rattle.request.specs.Modes as Modes;
 
 use admit_core::Slot;
+use std::fmt;
 
 /// What a run is to do, with what this needs.
 #[derive(Clone, Copy, Debug, PartialEq, Eq)]
@@ -21,6 +22,21 @@ pub enum Mode {
 pub enum Name {
     Wish(u32),
     School(u32),
+}
+
+/// The words for it in a line.
+impl fmt::Display for Name {
+    ghost use Rattle.std.specs.Prelude.{Some};
+    ghost use Rattle.request.specs.Modes.{name_text};
+
+    ghost output = { λ name. Some (name_text name) };
+
+    fn fmt<W: fmt::Write>(&self, f: &mut fmt::Formatter<W>) -> fmt::Result {
+        match self {
+            Name::Wish(id) => write!(f, "wish {id}"),
+            Name::School(id) => write!(f, "school {id}"),
+        }
+    }
 }
 
 /// The numbers that the options give, each of which a mode may need.
@@ -62,6 +78,16 @@ pub fn slots_of(mode: Mode) -> &'static [Slot]
             Slot::Answers,
         ],
         Mode::Sample { .. } => &[],
+    }
+}
+
+/// How many candidates the made-up dossier of a mode has; none where it reads its dossier.
+pub fn sample_of(mode: Mode) -> Option<u32>
+    ensures { result ≡ Modes.sample_of mode }
+{
+    match mode {
+        Mode::Sample { number } => Some(number),
+        _ => None,
     }
 }
 
