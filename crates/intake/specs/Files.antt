@@ -66,9 +66,13 @@ no_files = record { tables = no_rows; chain = [] }
 abbrev pub files_in : List Slot → (Slot → List ℕ) → Result Files Stop
 files_in order slots = with_slots no_files order slots
 
+-- the files of a sample
+abbrev pub made : ℕ → Result Files Stop
+made number = Ok (record { tables = sample_tables number; chain = [] })
+
 -- the files of a sample, or of the slots that are read
 abbrev pub made_or_read : Option ℕ → List Slot → (Slot → List ℕ) → Result Files Stop
-made_or_read (Some number) order slots = Ok (record { tables = sample_tables number; chain = [] })
+made_or_read (Some number) order slots = made number
 made_or_read None order slots = files_in order slots
 
 -- the files that a mode is about

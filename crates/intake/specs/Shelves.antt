@@ -27,6 +27,14 @@ pub record IsFaultAt (order : List Slot) (before after : OnShelf) (slot : Slot) 
   pub rose : Rose (before.faults slot) (after.faults slot)
   pub shapes : (slots : Slot → List ℕ) → Tells before.left slots → IsOk (files_in (take place order) slots)
 
+-- what stops the reading of one slot: a fault of the shelf at it, whose count rose
+abbrev pub FaultsAt : Slot → (Slot → ℕ) → (Slot → ℕ) → Stop → Type 0
+FaultsAt slot before now (stops.ReadFault other) = (other ≡ slot) × Rose (before slot) (now slot)
+FaultsAt slot before now stops.BadWords = ⊥
+FaultsAt slot before now (stops.Refused refusal) = ⊤
+FaultsAt slot before now (stops.NoSuch name) = ⊥
+FaultsAt slot before now stops.OutOfMemory = ⊤
+
 -- what stops a run whose words are good: a fault of the shelf has its cause
 abbrev pub HasCause : List Slot → OnShelf → OnShelf → Stop → Type 0
 HasCause order before after (stops.ReadFault slot) = IsFaultAt order before after slot

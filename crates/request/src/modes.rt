@@ -1,7 +1,8 @@
 //! The modes, and short tables by mode: its word, the slots that it reads, whether it runs days, and
 //! what it names in the dossier.
-ghost use Rattle.std.specs.Prelude.{◌≡◌, ◌≢◌, AllPairs};
+ghost use Rattle.std.specs.Prelude.{◌≡◌, ◌≢◌, ◌≤◌, AllPairs, IfSome};
 ghost use Rattle.request.specs.Modes as Modes;
+ghost use Rattle.request.specs.Modes.{IsMode};
 
 use admit_core::Slot;
 use std::fmt;
@@ -83,7 +84,8 @@ pub fn slots_of(mode: Mode) -> &'static [Slot]
 
 /// How many candidates the made-up dossier of a mode has; none where it reads its dossier.
 pub fn sample_of(mode: Mode) -> Option<u32>
-    ensures { result ≡ Modes.sample_of mode }
+    ensures value { result ≡ Modes.sample_of mode }
+    ensures range { IsMode mode → IfSome result (λ number. (1 ≤ number) × (number ≤ 1000000)) }
 {
     match mode {
         Mode::Sample { number } => Some(number),
