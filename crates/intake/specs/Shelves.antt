@@ -1,8 +1,9 @@
 -- What taking in slots does to a shelf.
 use Rattle.std.specs.Prelude.{◌≡◌, ℕ, ◌+◌, ◌<◌, ◌≤◌, List, [], Contains, length, take, Option, Some, Result, IfErr, IsOk, OnOk, slice_index_or, ⊤}
 use Rattle.admit_core.specs.declared.slot.Slot.{Slot}
+use Rattle.shelf_io.specs.Bytes.{OthersKept}
 use Rattle.shelf_io.specs.Faults.{NoneFell, Rose}
-use Rattle.intake.specs.Files.{files_in}
+use Rattle.intake.specs.Reading.{files_in}
 use Rattle.intake.specs.declared.stop.Stop.{Stop}
 use Rattle.intake.specs.declared.stop.Stop.TheVariants as stops
 
@@ -27,6 +28,13 @@ pub record IsFaultAt (order : List Slot) (before after : OnShelf) (slot : Slot) 
   pub rose : Rose (before.faults slot) (after.faults slot)
   pub shapes : (slots : Slot → List ℕ) → Tells before.left slots → IsOk (files_in (take place order) slots)
 
+-- one slot is read, of which no more is taken than one reading may take, and no other is touched
+pub record TouchesOnly (slot : Slot) (before after : OnShelf) : Type 0 where
+  pub once : after.taken slot ≤ before.taken slot + 1073807360
+  pub others : OthersKept slot before.left after.left
+  pub others_taken : OthersKept slot before.taken after.taken
+  pub counts : NoneFell before.faults after.faults
+
 -- what stops the reading of one slot: a fault of the shelf at it, whose count rose
 abbrev pub FaultsAt : Slot → (Slot → ℕ) → (Slot → ℕ) → Stop → Type 0
 FaultsAt slot before now (stops.ReadFault other) = (other ≡ slot) × Rose (before slot) (now slot)
@@ -48,7 +56,7 @@ pub record TakesSlots {A : Type 0} (order : List Slot) (before after : OnShelf) 
   -- to their ends, where there is an answer and the shelf tells its bytes
   pub ends : (slots : Slot → List ℕ) → Tells before.left slots → OnOk result ((slot : Slot) → Contains order slot → after.left slot ≡ Some [])
   -- of a slot no more is taken than one reading may take
-  pub once : (slot : Slot) → after.taken slot ≤ before.taken slot + 1073807360
+  pub once : (slot : Slot) → Contains order slot → after.taken slot ≤ before.taken slot + 1073807360
   pub others : (slot : Slot) → ¬ Contains order slot → after.left slot ≡ before.left slot
   pub others_taken : (slot : Slot) → ¬ Contains order slot → after.taken slot ≡ before.taken slot
   pub counts : NoneFell before.faults after.faults

@@ -1,12 +1,10 @@
 //! What the slots hold.
-ghost use Rattle.std.specs.Prelude.{◌≡◌, ◌≢◌, ◌+◌, ◌≤◌, ℕ, List, [], AllPairs, Some, IfErr, IfOk, OnOk};
+ghost use Rattle.std.specs.Prelude.{◌≡◌, ◌≢◌, ◌≤◌, ℕ, List, [], AllPairs, Some, IfErr, IfOk, OnOk};
 ghost use Rattle.admit_core.specs.declared.slot.Slot.{Slot};
 ghost use Rattle.admit_core.specs.Ranges.{AreTables};
-ghost use Rattle.shelf_io.specs.Bytes.{OthersKept};
-ghost use Rattle.shelf_io.specs.Faults.{NoneFell};
 ghost use Rattle.dossier_csv.specs.Shape.{Answers};
-ghost use Rattle.intake.specs.Files as Files;
-ghost use Rattle.intake.specs.Shelves.{FaultsAt, TakesSlots, Tells, on_shelf};
+ghost use Rattle.intake.specs.Reading as Reading;
+ghost use Rattle.intake.specs.Shelves.{FaultsAt, TakesSlots, Tells, TouchesOnly, on_shelf};
 ghost use Rattle.intake.specs.Stops.{Gives};
 
 use crate::stop::Stop;
@@ -15,7 +13,7 @@ use dossier_csv::{
     read_answers, read_boarding, read_ceilings, read_groups, read_programmes, read_rankings,
     read_schools, read_state, read_wishes,
 };
-use request::{Mode, sample_of, slots_of};
+
 use sample_gen::sample;
 use shelf_io::{Shelf, SlotRefusal, read_slot};
 use std::alloc::Global;
@@ -31,14 +29,14 @@ pub(crate) struct Files {
 const MAX_BYTES: u64 = 1_073_741_824;
 
 /// The bytes of a slot that is not too large.
-#[tactic(auto, unfolding(crate::specs::Files::sized))]
+#[tactic(auto, unfolding(crate::specs::Reading::sized))]
 fn slot_bytes<S: Shelf>(alloc: Global, shelf: &mut S, slot: Slot) -> Result<Vec<u8>, Stop>
-    ensures value { (bytes : List ℕ) → S.left shelf.old slot ≡ Some bytes → Gives (λ read. read.items) result (Files.sized slot bytes) }
-    ensures ends { (bytes : List ℕ) → S.left shelf.old slot ≡ Some bytes → OnOk result (S.left shelf.new slot ≡ Some []) }
-    ensures once { S.taken shelf.new slot ≤ S.taken shelf.old slot + 1073807360 }
-    ensures others { OthersKept slot (S.left shelf.old) (S.left shelf.new) }
-    ensures others_taken { OthersKept slot (S.taken shelf.old) (S.taken shelf.new) }
-    ensures counts { NoneFell (S.faults shelf.old) (S.faults shelf.new) }
+    ensures value { (bytes : List ℕ) → S.left shelf.old slot ≡ Some bytes
+        → Gives (λ read. read.items) result (Reading.sized slot bytes) }
+    ensures ends { (bytes : List ℕ) → S.left shelf.old slot ≡ Some bytes
+        → OnOk result (S.left shelf.new slot ≡ Some []) }
+    ensures touches { TouchesOnly slot
+        (on_shelf S.left S.taken S.faults shelf.old) (on_shelf S.left S.taken S.faults shelf.new) }
     ensures fault { IfErr result (FaultsAt slot (S.faults shelf.old) (S.faults shelf.new)) }
 {
     match read_slot(alloc, shelf, slot, MAX_BYTES) {
@@ -55,7 +53,7 @@ fn slot_bytes<S: Shelf>(alloc: Global, shelf: &mut S, slot: Slot) -> Result<Vec<
 
 /// Tables of no rows.
 fn no_rows(alloc: Global) -> Tables
-    ensures rows { result ≡ Files.no_rows }
+    ensures rows { result ≡ Reading.no_rows }
     ensures ranges { AreTables result }
 {
     Tables {
@@ -72,10 +70,10 @@ fn no_rows(alloc: Global) -> Tables
 }
 
 /// The tables with the rows of one slot, which has these bytes. The chain slot has no rows.
-#[tactic(auto, unfolding(crate::specs::Files::with_rows))]
+#[tactic(auto, unfolding(crate::specs::Reading::with_rows))]
 fn with_rows(alloc: Global, tables: Tables, slot: Slot, bytes: &[u8]) -> Result<Tables, InFault>
     requires { AreTables tables }
-    ensures value { Answers (λ more. more) result (Files.with_rows tables slot bytes.now) }
+    ensures value { Answers (λ more. more) result (Reading.with_rows tables slot bytes.now) }
     ensures ranges { IfOk result AreTables }
 {
     match slot {
@@ -121,7 +119,7 @@ fn with_rows(alloc: Global, tables: Tables, slot: Slot, bytes: &[u8]) -> Result<
 
 /// The chain's bytes after those of a slot, which are the chain's where it is the chain slot.
 fn chain_after(chain: Sequence<u8>, slot: Slot, bytes: Vec<u8>) -> Sequence<u8>
-    ensures { result ≡ Files.chain_after chain slot bytes.items }
+    ensures { result ≡ Reading.chain_after chain slot bytes.items }
 {
     match slot {
         Slot::Chain => Sequence::from_vec(bytes),
@@ -130,10 +128,10 @@ fn chain_after(chain: Sequence<u8>, slot: Slot, bytes: Vec<u8>) -> Sequence<u8>
 }
 
 /// The files with what one slot holds, which has these bytes.
-#[tactic(auto, unfolding(crate::specs::Files::with_slot))]
+#[tactic(auto, unfolding(crate::specs::Reading::with_slot))]
 fn with_slot(alloc: Global, files: Files, slot: Slot, bytes: Vec<u8>) -> Result<Files, InFault>
     requires { AreTables files.tables }
-    ensures value { Answers (λ more. more) result (Files.with_slot files slot bytes.items) }
+    ensures value { Answers (λ more. more) result (Reading.with_slot files slot bytes.items) }
     ensures ranges { IfOk result (λ more. AreTables more.tables) }
 {
     let Files { tables, chain } = files;
@@ -146,10 +144,10 @@ fn with_slot(alloc: Global, files: Files, slot: Slot, bytes: Vec<u8>) -> Result<
 
 /// The files of these slots, each read once, then tested by its size and then by its shape, in this
 /// order.
-fn read_slots<S: Shelf>(alloc: Global, shelf: &mut S, order: &[Slot]) -> Result<Files, Stop>
+pub(crate) fn read_slots<S: Shelf>(alloc: Global, shelf: &mut S, order: &[Slot]) -> Result<Files, Stop>
     requires { AllPairs (λ one other. one ≢ other) order.now }
     ensures value { (slots : Slot → List ℕ) → Tells (S.left shelf.old) slots
-        → Gives (λ files. files) result (Files.files_in order.now slots) }
+        → Gives (λ files. files) result (Reading.files_in order.now slots) }
     ensures ranges { IfOk result (λ files. AreTables files.tables) }
     ensures slots { TakesSlots order.now
         (on_shelf S.left S.taken S.faults shelf.old) (on_shelf S.left S.taken S.faults shelf.new) result }
@@ -166,10 +164,10 @@ fn read_slots<S: Shelf>(alloc: Global, shelf: &mut S, order: &[Slot]) -> Result<
 }
 
 /// The files of a sample.
-fn made(alloc: Global, number: u32) -> Result<Files, Stop>
+pub(crate) fn made(alloc: Global, number: u32) -> Result<Files, Stop>
     requires some { 1 ≤ number }
     requires at_most { number ≤ 1000000 }
-    ensures value { Gives (λ files. files) result (Files.made number) }
+    ensures value { Gives (λ files. files) result (Reading.made number) }
     ensures ranges { IfOk result (λ files. AreTables files.tables) }
 {
     Ok(Files {

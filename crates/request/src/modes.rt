@@ -1,6 +1,6 @@
 //! The modes, and short tables by mode: its word, the slots that it reads, whether it runs days, and
 //! what it names in the dossier.
-ghost use Rattle.std.specs.Prelude.{◌≡◌, ◌≢◌, ◌≤◌, AllPairs, IfSome};
+ghost use Rattle.std.specs.Prelude.{◌≡◌, ◌≢◌, ◌≤◌, [], AllPairs, IfSome};
 ghost use Rattle.request.specs.Modes as Modes;
 ghost use Rattle.request.specs.Modes.{IsMode};
 
@@ -86,6 +86,7 @@ pub fn slots_of(mode: Mode) -> &'static [Slot]
 pub fn sample_of(mode: Mode) -> Option<u32>
     ensures value { result ≡ Modes.sample_of mode }
     ensures range { IsMode mode → IfSome result (λ number. (1 ≤ number) × (number ≤ 1000000)) }
+    ensures reads_none { IfSome result (λ _. Modes.slots_of mode ≡ []) }
 {
     match mode {
         Mode::Sample { number } => Some(number),
