@@ -195,7 +195,7 @@ all_read order before after place files end so_far slots tells =
     ap (λ xs. files_in xs slots) (sym (take_all place order end)) ∙ so_far.files_are slots tells
 
 pub all_taken : (order : List Slot) (before after : OnShelf) (place : ℕ) (files : Files) → length order ≤ place
-    → AreReadTo order before after place files → TakesSlots order before after (Ok {E = Stop} files)
+    → AreReadTo order before after place files → let r : Result Files Stop = Ok files in TakesSlots order before after r
 all_taken order before after place files end so_far = record {
   ends = λ slots tells slot has. so_far.ends slots tells has.0 slot (omega (arith, has.1)) has.2;
   once = λ slot has. so_far.once has.0 slot (omega (arith, has.1)) has.2;

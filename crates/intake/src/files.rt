@@ -3,6 +3,7 @@ ghost use Rattle.std.specs.Prelude.{◌≡◌, ◌≢◌, ◌≤◌, ℕ, List, 
 ghost use Rattle.admit_core.specs.declared.slot.Slot.{Slot};
 ghost use Rattle.admit_core.specs.Ranges.{AreTables};
 ghost use Rattle.dossier_csv.specs.Shape.{Answers};
+ghost use Rattle.intake.specs.Input.{IsOfFiles};
 ghost use Rattle.intake.specs.Reading as Reading;
 ghost use Rattle.intake.specs.Shelves.{FaultsAt, TakesSlots, Tells, TouchesOnly, on_shelf};
 ghost use Rattle.intake.specs.Stops.{Gives};
@@ -168,6 +169,7 @@ pub(crate) fn made(alloc: Global, number: u32) -> Result<Files, Stop>
     requires some { 1 ≤ number }
     requires at_most { number ≤ 1000000 }
     ensures value { Gives (λ files. files) result (Reading.made number) }
+    ensures kinds { IfErr result IsOfFiles }
     ensures ranges { IfOk result (λ files. AreTables files.tables) }
 {
     Ok(Files {
