@@ -14,7 +14,6 @@ use dossier_csv::{
     read_answers, read_boarding, read_ceilings, read_groups, read_programmes, read_rankings,
     read_schools, read_state, read_wishes,
 };
-
 use sample_gen::sample;
 use shelf_io::{Shelf, SlotRefusal, read_slot};
 use std::alloc::Global;
@@ -145,7 +144,11 @@ fn with_slot(alloc: Global, files: Files, slot: Slot, bytes: Vec<u8>) -> Result<
 
 /// The files of these slots, each read once, then tested by its size and then by its shape, in this
 /// order.
-pub(crate) fn read_slots<S: Shelf>(alloc: Global, shelf: &mut S, order: &[Slot]) -> Result<Files, Stop>
+pub(crate) fn read_slots<S: Shelf>(
+    alloc: Global,
+    shelf: &mut S,
+    order: &[Slot],
+) -> Result<Files, Stop>
     requires { AllPairs (λ one other. one ≢ other) order.now }
     ensures value { (slots : Slot → List ℕ) → Tells (S.left shelf.old) slots
         → Gives (λ files. files) result (Reading.files_in order.now slots) }

@@ -5,8 +5,10 @@
 mod files;
 mod input;
 mod stop;
+mod take;
 mod terms;
 
-pub use input::{Input, take_in};
+pub use input::Input;
 pub use stop::Stop;
+pub use take::take_in;
 pub use terms::{DatedTerms, dated_terms};

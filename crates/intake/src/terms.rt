@@ -1,6 +1,6 @@
 //! The terms of offers, with the date of day 1.
 ghost use Rattle.std.specs.Prelude.{◌≡◌, IfOk, IfSome, map, option_map};
-ghost use Rattle.intake.specs.Dated.{dated_from, since_day, terms_from};
+ghost use Rattle.intake.specs.Dated.{AreDatedFor, dated_from, since_day, terms_from};
 ghost use Rattle.request.specs.Request.{IsDeadlines};
 
 use crate::input::Input;
@@ -30,11 +30,7 @@ fn since_day(start: Civil, since: Option<Since>) -> i32
 }
 
 /// The days of wishes with these dates, where day 1 has the date `start`.
-fn days_before(
-    alloc: Global,
-    dates: &[Option<Since>],
-    start: Civil,
-) -> Result<Vec<i32>, AllocError>
+fn days_before(alloc: Global, dates: &[Option<Since>], start: Civil) -> Result<Vec<i32>, AllocError>
     ensures { IfOk result (λ days. days.items ≡ map (since_day start) dates.now) }
 {
     dates
@@ -63,7 +59,9 @@ pub fn dated_terms(
     input: &Input,
     deadlines: Option<Deadlines>,
 ) -> Result<Option<DatedTerms>, OutOfMemory>
-    ensures { IfOk result (λ dated. dated ≡ option_map (dated_from input.now.dates) deadlines) }
+    requires { IfSome deadlines IsDeadlines }
+    ensures value { IfOk result (λ dated. dated ≡ option_map (dated_from input.now.dates) deadlines) }
+    ensures dates { IfOk result (λ dated. IfSome dated (AreDatedFor input.now.dossier)) }
 {
     match deadlines {
         None => Ok(None),

@@ -1,6 +1,6 @@
 use Rattle.intake.specs.Shelves.{on_shelf}
 use Rattle.intake.proofs.TakenIn.{made_gives, read_gives, untouched}
-use Rattle.intake.proofs.input.files_of.Goals as goal
+use Rattle.intake.proofs.take.files_of.Goals as goal
 
 pub returns-in-Some-clause-value : goal.returns-in-Some-clause-value
 returns-in-Some-clause-value g c = λ slots tells. made_gives c.args.mode c.in-Some.number slots c.made.result c.in-Some.ensures.value c.made.ensures.value
