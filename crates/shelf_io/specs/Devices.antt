@@ -1,7 +1,8 @@
 -- What the devices count.
-use Rattle.std.specs.Prelude.{ℕ}
+use Rattle.std.specs.Prelude.{ℕ, List, codes}
 use Rattle.admit_core.specs.Slots.{at}
 use Rattle.admit_core.specs.declared.slot.Slot.{Slot}
+use Rattle.admit_core.specs.declared.slot.Slot.TheVariants.{Groups, Programmes, Schools, Rankings, Boarding, Wishes, State, Ceilings, Answers, Chain}
 use Rattle.shelf_io.specs.declared.devices.DirShelf.{DirShelf}
 use Rattle.shelf_io.specs.declared.devices.StdSink.{StdSink}
 
@@ -15,3 +16,16 @@ dir_taken shelf slot = at shelf.taken slot
 -- how often the writes to standard output failed
 abbrev pub std_faults : {R : Type 0} → StdSink R → ℕ
 std_faults sink = sink.faults
+
+-- the name of a slot's file
+abbrev pub file_name : Slot → List ℕ
+file_name Groups = codes "groups.csv"
+file_name Programmes = codes "programmes.csv"
+file_name Schools = codes "schools.csv"
+file_name Rankings = codes "rankings.csv"
+file_name Boarding = codes "boarding.csv"
+file_name Wishes = codes "wishes.csv"
+file_name State = codes "state.csv"
+file_name Ceilings = codes "ceilings.csv"
+file_name Answers = codes "answers.csv"
+file_name Chain = codes "chain.txt"

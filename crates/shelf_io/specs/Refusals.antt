@@ -1,5 +1,5 @@
--- What a refusal of a device leads to.
-use Rattle.std.specs.Prelude.{ℕ, Result, Ok, Err}
+-- What a device answers, and what its refusal leads to.
+use Rattle.std.specs.Prelude.{ℕ, ◌==◌, Result, Ok, Err, if◌then◌else◌}
 use Rattle.shelf_io.specs.Faults.{raised}
 use Rattle.shelf_io.specs.declared.refusal.IoRefusal.{IoRefusal}
 use Rattle.shelf_io.specs.declared.refusal.IoRefusal.TheVariants as io
@@ -16,3 +16,13 @@ abbrev pub faults_after : {T : Type 0} → Result T IoRefusal → ℕ → ℕ
 faults_after (Ok _) count = count
 faults_after (Err io.Failed) count = raised count
 faults_after (Err io.OutOfMemory) count = count
+
+-- what a device answers at a read: the number of bytes; any error is a failure
+abbrev pub read_answer : {E : Type 0} → Result ℕ E → Result ℕ IoRefusal
+read_answer (Ok count) = Ok count
+read_answer (Err error) = Err io.Failed
+
+-- the same at a write; one that takes no byte is a failure too
+abbrev pub write_answer : {E : Type 0} → Result ℕ E → Result ℕ IoRefusal
+write_answer (Ok count) = if count == 0 then Err io.Failed else Ok count
+write_answer (Err error) = Err io.Failed

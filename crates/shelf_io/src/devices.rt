@@ -1,6 +1,8 @@
 //! The files of the current folder, and standard output.
 ghost use Rattle.std.specs.Prelude.{◌≡◌, ℕ, List, None};
 ghost use Rattle.std.specs.Io.{ReadsAtMost};
+ghost use Rattle.shelf_io.specs.Devices.{file_name};
+ghost use Rattle.shelf_io.specs.Refusals.{read_answer, write_answer};
 
 use crate::memory_shelf::raise;
 use crate::refusal::IoRefusal;
@@ -41,7 +43,9 @@ impl<R: Files + Drop> DirShelf<R> {
 }
 
 /// The file of a slot.
-fn file_name(slot: Slot) -> &'static str {
+fn file_name(slot: Slot) -> &'static str
+    ensures { result.now ≡ file_name slot }
+{
     match slot {
         Slot::Groups => "groups.csv",
         Slot::Programmes => "programmes.csv",
@@ -53,6 +57,24 @@ fn file_name(slot: Slot) -> &'static str {
         Slot::Ceilings => "ceilings.csv",
         Slot::Answers => "answers.csv",
         Slot::Chain => "chain.txt",
+    }
+}
+
+/// What a read that std answers so means: any error is a failure of the device.
+fn read_answer(read: io::Result<usize>) -> Result<usize, IoRefusal>
+    ensures { result ≡ read_answer read }
+{
+    read.map_err(|_| IoRefusal::Failed)
+}
+
+/// What a write that std answers so means: any error is a failure of the device, and a write that takes
+/// no byte is one too.
+fn write_answer(written: io::Result<usize>) -> Result<usize, IoRefusal>
+    ensures { result ≡ write_answer written }
+{
+    match written {
+        Ok(count) if count > 0 => Ok(count),
+        _ => Err(IoRefusal::Failed),
     }
 }
 
@@ -85,16 +107,12 @@ impl<R: Files + Drop> Shelf for DirShelf<R> {
 
     fn read(&mut self, slot: Slot, buf: &mut [u8]) -> Result<usize, IoRefusal> {
         let file = self.files.get_mut(slot);
-        match read_file(&self.rt, file, file_name(slot), buf) {
-            Ok(count) => {
-                raise(&mut self.taken, slot, count as u64);
-                Ok(count)
-            }
-            Err(_) => {
-                raise(&mut self.faults, slot, 1);
-                Err(IoRefusal::Failed)
-            }
+        let answer = read_answer(read_file(&self.rt, file, file_name(slot), buf));
+        match answer {
+            Ok(count) => raise(&mut self.taken, slot, count as u64),
+            Err(_) => raise(&mut self.faults, slot, 1),
         }
+        answer
     }
 }
 
@@ -124,50 +142,13 @@ impl<R: Print + Drop> Sink for StdSink<R> {
     ghost faults = { std_faults };
 
     fn write(&mut self, piece: &[u8]) -> Result<usize, IoRefusal> {
-        match io::writer(&self.rt).write(piece) {
-            Ok(count) if count > 0 => Ok(count),
-            _ => {
-                self.faults = self.faults.saturating_add(1);
-                Err(IoRefusal::Failed)
-            }
+        let answer = write_answer(io::writer(&self.rt).write(piece));
+        if answer.is_err() {
+            self.faults = self.faults.saturating_add(1);
         }
+        answer
     }
 }
 
 #[cfg(test)]
-mod tests {
-    use super::*;
-    use crate::{read_slot, write_all};
-    use std::test::Fail;
-
-    /// Whether what a file holds comes whole, and is counted.
-    fn comes_back(rt: HostRuntime, text: &[u8]) -> Result<bool, Fail> {
-        fs::write(&rt, "boarding.csv", text)?;
-        let mut shelf = DirShelf::new(rt);
-        let read = read_slot(rt.alloc(), &mut shelf, Slot::Boarding, 8)?;
-        fs::remove_file(&rt, "boarding.csv")?;
-        Ok(read.as_slice() == text && *shelf.taken.get(Slot::Boarding) == text.len() as u64)
-    }
-
-    /// Whether a read of a file that is not there fails, and counts for its slot alone.
-    fn missing_counts(rt: HostRuntime) -> bool {
-        let mut shelf = DirShelf::new(rt);
-        let mut buf = [0u8; 8];
-        shelf.read(Slot::Chain, &mut buf) == Err(IoRefusal::Failed)
-            && *shelf.faults.get(Slot::Chain) == 1
-            && *shelf.faults.get(Slot::State) == 0
-    }
-
-    #[test]
-    fn files_are_read_and_missing_ones_count(rt: HostRuntime) -> Result<(), Fail> {
-        assert!(rt; comes_back(rt, b"rank\n")?);
-        assert!(rt; missing_counts(rt));
-        Ok(())
-    }
-
-    #[test]
-    fn standard_output_takes_a_text(rt: HostRuntime) -> Result<(), Fail> {
-        write_all(&mut StdSink::new(rt), b"a line\n")?;
-        Ok(())
-    }
-}
+mod tests;
