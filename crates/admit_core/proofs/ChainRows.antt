@@ -12,7 +12,7 @@ use Rattle.admit_core.proofs.DemandLaws.{boarding_is_lawful}
 use Rattle.admit_core.specs.Days.{first_evening}
 use Rattle.admit_core.specs.WorkedRows.{greatest_bar, greatest_bar_orders}
 use Rattle.admit_core.specs.WorkedDays.{edges, edge_orders}
-use Rattle.admit_core.specs.WorkedChains.{ValidChain, ChainFaults, TwoPasses, AnyName, Envies, SeatIsVacant, NoneBlocks, BedsNeeded}
+use Rattle.admit_core.specs.WorkedChains.{ValidChain, ChainFaults, TwoPasses, AnyName, Envies, SeatIsVacant, LastOfTwo, NoneBlocks, BedsNeeded}
 
 pub valid_chain_holds : ValidChain
 valid_chain_holds = (refl, (record { lines = (record { over = refl; names = refl; tells = refl }, tt); settled = refl }, refl, refl))
@@ -29,11 +29,14 @@ any_name_holds = (refl, refl)
 pub envies_holds : Envies
 envies_holds = (refl, refl, refl)
 
+pub last_of_two_holds : LastOfTwo
+last_of_two_holds = (refl, refl, refl, refl, refl)
+
 pub seat_is_vacant_holds : SeatIsVacant
 seat_is_vacant_holds = (refl, refl, refl)
 
 pub none_blocks_holds : NoneBlocks
-none_blocks_holds = (refl, refl, refl)
+none_blocks_holds = (refl, refl, refl, refl, refl, refl)
 
 -- n beds are enough where a run of falls keeps the bar at its ceiling
 enough_by : (s : State) (orders : List CallOrder) (ceilings : List ℕ) (h n : ℕ) (falls : List Fall) → IsRun (boarding (with_beds s h n) orders ceilings) falls

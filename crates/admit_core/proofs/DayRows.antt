@@ -12,7 +12,7 @@ use Rattle.admit_core.specs.Boarding.{boarding}
 use Rattle.admit_core.specs.Days.{IsPassEnd, changes, offered, closing, freed_after}
 use Rattle.admit_core.proofs.Rows.{passes_with}
 use Rattle.admit_core.specs.WorkedRows.{two_orders}
-use Rattle.admit_core.specs.WorkedDays.{VacantSeat, BedIsHeld, EdgesOfBars, FreedSeat, FreedBed, LimitUnderBar, AnswersFit, AcceptsOne, AcceptedStays, BetterOffer, LiveTwice, HoldersStandAside, Quits, Deadline, FirstDayExplained, SecondDayExplained, BarsExplained, two_candidates, edges, edge_orders, edge_marks, in_order, evening_one, quits}
+use Rattle.admit_core.specs.WorkedDays.{VacantSeat, BedIsHeld, CeilingsChange, EdgesOfBars, FreedSeat, FreedBed, LimitUnderBar, AnswersFit, AcceptsOne, AcceptedStays, BetterOffer, LiveTwice, HoldersStandAside, Quits, Deadline, FirstDayExplained, SecondDayExplained, BarsExplained, two_candidates, edges, edge_orders, edge_marks, in_order, evening_one, quits}
 
 -- a pass with its automatic answers, by its run of falls
 pass_end : (s : State) (orders : List CallOrder) (ceilings : List ℕ) (stamp : Stamp) (end : PassEnd) → IsRun (boarding s orders ceilings) end.pass.falls
@@ -40,6 +40,9 @@ bed_is_held_holds = (
   record { lapsed = refl; fits = refl; passes = (pass_end _ two_candidates (9 ∷ []) _ _ (record { are_falls = (refl, refl, tt); settled = refl }) refl refl refl refl, refl, refl); left = refl; free = refl },
   refl,
 )
+
+pub ceilings_change_holds : CeilingsChange
+ceilings_change_holds = refl
 
 pub edges_of_bars_hold : EdgesOfBars
 edges_of_bars_hold = (

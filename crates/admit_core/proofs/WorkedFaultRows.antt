@@ -13,7 +13,7 @@ wish_faults = (refl, refl, refl, refl, refl, refl, refl, refl)
 
 pub state_faults : StateFaults
 unfolding first_after
-state_faults = refl
+state_faults = (refl, refl, refl)
 
 pub standing_rows : StandingRows
 standing_rows = (refl, refl)

@@ -15,6 +15,7 @@ use Rattle.admit_core.specs.declared.records.Terms.{Terms}
 use Rattle.admit_core.specs.declared.explanation.Explanation.{Explanation}
 use Rattle.admit_core.specs.declared.explanation.Explanation.TheVariants.{Gone, Live, Barred, NoSeat}
 use Rattle.admit_core.specs.declared.explanation.BarCause.TheVariants.{Ceiling, Full}
+use Rattle.admit_core.specs.declared.dossier.CeilingChange.{CeilingChange}
 use Rattle.admit_core.specs.DossierRows.{DossierRows}
 use Rattle.admit_core.specs.State.{State, seats_left, free_beds}
 use Rattle.admit_core.specs.Proposals.{proposed, demanded_ranks}
@@ -88,6 +89,17 @@ edge_days =
 
 abbrev pub edge_marks : List Mark
 edge_marks = marked Waiting 0 0 ∷ marked Waiting 0 0 ∷ marked Offered 1 1 ∷ []
+
+-- the same school's ceiling changes twice, and another's in between: the latest change of each counts
+abbrev pub changing : DossierRows
+changing =
+    let change : ℕ → ℕ → ℕ → CeilingChange = λ day school ceiling. record { day = day; school = school; ceiling = ceiling } in
+    record edges { ceilings = change 2 1 1 ∷ change 3 0 7 ∷ change 4 1 5 ∷ [] }
+
+abbrev pub CeilingsChange : Type 0
+CeilingsChange =
+    map (ceilings_of changing) (1 ∷ 2 ∷ 3 ∷ 4 ∷ 5 ∷ [])
+    ≡ (4 ∷ 0 ∷ 2000000000 ∷ []) ∷ (4 ∷ 1 ∷ 2000000000 ∷ []) ∷ (7 ∷ 1 ∷ 2000000000 ∷ []) ∷ (7 ∷ 5 ∷ 2000000000 ∷ []) ∷ (7 ∷ 5 ∷ 2000000000 ∷ []) ∷ []
 
 abbrev pub EdgesOfBars : Type 0
 EdgesOfBars =

@@ -72,6 +72,10 @@ StateFaults =
     (first_fault (tables fine (wish 1 200 1 None 2 ∷ wish 2 100 1 None 2 ∷ wish 3 100 2 None 1 ∷ [])
     (record { wish = 3; status = Accepted; since = None } ∷ record { wish = 1; status = Accepted; since = None } ∷ record { wish = 2; status = Accepted; since = None } ∷ []))
     ≡ Some (record { slot = S.State; row = 4; reason = TwoAccepted 2 }))
+    × (first_fault (tables fine (wish 1 200 1 None 2 ∷ []) (record { wish = 1; status = Accepted; since = None } ∷ record { wish = 1; status = Accepted; since = None } ∷ []))
+    ≡ Some (record { slot = S.State; row = 3; reason = Repeat 2 }))
+    × (first_fault (tables fine (wish 1 200 1 None 2 ∷ []) (record { wish = 200; status = Accepted; since = None } ∷ []))
+    ≡ Some (record { slot = S.State; row = 2; reason = Unknown 1 }))
 
 abbrev pub StandingRows : Type 0
 StandingRows =

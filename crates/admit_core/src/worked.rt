@@ -1,7 +1,7 @@
 //! Worked cases of the rules, as theorems.
 ghost use Rattle.admit_core.specs.WorkedFaults.{RankingFaults, WishFaults, StateFaults, OtherFaults, StandingRows};
-ghost use Rattle.admit_core.specs.WorkedChains.{ValidChain, ChainFaults, TwoPasses, AnyName, Envies, SeatIsVacant, NoneBlocks, BedsNeeded};
-ghost use Rattle.admit_core.specs.WorkedDays.{VacantSeat, BedIsHeld, EdgesOfBars, FreedSeat, FreedBed, LimitUnderBar, AnswersFit, AcceptsOne, AcceptedStays, BetterOffer, LiveTwice, HoldersStandAside, Quits, Deadline, FirstDayExplained, SecondDayExplained, BarsExplained};
+ghost use Rattle.admit_core.specs.WorkedChains.{ValidChain, ChainFaults, TwoPasses, AnyName, Envies, LastOfTwo, SeatIsVacant, NoneBlocks, BedsNeeded};
+ghost use Rattle.admit_core.specs.WorkedDays.{VacantSeat, BedIsHeld, CeilingsChange, EdgesOfBars, FreedSeat, FreedBed, LimitUnderBar, AnswersFit, AcceptsOne, AcceptedStays, BetterOffer, LiveTwice, HoldersStandAside, Quits, Deadline, FirstDayExplained, SecondDayExplained, BarsExplained};
 ghost use Rattle.admit_core.specs.WorkedRows.{SmallRate, NoRate, FullRates, ScholarshipAlone, ScholarsExhausted, GreatestBar, OneFall, WhyNot, OneBed, NoSecondSeat, TwoOffers, BetterWaits, CallLimit, Cascade, OneDay, TwoDays, OldOffer, SmallDossier};
 
 /// What the definitions give on worked cases of the rules. It does nothing when it is called: its
@@ -31,6 +31,7 @@ pub fn worked_rows()
 pub fn worked_days()
     ensures vacant_seat { VacantSeat }
     ensures bed_is_held { BedIsHeld }
+    ensures ceilings_change { CeilingsChange }
     ensures edges_of_bars { EdgesOfBars }
     ensures freed_seat { FreedSeat }
     ensures freed_bed { FreedBed }
@@ -56,6 +57,7 @@ pub fn worked_chains()
     ensures two_passes { TwoPasses }
     ensures any_name { AnyName }
     ensures envies { Envies }
+    ensures last_of_two { LastOfTwo }
     ensures seat_is_vacant { SeatIsVacant }
     ensures none_blocks { NoneBlocks }
     ensures beds_needed { BedsNeeded }

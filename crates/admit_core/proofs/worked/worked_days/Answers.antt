@@ -1,4 +1,4 @@
-use Rattle.admit_core.proofs.DayRows.{vacant_seat_holds, bed_is_held_holds, edges_of_bars_hold, freed_seat_holds, freed_bed_holds, limit_under_bar_holds, answers_fit_holds, accepts_one_holds, accepted_stays_holds, better_offer_holds, live_twice_holds, holders_stand_aside_holds, quits_hold, deadline_holds, first_day_explained_holds, second_day_explained_holds, bars_explained_holds}
+use Rattle.admit_core.proofs.DayRows.{vacant_seat_holds, bed_is_held_holds, ceilings_change_holds, edges_of_bars_hold, freed_seat_holds, freed_bed_holds, limit_under_bar_holds, answers_fit_holds, accepts_one_holds, accepted_stays_holds, better_offer_holds, live_twice_holds, holders_stand_aside_holds, quits_hold, deadline_holds, first_day_explained_holds, second_day_explained_holds, bars_explained_holds}
 use Rattle.admit_core.proofs.worked.worked_days.Goals as goal
 
 pub returns : goal.returns
@@ -6,6 +6,7 @@ returns c =
     record {
       vacant_seat = vacant_seat_holds;
       bed_is_held = bed_is_held_holds;
+      ceilings_change = ceilings_change_holds;
       edges_of_bars = edges_of_bars_hold;
       freed_seat = freed_seat_holds;
       freed_bed = freed_bed_holds;
