@@ -4,7 +4,7 @@ use Rattle.std.specs.Prelude.{ℤ, zip, ◌==◌, ◌&&◌, ◌||◌, nat_lt, if
 use Rattle.std.proofs.lemmas.List.Elements.{All-cons, All-head, All-nil, All-set, All-tail}
 use Rattle.std.proofs.lemmas.Option.{slice_get_cases}
 use Rattle.admit_core.specs.Answers.{after_all, after_kind, candidate_at, mark_at, refuse_live}
-use Rattle.admit_core.specs.AutoAnswer.{auto_mark, best_live}
+use Rattle.admit_core.specs.AutoAnswer.{auto_mark, auto_status, best_live}
 use Rattle.admit_core.specs.Days.{IsDay, Passes, after_lapse, answers_of, closing, morning, offered}
 use Rattle.admit_core.specs.Lapses.{lapses}
 use Rattle.admit_core.specs.Proposals.{is_proposed}
@@ -68,9 +68,7 @@ module _ (last : ℕ) where
     auto_stamped : (best : Option (Wish × Mark)) (w : Wish) (m : Mark) → IsStampedBy last m → IsStampedBy last (auto_mark stamp best w m)
     auto_stamped None w m old = old
     auto_stamped (Some best) w m old =
-        either (is_live m) _ _
-        (either (w.preference == best.0.preference) _ _ (changed statuses.Accepted stamp m now old) (changed statuses.AutoRefused stamp m now old))
-        (either (is_waiting m && nat_lt best.0.preference w.preference) _ m (changed statuses.AutoWithdrawn stamp m now old) old)
+        changed (auto_status m.status (w.preference == best.0.preference) (nat_lt best.0.preference w.preference)) stamp m now old
 
     after_pass : (s : State) (orders : List CallOrder) (bars : List ℕ) → All (IsStampedBy last) s.marks → All (IsStampedBy last) (closing s orders bars stamp).marks
     after_pass s orders bars all =
