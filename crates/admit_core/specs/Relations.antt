@@ -187,14 +187,14 @@ answer_tests t =
 abbrev pub first_fault : Tables → Option Refusal
 first_fault t =
     first_of (
-        first_in slots.Groups group_tests t.groups
-        ∷ first_in slots.Programmes (programme_tests t) t.programmes
-        ∷ first_in slots.Schools school_tests t.schools
-        ∷ first_in slots.Rankings (ranking_tests t) t.rankings
-        ∷ first_in slots.Boarding (boarding_tests t) t.boarding
-        ∷ first_in slots.Wishes (wish_tests t) t.wishes
-        ∷ first_in slots.State (state_tests t) t.state
-        ∷ first_in slots.Ceilings (ceiling_tests t) t.ceilings
-        ∷ first_in slots.Answers (answer_tests t) t.answers
-        ∷ []
+    first_in slots.Groups group_tests t.groups
+    ∷ first_in slots.Programmes (programme_tests t) t.programmes
+    ∷ first_in slots.Schools school_tests t.schools
+    ∷ first_in slots.Rankings (ranking_tests t) t.rankings
+    ∷ first_in slots.Boarding (boarding_tests t) t.boarding
+    ∷ first_in slots.Wishes (wish_tests t) t.wishes
+    ∷ first_in slots.State (state_tests t) t.state
+    ∷ first_in slots.Ceilings (ceiling_tests t) t.ceilings
+    ∷ first_in slots.Answers (answer_tests t) t.answers
+    ∷ []
     )

@@ -5,12 +5,17 @@ use Rattle.admit_core.specs.declared.ranking.Ranked.{Ranked}
 use Rattle.admit_core.specs.declared.ranking.RankGroup.{RankGroup}
 use Rattle.admit_core.specs.declared.ranking.Bound.{Bound}
 use Rattle.admit_core.specs.CallOrder.{bound_of, may_be_called}
+use Rattle.call_queues.specs.QueueLists.{QueueLists}
 use Rattle.call_order.specs.declared.queued.Rates.{Rates}
 use Rattle.call_order.specs.declared.queued.Tally.{Tally}
 
 -- a ranking with its rates
 abbrev pub ranking_by : ℕ → ℕ → List Ranked → RankGroup
 ranking_by scholar_pct resident_pct list = record { id = 0; scholar_pct = scholar_pct; resident_pct = resident_pct; list = list }
+
+-- the ranking of those who remain in queues
+abbrev pub ranking_in : ℕ → ℕ → QueueLists → RankGroup
+ranking_in scholar_pct resident_pct queues = ranking_by scholar_pct resident_pct queues.remaining
 
 -- the one of lesser rank
 abbrev pub earlier_of : Option Ranked → Option Ranked → Option Ranked

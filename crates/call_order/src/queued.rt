@@ -5,7 +5,7 @@ ghost use Rattle.std.specs.List.Sorted.{IsStrictlyIncreasing};
 ghost use Rattle.admit_core.specs.CallOrder.{may_be_called, IsCallOrder};
 ghost use Rattle.admit_core.specs.CallOrderLaws.{KeepsOrderLaws};
 ghost use Rattle.call_queues.specs.Kinds.{is_of};
-ghost use Rattle.call_order.specs.QueuedCalls.{ranking_by, earlier_of, more_called, too_few, bound_by, call_by};
+ghost use Rattle.call_order.specs.QueuedCalls.{ranking_in, earlier_of, more_called, too_few, bound_by, call_by};
 
 use admit_core::{Bound, CallOrder, OutOfMemory, Ranked, Sequence, Steps};
 use call_queues::{Kind, Queues};
@@ -150,8 +150,8 @@ pub fn call_order_queued<L: Ledger>(
     requires scholar_pct { scholar_pct ≤ 100 }
     requires resident_pct { resident_pct ≤ 100 }
     requires candidates { IsDistinct nat_eq (map (λ r. r.candidate) queues.old.remaining) }
-    ensures order { IfOk result (IsCallOrder (ranking_by scholar_pct resident_pct queues.old.remaining)) }
-    ensures laws { IfOk result (KeepsOrderLaws (ranking_by scholar_pct resident_pct queues.old.remaining)) }
+    ensures order { IfOk result (IsCallOrder (ranking_in scholar_pct resident_pct queues.old)) }
+    ensures laws { IfOk result (KeepsOrderLaws (ranking_in scholar_pct resident_pct queues.old)) }
     ensures emptied { IfOk result (λ order. queues.new.remaining ≡ []) }
     ensures taken { IfOk result (λ order. queues.new.taken ≡ queues.old.taken ++ order.list) }
     ensures steps { IfOk result (λ order. steps.new ≡ steps.old + length queues.old.remaining) }

@@ -18,9 +18,9 @@ AnswersFault (Err OutOfMemory) fault = Unit {0}
 unfoldable pub first_from_wishes : Tables → Option Refusal
 first_from_wishes t =
     first_of (
-        first_in slots.Wishes (wish_tests t) t.wishes
-        ∷ first_in slots.State (state_tests t) t.state
-        ∷ first_in slots.Ceilings (ceiling_tests t) t.ceilings
-        ∷ first_in slots.Answers (answer_tests t) t.answers
-        ∷ []
+    first_in slots.Wishes (wish_tests t) t.wishes
+    ∷ first_in slots.State (state_tests t) t.state
+    ∷ first_in slots.Ceilings (ceiling_tests t) t.ceilings
+    ∷ first_in slots.Answers (answer_tests t) t.answers
+    ∷ []
     )
