@@ -124,9 +124,7 @@ def read_number(text: str) -> int:
         return int(whole)
     if BLANK_NUMBER.fullmatch(whole):
         return int("".join(letter for letter in whole if letter not in BLANKS))
-    if NUMBER_LIKE.fullmatch(text):
-        raise Unclear(f"{shown(text)} is not a whole number in one reading.", "write the number with digits alone.")
-    raise Unclear(f"{shown(text)} is not a number.", "write a whole number with digits alone.")
+    raise Unclear(f"{shown(text)} is not a whole number from 0 on.", "write the number with digits alone.")
 
 
 def _in_range(value: int, column: Column) -> int:

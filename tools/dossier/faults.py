@@ -41,9 +41,10 @@ class Fault:
 
 @dataclass
 class Faults:
-    """All faults found so far."""
+    """All faults found so far, and what could not be tested because of them."""
 
     found: list[Fault] = field(default_factory=list)
+    untested: list[str] = field(default_factory=list)
 
     def in_file(self, file: str, what: str, to_do: str) -> None:
         self.found.append(Fault(what, to_do, file=file))
@@ -51,7 +52,11 @@ class Faults:
     def at(self, rows: tuple[Row, ...], what: str, to_do: str) -> None:
         self.found.append(Fault(what, to_do, rows=rows))
 
-    def told(self) -> str:
+    def told(self, files: list[str]) -> str:
+        """All faults: first those of whole files, then by row, in the order of the files."""
+        def place(fault: Fault) -> tuple[int, int]:
+            return (files.index(fault.rows[0].file), fault.rows[0].number) if fault.rows else (-1, 0)
+
         count = len(self.found)
         noun = "fault" if count == 1 else "faults"
-        return "\n".join([*map(str, self.found), f"{count} {noun}; nothing is written."])
+        return "\n".join([*map(str, sorted(self.found, key=place)), *self.untested, f"{count} {noun}; nothing is written."])

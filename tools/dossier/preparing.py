@@ -86,7 +86,7 @@ def prepare(source: Path, folder: Path, choices: Choices) -> int:
     Relations(exports.tables, faults).test()
     numbers = number_ids(exports.tables, faults)
     if faults.found:
-        print(faults.told(), file=sys.stderr)
+        print(faults.told([exports.tables[slot.name].export.file for slot in SLOTS if slot.name in exports.tables]), file=sys.stderr)
         return FAULTY
     write_folder(folder, slot_files(exports, numbers))
     print(summary(exports, numbers, folder), flush=True)

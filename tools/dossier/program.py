@@ -14,7 +14,7 @@ MEANINGS = {
     READ_FAULT: "a slot could not be read",
     WRITE_FAULT: "its text could not be written, so it is cut",
     NO_MEMORY: "memory ran out",
-    NOT_BUILT: "the program is not built",
+    NOT_BUILT: "the program is not built, or cannot be started",
 }
 
 
@@ -28,8 +28,13 @@ def program() -> str:
 
 def run(words: list[str], folder: Path, output: BinaryIO) -> int:
     """Runs the program in the folder with its text to the output, and answers its status."""
-    return subprocess.run([program(), *words], cwd=folder, stdin=subprocess.DEVNULL, stdout=output, check=False).returncode
+    try:
+        done = subprocess.run([program(), *words], cwd=folder, stdin=subprocess.DEVNULL, stdout=output, check=False)
+    except (FileNotFoundError, PermissionError):
+        return NOT_BUILT
+    return done.returncode
 
 
 def meaning(status: int) -> str:
-    return MEANINGS.get(status, f"the program ended with the status {status}")
+    ended = f"was stopped by the signal {-status}" if status < 0 else "ended oddly"
+    return MEANINGS.get(status, f"the program {ended}")

@@ -69,6 +69,10 @@ class Relations:
         self.one_accepted(wishes)
         self.days_rise("ceilings")
         self.days_rise("answers")
+        for slot, keys in (("groups", groups), ("programmes", programmes), ("schools", schools), ("rankings", ranked),
+                           ("boarding", boarders), ("wishes", wishes)):
+            if slot in self.tables and not keys.is_whole:
+                self.faults.untested.append(f"What names rows of {self.file(slot)} is tested when all of these can be read.")
 
     def entries(self, slot: str, *names: str) -> list[Entry]:
         """The entries of a slot that have values in these columns."""
@@ -96,7 +100,7 @@ class Relations:
             if keys.repeats(entry) and not (beside and beside.repeats(entry)):
                 texts = {name: text_of(entry, name) for name in names}
                 self.fault(entry, keys.first[key_of(entry, names)],
-                           f"{what.format(**texts)} stands in an earlier row too.",
+                           f"{what.format(**texts)} stands in an earlier row already.",
                            "correct one of the two rows, or take it out.")
         return keys
 

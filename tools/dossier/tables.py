@@ -67,11 +67,10 @@ def read_folder(folder: Path, choices: Choices, faults: Faults) -> Exports:
             _take_in(path, choices, exports, faults)
         elif not path.name.startswith("."):
             exports.passed_over.append(path.name)
-    for slot in SLOTS:
-        if slot.name not in exports.tables:
-            names = ", ".join(column.name for column in slot.columns if not column.is_optional)
-            faults.in_file(str(folder), f"no export that can be read has the columns of {slot.name}: {names}.",
-                           f"export that sheet too; where it has no rows, copy examples/blank/{slot.file}.")
+    missing = [slot for slot in SLOTS if slot.name not in exports.tables]
+    if missing:
+        faults.in_file(str(folder), f"no export that can be read has the columns of {', '.join(slot.name for slot in missing)}.",
+                       f"export those sheets too; for one without rows copy its file of examples/blank, as {missing[0].file}.")
     return exports
 
 

@@ -33,7 +33,7 @@ def gone(found: GoneWish) -> list[str]:
 def offered(found: OfferedWish) -> list[str]:
     return [f"Wish {found.wish} received an offer {when(found.stamp)}, and the offer still stands.",
             "You can accept it, which refuses your other offers and leaves your waiting wishes as they are, or refuse it.",
-            "Answer before its deadline, where there is one: after that it lapses."]
+            "Answer by its deadline, where there is one: after that it lapses."]
 
 
 def accepted(found: AcceptedWish) -> list[str]:
@@ -73,9 +73,9 @@ def seatless(found: SeatlessWish) -> list[str]:
     told = [f"Wish {found.wish} is waiting: in the last pass {ahead} ahead of you in the programme, and {left} left."]
     if found.call_limit is not None:
         limit = found.call_limit
-        called = "only the first" if limit.limit == 1 else f"the first {limit.limit}"
-        told.append(f"Whatever seats are left, the programme calls {called} of its call order, and you are number {limit.position}.")
-    fewer = "" if found.ahead == 0 else ", or as many fewer candidates ahead of you"
+        called = "the first of its call order is" if limit.limit == 1 else f"the first {limit.limit} of its call order are"
+        told.append(f"Whatever seats are left, {called} called, and you are number {limit.position}.")
+    fewer = "" if found.ahead == 0 else ", one fewer for each candidate ahead of you who drops out"
     needed = counted(found.wanting, "more seat", "more seats")
     return [*told, f"An offer takes {needed}{fewer}; you can leave the wish waiting, or withdraw it."]
 

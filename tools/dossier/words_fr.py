@@ -9,7 +9,7 @@ ENDED = {
     Gone.QUIT: "vous avez démissionné {when}",
     Gone.AUTO_REFUSED: "le répondeur automatique a refusé sa proposition {when}, car vous en aviez une que vous préférez",
     Gone.AUTO_WITHDRAWN: "le répondeur automatique l'a retiré {when}, car vous aviez une proposition que vous préférez",
-    Gone.LAPSED: "sa proposition est devenue caduque {when}, faute de réponse avant l'échéance",
+    Gone.LAPSED: "sa proposition est devenue caduque {when}, faute de réponse à l'échéance",
 }
 OVER = "Il ne peut pas revenir ; vos autres vœux ne changent pas."
 OVER_WITH_ALL = "Tous les vœux qui vous restaient ont pris fin en même temps, et il n'y a plus rien à faire."
@@ -34,7 +34,7 @@ def gone(found: GoneWish) -> list[str]:
 def offered(found: OfferedWish) -> list[str]:
     return [f"Le vœu {found.wish} a reçu une proposition {when(found.stamp)}, et elle tient toujours.",
             "Vous pouvez l'accepter, ce qui refuse vos autres propositions et laisse vos vœux en attente tels quels, ou la refuser.",
-            "Répondez avant l'échéance, s'il y en a une : ensuite, la proposition devient caduque."]
+            "Répondez au plus tard à l'échéance, s'il y en a une : ensuite, la proposition devient caduque."]
 
 
 def accepted(found: AcceptedWish) -> list[str]:
@@ -74,10 +74,10 @@ def seatless(found: SeatlessWish) -> list[str]:
     told = [f"Le vœu {found.wish} est en attente : au dernier passage, {ahead} devant vous dans la formation, et il {left}."]
     if found.call_limit is not None:
         limit = found.call_limit
-        called = "la première personne" if limit.limit == 1 else f"les {limit.limit} premières personnes"
-        told.append(f"Quelles que soient les places restantes, la formation appelle {called} de l'ordre d'appel, "
-                    f"et vous y avez la position {limit.position}.")
-    fewer = "" if found.ahead == 0 else ", ou autant de candidatures en moins devant vous"
+        called = "la première personne de l'ordre d'appel est appelée" if limit.limit == 1 else \
+            f"les {limit.limit} premières personnes de l'ordre d'appel sont appelées"
+        told.append(f"Quelles que soient les places restantes, {called}, et vous y êtes en position {limit.position}.")
+    fewer = "" if found.ahead == 0 else ", une de moins pour chaque candidature devant vous qui se retire"
     needed = counted(found.wanting, "place de plus", "places de plus")
     return [*told, f"Pour une proposition, il faut {needed}{fewer} ; vous pouvez laisser le vœu en attente ou le retirer."]
 
