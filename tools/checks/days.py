@@ -234,12 +234,3 @@ def check_full_disk(tally: Tally) -> None:
             tally.equal(f"room {room}: nothing has changed", contents(folder), before)
             tally.equal(f"room {room}: with room the day is made", run(TOOLS / "next_day", folder).status, 0)
             shutil.rmtree(folder)
-
-
-def check_all(tally: Tally, program: str) -> None:
-    check_seven_days(tally, program)
-    check_answers_that_do_not_fit(tally)
-    check_stopped_days(tally)
-    check_changes_after_a_stop(tally)
-    check_killed_while_running(tally)
-    check_full_disk(tally)

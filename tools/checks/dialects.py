@@ -66,6 +66,11 @@ def named(thing: Thing, number: int) -> str:
     return f"{BEGINNINGS[thing]}{number}"
 
 
+def named_in_part(thing: Thing, number: int) -> str:
+    """A name for every second id; the others stay numbers."""
+    return named(thing, number) if number % 2 else str(number)
+
+
 def thing_at(column: Column, row: tuple[Cell, ...]) -> Thing | None:
     if column.content is Content.TARGET:
         return Thing.CANDIDATE if row[1] == "quit" else Thing.WISH

@@ -5,6 +5,7 @@ import resource
 import shutil
 import subprocess
 import tempfile
+import traceback
 from collections.abc import Callable, Iterator
 from contextlib import contextmanager
 from dataclasses import dataclass, field
@@ -15,6 +16,7 @@ TOOLS = TOP / "tools"
 EXAMPLES = TOP / "examples"
 DATA = Path(__file__).resolve().parent / "data"
 LONGEST_RUN = 120
+LONGEST_SHOWN = 300
 
 
 @dataclass
@@ -37,7 +39,19 @@ class Tally:
         print(f"FAILED {self.topic}: {name}\n{seen}".rstrip(), flush=True)
 
     def equal(self, name: str, found: object, expected: object) -> None:
-        self.check(name, found == expected, f"  found    {found!r}\n  expected {expected!r}")
+        self.check(name, found == expected, f"  found    {shortened(found)}\n  expected {shortened(expected)}")
+
+    def run(self, checks: Callable[[], None]) -> None:
+        """Makes some checks; if they end with an error, that is one that failed."""
+        try:
+            checks()
+        except Exception:
+            self.check("it runs to its end", False, traceback.format_exc())
+
+
+def shortened(found: object) -> str:
+    text = repr(found)
+    return text if len(text) <= LONGEST_SHOWN else f"{text[:LONGEST_SHOWN]} .."
 
 
 @dataclass(frozen=True)

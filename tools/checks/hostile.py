@@ -160,12 +160,3 @@ def check_stops(tally: Tally, slots: Path, prepare: Callable[[], None]) -> None:
         moment += 1
     tally.check("prepare: it has many steps", moment > 10, moment)
     shutil.rmtree(slots)
-
-
-def check_all(tally: Tally) -> None:
-    check_words(tally)
-    check_folders(tally)
-    check_broken_dossiers(tally)
-    check_lines(tally)
-    check_full_disk(tally)
-    check_killed(tally)

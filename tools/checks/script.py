@@ -136,14 +136,10 @@ def check_changed_sources(tally: Tally, script: Path) -> None:
     tally.check("a program that cannot be built", ended.status == 125 and "not built" in ended.complaint, ended)
 
 
-def check_all(tally: Tally) -> None:
+def check_script(tally: Tally) -> None:
     tally.begin("the script parcours")
     with scratch() as folder:
         script = make_tree(folder)
         call(script, "hello")
-        check_statuses(tally, script)
-        check_unreadable(tally, script)
-        check_small_tools(tally, script)
-        check_help(tally, script)
-        check_long_runs(tally, script)
-        check_changed_sources(tally, script)
+        for checks in (check_statuses, check_unreadable, check_small_tools, check_help, check_long_runs, check_changed_sources):
+            tally.run(lambda: checks(tally, script))

@@ -4,6 +4,7 @@ import shutil
 from pathlib import Path
 
 from .harness import DATA, EXAMPLES, TOOLS, Tally, contents, run, scratch
+from .samples import sample_slots
 
 LYCEE = EXAMPLES / "lycee"
 DATED = ("--start", "2026-06-02", "--term", "1")
@@ -109,10 +110,11 @@ def check_sample(tally: Tally, program: str) -> None:
         (folder / "new").mkdir()
         ended = run(TOOLS / "write_sample.sh", "1200", "new", folder=folder)
         tally.check("an empty folder is taken", ended.status == 0 and len(contents(folder / "new")) == 9, ended)
-        check_same_sample(tally, program, folder / "new")
+        tally.equal("1200 candidates by the rule of samples", contents(folder / "new"), sample_slots(1200))
+        check_same_summary(tally, program, folder / "new")
 
 
-def check_same_sample(tally: Tally, program: str, slots: Path) -> None:
+def check_same_summary(tally: Tally, program: str, slots: Path) -> None:
     """The program sums up a sample as it runs the slots of the same one."""
     summary = run(program, "sample", "--number", "1200").output.decode().split()
     text = run(program, "replay", folder=slots).output.decode()
@@ -121,11 +123,3 @@ def check_same_sample(tally: Tally, program: str, slots: Path) -> None:
     waiting = sum(row.endswith(",waiting") for row in state)
     expected = ["live", str(live), "waiting", str(waiting), "gone", str(len(state) - live - waiting)]
     tally.equal("the rows are those of the mode sample", summary[-6:], expected)
-
-
-def check_all(tally: Tally, program: str) -> None:
-    check_prepare(tally)
-    check_leave_out(tally)
-    check_next_day(tally)
-    check_in_words(tally, program)
-    check_sample(tally, program)
