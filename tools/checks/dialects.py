@@ -42,6 +42,7 @@ class Dialect:
     quotes_all: bool
     is_day_first: bool
     ending: str
+    first_line: str = ""
 
     def number(self, value: int) -> str:
         return f"{value:,}".replace(",", self.thousands) + self.tail
@@ -52,7 +53,7 @@ class Dialect:
 
 
 DIALECTS = (
-    Dialect("French Excel", ";", "cp1252", b"", "\r\n", True, ("FAUX", "VRAI"), "\u00a0", "", False, True, ".csv"),
+    Dialect("French Excel", ";", "cp1252", b"", "\r\n", True, ("FAUX", "VRAI"), "\u00a0", "", False, True, ".csv", "sep=;\r\n"),
     Dialect("Unicode text", "\t", "utf-16-le", b"\xff\xfe", "\r\n", False, ("FALSE", "TRUE"), "", "", False, False, ".txt"),
     Dialect("LibreOffice", ",", "utf-8", b"", "\n", False, ("no", "yes"), " ", "", True, False, ".CSV"),
     Dialect("French Numbers", ";", "utf-8", b"\xef\xbb\xbf", "\n", True, ("NON", "OUI"), "\u202f", ",0", False, True, ".csv"),
@@ -109,7 +110,7 @@ def sheet(dialect: Dialect, slot: Slot, dossier: Dossier, random: Random, namer:
     text = io.StringIO(newline="")
     quoting = csv.QUOTE_ALL if dialect.quotes_all else csv.QUOTE_MINIMAL
     csv.writer(text, delimiter=dialect.separator, lineterminator=dialect.line_end, quoting=quoting).writerows(lines)
-    return dialect.mark + text.getvalue().encode(dialect.codec)
+    return dialect.mark + (dialect.first_line + text.getvalue()).encode(dialect.codec)
 
 
 def export(dialect: Dialect, dossier: Dossier, folder: Path, random: Random, namer: Namer | None) -> None:

@@ -37,6 +37,7 @@ def make_tree(folder: Path) -> Path:
     (top / "crates.txt").write_text("parcours\n")
     (top / "tools").mkdir()
     shutil.copy(TOOLS / "help.txt", top / "tools")
+    (top / "tools/prove.py").touch()
     shutil.copy(TOP / "parcours", top)
     (top / "bin").mkdir()
     for path, text in ((top / "stand_in", STAND_IN), (top / "bin/rt", BUILDER.format(top=top))):

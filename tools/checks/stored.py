@@ -123,3 +123,59 @@ def check_same_summary(tally: Tally, program: str, slots: Path) -> None:
     waiting = sum(row.endswith(",waiting") for row in state)
     expected = ["live", str(live), "waiting", str(waiting), "gone", str(len(state) - live - waiting)]
     tally.equal("the rows are those of the mode sample", summary[-6:], expected)
+
+
+def check_encodings(tally: Tally) -> None:
+    """One sheet in each encoding gives the same slot; two encodings that may both be meant are a fault."""
+    tally.begin("prepare, encodings")
+    text = "Vœu;Candidat;Formation;Internat;Préférence\r\nA1;102;10;;1\r\n"
+    for codec, mark in (("utf-8", b""), ("utf-8", b"\xef\xbb\xbf"), ("utf-16-le", b"\xff\xfe"), ("utf-16-be", b"\xfe\xff"),
+                        ("utf-16-be", b""), ("cp1252", b""), ("mac-roman", b"")):
+        slots = prepared_wishes(mark + text.encode(codec))
+        tally.equal(f"{codec}, mark {mark!r}", slots, b"wish,candidate,programme,school,preference\n1,102,10,,1\n")
+    for name, data in (("bytes of no encoding", b"wish;candidate\x81\x8d;programme;school;preference\n"),
+                       ("UTF-8 by its mark alone", b"\xef\xbb\xbfV\xe9u;Candidat\n"), ("UTF-16 cut in two", text.encode("utf-16")[:-1])):
+        tally.equal(name, prepared_wishes(data), None)
+
+
+def prepared_wishes(data: bytes) -> bytes | None:
+    """The slot of wishes that is prepared of this export, beside those of a small dossier."""
+    with scratch() as folder:
+        exports = folder / "exports"
+        shutil.copytree(EXAMPLES / "two-days", exports, ignore=shutil.ignore_patterns("*.txt"))
+        for name in ("answers", "state"):
+            shutil.copy(EXAMPLES / f"blank/{name}.csv", exports)
+        (exports / "wishes.csv").write_bytes(data)
+        ended = run(TOOLS / "prepare", exports, folder / "slots")
+        return (folder / "slots/wishes.csv").read_bytes() if ended.status == 0 else None
+
+
+def check_ids(tally: Tally) -> None:
+    """How ids are numbered, and which of them are a fault."""
+    tally.begin("prepare, ids")
+    for ids, expected in (
+        ("A;B", {"A": "1", "B": "2"}), ("7;B", {"B": "8"}), ("12345678901;012345678902", {"12345678901": "1", "012345678902": "2"}),
+        ("1-MPSI;12-BTS", {"1-MPSI": "1", "12-BTS": "2"}), ("1 000;12,0", None), ("Été;Ete", "may be one or two"),
+        ("7;07", "may be one or two"), ("a;A", "may be one or two"), ("1,5E+08;2", "lost digits"), ("3-mars;4", "became a date"),
+        ("2026-06-02;4", "became a date"), ("#N/A;4", "error of the spreadsheet"), ("1.000;4", "two readings"),
+        ("0;4", "0 is no id"), ("-3;4", "not a whole number"), ("2000000000;B", "no numbers are left"),
+    ):
+        table, complaint = numbered_groups(ids.split(";"))
+        if isinstance(expected, str):
+            tally.check(f"{ids}: {expected}", expected in complaint, complaint)
+        else:
+            tally.equal(ids, table, expected)
+
+
+def numbered_groups(ids: list[str]) -> tuple[dict[str, str] | None, str]:
+    """The table of ids of a dossier with these groups, where there is one, and what was complained of."""
+    with scratch() as folder:
+        shutil.copytree(EXAMPLES / "blank", folder / "exports")
+        rows = "".join(f"{name};0;0\n" for name in ids)
+        (folder / "exports/groups.csv").write_text(f"group;scholar_pct;resident_pct\n{rows}")
+        ended = run(TOOLS / "prepare", folder / "exports", folder / "slots")
+        table = folder / "slots/ids.csv"
+        if not table.exists():
+            return None, ended.complaint
+        rows_of_ids = [line.split(",") for line in table.read_text().splitlines()[1:]]
+        return {name: number for _, number, name in rows_of_ids}, ended.complaint

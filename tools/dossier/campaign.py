@@ -9,7 +9,6 @@ either no record, and nothing has changed, or a whole one, from which the next c
 
 import csv
 import fcntl
-import io
 import os
 import re
 import shutil
@@ -157,8 +156,8 @@ def take_over(folder: Path, kept: Path, record: Record) -> None:
     now = read_files(folder)
     changed = [name for name in CHANGING if now[name] not in (record.before[name], record.after[name])]
     if changed:
-        raise Stopped(program.READ_FAULT, f"{', '.join(changed)}: changed since the day was stopped half way; put back what "
-                                          f"{kept / 'before'} has, call again, and then make the change.")
+        raise Stopped(program.READ_FAULT, f"{', '.join(changed)}: changed since the day was stopped half way; put "
+                                          f"back what {kept / 'before'} has, call again, and then make the change.")
     for name in (*CHANGING, CALENDAR):
         if now.get(name) != record.after[name]:
             replace_file(folder / name, record.after[name])
@@ -196,7 +195,8 @@ def make_record(folder: Path, files: Files, calendar: Calendar, kept: Path) -> N
         staging.chmod(0o755)
         report = run_day(folder, calendar, staging / "report.txt")
         if read_files(folder) != files:
-            raise Stopped(program.READ_FAULT, "a file of the dossier changed while the day was run; nothing is changed, call again.")
+            raise Stopped(program.READ_FAULT, "a file of the dossier changed while the day was run; the day is not "
+                                              "made, call again.")
         write_record(staging, record_of(report, files, calendar))
         os.rename(staging, kept)
         settle(kept.parent)

@@ -17,7 +17,10 @@ WHOLE_TAIL = re.compile(r"(.*[0-9])[.,]0{1,2}", re.DOTALL)
 THOUSANDS_OR_DECIMALS = re.compile(r"[0-9]{1,3}(?:[.,][0-9]{3})+")
 DIGITS_LOST = re.compile(r"[0-9]+(?:[.,][0-9]+)?[eE][+-][0-9]+")
 NUMBER_LIKE = re.compile(rf"[+-]?[0-9][0-9.,{BLANKS}]*|[+-][0-9.,{BLANKS}]+|[.,][0-9]+")
-DATE_LIKE = re.compile(r"[0-9]{1,4}[-/.][0-9]{1,2}[-/.][0-9]{1,4}|[0-9]{1,2}[-/][^\W\d_]{3,9}\.?(?:[-/][0-9]{2,4})?")
+MONTH = "(?:jan|feb|fev|mar|apr|avr|may|mai|jun|juin|jul|juil|aug|aou|sep|oct|nov|dec)[a-z]{0,6}"
+NAMED_DATE = re.compile(rf"[0-9]{{1,2}} {MONTH}\.?(?: [0-9]{{2,4}})?|{MONTH}\.? [0-9]{{2}}")
+NUMBERED_DATE = re.compile(r"[0-9]{4}[-/](?:0?[1-9]|1[0-2])[-/](?:[0-2]?[0-9]|3[01])"
+                           r"|(?:[0-2]?[0-9]|3[01])[-/.](?:[0-2]?[0-9]|3[01])[-/.](?:[0-9]{2}|[0-9]{4})")
 ISO_DATE = re.compile(r"([0-9]{4})-([0-9]{2})-([0-9]{2})(?:[ T]00:00(?::00)?)?")
 PARTED_DATE = re.compile(r"([0-9]{1,2})[-/.]([0-9]{1,2})[-/.]([0-9]{4})")
 EARLIEST_YEAR, LATEST_YEAR = 1900, 2299
@@ -87,7 +90,8 @@ def read_cell(text: str, column: Column, dates: DateOrder | None) -> Value:
     if trimmed == "":
         return _empty(column)
     if trimmed.startswith("#"):
-        raise Unclear(f"{shown(trimmed)} is an error of the spreadsheet.", "mend the formula, and export the sheet again.")
+        raise Unclear(f"{shown(trimmed)} is an error of the spreadsheet.",
+                      "mend the formula, and export the sheet again.")
     match column.content:
         case Content.ID | Content.TARGET:
             return read_id(trimmed)
@@ -107,17 +111,20 @@ def read_cell(text: str, column: Column, dates: DateOrder | None) -> Value:
 
 def _empty(column: Column) -> Value:
     if not column.may_be_empty:
-        to_do = "write 0 where the candidate answers for themselves." if column.name == "preference" else "fill in the cell."
-        raise Unclear("the cell is empty.", to_do)
+        is_preference = column.name == "preference"
+        raise Unclear("the cell is empty.",
+                      "write 0 where the candidate answers for themselves." if is_preference else "fill in the cell.")
     return 0 if column.content is Content.NUMBER else None
 
 
 def read_number(text: str) -> int:
     """A whole number, with blanks between thousands or with zeros after a decimal point where the sheet shows them."""
     if DIGITS_LOST.fullmatch(text):
-        raise Unclear(f"{text} has lost digits.", "format the column as a number without decimals, and export the sheet again.")
+        raise Unclear(f"{text} has lost digits.",
+                      "format the column as a number without decimals, and export the sheet again.")
     if THOUSANDS_OR_DECIMALS.fullmatch(text):
-        raise Unclear(f"{text} has two readings: with thousands, or with decimals.", "write the number without points and commas.")
+        raise Unclear(f"{text} has two readings: with thousands, or with decimals.",
+                      "write the number without points and commas.")
     tail = WHOLE_TAIL.fullmatch(text)
     whole = tail.group(1) if tail else text
     if PLAIN_NUMBER.fullmatch(whole):
@@ -137,9 +144,11 @@ def read_id(text: str) -> Id:
     """An id: a number, or any other text that the spreadsheet cannot have changed."""
     spelled = " ".join(unicodedata.normalize("NFC", text).split())
     if DIGITS_LOST.fullmatch(text):
-        raise Unclear(f"{text} has lost digits.", "format the column as text, enter the ids again, and export the sheet again.")
-    if DATE_LIKE.fullmatch(text):
-        raise Unclear(f"{shown(text)} looks like an id that became a date.", "format the column as text, and enter the id again.")
+        raise Unclear(f"{text} has lost digits.",
+                      "format the column as text, enter the ids again, and export the sheet again.")
+    if NUMBERED_DATE.fullmatch(text) or NAMED_DATE.fullmatch(fold(text)):
+        raise Unclear(f"{shown(text)} looks like an id that became a date.",
+                      "format the column as text, and enter the id again.")
     if not NUMBER_LIKE.fullmatch(text):
         return Id(spelled, spelled)
     value = read_number(text)
@@ -194,4 +203,5 @@ def _day_and_month(text: str, first: int, second: int, order: DateOrder | None) 
         return (first, second) if first == second else (second, first)
     if first > 12:
         return first, second
-    raise Unclear(f"{text} has two readings.", "write it as YYYY-MM-DD, or say --dates day-first or --dates month-first.")
+    raise Unclear(f"{text} has two readings.",
+                  "write it as YYYY-MM-DD, or say --dates day-first or --dates month-first.")

@@ -20,7 +20,10 @@ def _redated(slot: bytes, change: Callable[[Rows], Rows]) -> bytes:
 
 def next_answers(slot: bytes) -> bytes:
     """The answers of the coming days. Those of day 1 are applied, and leave."""
-    return _redated(slot, lambda rows: [[str(int(day) - 1), kind, target] for day, kind, target in rows if int(day) > 1])
+    def change(rows: Rows) -> Rows:
+        return [[str(int(day) - 1), kind, target] for day, kind, target in rows if int(day) > 1]
+
+    return _redated(slot, change)
 
 
 def next_ceilings(slot: bytes) -> bytes:

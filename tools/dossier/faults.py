@@ -59,4 +59,5 @@ class Faults:
 
         count = len(self.found)
         noun = "fault" if count == 1 else "faults"
-        return "\n".join([*map(str, sorted(self.found, key=place)), *self.untested, f"{count} {noun}; nothing is written."])
+        told = map(str, sorted(self.found, key=place))
+        return "\n".join([*told, *self.untested, f"{count} {noun}; nothing is written."])

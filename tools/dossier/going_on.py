@@ -29,13 +29,15 @@ def term_of_days(text: str) -> int:
 def words() -> argparse.ArgumentParser:
     parser = argparse.ArgumentParser(
         prog="next_day", allow_abbrev=False,
-        description="Runs the coming day of the dossier in FOLDER, keeps its record in FOLDER/days, and makes the slots "
-                    "those of the day after. A day that was stopped half way is ended first.",
-        epilog="Status: 0 the day is made; otherwise nothing is lost, and the status is the program's, or 2 for bad words, "
-               "3 where the folder cannot be read, 4 where it cannot be written.")
+        description="Runs the coming day of the dossier in FOLDER, keeps its record in FOLDER/days, and makes the "
+                    "slots those of the day after. A day that was stopped half way is ended, and no other is begun.",
+        epilog="Status: 0 the day is made; otherwise nothing is lost, and the status is the program's, or 2 for bad "
+               "words, 3 where the folder cannot be read, 4 where it cannot be written.")
     parser.add_argument("folder", type=Path, metavar="FOLDER", help="the folder of the nine slots")
-    parser.add_argument("--start", type=start_date, metavar="DATE", help="the date of day 1, when the campaign begins with deadlines")
-    parser.add_argument("--term", type=term_of_days, metavar="N", help="the days that an offer stands; given with --start")
+    parser.add_argument("--start", type=start_date, metavar="DATE",
+                        help="the date of day 1, when the campaign begins with deadlines")
+    parser.add_argument("--term", type=term_of_days, metavar="N",
+                        help="the days that an offer stands; given with --start")
     return parser
 
 
@@ -53,7 +55,8 @@ def main(arguments: list[str]) -> int:
         print(f"next_day: {stop}", file=sys.stderr)
         return stop.status
     except OSError as error:
-        print(f"next_day: {error.filename or given.folder}: {error.strerror}; nothing is lost, mend it and call again.", file=sys.stderr)
+        print(f"next_day: {error.filename or given.folder}: {error.strerror}; nothing is lost, mend it and call again.",
+              file=sys.stderr)
         return program.READ_FAULT if isinstance(error, FileNotFoundError) else program.WRITE_FAULT
     except KeyboardInterrupt:
         print("next_day: stopped; nothing is lost, call again to go on.", file=sys.stderr)

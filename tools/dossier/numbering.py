@@ -23,7 +23,7 @@ class Numbers:
     """The number of each id by its thing and key, and which of the ids had none."""
 
     by_key: dict[Thing, dict[str, int]]
-    numbered: dict[Thing, list[str]]
+    numbered: dict[Thing, list[Id]]
 
     def of(self, thing: Thing, identifier: Id) -> int:
         return self.by_key[thing][identifier.key]
@@ -66,7 +66,7 @@ def number_ids(tables: dict[str, Table], faults: Faults) -> Numbers:
             faults.at((use.row, like.row),
                       f'the {thing.plural} "{shown(use.id.spelled)}" and "{shown(like.id.spelled)}" may be one or two.',
                       "write them alike where they are one, and otherwise make them differ in more.")
-    numbered = {thing: [key for key, use in first.items() if use.id.number is None]
+    numbered = {thing: [use.id for use in first.values() if use.id.number is None]
                 for thing, first in first_uses.items()}
     return Numbers({thing: _numbers(thing, first, numbered[thing], faults) for thing, first in first_uses.items()},
                    numbered)
@@ -83,12 +83,12 @@ def may_differ(one: Id, other: Id) -> bool:
     return one.key != other.key or zeros
 
 
-def _numbers(thing: Thing, first: dict[str, Use], unnumbered: list[str], faults: Faults) -> dict[str, int]:
+def _numbers(thing: Thing, first: dict[str, Use], unnumbered: list[Id], faults: Faults) -> dict[str, int]:
     """Ids that are numbers keep them; the others get the numbers after the greatest of these."""
     numbers = {key: use.id.number for key, use in first.items() if use.id.number is not None}
     start = max(numbers.values(), default=0) + 1
     if unnumbered and start + len(unnumbered) - 1 > GREATEST_NUMBER:
-        faults.at((first[unnumbered[0]].row,),
+        faults.at((first[unnumbered[0].key].row,),
                   f"no numbers are left for the {thing.plural} whose ids are no numbers.",
                   f"give lesser numbers to the other {thing.plural}.")
-    return numbers | {key: start + place for place, key in enumerate(unnumbered)}
+    return numbers | {identifier.key: start + place for place, identifier in enumerate(unnumbered)}

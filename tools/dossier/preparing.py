@@ -53,8 +53,8 @@ def slot_bytes(table: Table, numbers: Numbers) -> bytes:
 
 def table_back(numbers: Numbers) -> bytes:
     """Which number stands for which id of the exports."""
-    rows = ((thing.value, numbers.by_key[thing][key], key)
-            for thing, keys in numbers.numbered.items() for key in keys)
+    rows = ((thing.value, numbers.of(thing, identifier), identifier.spelled)
+            for thing, ids in numbers.numbered.items() for identifier in ids)
     return csv_bytes(("thing", "number", "id"), rows)
 
 
@@ -73,9 +73,9 @@ def summary(exports: Exports, numbers: Numbers, folder: Path) -> str:
         source = table.export
         dialect = f"{source.encoding}, {SEPARATORS[source.separator]}"
         lines.append(f"{slot.file}: {len(table.entries)} rows of {source.file} ({dialect})")
-    for thing, keys in numbers.numbered.items():
-        if keys:
-            lines.append(f"{TABLE_BACK}: {len(keys)} ids of {thing.plural} numbered, from {numbers.by_key[thing][keys[0]]}")
+    for thing, ids in numbers.numbered.items():
+        if ids:
+            lines.append(f"{TABLE_BACK}: {len(ids)} ids of {thing.plural} numbered, from {numbers.of(thing, ids[0])}")
     lines += [f"not read: {name}" for name in exports.passed_over]
     return "\n".join([*lines, f"The dossier is in {folder}."])
 
@@ -86,7 +86,8 @@ def prepare(source: Path, folder: Path, choices: Choices) -> int:
     Relations(exports.tables, faults).test()
     numbers = number_ids(exports.tables, faults)
     if faults.found:
-        print(faults.told([exports.tables[slot.name].export.file for slot in SLOTS if slot.name in exports.tables]), file=sys.stderr)
+        files = [exports.tables[slot.name].export.file for slot in SLOTS if slot.name in exports.tables]
+        print(faults.told(files), file=sys.stderr)
         return FAULTY
     write_folder(folder, slot_files(exports, numbers))
     print(summary(exports, numbers, folder), flush=True)

@@ -72,7 +72,8 @@ class Relations:
         for slot, keys in (("groups", groups), ("programmes", programmes), ("schools", schools), ("rankings", ranked),
                            ("boarding", boarders), ("wishes", wishes)):
             if slot in self.tables and not keys.is_whole:
-                self.faults.untested.append(f"What names rows of {self.file(slot)} is tested when all of these can be read.")
+                self.faults.untested.append(
+                    f"What names rows of {self.file(slot)} is tested when all of these can be read.")
 
     def entries(self, slot: str, *names: str) -> list[Entry]:
         """The entries of a slot that have values in these columns."""
@@ -130,8 +131,9 @@ class Relations:
                 continue
             group = programme.get("group")
             if ranked.lacks((group.key, entry.get("candidate").key)):
+                candidate = text_of(entry, "candidate")
                 self.fault(entry, programme,
-                           f"the candidate {text_of(entry, 'candidate')} is not ranked in the programme's group {group.spelled}.",
+                           f"the candidate {candidate} is not ranked in the programme's group {group.spelled}.",
                            f"add the candidate to {self.file('rankings')}, or take the wish out.")
 
     def wishes_have_boarding_ranks(self, schools: Keys, boarders: Keys) -> None:

@@ -69,8 +69,10 @@ def read_folder(folder: Path, choices: Choices, faults: Faults) -> Exports:
             exports.passed_over.append(path.name)
     missing = [slot for slot in SLOTS if slot.name not in exports.tables]
     if missing:
-        faults.in_file(str(folder), f"no export that can be read has the columns of {', '.join(slot.name for slot in missing)}.",
-                       f"export those sheets too; for one without rows copy its file of examples/blank, as {missing[0].file}.")
+        names = ", ".join(slot.name for slot in missing)
+        faults.in_file(str(folder), f"no export that can be read has the columns of {names}.",
+                       "export those sheets too; for one without rows copy its file of examples/blank, "
+                       f"as {missing[0].file}.")
     return exports
 
 

@@ -1,6 +1,7 @@
 """Explanations in English, said to the candidate."""
 
-from .explanation import AcceptedWish, BarredWish, Explanation, Gone, GoneWish, OfferedWish, SeatlessWish, Stamp, UnknownWish
+from .explanation import (AcceptedWish, BarredWish, Explanation, Gone, GoneWish, OfferedWish, SeatlessWish, Stamp,
+                          UnknownWish)
 
 ENDED = {
     Gone.REFUSED: "its offer was refused {when}, by you or because you accepted another one",
@@ -32,17 +33,21 @@ def gone(found: GoneWish) -> list[str]:
 
 def offered(found: OfferedWish) -> list[str]:
     return [f"Wish {found.wish} received an offer {when(found.stamp)}, and the offer still stands.",
-            "You can accept it, which refuses your other offers and leaves your waiting wishes as they are, or refuse it.",
+            "You can accept it, which refuses your other offers and leaves your waiting wishes as they are, "
+            "or refuse it.",
             "Answer by its deadline, where there is one: after that it lapses."]
 
 
 def accepted(found: AcceptedWish) -> list[str]:
     if found.is_by_answerer:
-        return [f"The automatic answerer accepted wish {found.wish} for you {when(found.stamp)}, and the place is yours.",
-                "There is nothing to do: the wishes that you prefer go on waiting, and an offer for one of them would take its place.",
+        accepted_when = when(found.stamp)
+        return [f"The automatic answerer accepted wish {found.wish} for you {accepted_when}, and the place is yours.",
+                "There is nothing to do: the wishes that you prefer go on waiting, "
+                "and an offer for one of them would take its place.",
                 "You can still refuse it."]
     return [f"Wish {found.wish} was accepted {when(found.stamp)}, and the place is yours.",
-            "There is nothing to do: your waiting wishes go on waiting, and if you accept another offer, this one is refused.",
+            "There is nothing to do: your waiting wishes go on waiting, "
+            "and if you accept another offer, this one is refused.",
             "You can still refuse it."]
 
 
@@ -73,7 +78,8 @@ def seatless(found: SeatlessWish) -> list[str]:
     told = [f"Wish {found.wish} is waiting: in the last pass {ahead} ahead of you in the programme, and {left} left."]
     if found.call_limit is not None:
         limit = found.call_limit
-        called = "the first of its call order is" if limit.limit == 1 else f"the first {limit.limit} of its call order are"
+        called = "the first of its call order is" if limit.limit == 1 else \
+            f"the first {limit.limit} of its call order are"
         told.append(f"Whatever seats are left, {called} called, and you are number {limit.position}.")
     fewer = "" if found.ahead == 0 else ", one fewer for each candidate ahead of you who drops out"
     needed = counted(found.wanting, "more seat", "more seats")

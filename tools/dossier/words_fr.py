@@ -1,14 +1,17 @@
 """Explications en français, adressées à la personne candidate."""
 
-from .explanation import AcceptedWish, BarredWish, Explanation, Gone, GoneWish, OfferedWish, SeatlessWish, Stamp, UnknownWish
+from .explanation import (AcceptedWish, BarredWish, Explanation, Gone, GoneWish, OfferedWish, SeatlessWish, Stamp,
+                          UnknownWish)
 
 NO_BREAK = "\u00a0"
 ENDED = {
     Gone.REFUSED: "sa proposition a été refusée {when}, par vous ou parce que vous en avez accepté une autre",
     Gone.WITHDRAWN: "vous l'avez retiré {when}, alors qu'il était en attente",
     Gone.QUIT: "vous avez démissionné {when}",
-    Gone.AUTO_REFUSED: "le répondeur automatique a refusé sa proposition {when}, car vous en aviez une que vous préférez",
-    Gone.AUTO_WITHDRAWN: "le répondeur automatique l'a retiré {when}, car vous aviez une proposition que vous préférez",
+    Gone.AUTO_REFUSED: "le répondeur automatique a refusé sa proposition {when}, "
+                       "car vous en aviez une que vous préférez",
+    Gone.AUTO_WITHDRAWN: "le répondeur automatique l'a retiré {when}, "
+                         "car vous aviez une proposition que vous préférez",
     Gone.LAPSED: "sa proposition est devenue caduque {when}, faute de réponse à l'échéance",
 }
 OVER = "Il ne peut pas revenir ; vos autres vœux ne changent pas."
@@ -33,13 +36,15 @@ def gone(found: GoneWish) -> list[str]:
 
 def offered(found: OfferedWish) -> list[str]:
     return [f"Le vœu {found.wish} a reçu une proposition {when(found.stamp)}, et elle tient toujours.",
-            "Vous pouvez l'accepter, ce qui refuse vos autres propositions et laisse vos vœux en attente tels quels, ou la refuser.",
+            "Vous pouvez l'accepter, ce qui refuse vos autres propositions et laisse vos vœux en attente tels quels, "
+            "ou la refuser.",
             "Répondez au plus tard à l'échéance, s'il y en a une : ensuite, la proposition devient caduque."]
 
 
 def accepted(found: AcceptedWish) -> list[str]:
     if found.is_by_answerer:
-        return [f"Le répondeur automatique a accepté le vœu {found.wish} pour vous {when(found.stamp)} : la place est à vous.",
+        return [f"Le répondeur automatique a accepté le vœu {found.wish} pour vous {when(found.stamp)} : "
+                "la place est à vous.",
                 "Il n'y a rien à faire : les vœux que vous préférez restent en attente, "
                 "et une proposition pour l'un d'eux prendrait sa place.", STILL_REFUSE]
     return [f"Le vœu {found.wish} a été accepté {when(found.stamp)} : la place est à vous.",
@@ -55,7 +60,8 @@ def barred(found: BarredWish) -> list[str]:
     else:
         cause = bed_reach(found.beds, found.bar)
         chance = "si l'internat obtient un lit" if found.beds == 0 else "quand un lit se libérera"
-    return [f"Le vœu {found.wish} est en attente : votre rang à l'internat {found.school} est {found.rank}, et {cause}.",
+    return [f"Le vœu {found.wish} est en attente : "
+            f"votre rang à l'internat {found.school} est {found.rank}, et {cause}.",
             f"Il sera réexaminé {chance}.", WAIT_OR_WITHDRAW]
 
 
@@ -65,13 +71,16 @@ def bed_reach(beds: int, bar: int) -> str:
         return "l'internat n'a pas de lit"
     if bar == 0:
         return "son unique lit est pris" if beds == 1 else f"ses {beds} lits sont tous pris"
-    return f"son unique lit n'est allé que jusqu'au rang {bar}" if beds == 1 else f"ses {beds} lits ne sont allés que jusqu'au rang {bar}"
+    went = "son unique lit n'est allé" if beds == 1 else f"ses {beds} lits ne sont allés"
+    return f"{went} que jusqu'au rang {bar}"
 
 
 def seatless(found: SeatlessWish) -> list[str]:
-    ahead = "personne n'était" if found.ahead == 0 else counted(found.ahead, "candidature était", "candidatures étaient")
+    ahead = "personne n'était" if found.ahead == 0 else \
+        counted(found.ahead, "candidature était", "candidatures étaient")
     left = "ne restait aucune place" if found.left == 0 else f"restait {counted(found.left, 'place', 'places')}"
-    told = [f"Le vœu {found.wish} est en attente : au dernier passage, {ahead} devant vous dans la formation, et il {left}."]
+    told = [f"Le vœu {found.wish} est en attente : "
+            f"au dernier passage, {ahead} devant vous dans la formation, et il {left}."]
     if found.call_limit is not None:
         limit = found.call_limit
         called = "la première personne de l'ordre d'appel est appelée" if limit.limit == 1 else \
@@ -79,11 +88,13 @@ def seatless(found: SeatlessWish) -> list[str]:
         told.append(f"Quelles que soient les places restantes, {called}, et vous y êtes en position {limit.position}.")
     fewer = "" if found.ahead == 0 else ", une de moins pour chaque candidature devant vous qui se retire"
     needed = counted(found.wanting, "place de plus", "places de plus")
-    return [*told, f"Pour une proposition, il faut {needed}{fewer} ; vous pouvez laisser le vœu en attente ou le retirer."]
+    return [*told, f"Pour une proposition, il faut {needed}{fewer} ; "
+                   "vous pouvez laisser le vœu en attente ou le retirer."]
 
 
 def unknown(found: UnknownWish) -> list[str]:
-    return [f"Il n'y a pas de vœu {found.wish} dans le dossier.", "Vérifiez son numéro et posez la question de nouveau."]
+    return [f"Il n'y a pas de vœu {found.wish} dans le dossier.",
+            "Vérifiez son numéro et posez la question de nouveau."]
 
 
 def sentences(found: Explanation) -> list[str]:
