@@ -103,6 +103,7 @@ def check_full_disk(tally: Tally) -> None:
     if FULL_DEVICE.exists():
         with open(FULL_DEVICE, "wb") as full:
             refused(tally, "in_words", run(TOOLS / "in_words", given=b"no such wish 9\n", output=full.fileno()), 4)
+            check_output_full(tally, full.fileno())
     with scratch() as folder:
         for room in (0, 10, 30, 100):
             exports = EXAMPLES / "lycee/exports"
@@ -115,6 +116,18 @@ def check_full_disk(tally: Tally) -> None:
             (folder / "new").rmdir()
     if run("unshare", "-rm", "true").status == 0:
         check_small_disk(tally)
+
+
+def check_output_full(tally: Tally, full: int) -> None:
+    """What is done is done, also where it cannot be said."""
+    with scratch() as folder:
+        ended = run(TOOLS / "prepare", EXAMPLES / "two-days", "slots", folder=EXAMPLES, output=full)
+        refused(tally, "prepare: faults are told all the same", ended, 1)
+        ended = run(TOOLS / "prepare", BLANK, "slots", folder=folder, output=full)
+        tally.check("prepare: the dossier is written", ended.status == 0 and "it is done" in ended.complaint, ended)
+        ended = run(TOOLS / "next_day", "slots", folder=folder, output=full)
+        tally.check("next_day: the day is made", ended.status == 0 and "it is done" in ended.complaint, ended)
+        tally.equal("next_day: once", (folder / "slots/campaign.csv").read_text(), "day,date,term\n2,,\n")
 
 
 def check_small_disk(tally: Tally) -> None:

@@ -20,7 +20,7 @@ class Row:
     cells: tuple[str, ...]
 
     def __str__(self) -> str:
-        return f"{self.file}, row {self.number}: {shown(' | '.join(self.cells))}"
+        return f"{shown(self.file)}, row {self.number}: {shown(' | '.join(self.cells))}"
 
 
 @dataclass(frozen=True)
@@ -33,7 +33,7 @@ class Fault:
     file: str = ""
 
     def __str__(self) -> str:
-        lines = [str(self.rows[0]) if self.rows else self.file, f"    {self.what}"]
+        lines = [str(self.rows[0]) if self.rows else shown(self.file), f"    {self.what}"]
         lines += [f"    see {row}" for row in self.rows[1:]]
         lines.append(f"    What to do: {self.to_do}")
         return "\n".join(lines)

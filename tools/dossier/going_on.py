@@ -8,6 +8,7 @@ from pathlib import Path
 from . import program
 from .campaign import Stopped, next_day
 from .dating import Calendar
+from .writing import say
 
 FIRST_YEAR, LAST_YEAR = 1901, 2298
 LONGEST_TERM = 366
@@ -50,7 +51,7 @@ def main(arguments: list[str]) -> int:
         print(f"next_day: there is no folder {given.folder}; name the folder of the dossier.", file=sys.stderr)
         return program.READ_FAULT
     try:
-        print(next_day(given.folder, Calendar(1, given.start, given.term)), flush=True)
+        told = next_day(given.folder, Calendar(1, given.start, given.term))
     except Stopped as stop:
         print(f"next_day: {stop}", file=sys.stderr)
         return stop.status
@@ -61,4 +62,5 @@ def main(arguments: list[str]) -> int:
     except KeyboardInterrupt:
         print("next_day: stopped; nothing is lost, call again to go on.", file=sys.stderr)
         return 130
+    say("next_day", told)
     return program.DONE

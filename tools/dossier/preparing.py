@@ -6,14 +6,15 @@ from pathlib import Path
 
 from .cells import DateOrder, Id, Value
 from .exports import SEPARATORS, fold
-from .faults import Faults
+from .faults import Faults, shown
 from .numbering import Numbers, number_ids, thing_of
 from .relations import Relations
 from .slots import SLOTS, Column
 from .tables import Choices, Entry, Exports, Table, read_folder
-from .writing import csv_bytes, write_folder
+from .writing import csv_bytes, say, write_folder
 
 DONE, FAULTY, BAD_WORDS, NOT_WRITTEN = range(4)
+STOPPED = 130
 TABLE_BACK = "ids.csv"
 
 
@@ -72,12 +73,12 @@ def summary(exports: Exports, numbers: Numbers, folder: Path) -> str:
         table = exports.tables[slot.name]
         source = table.export
         dialect = f"{source.encoding}, {SEPARATORS[source.separator]}"
-        lines.append(f"{slot.file}: {len(table.entries)} rows of {source.file} ({dialect})")
+        lines.append(f"{slot.file}: {len(table.entries)} rows of {shown(source.file)} ({dialect})")
     for thing, ids in numbers.numbered.items():
         if ids:
             lines.append(f"{TABLE_BACK}: {len(ids)} ids of {thing.plural} numbered, from {numbers.of(thing, ids[0])}")
-    lines += [f"not read: {name}" for name in exports.passed_over]
-    return "\n".join([*lines, f"The dossier is in {folder}."])
+    lines += [f"not read: {shown(name)}" for name in exports.passed_over]
+    return "\n".join([*lines, f"The dossier is in {shown(str(folder))}."])
 
 
 def prepare(source: Path, folder: Path, choices: Choices) -> int:
@@ -90,7 +91,7 @@ def prepare(source: Path, folder: Path, choices: Choices) -> int:
         print(faults.told(files), file=sys.stderr)
         return FAULTY
     write_folder(folder, slot_files(exports, numbers))
-    print(summary(exports, numbers, folder), flush=True)
+    say("prepare", summary(exports, numbers, folder))
     return DONE
 
 
@@ -107,3 +108,6 @@ def main(arguments: list[str]) -> int:
     except OSError as error:
         print(f"prepare: {error.filename or given.folder}: {error.strerror}; nothing is written.", file=sys.stderr)
         return NOT_WRITTEN
+    except KeyboardInterrupt:
+        print("prepare: stopped; nothing is written.", file=sys.stderr)
+        return STOPPED

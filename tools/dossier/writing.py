@@ -4,6 +4,7 @@ import csv
 import io
 import os
 import shutil
+import sys
 import tempfile
 from collections.abc import Iterable, Mapping
 from pathlib import Path
@@ -41,7 +42,7 @@ def replace_file(path: Path, data: bytes) -> None:
     try:
         write_file(fresh, data)
         os.replace(fresh, path)
-    except OSError:
+    except BaseException:
         fresh.unlink(missing_ok=True)
         raise
     settle(path.parent)
@@ -56,7 +57,16 @@ def write_folder(folder: Path, files: Mapping[str, bytes]) -> None:
             write_file(fresh / name, data)
         settle(fresh)
         os.rename(fresh, folder)
-    except OSError:
+    except BaseException:
         shutil.rmtree(fresh, ignore_errors=True)
         raise
     settle(folder.parent)
+
+
+def say(tool: str, text: str) -> None:
+    """Says on standard output what was done. It is done even where this cannot be said."""
+    try:
+        print(text, flush=True)
+    except OSError as error:
+        os.dup2(os.open(os.devnull, os.O_WRONLY), sys.stdout.fileno())
+        print(f"{tool}: it is done, but standard output cannot be written ({error.strerror}).", file=sys.stderr)
