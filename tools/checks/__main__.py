@@ -19,13 +19,15 @@ def topics(program: str) -> dict[str, list[Checks]]:
     """All checks by topic."""
     return {
         "stored": [stored.check_prepare, stored.check_leave_out, stored.check_encodings, stored.check_ids,
-                   stored.check_next_day, partial(stored.check_in_words, program=program), partial(stored.check_sample, program=program)],
+                   stored.check_next_day, partial(stored.check_in_words, program=program),
+                   partial(stored.check_sample, program=program)],
         "hostile": [hostile.check_words, hostile.check_folders, hostile.check_broken_dossiers, hostile.check_lines,
                     hostile.check_full_disk, hostile.check_killed],
         "script": [script.check_script],
         "exporting": [exporting.check_round_trips, partial(exporting.check_acceptance, program=program)],
         "days": [partial(days.check_seven_days, program=program), days.check_answers_that_do_not_fit,
-                 days.check_stopped_days, days.check_changes_after_a_stop, days.check_killed_while_running, days.check_full_disk],
+                 days.check_stopped_days, days.check_changes_after_a_stop, days.check_killed_while_running,
+                 days.check_full_disk],
     }
 
 

@@ -22,6 +22,7 @@ from .harness import EXAMPLES, TOOLS, Tally, contents, run, scratch
 DAYS = 7
 CAMPAIGNS = 12
 SEED = 777
+FITTING = {"offered": ("accept", "refuse", "quit"), "waiting": ("withdraw", "quit"), "accepted": ("refuse", "quit")}
 
 
 def replayed(program: str, folder: Path, days: int, term: int | None) -> tuple[int, bytes]:
@@ -54,7 +55,7 @@ def fitting(random: Random, dossier: Dossier, state: bytes, day: int, term: int 
         wish, status, *since = line.split(",")
         lapses = term is not None and status == "offered" and \
             date.fromisoformat(since[0]) + timedelta(days=term) < FIRST_DAY + timedelta(days=day - 1)
-        kinds = {"offered": ("accept", "refuse", "quit"), "waiting": ("withdraw", "quit"), "accepted": ("refuse", "quit")}.get(status)
+        kinds = FITTING.get(status)
         if kinds and not lapses and candidates[int(wish)] not in answers:
             kind = random.choice(kinds)
             candidate = candidates[int(wish)]
@@ -75,8 +76,9 @@ def check_seven_days(tally: Tally, program: str) -> None:
             asked = Calendar(1, FIRST_DAY if term is not None else None, term)
             for day in range(DAYS):
                 next_day(folder, asked if day == 0 else Calendar())
-            tally.equal(f"campaign {number}, term {term}: the final state", (folder / "state.csv").read_bytes(), final_state(text))
-            tally.equal(f"campaign {number}, term {term}: the days told", days_told(folder), text.partition(b"\nfinal\n")[0] + b"\n")
+            name = f"campaign {number}, term {term}"
+            tally.equal(f"{name}: the final state", (folder / "state.csv").read_bytes(), final_state(text))
+            tally.equal(f"{name}: the days told", days_told(folder), text.partition(b"final\n")[0])
 
 
 def days_told(folder: Path) -> bytes:
@@ -110,7 +112,7 @@ def stopped_at(moment: int, action: Callable[[], object]) -> bool:
 
 
 def _end_at(moment: int, action: Callable[[], object]) -> None:
-    """Each step is a file that is opened or half written, a name that is made, changed or taken away, or a program that is run."""
+    """Steps are: a file is opened, or half written; a name is made, changed or taken away; a program is run."""
     steps = 0
 
     def step() -> None:
@@ -208,7 +210,8 @@ def check_killed_while_running(tally: Tally) -> None:
         slow = place / "slow"
         slow.write_text("#!/bin/sh\necho half\nexec sleep 20\n")
         slow.chmod(0o755)
-        call = subprocess.Popen([TOOLS / "next_day", folder], env={**os.environ, "PARCOURS": str(slow)}, start_new_session=True)
+        environment = {**os.environ, "PARCOURS": str(slow)}
+        call = subprocess.Popen([TOOLS / "next_day", folder], env=environment, start_new_session=True)
         while not list(folder.glob("days/.day-*/report.txt")):
             time.sleep(0.05)
         second = run(TOOLS / "next_day", folder)
@@ -230,7 +233,8 @@ def check_full_disk(tally: Tally) -> None:
             folder = place / "dossier"
             shutil.copytree(start, folder)
             ended = run(TOOLS / "next_day", folder, greatest_file=room)
-            tally.check(f"room {room}: refused with a message", ended.status != 0 and "Traceback" not in ended.complaint, ended)
+            is_told = ended.complaint != "" and "Traceback" not in ended.complaint
+            tally.check(f"room {room}: refused with a message", ended.status != 0 and is_told, ended)
             tally.equal(f"room {room}: nothing has changed", contents(folder), before)
             tally.equal(f"room {room}: with room the day is made", run(TOOLS / "next_day", folder).status, 0)
             shutil.rmtree(folder)

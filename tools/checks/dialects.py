@@ -19,11 +19,13 @@ FRENCH_HEADERS = {
     "kind": "Réponse", "target": "Vœu ou candidat",
 }
 FRENCH_WORDS = {
-    "waiting": "en attente", "offered": "Proposition", "accepted": "Accepté", "refused": "refusé", "withdrawn": "retiré",
+    "waiting": "en attente", "offered": "Proposition", "accepted": "Accepté", "refused": "refusé",
+    "withdrawn": "retiré",
     "quit": "démission", "auto_refused": "refusé automatiquement", "auto_withdrawn": "Retiré automatiquement",
     "lapsed": "caduc", "accept": "Accepter", "refuse": "refuser", "withdraw": "retirer",
 }
-BEGINNINGS = {Thing.GROUP: "Groupe ", Thing.PROGRAMME: "BTS-", Thing.SCHOOL: "Été ", Thing.CANDIDATE: "E", Thing.WISH: "vœu n"}
+BEGINNINGS = {Thing.GROUP: "Groupe ", Thing.PROGRAMME: "BTS-", Thing.SCHOOL: "Été ", Thing.CANDIDATE: "E",
+              Thing.WISH: "vœu n"}
 
 
 @dataclass(frozen=True)
@@ -33,16 +35,16 @@ class Dialect:
     name: str
     separator: str
     codec: str
-    mark: bytes
-    line_end: str
-    is_french: bool
     flags: tuple[str, str]
-    thousands: str
-    tail: str
-    quotes_all: bool
-    is_day_first: bool
-    ending: str
+    mark: bytes = b""
     first_line: str = ""
+    line_end: str = "\n"
+    is_french: bool = False
+    thousands: str = ""
+    tail: str = ""
+    quotes_all: bool = False
+    is_day_first: bool = False
+    ending: str = ".csv"
 
     def number(self, value: int) -> str:
         return f"{value:,}".replace(",", self.thousands) + self.tail
@@ -52,12 +54,18 @@ class Dialect:
         return f"{day}/{month}/{year}" if self.is_day_first else text
 
 
-DIALECTS = (
-    Dialect("French Excel", ";", "cp1252", b"", "\r\n", True, ("FAUX", "VRAI"), "\u00a0", "", False, True, ".csv", "sep=;\r\n"),
-    Dialect("Unicode text", "\t", "utf-16-le", b"\xff\xfe", "\r\n", False, ("FALSE", "TRUE"), "", "", False, False, ".txt"),
-    Dialect("LibreOffice", ",", "utf-8", b"", "\n", False, ("no", "yes"), " ", "", True, False, ".CSV"),
-    Dialect("French Numbers", ";", "utf-8", b"\xef\xbb\xbf", "\n", True, ("NON", "OUI"), "\u202f", ",0", False, True, ".csv"),
-)
+FRENCH_EXCEL = Dialect(
+    "French Excel", separator=";", codec="cp1252", line_end="\r\n", first_line="sep=;\r\n", is_french=True,
+    flags=("FAUX", "VRAI"), thousands="\u00a0", is_day_first=True)
+UNICODE_TEXT = Dialect(
+    "Unicode text", separator="\t", codec="utf-16-le", mark=b"\xff\xfe", line_end="\r\n", flags=("FALSE", "TRUE"),
+    ending=".txt")
+LIBRE_OFFICE = Dialect(
+    "LibreOffice", separator=",", codec="utf-8", flags=("no", "yes"), thousands=" ", quotes_all=True, ending=".CSV")
+FRENCH_NUMBERS = Dialect(
+    "French Numbers", separator=";", codec="utf-8", mark=b"\xef\xbb\xbf", is_french=True, flags=("NON", "OUI"),
+    thousands="\u202f", tail=",0", is_day_first=True)
+DIALECTS = (FRENCH_EXCEL, UNICODE_TEXT, LIBRE_OFFICE, FRENCH_NUMBERS)
 
 Namer = Callable[[Thing, int], str]
 

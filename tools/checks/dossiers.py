@@ -28,7 +28,8 @@ class Dossier:
     with_optional: set[str] = field(default_factory=set)
 
     def slot_bytes(self, slot: Slot) -> bytes:
-        return csv_bytes(self.header(slot), [["" if cell is None else cell for cell in row] for row in self.rows[slot.name]])
+        rows = ([("" if cell is None else cell) for cell in row] for row in self.rows[slot.name])
+        return csv_bytes(self.header(slot), rows)
 
     def write(self, folder: Path) -> None:
         folder.mkdir()
@@ -58,7 +59,8 @@ def random_dossier(random: Random) -> Dossier:
     rows["schools"] = [(school, random.randint(0, 2), random.choice((0, 3, 1500, 2_000_000_000))) for school in schools]
     rows["rankings"] = [(group, candidate, rank, random.randint(0, 1), random.randint(0, 1))
                         for group in groups for candidate, rank in ranks(random, candidates)]
-    rows["boarding"] = [(school, candidate, rank) for school in schools for candidate, rank in ranks(random, candidates)]
+    rows["boarding"] = [(school, candidate, rank)
+                        for school in schools for candidate, rank in ranks(random, candidates)]
     rows["wishes"] = random_wishes(random, candidates, list(programmes), schools)
     add_state(random, dossier)
     days = sorted(random.randint(1, 8) for _ in range(3))

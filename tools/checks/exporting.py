@@ -46,7 +46,8 @@ def named_back(folder: Path) -> dict[str, bytes]:
         with open(folder / slot.file, newline="", encoding="utf-8") as file:
             header, *rows = csv.reader(file)
         columns = [slot.column(name) for name in header]
-        back = [[name_of(names, thing_at(column, tuple(row)), cell) for column, cell in zip(columns, row)] for row in rows]
+        back = [[name_of(names, thing_at(column, tuple(row)), cell) for column, cell in zip(columns, row)]
+                for row in rows]
         files[slot.file] = csv_bytes(header, back)
     return files
 
@@ -64,7 +65,8 @@ def named_dossier(dossier: Dossier, namer: Namer) -> dict[str, bytes]:
     for slot in SLOTS:
         header = dossier.header(slot)
         columns = [slot.column(name) for name in header]
-        rows = [[cell_of(thing_at(column, row), cell) for column, cell in zip(columns, row)] for row in dossier.rows[slot.name]]
+        rows = [[cell_of(thing_at(column, row), cell) for column, cell in zip(columns, row)]
+                for row in dossier.rows[slot.name]]
         files[slot.file] = csv_bytes(header, [["" if cell is None else cell for cell in row] for row in rows])
     return files
 
@@ -106,8 +108,8 @@ def check_acceptance(tally: Tally, program: str) -> None:
             status, _, complained = prepare(folder / "slots", folder / "prepared")
             ended = run(program, "replay", folder=folder / "slots")
             refused = ended.output.decode()[:80] if ended.status == 1 else "accepted"
-            tally.check(f"dossier {number}, {change}", (status == preparing.FAULTY) == (ended.status == 1) and ended.status < 2,
-                        f"the program: {refused}\n{complained}")
+            is_alike = ended.status < 2 and (status == preparing.FAULTY) == (ended.status == 1)
+            tally.check(f"dossier {number}, {change}", is_alike, f"the program: {refused}\n{complained}")
 
 
 def changed(random: Random, dossier: Dossier) -> str:

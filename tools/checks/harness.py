@@ -87,6 +87,6 @@ def scratch() -> Iterator[Path]:
 
 def contents(folder: Path) -> dict[str, bytes]:
     """All files below a folder, but hidden ones and those below hidden folders."""
-    paths = (path for path in sorted(folder.rglob("*")) if path.is_file())
-    named = {str(path.relative_to(folder)): path for path in paths}
-    return {name: path.read_bytes() for name, path in named.items() if not any(part.startswith(".") for part in Path(name).parts)}
+    named = {path.relative_to(folder): path for path in sorted(folder.rglob("*")) if path.is_file()}
+    return {str(name): path.read_bytes() for name, path in named.items()
+            if not any(part.startswith(".") for part in name.parts)}

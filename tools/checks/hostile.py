@@ -17,6 +17,20 @@ BLANK = EXAMPLES / "blank"
 FULL_DEVICE = Path("/dev/full")
 
 
+BAD_NUMBERS = ("abc", "1 000", "0", "1000001", "-5", "1e3", "", "12.0", "99999999999999999999")
+BAD_WORDS = (
+    ("prepare",), ("prepare", "one"), ("prepare", "a", "b", "c"), ("prepare", "a", "b", "--dates", "year-first"),
+    ("prepare", "a", "b", "--date", "day-first"),
+    ("next_day",), ("next_day", "a", "b"), ("next_day", "a", "--start", "2026-06-02"), ("next_day", "a", "--term", "1"),
+    *(("next_day", "a", "--start", date, "--term", "1") for date in ("2026-02-30", "20260602", "1900-06-02", "soon")),
+    *(("next_day", "a", "--start", "2026-06-02", "--term", term) for term in ("367", "-1", "")),
+    ("in_words", "de"), ("in_words", "en", "fr"), ("in_words", "--help"),
+    ("write_sample.sh",), ("write_sample.sh", "5"), ("write_sample.sh", "5", "x", "2", "y"),
+    *(("write_sample.sh", number, "x") for number in BAD_NUMBERS),
+    ("write_sample.sh", "5", "x", "many"), ("write_sample.sh", "5", "x", "-1"),
+)
+
+
 def refused(tally: Tally, name: str, ended: Ended, status: int) -> None:
     """The tool ended with the status, and with a message and no trace of its own."""
     told = ended.complaint.strip() != "" and "Traceback" not in ended.complaint
@@ -25,18 +39,7 @@ def refused(tally: Tally, name: str, ended: Ended, status: int) -> None:
 
 def check_words(tally: Tally) -> None:
     tally.begin("words that a tool does not know")
-    for tool, words in (
-        ("prepare", ()), ("prepare", ("one",)), ("prepare", ("a", "b", "c")), ("prepare", ("a", "b", "--dates", "year-first")),
-        ("prepare", ("a", "b", "--date", "day-first")),
-        ("next_day", ()), ("next_day", ("a", "b")), ("next_day", ("a", "--start", "2026-06-02")), ("next_day", ("a", "--term", "1")),
-        ("next_day", ("a", "--start", "2026-02-30", "--term", "1")), ("next_day", ("a", "--start", "20260602", "--term", "1")),
-        ("next_day", ("a", "--start", "1900-06-02", "--term", "1")), ("next_day", ("a", "--start", "2026-06-02", "--term", "367")),
-        ("next_day", ("a", "--start", "2026-06-02", "--term", "-1")),
-        ("in_words", ("de",)), ("in_words", ("en", "fr")), ("in_words", ("--help",)),
-        ("write_sample.sh", ()), ("write_sample.sh", ("5",)), ("write_sample.sh", ("5", "x", "2", "y")),
-        *(("write_sample.sh", (number, "x")) for number in ("abc", "1 000", "0", "1000001", "-5", "1e3", "", "12.0", "99999999999999999999")),
-        ("write_sample.sh", ("5", "x", "many")), ("write_sample.sh", ("5", "x", "-1")),
-    ):
+    for tool, *words in BAD_WORDS:
         with scratch() as folder:
             refused(tally, f"{tool} {' '.join(words)}", run(TOOLS / tool, *words, folder=folder), 2)
             tally.equal(f"{tool} {' '.join(words)}: nothing is written", list(folder.iterdir()), [])
@@ -54,7 +57,7 @@ def check_folders(tally: Tally) -> None:
         refused(tally, "prepare: the new folder is taken", run(prepare, BLANK, "taken", folder=folder), 3)
         refused(tally, "prepare: a file is in its place", run(prepare, BLANK, "file", folder=folder), 3)
         refused(tally, "prepare: its parent is missing", run(prepare, BLANK, "none/new", folder=folder), 3)
-        refused(tally, "prepare: an empty folder of exports", run(prepare, make(folder / "empty"), "new", folder=folder), 1)
+        refused(tally, "prepare: no export", run(prepare, make(folder / "empty"), "new", folder=folder), 1)
         refused(tally, "next_day: no folder", run(next_day, "none", folder=folder), 3)
         refused(tally, "next_day: a file", run(next_day, "file", folder=folder), 3)
         refused(tally, "next_day: no slots", run(next_day, make(folder / "no slots"), folder=folder), 3)
@@ -72,8 +75,9 @@ def make(folder: Path) -> Path:
 
 def check_broken_dossiers(tally: Tally) -> None:
     tally.begin("next_day, dossiers that are not as the tool left them")
-    for name, text in (("campaign.csv", "day,date,term\nsoon,,\n"), ("campaign.csv", ""), ("campaign.csv", "day,date,term\n2,2026-06-02,\n"),
-                       ("state.csv", "wish;status\n"), ("groups.csv", ""), ("answers.csv", "day,kind,target\n1,accept\n")):
+    for name, text in (("campaign.csv", "day,date,term\nsoon,,\n"), ("campaign.csv", ""),
+                       ("campaign.csv", "day,date,term\n2,2026-06-02,\n"), ("state.csv", "wish;status\n"),
+                       ("groups.csv", ""), ("answers.csv", "day,kind,target\n1,accept\n")):
         with scratch() as place:
             folder = place / "dossier"
             shutil.copytree(BLANK, folder)
@@ -93,7 +97,9 @@ def check_lines(tally: Tally) -> None:
     tally.begin("in_words, what is no line of explain")
     lines = [f"{line}\n".encode() for line in (DATA / "no_lines.txt").read_text().split("\n")[:-1]]
     line = b"wish 7 gone quit day 2 pass 0"
-    for given in (*lines, b"", b"\n", line, line[:-9], line + b"\n" + line + b"\n", line + b"\n\n", b"\xff\xfe\n", line * 1000, b"\0" * 2000):
+    odd = (b"", b"\n", line, line[:-9], line + b"\n" + line + b"\n", line + b"\n\n", b"\xff\xfe\n", line * 1000,
+           b"\0" * 2000)
+    for given in (*lines, *odd):
         refused(tally, repr(given[:60]), run(TOOLS / "in_words", given=given), 1)
     tally.equal("a line that came through another system", run(TOOLS / "in_words", given=line + b"\r\n").status, 0)
 
@@ -133,13 +139,15 @@ def check_output_full(tally: Tally, full: int) -> None:
 def check_small_disk(tally: Tally) -> None:
     """The same on a disk that is truly small."""
     def on_small_disk(folder: Path, size: int, *words: str | Path) -> Ended:
-        script = f'mount -t tmpfs -o size={size}k none "$1" && cp -r "$2" "$1/slots" && cd "$1" && shift 2 && "$@"; status=$?; ls -a; exit $status'
+        script = f'mount -t tmpfs -o size={size}k none "$1" && cp -r "$2" "$1/slots" && cd "$1" && shift 2 && "$@"'
         return run("unshare", "-rm", "sh", "-c", script, "sh", folder, EXAMPLES / "lycee/slots", *words)
 
     with scratch() as folder:
-        for tool, words in (("prepare", (EXAMPLES / "lycee/exports", "new", "--dates", "day-first")), ("write_sample.sh", ("9000", "new"))):
-            ended = on_small_disk(folder, 60, TOOLS / tool, *words)
-            refused(tally, f"{tool} on a small disk", ended, 3 if tool == "prepare" else 1)
+        exports = EXAMPLES / "lycee/exports"
+        ended = on_small_disk(folder, 60, TOOLS / "prepare", exports, "new", "--dates", "day-first")
+        refused(tally, "prepare on a small disk", ended, 3)
+        ended = on_small_disk(folder, 60, TOOLS / "write_sample.sh", "9000", "new")
+        refused(tally, "write_sample.sh on a small disk", ended, 1)
         ended = on_small_disk(folder, 48, TOOLS / "next_day", "slots")
         tally.check("next_day on a small disk", ended.status in (3, 4) and "nothing is" in ended.complaint, ended)
 
@@ -167,8 +175,8 @@ def check_stops(tally: Tally, slots: Path, prepare: Callable[[], None]) -> None:
     """Stopped at any step, the folder is not there, or whole."""
     moment = 1
     while stopped_at(moment, prepare):
-        there = slots.exists()
-        tally.check(f"prepare, stopped at step {moment}", not there or contents(slots) == contents(EXAMPLES / "lycee/slots"))
+        is_whole = slots.exists() and contents(slots) == contents(EXAMPLES / "lycee/slots")
+        tally.check(f"prepare, stopped at step {moment}", is_whole or not slots.exists())
         shutil.rmtree(slots, ignore_errors=True)
         moment += 1
     tally.check("prepare: it has many steps", moment > 10, moment)

@@ -58,7 +58,8 @@ def check_statuses(tally: Tally, script: Path) -> None:
     for status, sentence in ((0, ""), (1, ""), (2, ""), (4, "cut"), (5, "memory ran out"), (6, ""), (7, "")):
         ended = call(script, "status", str(status))
         tally.equal(f"status {status} comes back", (ended.status, ended.output), (status, b"[status][%d]" % status))
-        tally.check(f"status {status} is told", sentence in ended.complaint and bool(sentence) == bool(ended.complaint), ended)
+        is_told = sentence in ended.complaint and bool(sentence) == bool(ended.complaint)
+        tally.check(f"status {status} is told", is_told, ended)
     ended = call(script, "killed")
     tally.check("killed", ended.status == 137 and "killed" in ended.complaint, ended)
     tally.equal("it was built once", (script.parent / "built").read_text().split(), ["built"])
@@ -142,5 +143,6 @@ def check_script(tally: Tally) -> None:
     with scratch() as folder:
         script = make_tree(folder)
         call(script, "hello")
-        for checks in (check_statuses, check_unreadable, check_small_tools, check_help, check_long_runs, check_changed_sources):
+        for checks in (check_statuses, check_unreadable, check_small_tools, check_help, check_long_runs,
+                       check_changed_sources):
             tally.run(lambda: checks(tally, script))

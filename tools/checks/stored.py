@@ -20,7 +20,8 @@ def check_prepare(tally: Tally) -> None:
         tally.equal("lycee: slots", contents(folder / "dossier"), contents(LYCEE / "slots"))
         tally.equal("lycee: what is said", ended.output, (LYCEE / "prepared.txt").read_bytes())
         ended = run(TOOLS / "prepare", LYCEE / "exports", "other", folder=folder)
-        tally.check("lycee: a date with two readings", ended.status == 1 and ended.complaint.endswith("1 fault; nothing is written.\n"), ended)
+        is_one = ended.status == 1 and ended.complaint.endswith("\n1 fault; nothing is written.\n")
+        tally.check("lycee: a date with two readings", is_one, ended)
         ended = run(TOOLS / "prepare", EXAMPLES / "blank", "blank", folder=folder)
         tally.check("blank", ended.status == 0 and contents(folder / "blank") == contents(EXAMPLES / "blank"), ended)
         for name in ("faulty", "headers"):
@@ -37,11 +38,12 @@ def check_leave_out(tally: Tally) -> None:
         header, *rows = rankings.read_text().splitlines()
         rankings.write_text("\n".join([f"Last name,{header}", *(f"Dupont,{row}" for row in rows)]))
         refused = run(TOOLS / "prepare", "exports", "slots", folder=folder)
-        tally.check("it is not passed over silently", refused.status == 1 and 'say --leave-out "Last name"' in refused.complaint, refused)
+        is_told = refused.status == 1 and 'say --leave-out "Last name"' in refused.complaint
+        tally.check("it is not passed over silently", is_told, refused)
         taken = run(TOOLS / "prepare", "exports", "slots", "--leave-out", "last name", folder=folder)
         tally.equal("status", taken.status, 0)
-        slots = contents(EXAMPLES / "two-days")
-        tally.equal("the slots", contents(folder / "slots"), {name: slots[name] for name in slots if name.endswith(".csv")})
+        expected = {name: data for name, data in contents(EXAMPLES / "two-days").items() if name.endswith(".csv")}
+        tally.equal("the slots", contents(folder / "slots"), expected)
 
 
 def check_next_day(tally: Tally) -> None:
@@ -51,7 +53,8 @@ def check_next_day(tally: Tally) -> None:
         shutil.copytree(LYCEE / "slots", folder)
         for day in (1, 2, 3):
             ended = run(TOOLS / "next_day", folder, *(DATED if day == 1 else ()))
-            tally.check(f"lycee: day {day} is made", ended.status == 0 and ended.output.startswith(b"day %d " % day), ended)
+            is_made = ended.status == 0 and ended.output.startswith(b"day %d " % day)
+            tally.check(f"lycee: day {day} is made", is_made, ended)
             report = folder / f"days/day-00{day}/report.txt"
             tally.equal(f"lycee: the report of day {day}", report.read_bytes(), (LYCEE / f"day-{day}.txt").read_bytes())
         tally.equal("lycee: the state", (folder / "state.csv").read_bytes(), (LYCEE / "state-after.csv").read_bytes())
@@ -106,7 +109,8 @@ def check_sample(tally: Tally, program: str) -> None:
     tally.begin("write_sample.sh, stored examples")
     with scratch() as folder:
         ended = run(TOOLS / "write_sample.sh", "5", "small", "2", folder=folder)
-        tally.check("five candidates", ended.status == 0 and contents(folder / "small") == contents(DATA / "sample-5"), ended)
+        tally.equal("five candidates: status", ended.status, 0)
+        tally.equal("five candidates", contents(folder / "small"), contents(DATA / "sample-5"))
         (folder / "new").mkdir()
         ended = run(TOOLS / "write_sample.sh", "1200", "new", folder=folder)
         tally.check("an empty folder is taken", ended.status == 0 and len(contents(folder / "new")) == 9, ended)
@@ -129,12 +133,13 @@ def check_encodings(tally: Tally) -> None:
     """One sheet in each encoding gives the same slot; two encodings that may both be meant are a fault."""
     tally.begin("prepare, encodings")
     text = "Vœu;Candidat;Formation;Internat;Préférence\r\nA1;102;10;;1\r\n"
-    for codec, mark in (("utf-8", b""), ("utf-8", b"\xef\xbb\xbf"), ("utf-16-le", b"\xff\xfe"), ("utf-16-be", b"\xfe\xff"),
-                        ("utf-16-be", b""), ("cp1252", b""), ("mac-roman", b"")):
+    for codec, mark in (("utf-8", b""), ("utf-8", b"\xef\xbb\xbf"), ("utf-16-le", b"\xff\xfe"),
+                        ("utf-16-be", b"\xfe\xff"), ("utf-16-be", b""), ("cp1252", b""), ("mac-roman", b"")):
         slots = prepared_wishes(mark + text.encode(codec))
         tally.equal(f"{codec}, mark {mark!r}", slots, b"wish,candidate,programme,school,preference\n1,102,10,,1\n")
     for name, data in (("bytes of no encoding", b"wish;candidate\x81\x8d;programme;school;preference\n"),
-                       ("UTF-8 by its mark alone", b"\xef\xbb\xbfV\xe9u;Candidat\n"), ("UTF-16 cut in two", text.encode("utf-16")[:-1])):
+                       ("UTF-8 by its mark alone", b"\xef\xbb\xbfV\xe9u;Candidat\n"),
+                       ("UTF-16 cut in two", text.encode("utf-16")[:-1])):
         tally.equal(name, prepared_wishes(data), None)
 
 
@@ -154,9 +159,11 @@ def check_ids(tally: Tally) -> None:
     """How ids are numbered, and which of them are a fault."""
     tally.begin("prepare, ids")
     for ids, expected in (
-        ("A;B", {"A": "1", "B": "2"}), ("7;B", {"B": "8"}), ("12345678901;012345678902", {"12345678901": "1", "012345678902": "2"}),
+        ("A;B", {"A": "1", "B": "2"}), ("7;B", {"B": "8"}),
+        ("12345678901;012345678902", {"12345678901": "1", "012345678902": "2"}),
         ("1-MPSI;12-BTS", {"1-MPSI": "1", "12-BTS": "2"}), ("1 000;12,0", None), ("Été;Ete", "may be one or two"),
-        ("7;07", "may be one or two"), ("a;A", "may be one or two"), ("1,5E+08;2", "lost digits"), ("3-mars;4", "became a date"),
+        ("7;07", "may be one or two"), ("a;A", "may be one or two"), ("1,5E+08;2", "lost digits"),
+        ("3-mars;4", "became a date"),
         ("2026-06-02;4", "became a date"), ("#N/A;4", "error of the spreadsheet"), ("1.000;4", "two readings"),
         ("0;4", "0 is no id"), ("-3;4", "not a whole number"), ("2000000000;B", "no numbers are left"),
     ):
