@@ -112,15 +112,15 @@ def check_sample(tally: Tally, program: str) -> None:
         tally.equal("five candidates: status", ended.status, 0)
         tally.equal("five candidates", contents(folder / "small"), contents(DATA / "sample-5"))
         (folder / "new").mkdir()
-        ended = run(TOOLS / "write_sample.sh", "1200", "new", folder=folder)
+        ended = run(TOOLS / "write_sample.sh", "2400", "new", folder=folder)
         tally.check("an empty folder is taken", ended.status == 0 and len(contents(folder / "new")) == 9, ended)
-        tally.equal("1200 candidates by the rule of samples", contents(folder / "new"), sample_slots(1200))
+        tally.equal("2400 candidates by the rule of samples", contents(folder / "new"), sample_slots(2400))
         check_same_summary(tally, program, folder / "new")
 
 
 def check_same_summary(tally: Tally, program: str, slots: Path) -> None:
     """The program sums up a sample as it runs the slots of the same one."""
-    summary = run(program, "sample", "--number", "1200").output.decode().split()
+    summary = run(program, "sample", "--number", "2400").output.decode().split()
     text = run(program, "replay", folder=slots).output.decode()
     state = text.partition("\nfinal\n")[2].splitlines()[1:]
     live = sum(row.endswith((",offered", ",accepted")) for row in state)
