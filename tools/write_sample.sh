@@ -2,17 +2,50 @@
 # Writes the nine slots of a made-up dossier with NUMBER candidates to the folder FOLDER.
 # The rows are those of the mode `sample`: 500 candidates a programme, up to three choices each.
 # An optional third word gives the answers of day 2: each candidate of that multiple quits.
-set -eu
-if [ $# -lt 2 ]; then
+# Status: 0 written, 1 not written, 2 bad words. The slots appear in the folder when all are whole.
+set -u
+slots="groups programmes schools rankings boarding wishes state ceilings answers"
+
+say() {
+    echo "write_sample.sh: $1" >&2
+}
+
+# Whether the text is a plain number from $2 to 1,000,000.
+is_number() {
+    case $1 in '' | *[!0-9]* | ????????*) return 1 ;; esac
+    [ "$1" -ge "$2" ] && [ "$1" -le 1000000 ]
+}
+
+not_written() {
+    say "$1"
+    exit 1
+}
+
+if [ $# -lt 2 ] || [ $# -gt 3 ]; then
     echo "usage: $0 NUMBER FOLDER [QUITS]" >&2
     exit 2
 fi
 number=$1
 folder=$2
-quits=${3:-0}
-mkdir -p "$folder"
-exec awk -v number="$number" -v folder="$folder" -v quits="$quits" '
-function slot(name, header) { path[name] = folder "/" name ".csv"; print header > path[name] }
+quits=${3-0}
+if ! is_number "$number" 1; then
+    say "'$number' is not a number of candidates from 1 to 1000000; write it with digits alone"
+    exit 2
+fi
+if ! is_number "$quits" 0; then
+    say "'$quits' is not a number from 0 to 1000000; each candidate of that multiple quits"
+    exit 2
+fi
+for slot in $slots; do
+    [ ! -e "$folder/$slot.csv" ] || not_written "$folder has slots already ($slot.csv); name another folder"
+done
+mkdir -p -- "$folder" || not_written "the folder $folder cannot be made"
+fresh=$folder/.sample.$$
+mkdir -- "$fresh" || not_written "the folder $folder cannot be written"
+trap 'rm -rf -- "$fresh"' EXIT
+trap 'exit 1' HUP INT TERM
+rows=$(cd -- "$fresh" && awk -v number="$number" -v quits="$quits" '
+function slot(name, header) { path[name] = name ".csv"; print header > path[name]; rows++ }
 function halved(x) { return int(x / 2) }
 function rank(candidate, multiplier) { return 1 + (candidate * multiplier) % 1073741824 }
 BEGIN {
@@ -27,14 +60,15 @@ BEGIN {
     slot("state", "wish,status")
     slot("ceilings", "day,school,ceiling")
     slot("answers", "day,kind,target")
+    rows += 2 * programmes + schools
     for (p = 1; p <= programmes; p++) {
         printf "%d,%d,%d\n", p, (7 * p) % 31, (11 * p) % 41 > path["groups"]
         printf "%d,%d,200\n", p, p > path["programmes"]
     }
     for (h = 1; h <= schools; h++) printf "%d,40,1073741824\n", h > path["schools"]
     choices = programmes < 3 ? programmes : 3
+    rows += 2 * number * choices
     for (c = 1; c <= number; c++) {
-        before = 0
         for (j = 0; j < choices; j++) {
             p = 1 + (c + j) % programmes
             h = 1 + halved(p - 1)
@@ -44,11 +78,25 @@ BEGIN {
             printf "%d,%d,%d,,%d\n", wish, c, p, ranked ? 2 * j + 2 : 0 > path["wishes"]
             if (c % 2 == 0) {
                 printf "%d,%d,%d,%d,%d\n", wish + 1, c, p, h, ranked ? 2 * j + 1 : 0 > path["wishes"]
+                rows++
                 seen = 0
                 for (i = 0; i < j; i++) if (1 + halved((c + i) % programmes) == h) seen = 1
-                if (!seen) printf "%d,%d,%d\n", h, c, rank(c, 2000001 + 2 * h) > path["boarding"]
+                if (!seen) {
+                    printf "%d,%d,%d\n", h, c, rank(c, 2000001 + 2 * h) > path["boarding"]
+                    rows++
+                }
             }
         }
-        if (quits > 0 && c % quits == 0) printf "2,quit,%d\n", c > path["answers"]
+        if (quits > 0 && c % quits == 0) {
+            printf "2,quit,%d\n", c > path["answers"]
+            rows++
+        }
     }
-}'
+    for (name in path) close(path[name])
+    printf "%d\n", rows
+}') && [ "$(cat -- "$fresh"/*.csv | wc -l)" -eq "$rows" ] ||
+    not_written "the slots could not be written to $folder; make room and call again"
+for slot in $slots; do
+    mv -- "$fresh/$slot.csv" "$folder/$slot.csv" ||
+        not_written "$slot.csv could not be moved to $folder; empty the folder and call again"
+done

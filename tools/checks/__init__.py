@@ -1,0 +1,1 @@
+"""The checks of the tools; `tools/check.sh` runs them."""

@@ -1,0 +1,64 @@
+"""Runs all checks, or those of the topics named; the last line says how many passed and failed."""
+
+import os
+import subprocess
+import sys
+import time
+from collections.abc import Callable
+from functools import partial
+
+from dossier.program import program
+
+from . import days, exporting, hostile, script, stored
+from .harness import EXAMPLES, Tally
+
+Checks = Callable[[Tally], None]
+
+
+def topics(program: str) -> dict[str, list[Checks]]:
+    """All checks by topic."""
+    return {
+        "stored": [stored.check_prepare, stored.check_leave_out, stored.check_encodings, stored.check_ids,
+                   stored.check_next_day, partial(stored.check_in_words, program=program),
+                   partial(stored.check_sample, program=program)],
+        "hostile": [hostile.check_words, hostile.check_folders, hostile.check_broken_dossiers, hostile.check_lines,
+                    hostile.check_full_disk, hostile.check_killed],
+        "script": [script.check_script],
+        "exporting": [exporting.check_round_trips, partial(exporting.check_acceptance, program=program)],
+        "days": [partial(days.check_seven_days, program=program), days.check_answers_that_do_not_fit,
+                 days.check_stopped_days, days.check_changes_after_a_stop, days.check_killed_while_running,
+                 days.check_full_disk],
+    }
+
+
+def is_there() -> bool:
+    """Whether the program runs; the script `parcours` may have to build it first."""
+    try:
+        done = subprocess.run([program(), "order"], cwd=EXAMPLES / "two-groups", stdout=subprocess.DEVNULL, check=False)
+    except OSError:
+        return False
+    return done.returncode == 0
+
+
+def main(named: list[str]) -> int:
+    os.environ["PARCOURS"] = program()
+    all_topics = topics(program())
+    if any(name not in all_topics for name in named):
+        print(f"usage: check.sh [{'|'.join(all_topics)}]..", file=sys.stderr)
+        return 2
+    if not is_there():
+        print(f"FAILED {program()} does not run\n0 passed, 1 failed")
+        return 1
+    # What these checks write need not outlast a power cut.
+    os.fsync = lambda _: None
+    tally = Tally()
+    begun = time.monotonic()
+    for name in named or all_topics:
+        for checks in all_topics[name]:
+            tally.run(partial(checks, tally))
+    print(f"in {time.monotonic() - begun:.0f} s")
+    print(f"{tally.passed} passed, {tally.failed} failed")
+    return 0 if tally.failed == 0 else 1
+
+
+sys.exit(main(sys.argv[1:]))

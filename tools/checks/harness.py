@@ -1,0 +1,92 @@
+"""What all checks share: counting, running a tool, and folders that vanish."""
+
+import os
+import resource
+import shutil
+import subprocess
+import tempfile
+import traceback
+from collections.abc import Callable, Iterator
+from contextlib import contextmanager
+from dataclasses import dataclass, field
+from pathlib import Path
+
+TOP = Path(__file__).resolve().parents[2]
+TOOLS = TOP / "tools"
+EXAMPLES = TOP / "examples"
+DATA = Path(__file__).resolve().parent / "data"
+LONGEST_RUN = 120
+LONGEST_SHOWN = 300
+
+
+@dataclass
+class Tally:
+    """How many checks passed, and how many failed."""
+
+    passed: int = 0
+    failed: int = 0
+    topic: str = field(default="", repr=False)
+
+    def begin(self, topic: str) -> None:
+        self.topic = topic
+        print(f"{topic} ..", flush=True)
+
+    def check(self, name: str, holds: bool, seen: object = "") -> None:
+        if holds:
+            self.passed += 1
+            return
+        self.failed += 1
+        print(f"FAILED {self.topic}: {name}\n{seen}".rstrip(), flush=True)
+
+    def equal(self, name: str, found: object, expected: object) -> None:
+        self.check(name, found == expected, f"  found    {shortened(found)}\n  expected {shortened(expected)}")
+
+    def run(self, checks: Callable[[], None]) -> None:
+        """Makes some checks; if they end with an error, that is one that failed."""
+        try:
+            checks()
+        except Exception:
+            self.check("it runs to its end", False, traceback.format_exc())
+
+
+def shortened(found: object) -> str:
+    text = repr(found)
+    return text if len(text) <= LONGEST_SHOWN else f"{text[:LONGEST_SHOWN]} .."
+
+
+@dataclass(frozen=True)
+class Ended:
+    """How a run of a tool ended."""
+
+    status: int
+    output: bytes
+    complaint: str
+
+
+def run(*words: str | Path, folder: Path = TOP, given: bytes = b"", environment: dict[str, str] | None = None,
+        greatest_file: int | None = None, output: int = subprocess.PIPE) -> Ended:
+    """Runs a command; with a greatest size of files as a disk that is full from there on."""
+    limit: Callable[[], None] | None = None
+    if greatest_file is not None:
+        def limit() -> None:
+            resource.setrlimit(resource.RLIMIT_FSIZE, (greatest_file, greatest_file))
+    done = subprocess.run([str(word) for word in words], cwd=folder, input=given, stdout=output, stderr=subprocess.PIPE,
+                          env={**os.environ, **(environment or {})}, preexec_fn=limit, timeout=LONGEST_RUN, check=False)
+    return Ended(done.returncode, done.stdout or b"", done.stderr.decode(errors="replace"))
+
+
+@contextmanager
+def scratch() -> Iterator[Path]:
+    """A folder for one check."""
+    folder = Path(tempfile.mkdtemp(prefix="parcours-check."))
+    try:
+        yield folder
+    finally:
+        shutil.rmtree(folder, ignore_errors=True)
+
+
+def contents(folder: Path) -> dict[str, bytes]:
+    """All files below a folder, but hidden ones and those below hidden folders."""
+    named = {path.relative_to(folder): path for path in sorted(folder.rglob("*")) if path.is_file()}
+    return {str(name): path.read_bytes() for name, path in named.items()
+            if not any(part.startswith(".") for part in name.parts)}

@@ -1,0 +1,148 @@
+"""The script `parcours`, in a tree of its own with a stand-in for the program and for its builder."""
+
+import os
+import pty
+import shutil
+import signal
+import subprocess
+import time
+from pathlib import Path
+
+from .harness import EXAMPLES, TOOLS, TOP, Ended, Tally, run, scratch
+
+STAND_IN = """#!/bin/sh
+case $1 in
+    built) exit 2 ;;
+    sleep) sleep "$2" ;;
+    killed) kill -9 $$ ;;
+    --help) echo "bad words"; exit 2 ;;
+esac
+printf '[%s]' "$@"
+[ "$1" != status ] || exit "$2"
+"""
+BUILDER = """#!/bin/sh
+echo built >> '{top}/built'
+mkdir -p '{top}/crates/parcours/out'
+cp '{top}/stand_in' '{top}/crates/parcours/out/parcours'
+"""
+SMALL_TOOLS = ("find", "sort", "xargs", "sha256sum", "cat", "readlink", "dirname", "sleep")
+
+
+def make_tree(folder: Path) -> Path:
+    """A repository with the script, one crate, and a builder that copies the stand-in; answers the script's path."""
+    top = folder / "tree"
+    for name in ("src", "specs", "proofs"):
+        (top / "crates/parcours" / name).mkdir(parents=True)
+        (top / "crates/parcours" / name / "main.rt").write_text("fn main() {}\n")
+    (top / "crates.txt").write_text("parcours\n")
+    (top / "tools").mkdir()
+    shutil.copy(TOOLS / "help.txt", top / "tools")
+    (top / "tools/prove.py").touch()
+    shutil.copy(TOP / "parcours", top)
+    (top / "bin").mkdir()
+    for path, text in ((top / "stand_in", STAND_IN), (top / "bin/rt", BUILDER.format(top=top))):
+        path.write_text(text)
+        path.chmod(0o755)
+    return top / "parcours"
+
+
+def call(script: Path, *words: str, folder: Path | None = None, path: str | None = None) -> Ended:
+    searched = path if path is not None else f"{script.parent / 'bin'}:{os.environ['PATH']}"
+    return run(script, *words, folder=folder or script.parent, environment={"PATH": searched})
+
+
+def check_statuses(tally: Tally, script: Path) -> None:
+    odd = ("a", "b  c", "", "*", "--days=2")
+    ended = call(script, *odd)
+    tally.equal("words go to the program as they are", ended.output.decode(), "".join(f"[{word}]" for word in odd))
+    for status, sentence in ((0, ""), (1, ""), (2, ""), (4, "cut"), (5, "memory ran out"), (6, ""), (7, "")):
+        ended = call(script, "status", str(status))
+        tally.equal(f"status {status} comes back", (ended.status, ended.output), (status, b"[status][%d]" % status))
+        is_told = sentence in ended.complaint and bool(sentence) == bool(ended.complaint)
+        tally.check(f"status {status} is told", is_told, ended)
+    ended = call(script, "killed")
+    tally.check("killed", ended.status == 137 and "killed" in ended.complaint, ended)
+    tally.equal("it was built once", (script.parent / "built").read_text().split(), ["built"])
+
+
+def check_unreadable(tally: Tally, script: Path) -> None:
+    with scratch() as place:
+        folder = place / "dossier"
+        shutil.copytree(EXAMPLES / "blank", folder)
+        (folder / "schools.csv").unlink()
+        ended = call(script, "status", "3", folder=folder)
+        tally.check("the slot that is missing is named", ended.status == 3 and "schools.csv" in ended.complaint, ended)
+        (folder / "groups.csv").unlink()
+        (folder / "groups.csv").mkdir()
+        ended = call(script, "status", "3", folder=folder)
+        tally.check("a folder in place of a slot", "groups.csv" in ended.complaint, ended)
+        (folder / "groups.csv").rmdir()
+        shutil.copy(EXAMPLES / "blank/groups.csv", folder)
+        (folder / "rankings.csv").unlink()
+        ended = call(script, "status", "3", "order", folder=folder)
+        tally.check("order reads two slots", "rankings.csv" in ended.complaint, ended)
+
+
+def check_small_tools(tally: Tally, script: Path) -> None:
+    for missing in SMALL_TOOLS:
+        with scratch() as tools:
+            for tool in ("sh", *SMALL_TOOLS):
+                if tool != missing:
+                    (tools / tool).symlink_to(str(shutil.which(tool)))
+            ended = call(script, "hello", path=str(tools))
+            known = missing == "sleep" and ended.complaint == ""
+            tally.check(f"without {missing}: told or not needed", known or missing in ended.complaint, ended)
+            tally.check(f"without {missing}: run, or not found", ended.status in (0, 125), ended)
+    tally.equal("nothing was built for it", (script.parent / "built").read_text().split(), ["built"])
+
+
+def check_help(tally: Tally, script: Path) -> None:
+    ended = call(script, "--help")
+    tally.equal("the program says bad words", (ended.status, ended.output), (2, b"bad words\n"))
+    tally.equal("the page", ended.complaint, (TOOLS / "help.txt").read_text())
+    program = script.parent / "crates/parcours/out/parcours"
+    hidden = program.rename(program.with_suffix(".away"))
+    ended = call(script, "--help")
+    tally.equal("before it is built, the page alone", (ended.status, ended.output), (2, b""))
+    hidden.rename(program)
+    tally.equal("nothing was built for it", (script.parent / "built").read_text().split(), ["built"])
+
+
+def check_long_runs(tally: Tally, script: Path) -> None:
+    """On a terminal a long run says so; elsewhere it is silent; a signal to the script ends the program."""
+    ours, theirs = pty.openpty()
+    environment = {**os.environ, "PATH": f"{script.parent / 'bin'}:{os.environ['PATH']}"}
+    with subprocess.Popen([script, "sleep", "6"], stdout=subprocess.PIPE, stderr=theirs, env=environment) as process:
+        os.close(theirs)
+        output = process.communicate()[0]
+    tally.equal("the output is as it was", output, b"[sleep][6]")
+    tally.equal("the terminal", os.read(ours, 1000), b"parcours: running for 5 s\r\n")
+    os.close(ours)
+    tally.equal("no terminal", call(script, "sleep", "6").complaint, "")
+    with subprocess.Popen([script, "sleep", "3"], stdout=subprocess.DEVNULL, env=environment) as process:
+        time.sleep(0.5)
+        process.send_signal(signal.SIGTERM)
+        begun = time.monotonic()
+        tally.equal("stopped", process.wait(), 143)
+        tally.check("at once", time.monotonic() - begun < 2)
+
+
+def check_changed_sources(tally: Tally, script: Path) -> None:
+    (script.parent / "crates/parcours/src/main.rt").write_text("fn main() { }\n")
+    ended = call(script, "hello")
+    tally.equal("changed sources are built", ended.status, 0)
+    tally.equal("once more", (script.parent / "built").read_text().split(), ["built"] * 2)
+    (script.parent / "crates/parcours/src/main.rt").write_text("fn main() {  }\n")
+    (script.parent / "stand_in").unlink()
+    ended = call(script, "hello")
+    tally.check("a program that cannot be built", ended.status == 125 and "not built" in ended.complaint, ended)
+
+
+def check_script(tally: Tally) -> None:
+    tally.begin("the script parcours")
+    with scratch() as folder:
+        script = make_tree(folder)
+        call(script, "hello")
+        for checks in (check_statuses, check_unreadable, check_small_tools, check_help, check_long_runs,
+                       check_changed_sources):
+            tally.run(lambda: checks(tally, script))

@@ -1,0 +1,204 @@
+"""One more day of a campaign that is kept in a folder.
+
+The nine slots of the folder are always those of the coming day, which the program runs as its day 1. A day's
+record is made in a folder of its own, `days/day-003`, which appears as a whole when the program has ended well: it
+holds the report, and the files that change as they were before and as they are after. Only then the files change,
+each through a temporary one, `campaign.csv` with the number of the coming day last. So a day that was stopped has
+either no record, and nothing has changed, or a whole one, from which the next call ends it.
+"""
+
+import csv
+import fcntl
+import os
+import re
+import shutil
+import tempfile
+from collections.abc import Iterator
+from contextlib import contextmanager
+from dataclasses import dataclass
+from pathlib import Path
+
+from . import program
+from .dating import Calendar, next_answers, next_ceilings
+from .faults import shown
+from .writing import replace_file, settle, write_file
+
+CALENDAR = "campaign.csv"
+CHANGING = ("state.csv", "answers.csv", "ceilings.csv")
+STAGING = ".day-"
+FINAL = b"final\n"
+REFUSAL = re.compile(rb"refused (?P<slot>[a-z]+) row (?P<row>[0-9]+) reason .*")
+
+
+class Stopped(Exception):
+    """Why the campaign does not go on, and the status to end with."""
+
+    def __init__(self, status: int, why: str):
+        super().__init__(why)
+        self.status = status
+
+
+Files = dict[str, bytes]
+
+
+@dataclass(frozen=True)
+class Record:
+    """A day as it is kept: its report, and the files that change, before and after."""
+
+    report: bytes
+    before: Files
+    after: Files
+
+
+def read_files(folder: Path) -> Files:
+    """The files that change from day to day, as they are; the calendar may not be there yet."""
+    files = {name: (folder / name).read_bytes() for name in CHANGING}
+    calendar = folder / CALENDAR
+    return files | ({CALENDAR: calendar.read_bytes()} if calendar.exists() else {})
+
+
+def calendar_of(files: Files, asked: Calendar) -> Calendar:
+    """The coming day: as kept, or the first one as the user asked for it."""
+    if CALENDAR not in files:
+        return asked
+    try:
+        kept = Calendar.from_bytes(files[CALENDAR])
+    except ValueError:
+        raise Stopped(program.READ_FAULT, f"{CALENDAR} is not as this tool wrote it; put the last one back, from the "
+                                          "folder `after` of the latest day.") from None
+    if asked.today and (asked.today, asked.term) != (kept.today, kept.term):
+        dated = f"its coming day is {kept.today} with a term of {kept.term}" if kept.today else "it has no deadlines"
+        raise Stopped(program.BAD_WORDS, f"the campaign has begun, and {dated}; leave --start and --term out.")
+    return kept
+
+
+@contextmanager
+def alone(folder: Path) -> Iterator[None]:
+    """Holds the folder, so that no other call runs a day in it."""
+    handle = os.open(folder, os.O_RDONLY)
+    try:
+        fcntl.flock(handle, fcntl.LOCK_EX | fcntl.LOCK_NB)
+        yield
+    except BlockingIOError:
+        raise Stopped(program.READ_FAULT, "another call runs a day in this folder; wait until it has ended.") from None
+    finally:
+        os.close(handle)
+
+
+def row_of(slot: Path, number: int) -> str:
+    """A row of a slot, counted as refusals count them."""
+    with open(slot, newline="", encoding="utf-8-sig", errors="replace") as file:
+        records = (cells for cells in csv.reader(file) if cells)
+        for place, cells in enumerate(records, start=1):
+            if place == number:
+                return shown(",".join(cells))
+    return ""
+
+
+def complaint(folder: Path, status: int, report: bytes) -> str:
+    """Why a day was not made: the program's own line, and the row that it names."""
+    lines = report.splitlines()
+    last = lines[-1] if lines and status in (program.REFUSED, program.BAD_WORDS, program.READ_FAULT) else b""
+    parts = [f"{program.meaning(status)} (status {status}); nothing is changed."]
+    if last:
+        parts.append(last.decode(errors="replace"))
+    if match := REFUSAL.fullmatch(last):
+        slot = folder / f"{match['slot'].decode()}.csv"
+        parts.append(f"{slot.name}, row {match['row'].decode()}: {row_of(slot, int(match['row']))}")
+        parts.append("What to do: correct this row (docs/FORMATS.md has the reasons), and call again.")
+    return "\n".join(parts)
+
+
+def run_day(folder: Path, calendar: Calendar, output: Path) -> bytes:
+    """Runs the coming day, and answers the program's text."""
+    with open(output, "wb") as file:
+        status = program.run(["replay", "--days", "1", *calendar.words()], folder, file)
+    report = output.read_bytes()
+    if status != program.DONE:
+        raise Stopped(status if 0 < status < 256 else program.WRITE_FAULT, complaint(folder, status, report))
+    return report
+
+
+def record_of(report: bytes, before: Files, calendar: Calendar) -> Record:
+    """The record of a day from the program's text: the state after `final`, all else dated anew."""
+    head, final, state = report.partition(b"\n" + FINAL)
+    if not final:
+        raise Stopped(program.WRITE_FAULT, "the program's text has no final state; nothing is changed.")
+    numbered = re.sub(rb"(?m)^day 1$", b"day %d" % calendar.day, head, count=1)
+    after = {
+        "state.csv": state,
+        "answers.csv": next_answers(before["answers.csv"]),
+        "ceilings.csv": next_ceilings(before["ceilings.csv"]),
+        CALENDAR: calendar.next().to_bytes(),
+    }
+    return Record(numbered + final + state, before, after)
+
+
+def write_record(folder: Path, record: Record) -> None:
+    write_file(folder / "report.txt", record.report)
+    for part, files in (("before", record.before), ("after", record.after)):
+        (folder / part).mkdir()
+        for name, data in files.items():
+            write_file(folder / part / name, data)
+        settle(folder / part)
+    settle(folder)
+
+
+def read_record(folder: Path) -> Record:
+    def part(name: str) -> Files:
+        return {path.name: path.read_bytes() for path in (folder / name).iterdir()}
+
+    return Record((folder / "report.txt").read_bytes(), part("before"), part("after"))
+
+
+def take_over(folder: Path, kept: Path, record: Record) -> None:
+    """Puts the files of after the day in the place of those of before it, the calendar last."""
+    now = read_files(folder)
+    changed = [name for name in CHANGING if now[name] not in (record.before[name], record.after[name])]
+    if changed:
+        raise Stopped(program.READ_FAULT, f"{', '.join(changed)}: changed since the day was stopped half way; put "
+                                          f"back what {kept / 'before'} has, call again, and then make the change.")
+    for name in (*CHANGING, CALENDAR):
+        if now.get(name) != record.after[name]:
+            replace_file(folder / name, record.after[name])
+
+
+def told(calendar: Calendar, report: bytes, kept: Path) -> str:
+    """A line on the day that is done."""
+    lines = report.splitlines()
+    offers, lapses = (sum(line.startswith(word) for line in lines) for word in (b"offer ", b"lapse "))
+    dated = f" ({calendar.today})" if calendar.today else ""
+    return f"day {calendar.day}{dated}: offers made {offers}, lapsed {lapses}; the report is {kept / 'report.txt'}"
+
+
+def next_day(folder: Path, asked: Calendar) -> str:
+    """Makes the coming day, or ends the one that was stopped half way; answers a line on it."""
+    with alone(folder):
+        files = read_files(folder)
+        calendar = calendar_of(files, asked)
+        days = folder / "days"
+        days.mkdir(exist_ok=True)
+        for stale in days.glob(f"{STAGING}*"):
+            shutil.rmtree(stale)
+        kept = days / f"day-{calendar.day:03}"
+        if not kept.exists():
+            make_record(folder, files, calendar, kept)
+        record = read_record(kept)
+        take_over(folder, kept, record)
+        return told(calendar, record.report, kept)
+
+
+def make_record(folder: Path, files: Files, calendar: Calendar, kept: Path) -> None:
+    """Runs the day, and puts its record in its place."""
+    staging = Path(tempfile.mkdtemp(prefix=STAGING, dir=kept.parent))
+    try:
+        staging.chmod(0o755)
+        report = run_day(folder, calendar, staging / "report.txt")
+        if read_files(folder) != files:
+            raise Stopped(program.READ_FAULT, "a file of the dossier changed while the day was run; the day is not "
+                                              "made, call again.")
+        write_record(staging, record_of(report, files, calendar))
+        os.rename(staging, kept)
+        settle(kept.parent)
+    finally:
+        shutil.rmtree(staging, ignore_errors=True)

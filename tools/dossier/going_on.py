@@ -1,0 +1,66 @@
+"""The words of `next_day`, and its messages."""
+
+import argparse
+import sys
+from datetime import date
+from pathlib import Path
+
+from . import program
+from .campaign import Stopped, next_day
+from .dating import Calendar
+from .writing import say
+
+FIRST_YEAR, LAST_YEAR = 1901, 2298
+LONGEST_TERM = 366
+
+
+def start_date(text: str) -> date:
+    found = date.fromisoformat(text)
+    if len(text) != 10 or text[4] != "-" or not FIRST_YEAR <= found.year <= LAST_YEAR:
+        raise ValueError(text)
+    return found
+
+
+def term_of_days(text: str) -> int:
+    if not (text.isascii() and text.isdigit()) or int(text) > LONGEST_TERM:
+        raise ValueError(text)
+    return int(text)
+
+
+def words() -> argparse.ArgumentParser:
+    parser = argparse.ArgumentParser(
+        prog="next_day", allow_abbrev=False,
+        description="Runs the coming day of the dossier in FOLDER, keeps its record in FOLDER/days, and makes the "
+                    "slots those of the day after. A day that was stopped half way is ended, and no other is begun.",
+        epilog="Status: 0 the day is made; otherwise nothing is lost, and the status is the program's, or 2 for bad "
+               "words, 3 where the folder cannot be read, 4 where it cannot be written.")
+    parser.add_argument("folder", type=Path, metavar="FOLDER", help="the folder of the nine slots")
+    parser.add_argument("--start", type=start_date, metavar="DATE",
+                        help="the date of day 1, when the campaign begins with deadlines")
+    parser.add_argument("--term", type=term_of_days, metavar="N",
+                        help="the days that an offer stands; given with --start")
+    return parser
+
+
+def main(arguments: list[str]) -> int:
+    parser = words()
+    given = parser.parse_args(arguments)
+    if (given.start is None) != (given.term is None):
+        parser.error("--start and --term are given together or not at all")
+    if not given.folder.is_dir():
+        print(f"next_day: there is no folder {given.folder}; name the folder of the dossier.", file=sys.stderr)
+        return program.READ_FAULT
+    try:
+        told = next_day(given.folder, Calendar(1, given.start, given.term))
+    except Stopped as stop:
+        print(f"next_day: {stop}", file=sys.stderr)
+        return stop.status
+    except OSError as error:
+        print(f"next_day: {error.filename or given.folder}: {error.strerror}; nothing is lost, mend it and call again.",
+              file=sys.stderr)
+        return program.READ_FAULT if isinstance(error, FileNotFoundError) else program.WRITE_FAULT
+    except KeyboardInterrupt:
+        print("next_day: stopped; nothing is lost, call again to go on.", file=sys.stderr)
+        return 130
+    say("next_day", told)
+    return program.DONE

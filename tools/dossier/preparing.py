@@ -1,0 +1,113 @@
+"""From nine spreadsheet exports to the nine slots of a dossier, or to all of their faults."""
+
+import argparse
+import sys
+from pathlib import Path
+
+from .cells import DateOrder, Id, Value
+from .exports import SEPARATORS, fold
+from .faults import Faults, shown
+from .numbering import Numbers, number_ids, thing_of
+from .relations import Relations
+from .slots import SLOTS, Column
+from .tables import Choices, Entry, Exports, Table, read_folder
+from .writing import csv_bytes, say, write_folder
+
+DONE, FAULTY, BAD_WORDS, NOT_WRITTEN = range(4)
+STOPPED = 130
+TABLE_BACK = "ids.csv"
+
+
+def words() -> argparse.ArgumentParser:
+    parser = argparse.ArgumentParser(
+        prog="prepare", allow_abbrev=False,
+        description="Reads nine spreadsheet exports (.csv, .tsv, .txt) of a folder as they come, and writes the nine "
+                    "slots of a dossier to a new folder. All faults are listed at once, and then nothing is written.",
+        epilog="Status: 0 written, 1 faults, 2 bad words, 3 not read or not written.")
+    parser.add_argument("exports", type=Path, help="the folder of the exports")
+    parser.add_argument("folder", type=Path, help="the new folder for the slots")
+    parser.add_argument("--dates", type=DateOrder, choices=list(DateOrder), metavar="day-first|month-first",
+                        help="how dates such as 02/06/2025 are to be read")
+    parser.add_argument("--leave-out", action="append", default=[], metavar="COLUMN",
+                        help="a column of the exports that is no part of the dossier; may be given again")
+    return parser
+
+
+def written(value: Value, column: Column, entry: Entry, numbers: Numbers) -> object:
+    """A value as the slot writes it."""
+    if value is None:
+        return ""
+    if isinstance(value, bool):
+        return int(value)
+    if isinstance(value, Id):
+        thing = thing_of(column, entry)
+        assert thing is not None
+        return numbers.of(thing, value)
+    return value
+
+
+def slot_bytes(table: Table, numbers: Numbers) -> bytes:
+    rows = ([written(entry.get(column.name), column, entry, numbers) for column in table.columns]
+            for entry in table.entries)
+    return csv_bytes([column.name for column in table.columns], rows)
+
+
+def table_back(numbers: Numbers) -> bytes:
+    """Which number stands for which id of the exports."""
+    rows = ((thing.value, numbers.of(thing, identifier), identifier.spelled)
+            for thing, ids in numbers.numbered.items() for identifier in ids)
+    return csv_bytes(("thing", "number", "id"), rows)
+
+
+def slot_files(exports: Exports, numbers: Numbers) -> dict[str, bytes]:
+    files = {slot.file: slot_bytes(exports.tables[slot.name], numbers) for slot in SLOTS}
+    if any(numbers.numbered.values()):
+        files[TABLE_BACK] = table_back(numbers)
+    return files
+
+
+def summary(exports: Exports, numbers: Numbers, folder: Path) -> str:
+    """What was read and written, a line for each slot."""
+    lines = []
+    for slot in SLOTS:
+        table = exports.tables[slot.name]
+        source = table.export
+        dialect = f"{source.encoding}, {SEPARATORS[source.separator]}"
+        lines.append(f"{slot.file}: {len(table.entries)} rows of {shown(source.file)} ({dialect})")
+    for thing, ids in numbers.numbered.items():
+        if ids:
+            lines.append(f"{TABLE_BACK}: {len(ids)} ids of {thing.plural} numbered, from {numbers.of(thing, ids[0])}")
+    lines += [f"not read: {shown(name)}" for name in exports.passed_over]
+    return "\n".join([*lines, f"The dossier is in {shown(str(folder))}."])
+
+
+def prepare(source: Path, folder: Path, choices: Choices) -> int:
+    faults = Faults()
+    exports = read_folder(source, choices, faults)
+    Relations(exports.tables, faults).test()
+    numbers = number_ids(exports.tables, faults)
+    if faults.found:
+        files = [exports.tables[slot.name].export.file for slot in SLOTS if slot.name in exports.tables]
+        print(faults.told(files), file=sys.stderr)
+        return FAULTY
+    write_folder(folder, slot_files(exports, numbers))
+    say("prepare", summary(exports, numbers, folder))
+    return DONE
+
+
+def main(arguments: list[str]) -> int:
+    given = words().parse_args(arguments)
+    if not given.exports.is_dir():
+        print(f"prepare: there is no folder {given.exports}; name the folder of the exports.", file=sys.stderr)
+        return NOT_WRITTEN
+    if given.folder.exists():
+        print(f"prepare: {given.folder} is there already; name a new folder.", file=sys.stderr)
+        return NOT_WRITTEN
+    try:
+        return prepare(given.exports, given.folder, Choices(given.dates, frozenset(map(fold, given.leave_out))))
+    except OSError as error:
+        print(f"prepare: {error.filename or given.folder}: {error.strerror}; nothing is written.", file=sys.stderr)
+        return NOT_WRITTEN
+    except KeyboardInterrupt:
+        print("prepare: stopped; nothing is written.", file=sys.stderr)
+        return STOPPED
