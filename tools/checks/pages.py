@@ -1,0 +1,143 @@
+"""The runs in the pages: what stands behind `$` is run, and must give the bytes that stand below it.
+
+A run stands in a fenced or an indented block. Each page has a copy of the repository to itself. A block begins at the
+page's own folder under `examples/`, else at the top; its lines go to one shell. Of an output, a last line `..` stands
+for what else there is. A line that begins with `$` and is in no such block fails.
+"""
+
+import os
+import re
+import shutil
+import subprocess
+import sys
+from dataclasses import dataclass
+from functools import partial
+from pathlib import Path
+
+from dossier.program import program
+
+from .harness import LONGEST_RUN, TOP, Tally, scratch
+
+COPIED = ("README.md", "LISEZMOI.md", "docs", "examples", "tools")
+BEFORE_COMMAND = "\x1e"
+REST = ".."
+INDENT = "    "
+SHELL = ("sh", "-c")
+
+
+@dataclass(frozen=True)
+class Run:
+    line: int
+    command: str
+    shown: str
+
+
+@dataclass(frozen=True)
+class Block:
+    """Lines of a page, each with its number and without what marks it as one of a block."""
+
+    lines: list[tuple[int, str]]
+
+    def runs(self) -> list[Run]:
+        found: list[Run] = []
+        for number, text in self.lines:
+            if text.startswith("$ "):
+                found.append(Run(number, text[2:], ""))
+            elif found:
+                found[-1] = Run(found[-1].line, found[-1].command, f"{found[-1].shown}{text}\n")
+        return found
+
+
+def blocks_of(page: str) -> list[Block]:
+    """The fenced blocks of a page, and the indented ones that follow an empty line."""
+    blocks: list[Block] = []
+    fenced: list[tuple[int, str]] | None = None
+    indented: list[tuple[int, str]] = []
+    is_after_empty = True
+    for number, text in enumerate([*page.splitlines(), ""], start=1):
+        if text.startswith("```"):
+            if fenced is not None:
+                blocks.append(Block(fenced))
+            fenced = [] if fenced is None else None
+        elif fenced is not None:
+            fenced.append((number, text))
+        elif text.startswith(INDENT) and (indented or is_after_empty):
+            indented.append((number, text[len(INDENT):]))
+        elif indented:
+            blocks.append(Block(indented))
+            indented = []
+        is_after_empty = not text.strip()
+    return blocks
+
+
+def outputs_of(runs: list[Run], folder: Path, environment: dict[str, str]) -> list[str]:
+    """What each command of a block prints, on standard output and standard error; they run in one shell."""
+    marked = (f"status=$?; printf '\\036'; (exit $status)\n{run.command}\n" for run in runs)
+    done = subprocess.run([*SHELL, "exec 2>&1\n" + "".join(marked)], cwd=folder, stdin=subprocess.DEVNULL, env=environment,
+                          stdout=subprocess.PIPE, timeout=LONGEST_RUN, check=False)
+    outputs = done.stdout.decode(errors="replace").split(BEFORE_COMMAND)[1:]
+    return outputs + [""] * (len(runs) - len(outputs))
+
+
+def is_as_shown(output: str, shown: str) -> bool:
+    first, last = shown.rstrip("\n").rpartition("\n")[::2]
+    if last != REST:
+        return output == shown
+    begin = f"{first}\n" if first else ""
+    return output.startswith(begin) and len(output) > len(begin)
+
+
+def check_page(tally: Tally, name: Path) -> None:
+    """Runs what stands in one page, in a copy of the repository."""
+    tally.begin(str(name))
+    page = (TOP / name).read_text()
+    blocks = [block for block in blocks_of(page) if block.runs()]
+    in_blocks = {run.line for block in blocks for run in block.runs()}
+    for number, text in enumerate(page.splitlines(), start=1):
+        if re.match(r"\s*\$ ", text) and number not in in_blocks:
+            tally.check(f"line {number} stands in a block", False, text)
+    if not blocks:
+        return
+    with scratch() as top:
+        environment = copy_repository(top)
+        folder = top / name.parent if name.parts[0] == "examples" else top
+        for block in blocks:
+            runs = block.runs()
+            for run, output in zip(runs, outputs_of(runs, folder, environment), strict=True):
+                tally.check(f"line {run.line}: {run.command}", is_as_shown(output, run.shown), f"{run.shown}  but printed\n{output}")
+
+
+def copy_repository(top: Path) -> dict[str, str]:
+    """Copies what pages speak of; `parcours` there, and found by its name, is the program that is tested."""
+    for name in COPIED:
+        if (TOP / name).is_dir():
+            shutil.copytree(TOP / name, top / name, ignore=shutil.ignore_patterns("__pycache__"))
+        elif (TOP / name).exists():
+            shutil.copy(TOP / name, top / name)
+    (top / "parcours").symlink_to(program())
+    return {**os.environ, "PARCOURS": program(), "PATH": f"{top}:{os.environ['PATH']}", "LC_ALL": "C.UTF-8"}
+
+
+def pages() -> list[Path]:
+    found = [TOP / name for name in ("README.md", "LISEZMOI.md") if (TOP / name).exists()]
+    for folder in ("docs", "examples"):
+        found += sorted((TOP / folder).rglob("*.md"))
+    return [page.relative_to(TOP) for page in found]
+
+
+def main() -> int:
+    tally = Tally()
+    # The script `parcours` says so where it has to build first: that is no part of a page.
+    try:
+        subprocess.run([program(), "order"], cwd=TOP / "examples/two-groups", stdout=subprocess.DEVNULL, check=True)
+    except (OSError, subprocess.CalledProcessError):
+        print(f"FAILED {program()} does not run\n0 passed, 1 failed")
+        return 1
+    for page in pages():
+        tally.run(partial(check_page, tally, page))
+    print(f"{tally.passed} passed, {tally.failed} failed")
+    return 0 if tally.failed == 0 and tally.passed > 0 else 1
+
+
+if __name__ == "__main__":
+    sys.exit(main())
