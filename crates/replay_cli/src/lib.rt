@@ -2,21 +2,19 @@
 #![tactic(auto)]
 
 mod command;
+mod engine;
 mod exit;
 mod orders;
 mod pickers;
 mod replay;
 mod reply;
 mod request;
-mod run;
 mod sample;
 mod stop;
 mod tables;
 mod terms;
-#[cfg(test)]
-mod tests;
 mod words;
 
+pub use engine::run;
 pub use exit::Exit;
 pub use pickers::Pickers;
-pub use run::run;

@@ -1,6 +1,6 @@
 use Rattle.replay_cli.proofs.Replies.{order_ends, replay_ends}
 use Rattle.replay_cli.proofs.SampleDays.{sample_ends}
-use Rattle.replay_cli.proofs.run.run_mode.Goals as goal
+use Rattle.replay_cli.proofs.engine.run_mode.Goals as goal
 
 pub returns-in_ok-order_report-in-Order-clause-ends : goal.returns-in_ok-order_report-in-Order-clause-ends
 returns-in_ok-order_report-in-Order-clause-ends g c = order_ends c.args.request.now c.args.tables.now c.args.dossier.now _ _ c.in-Order.is c.requires.dossier c.in_ok-order_report-in-Order.ensures

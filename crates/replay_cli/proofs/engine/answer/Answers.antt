@@ -1,7 +1,7 @@
 use Rattle.std.proofs.Common.{inl}
 use Rattle.replay_cli.proofs.Replies.{end_of_reply, ending_answers, ending_asks, ending_bad, stopped_bad, stopped_kind, stopped_outcome, stopped_untold}
 use Rattle.replay_cli.specs.declared.reply.Reply.{Reply}
-use Rattle.replay_cli.proofs.run.answer.Goals as goal
+use Rattle.replay_cli.proofs.engine.answer.Goals as goal
 
 pub returns-in-Ok-clause-outcome : goal.returns-in-Ok-clause-outcome
 returns-in-Ok-clause-outcome g c = λ slots tells answers. end_of_reply _ _ _ _ (c.in-Ok.ensures.value slots tells)

@@ -1,6 +1,6 @@
 use Rattle.std.proofs.Common.{inr}
 use Rattle.replay_cli.proofs.Replies.{part_of_reply, whole_of_reply}
-use Rattle.replay_cli.proofs.run.run_lent.Goals as goal
+use Rattle.replay_cli.proofs.engine.run_lent.Goals as goal
 
 pub returns-in-Ok-write_all-clause-outcome : goal.returns-in-Ok-write_all-clause-outcome
 returns-in-Ok-write_all-clause-outcome g c =

@@ -1,6 +1,6 @@
 use Rattle.std.proofs.Common.{refl}
 use Rattle.replay_cli.proofs.Replies.{along, memory_told, outcome_told, part_told, three_same}
-use Rattle.replay_cli.proofs.run.run.Goals as goal
+use Rattle.replay_cli.proofs.engine.run.Goals as goal
 
 pub returns-clause-outcome : goal.returns-clause-outcome
 returns-clause-outcome g c =

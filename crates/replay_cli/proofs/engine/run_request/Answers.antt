@@ -2,7 +2,7 @@ use Rattle.std.proofs.Common.{Ok}
 use Rattle.dossier_check.specs.declared.relations.Checked.{Checked}
 use Rattle.replay_cli.proofs.Accepted.{no_answers, stops_reply}
 use Rattle.replay_cli.proofs.Replies.{memory_gives, memory_has_cause, memory_tells, stop_tells, stops_at_fault}
-use Rattle.replay_cli.proofs.run.run_request.Goals as goal
+use Rattle.replay_cli.proofs.engine.run_request.Goals as goal
 
 pub run_mode-requires-clause-quiet : goal.run_mode-requires-clause-quiet
 run_mode-requires-clause-quiet g c = λ is. no_answers c.in_ok-tables.tables _ c.in_ok-checked.ensures.dossier (c.in_ok-tables.ensures.quiet is)
