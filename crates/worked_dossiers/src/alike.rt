@@ -2,23 +2,28 @@
 ghost use Rattle.std.specs.Prelude.{◌≡◌, ◌<◌, length};
 ghost use Rattle.admit_core.specs.CallOrder.{AreCallOrders};
 
-use crate::dossiers;
-use crate::slots::{Slots, call_orders_of, ceilings_of, dossier_of};
-use admit_core::{CallOrders, Dossier, InFault, OutOfMemory, Steps};
+use crate::tables::{call_orders_of, ceilings_of};
+use crate::views::push_view;
+use admit_core::{CallOrders, Dossier, OutOfMemory, Steps};
 use bar_law::Falling;
 use day_state::DayState;
 use demand::{PlainRound, proposed};
-use dossier_check::check;
 use linked_demand::LinkedRound;
 use round::bars_of;
-use sample_gen::sample;
 use std::alloc::Global;
 use std::marker::Brand;
 use std::sync::ledger::{Blank, Ledger};
-use std::test::Fail;
 
 /// More falls than any run here makes.
 const MANY_FALLS: u32 = 100;
+
+/// What is seen in a dossier whose bars fall from the ceilings, the last overfilled school's each time:
+/// how often, and the lines of each view.
+#[derive(Drop)]
+pub(crate) struct Seen {
+    pub(crate) falls: u32,
+    pub(crate) text: String,
+}
 
 /// Whether two systems answer alike at a school, with the names up to the first rank that finds no
 /// bed and with all names.
@@ -51,31 +56,31 @@ fn agree<F: Falling, G: Falling>(alloc: Global, one: &F, other: &G) -> Result<bo
     Ok(one.count() == other.count() && one.overfilled(alloc)? == other.overfilled(alloc)?)
 }
 
-/// Whether a linked round tells of each wish whether it is proposed under the present bars, and lists
-/// those that are.
-fn tells_proposed(
+/// The places of the wishes that are proposed under the present bars, if a linked round tells of each
+/// wish whether it is one of them, and lists them.
+fn proposed_alike(
     alloc: Global,
     state: &DayState<'_>,
     orders: &CallOrders,
     round: &LinkedRound<'_, '_>,
-) -> Result<bool, OutOfMemory>
+) -> Result<Option<Vec<u32>>, OutOfMemory>
     requires orders { AreCallOrders state.now.dossier.groups orders.now.orders }
     requires state { round.now.state ≡ state.now }
 {
     let bars = bars_of(alloc, round)?;
     if bars.len() != state.dossier().schools.len() {
-        return Ok(false);
+        return Ok(None);
     }
     let places = proposed(alloc, state, orders, &bars)?;
     if round.proposed(alloc)? != places {
-        return Ok(false);
+        return Ok(None);
     }
     for wish in 0..state.dossier().wishes.len() as u32 {
         if round.is_proposed(wish) != places.contains(&wish) {
-            return Ok(false);
+            return Ok(None);
         }
     }
-    Ok(true)
+    Ok(Some(places))
 }
 
 /// The last overfilled school, and the bar to which it falls.
@@ -106,14 +111,14 @@ fn fall<L: Ledger>(
     }
 }
 
-/// How many falls a run from the ceilings makes, if both rounds answer alike at each of them.
-fn falls_alike<L: Ledger>(
+/// What is seen in a run from the ceilings, if both rounds answer alike at each fall.
+fn seen_alike<L: Ledger>(
     alloc: Global,
     blank: Blank,
     state: &DayState<'_>,
     orders: &CallOrders,
     ceilings: &[u32],
-) -> Result<Option<u32>, OutOfMemory>
+) -> Result<Option<Seen>, OutOfMemory>
     requires name { blank.name ≡ L.name }
     requires parts { blank.parts ≡ L.parts }
     requires shared { 0 < L.parts }
@@ -123,60 +128,27 @@ fn falls_alike<L: Ledger>(
     let mut steps: Steps<L> = Steps::new(blank);
     let mut plain = PlainRound::build(alloc, state, orders, ceilings)?;
     let mut linked = LinkedRound::build(alloc, state, orders, ceilings)?;
+    let mut text = String::new(alloc);
     for falls in 0..MANY_FALLS {
-        if !agree(alloc, &plain, &linked)? || !tells_proposed(alloc, state, orders, &linked)? {
+        if !agree(alloc, &plain, &linked)? {
             return Ok(None);
         }
+        let Some(places) = proposed_alike(alloc, state, orders, &linked)? else {
+            return Ok(None);
+        };
+        push_view(alloc, &mut text, state.dossier(), &plain, &places)?;
         match last_over(alloc, &plain)? {
-            None => return Ok(Some(falls)),
+            None => return Ok(Some(Seen { falls, text })),
             Some((school, to)) => fall(&mut plain, &mut linked, school, to, &mut steps),
         }
     }
     Ok(None)
 }
 
-/// The falls of a dossier on its first day, if both rounds answer alike.
-fn falls_of(alloc: Global, dossier: &Dossier) -> Result<Option<u32>, OutOfMemory> {
+/// What is seen in a dossier on its first day, if both rounds answer alike.
+pub(crate) fn seen_of(alloc: Global, dossier: &Dossier) -> Result<Option<Seen>, OutOfMemory> {
     let orders = call_orders_of(alloc, dossier)?;
     let ceilings = ceilings_of(alloc, dossier)?;
     let state = DayState::begin(alloc, dossier)?;
-    falls_alike::<Brand>(alloc, Blank::new(1), &state, &orders, &ceilings)
-}
-
-fn falls_of_slots(alloc: Global, slots: &Slots) -> Result<Option<u32>, InFault> {
-    let dossier = dossier_of(alloc, slots)?;
-    Ok(falls_of(alloc, &dossier)?)
-}
-
-fn falls_of_sample(alloc: Global, number: u32) -> Result<Option<u32>, InFault>
-    requires some { 0 < number }
-    requires at_most { number < 5000 }
-{
-    let tables = sample(alloc, number)?;
-    let checked = check(alloc, &tables)?;
-    Ok(falls_of(alloc, &checked.dossier)?)
-}
-
-/// Dossiers, each with the number of its falls.
-fn cases() -> [(Slots, u32); 9] {
-    [
-        (dossiers::REALISTIC, 0),
-        (dossiers::GREATEST_IS_NOT_LEAST, 1),
-        (dossiers::ONE_BED_FOR_TWO_WISHES, 0),
-        (dossiers::NO_SECOND_SEAT, 0),
-        (dossiers::CASCADE, 3),
-        (dossiers::EDGES_OF_BARS, 1),
-        (dossiers::CALL_LIMIT, 0),
-        (dossiers::LIMIT_BELOW_A_BAR, 1),
-        (dossiers::TWO_FULL_SCHOOLS, 2),
-    ]
-}
-
-#[test]
-fn both_rounds_answer_alike(rt: HostRuntime) -> Result<(), Fail> {
-    for (slots, falls) in cases().iter() {
-        assert!(rt; falls_of_slots(rt.alloc(), slots)? == Some(*falls));
-    }
-    assert!(rt; falls_of_sample(rt.alloc(), 1000)?.unwrap_or(0) > 0);
-    Ok(())
+    seen_alike::<Brand>(alloc, Blank::new(1), &state, &orders, &ceilings)
 }
