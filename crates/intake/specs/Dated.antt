@@ -25,7 +25,8 @@ since_day start since = day_before start (option_and_then date_number since)
 
 -- the terms of the offers of wishes with these dates
 abbrev pub terms_from : List (Option Since) → Deadlines → Terms
-terms_from dates deadlines = record { term = deadlines.term; before = map (since_day deadlines.start) dates }
+terms_from dates deadlines =
+    record { term = deadlines.term; before = map (since_day deadlines.start) dates }
 
 abbrev pub dated_from : List (Option Since) → Deadlines → DatedTerms
 dated_from dates deadlines = record { start = deadlines.start; terms = terms_from dates deadlines }
