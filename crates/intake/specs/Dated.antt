@@ -1,5 +1,5 @@
 -- The terms of offers, with the date of day 1.
-use Rattle.std.specs.Prelude.{◌≡◌, ◌≤◌, ℕ, ℤ, pos, ◌+ℤ◌, ◌-ℤ◌, List, Option, All, length, map, option_map, unwrap_or}
+use Rattle.std.specs.Prelude.{◌≡◌, ◌≤◌, ℤ, pos, ◌+ℤ◌, ◌-ℤ◌, List, Option, All, length, map, option_map, unwrap_or}
 use Rattle.std.specs.Option.{option_and_then}
 use Rattle.admit_core.specs.DossierRows.{DossierRows}
 use Rattle.admit_core.specs.declared.records.Terms.{Terms}
