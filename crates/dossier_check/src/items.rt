@@ -1,13 +1,14 @@
 //! The items of the dossier, with places for ids.
-ghost use Rattle.std.specs.Prelude.{◌≡◌, ◌<◌, ◌≤◌, ◌^◌, ℕ, length, map, option_map, IfOk};
+ghost use Rattle.std.specs.Prelude.{◌≡◌, ◌<◌, ◌≤◌, ◌^◌, ℕ, find, length, map, nat_eq, option_map, IfOk};
 ghost use Rattle.admit_core.specs.declared.tables.Tables.{Tables};
 ghost use Rattle.admit_core.specs.Relations.{wish_ids};
 ghost use Rattle.admit_core.specs.Standing.{place_of, programme_of_row, school_of_row, board_rank_of, wish_of_row, status_of_row, target_of, ceiling_of_row, answer_of_row};
+ghost use Rattle.dossier_check.specs.Dates.{dates_of};
 ghost use Rattle.dossier_check.specs.Keys.{AreKeysOf};
 
 use crate::noted::row_with;
 use admit_core::{
-    Answer, AnswerKind, CeilingChange, OutOfMemory, Programme, School, Status, Tables, Wish,
+    Answer, AnswerKind, CeilingChange, OutOfMemory, Programme, School, Since, StateRow, Status, Tables, Wish,
     WishRow,
 };
 use indexmap::IndexSet;
@@ -113,31 +114,32 @@ pub(crate) fn wishes_of(
     Ok(wishes)
 }
 
-/// The status of a wish; one that no row names waits.
-fn status_of(tables: &Tables, keys: &Keys, wish: &WishRow) -> Status
+/// The row of a wish's status, where it has one.
+fn state_row_of(tables: &Tables, keys: &Keys, wish: &WishRow) -> Option<StateRow>
     requires { AreKeysOf tables.now keys.now }
-    ensures { result ≡ status_of_row tables.now wish.now }
+    ensures { result ≡ find (λ s. nat_eq wish.now.id s.wish) tables.now.state }
 {
-    match row_with(&keys.state, tables.state.as_slice(), wish.id) {
-        Some(row) => row.status,
-        None => Status::Waiting,
-    }
+    row_with(&keys.state, tables.state.as_slice(), wish.id)
 }
 
-/// The statuses of the wishes.
+/// The statuses of the wishes, of which one that no row names waits, and since when they have them.
 pub(crate) fn statuses_of(
     alloc: Global,
     tables: &Tables,
     keys: &Keys,
-) -> Result<Vec<Status>, OutOfMemory>
+) -> Result<(Vec<Status>, Vec<Option<Since>>), OutOfMemory>
     requires { AreKeysOf tables.now keys.now }
-    ensures { IfOk result (λ statuses. statuses.items ≡ map (status_of_row tables.now) tables.now.wishes) }
+    ensures statuses { IfOk result (λ made. made.0.items ≡ map (status_of_row tables.now) tables.now.wishes) }
+    ensures dates { IfOk result (λ made. made.1.items ≡ dates_of tables.now) }
 {
     let mut statuses = Vec::new(alloc);
+    let mut dates = Vec::new(alloc);
     for wish in tables.wishes.as_slice() {
-        statuses.push(status_of(tables, keys, wish))?;
+        let row = state_row_of(tables, keys, wish);
+        statuses.push(row.map_or(Status::Waiting, |row| row.status))?;
+        dates.push(row.and_then(|row| row.since))?;
     }
-    Ok(statuses)
+    Ok((statuses, dates))
 }
 
 /// The ceilings, with the places of their schools.

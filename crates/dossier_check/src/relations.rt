@@ -4,6 +4,7 @@ ghost use Rattle.admit_core.specs.Ranges.{AreTables};
 ghost use Rattle.admit_core.specs.Relations.{group_tests, ranking_tests, first_fault, programme_ids, school_ids, wish_ids};
 ghost use Rattle.admit_core.specs.Standing.{dossier_of};
 ghost use Rattle.admit_core.specs.Validity.{IsValid};
+ghost use Rattle.dossier_check.specs.Dates.{dates_of};
 ghost use Rattle.dossier_check.specs.Ids.{ids_of};
 ghost use Rattle.dossier_check.specs.Keys.{AreKeysOf};
 ghost use Rattle.dossier_check.specs.Outcome.{AnswersFault, first_from_wishes};
@@ -20,15 +21,17 @@ use crate::slots::{
 };
 use crate::state::check_state;
 use crate::wishes::check_wishes;
-use admit_core::{Dossier, InFault, OutOfMemory, Sequence, Tables};
+use admit_core::{Dossier, InFault, OutOfMemory, Sequence, Since, Tables};
 use indexmap::IndexSet;
 use std::alloc::Global;
 
-/// The dossier that tables stand for, and the places of its ids.
+/// The dossier that tables stand for, the places of its ids, and since when each wish has its status,
+/// by the wishes' places.
 #[derive(Drop)]
 pub struct Checked {
     pub dossier: Dossier,
     pub index: Index,
+    pub dates: Sequence<Option<Since>>,
 }
 
 /// Tests the slots from the wishes on, and answers what the wishes and the statuses are found by.
@@ -85,20 +88,25 @@ fn check_slots(alloc: Global, tables: &Tables) -> Result<Keys, InFault>
     })
 }
 
-/// Makes the dossier that fault-free tables stand for.
-fn make_dossier(alloc: Global, tables: &Tables, keys: &Keys) -> Result<Dossier, OutOfMemory>
+/// Makes the dossier that fault-free tables stand for, and the dates of its statuses.
+fn make_dossier(
+    alloc: Global,
+    tables: &Tables,
+    keys: &Keys,
+) -> Result<(Dossier, Vec<Option<Since>>), OutOfMemory>
     requires keys { AreKeysOf tables.now keys.now }
     requires valid { IsValid (dossier_of tables.now) }
-    ensures { IfOk result (λ dossier. dossier ≡ dossier_of tables.now) }
+    ensures dossier { IfOk result (λ made. made.0 ≡ dossier_of tables.now) }
+    ensures dates { IfOk result (λ made. made.1.items ≡ dates_of tables.now) }
 {
     let groups = rank_groups(alloc, tables, &keys.groups)?;
     let programmes = programmes_of(alloc, tables, keys)?;
     let schools = schools_of(alloc, tables)?;
     let wishes = wishes_of(alloc, tables, keys)?;
-    let statuses = statuses_of(alloc, tables, keys)?;
+    let (statuses, dates) = statuses_of(alloc, tables, keys)?;
     let ceilings = ceilings_of(alloc, tables, keys)?;
     let answers = answers_of(alloc, tables, keys)?;
-    Ok(Dossier {
+    let dossier = Dossier {
         groups: Sequence::from_vec(groups),
         programmes: Sequence::from_vec(programmes),
         schools: Sequence::from_vec(schools),
@@ -106,22 +114,29 @@ fn make_dossier(alloc: Global, tables: &Tables, keys: &Keys) -> Result<Dossier, 
         statuses: Sequence::from_vec(statuses),
         ceilings: Sequence::from_vec(ceilings),
         answers: Sequence::from_vec(answers),
-    })
+    };
+    Ok((dossier, dates))
 }
 
 /// Checks the relations between the rows of tables: their first fault by slot, row and reason, or
-/// the dossier that they stand for, with all rows in file order and the rankings by rank.
+/// the dossier that they stand for, with all rows in file order and the rankings by rank, its index and
+/// the dates of its statuses.
 pub fn check(alloc: Global, tables: &Tables) -> Result<Checked, InFault>
     requires { AreTables tables.now }
     ensures fault { AnswersFault result (first_fault tables.now) }
     ensures dossier { IfOk result (λ checked. checked.dossier ≡ dossier_of tables.now) }
     ensures index { IfOk result (λ checked. checked.index ≡ ids_of tables.now) }
+    ensures dates { IfOk result (λ checked. checked.dates ≡ dates_of tables.now) }
 {
     let keys = check_slots(alloc, tables)?;
-    let dossier = make_dossier(alloc, tables, &keys)?;
+    let (dossier, dates) = make_dossier(alloc, tables, &keys)?;
     let index = Index {
         wishes: keys.wishes,
         schools: keys.schools,
     };
-    Ok(Checked { dossier, index })
+    Ok(Checked {
+        dossier,
+        index,
+        dates: Sequence::from_vec(dates),
+    })
 }

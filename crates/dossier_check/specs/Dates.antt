@@ -1,0 +1,14 @@
+-- Since when each wish has its status.
+use Rattle.std.specs.Prelude.{List, Option, find, map, nat_eq}
+use Rattle.std.specs.Option.{option_and_then}
+use Rattle.admit_core.specs.declared.tables.Since.{Since}
+use Rattle.admit_core.specs.declared.tables.Tables.{Tables}
+use Rattle.admit_core.specs.declared.tables.WishRow.{WishRow}
+
+-- the date in the row of a wish's status; none where it has no row, or the row has no date
+abbrev pub date_of_wish : Tables → WishRow → Option Since
+date_of_wish t w = option_and_then (λ s. s.since) (find (λ s. nat_eq w.id s.wish) t.state)
+
+-- the dates of the wishes, by their places
+abbrev pub dates_of : Tables → List (Option Since)
+dates_of t = map (date_of_wish t) t.wishes

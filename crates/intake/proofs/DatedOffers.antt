@@ -1,0 +1,68 @@
+-- The dates that come of terms can be written.
+use Rattle.std.proofs.Common.{◌≡◌, ◌∙◌, ℕ, ◌≤◌, List, Option, None, Some, All, IfSome, ap, arith, get_or, inl, inr, length, refl}
+use Rattle.std.specs.Prelude.{ℤ, pos, ◌+ℤ◌, ◌-ℤ◌, ◌&&◌, nat_le}
+use Rattle.std.proofs.lemmas.Bool.{and_parts, cases_Bool, leb-true}
+use Rattle.std.proofs.lemmas.Int.{ints}
+use Rattle.std.proofs.lemmas.List.{length-map}
+use Rattle.std.proofs.lemmas.List.Elements.{All-map}
+use Rattle.admit_core.specs.DossierRows.{DossierRows}
+use Rattle.admit_core.specs.declared.records.Terms.{Terms}
+use Rattle.admit_core.specs.declared.tables.Since.{Since}
+use Rattle.calendar.proofs.DateLaws.{number-range}
+use Rattle.calendar.specs.Dates.{IsRead, civil, days_in_month, is_date}
+use Rattle.request.specs.Request.{IsDeadlines, IsStart}
+use Rattle.request.specs.declared.request.Deadlines.{Deadlines}
+use Rattle.intake.specs.Dated.{AreDatedFor, date_number, dated_from, day_before, since_day, terms_from}
+
+-- the number of the date of a day, where day 1 has the number start
+abbrev on : ℤ → ℤ → ℤ
+on start day = start +ℤ day -ℤ pos 1
+
+-- a date that is read
+civil_read : (year month day : ℕ) → IfSome (civil year month day) IsRead
+civil_read year month day =
+    elim (cases_Bool (nat_le 1900 year && nat_le year 2299 && is_date year month day)) [
+      | inl is ↦
+          let parts = and_parts _ _ is in
+          let years = and_parts _ _ parts.0 in
+          let days = and_parts _ _ parts.1 in
+          let from_first = and_parts _ _ days.0 in
+          let months = and_parts _ _ from_first.0 in
+          rw is
+          (number-range year month day (leb-true 1900 year years.0) (leb-true year 2299 years.1) (leb-true 1 month months.0) (leb-true month 12 months.1) (leb-true 1 day from_first.1)
+          (leb-true day (days_in_month year month) days.1)).1
+      | inr none ↦ rw none tt
+    ]
+
+on_start : (start : ℤ) → IsStart start → IsRead (on start (pos 0))
+on_start start is =
+    let low = is.after_first in
+    let high = is.is_read in
+    (omega (arith, ints), omega (arith, ints))
+
+on_date : (start number : ℤ) → IsRead number → IsRead (on start (number -ℤ start +ℤ pos 1))
+on_date start number read =
+    let low = read.0 in
+    let high = read.1 in
+    (omega (arith, ints), omega (arith, ints))
+
+on_day : (start : ℤ) (date : Option ℤ) → IsStart start → IfSome date IsRead → IsRead (on start (day_before start date))
+on_day start None is read = on_start start is
+on_day start (Some number) is read = on_date start number read
+
+on_since : (start : ℤ) (since : Option Since) → IsStart start → IsRead (on start (since_day start since))
+on_since start None is = on_start start is
+on_since start (Some since) is = on_day start (date_number since) is (civil_read since.year since.month since.day)
+
+-- the terms of wishes with these dates
+dated_for : (d : DossierRows) (dates : List (Option Since)) (deadlines : Deadlines) → length dates ≡ length d.wishes → IsDeadlines deadlines → AreDatedFor d (dated_from dates deadlines)
+dated_for d dates deadlines each is = record {
+  start = is.start;
+  term = is.term;
+  one_each = length-map dates (since_day deadlines.start) ∙ each;
+  before = All-map (λ day. IsRead (on deadlines.start day)) (since_day deadlines.start) dates (λ k since lt. on_since deadlines.start (get_or dates k since) is.start);
+}
+
+pub dated_some : (d : DossierRows) (dates : List (Option Since)) (asked : Option Deadlines) (deadlines : Deadlines) (terms : Terms) → length dates ≡ length d.wishes → asked ≡ Some deadlines
+    → IfSome asked IsDeadlines → terms ≡ terms_from dates deadlines → AreDatedFor d (record { start = deadlines.start; terms = terms })
+dated_some d dates asked deadlines terms each some is same = rw same (dated_for d dates deadlines each (rw some at is))

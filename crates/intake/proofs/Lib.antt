@@ -1,0 +1,4 @@
+pub mod DatedOffers
+pub mod Named
+pub mod ReadOrder
+pub mod TakenIn

@@ -1,0 +1,63 @@
+-- What taking in slots does to a shelf.
+use Rattle.std.specs.Prelude.{◌≡◌, ℕ, ◌+◌, ◌<◌, ◌≤◌, List, [], Contains, length, take, Option, Some, Result, IfErr, IsOk, OnOk, slice_index_or, ⊤}
+use Rattle.admit_core.specs.declared.slot.Slot.{Slot}
+use Rattle.shelf_io.specs.Bytes.{OthersKept}
+use Rattle.shelf_io.specs.Faults.{NoneFell, Rose}
+use Rattle.intake.specs.Reading.{files_in}
+use Rattle.intake.specs.declared.stop.Stop.{Stop}
+use Rattle.intake.specs.declared.stop.Stop.TheVariants as stops
+
+-- the bytes left in each slot, where a shelf tells them, how many were taken, and how often its reads have failed
+pub record OnShelf : Type 0 where
+  pub left : Slot → Option (List ℕ)
+  pub taken : Slot → ℕ
+  pub faults : Slot → ℕ
+
+abbrev pub on_shelf : {S : Type 0} → (S → Slot → Option (List ℕ)) → (S → Slot → ℕ) → (S → Slot → ℕ) → S → OnShelf
+on_shelf left taken faults shelf = record { left = left shelf; taken = taken shelf; faults = faults shelf }
+
+-- the shelf tells these bytes
+abbrev pub Tells : (Slot → Option (List ℕ)) → (Slot → List ℕ) → Type 0
+Tells left slots = (slot : Slot) → left slot ≡ Some (slots slot)
+
+-- the slot at a place of the order could not be read: its count rose, and the slots before it have their sizes and shapes
+pub record IsFaultAt (order : List Slot) (before after : OnShelf) (slot : Slot) : Type 0 where
+  pub place : ℕ
+  pub within : place < length order
+  pub is_there : slice_index_or order place slot ≡ slot
+  pub rose : Rose (before.faults slot) (after.faults slot)
+  pub shapes : (slots : Slot → List ℕ) → Tells before.left slots → IsOk (files_in (take place order) slots)
+
+-- one slot is read, of which no more is taken than one reading may take, and no other is touched
+pub record TouchesOnly (slot : Slot) (before after : OnShelf) : Type 0 where
+  pub once : after.taken slot ≤ before.taken slot + 1073807360
+  pub others : OthersKept slot before.left after.left
+  pub others_taken : OthersKept slot before.taken after.taken
+  pub counts : NoneFell before.faults after.faults
+
+-- what stops the reading of one slot: a fault of the shelf at it, whose count rose
+abbrev pub FaultsAt : Slot → (Slot → ℕ) → (Slot → ℕ) → Stop → Type 0
+FaultsAt slot before now (stops.ReadFault other) = (other ≡ slot) × Rose (before slot) (now slot)
+FaultsAt slot before now stops.BadWords = ⊥
+FaultsAt slot before now (stops.Refused refusal) = ⊤
+FaultsAt slot before now (stops.NoSuch name) = ⊥
+FaultsAt slot before now stops.OutOfMemory = ⊤
+
+-- what stops a run whose words are good: a fault of the shelf has its cause
+abbrev pub HasCause : List Slot → OnShelf → OnShelf → Stop → Type 0
+HasCause order before after (stops.ReadFault slot) = IsFaultAt order before after slot
+HasCause order before after stops.BadWords = ⊥
+HasCause order before after (stops.Refused refusal) = ⊤
+HasCause order before after (stops.NoSuch name) = ⊤
+HasCause order before after stops.OutOfMemory = ⊤
+
+-- the slots of the order are read, each once, and no other is touched
+pub record TakesSlots {A : Type 0} (order : List Slot) (before after : OnShelf) (result : Result A Stop) : Type 0 where
+  -- to their ends, where there is an answer and the shelf tells its bytes
+  pub ends : (slots : Slot → List ℕ) → Tells before.left slots → OnOk result ((slot : Slot) → Contains order slot → after.left slot ≡ Some [])
+  -- of a slot no more is taken than one reading may take
+  pub once : (slot : Slot) → Contains order slot → after.taken slot ≤ before.taken slot + 1073807360
+  pub others : (slot : Slot) → ¬ Contains order slot → after.left slot ≡ before.left slot
+  pub others_taken : (slot : Slot) → ¬ Contains order slot → after.taken slot ≡ before.taken slot
+  pub counts : NoneFell before.faults after.faults
+  pub cause : IfErr result (HasCause order before after)

@@ -1,0 +1,182 @@
+//! What the slots hold.
+ghost use Rattle.std.specs.Prelude.{◌≡◌, ◌≢◌, ◌≤◌, ℕ, List, [], AllPairs, Some, IfErr, IfOk, OnOk};
+ghost use Rattle.admit_core.specs.declared.slot.Slot.{Slot};
+ghost use Rattle.admit_core.specs.Ranges.{AreTables};
+ghost use Rattle.dossier_csv.specs.Shape.{Answers};
+ghost use Rattle.intake.specs.Input.{IsOfFiles};
+ghost use Rattle.intake.specs.Reading as Reading;
+ghost use Rattle.intake.specs.Shelves.{FaultsAt, TakesSlots, Tells, TouchesOnly, on_shelf};
+ghost use Rattle.intake.specs.Stops.{Gives};
+
+use crate::stop::Stop;
+use admit_core::{InFault, Reason, Refusal, Sequence, Slot, Tables};
+use dossier_csv::{
+    read_answers, read_boarding, read_ceilings, read_groups, read_programmes, read_rankings,
+    read_schools, read_state, read_wishes,
+};
+use sample_gen::sample;
+use shelf_io::{Shelf, SlotRefusal, read_slot};
+use std::alloc::Global;
+
+/// What slots hold: the rows of nine, and the bytes of the chain.
+#[derive(Drop)]
+pub(crate) struct Files {
+    pub(crate) tables: Tables,
+    pub(crate) chain: Sequence<u8>,
+}
+
+/// The most bytes of a slot.
+const MAX_BYTES: u64 = 1_073_741_824;
+
+/// The bytes of a slot that is not too large.
+#[tactic(auto, unfolding(crate::specs::Reading::sized))]
+fn slot_bytes<S: Shelf>(alloc: Global, shelf: &mut S, slot: Slot) -> Result<Vec<u8>, Stop>
+    ensures value { (bytes : List ℕ) → S.left shelf.old slot ≡ Some bytes
+        → Gives (λ read. read.items) result (Reading.sized slot bytes) }
+    ensures ends { (bytes : List ℕ) → S.left shelf.old slot ≡ Some bytes
+        → OnOk result (S.left shelf.new slot ≡ Some []) }
+    ensures touches { TouchesOnly slot
+        (on_shelf S.left S.taken S.faults shelf.old) (on_shelf S.left S.taken S.faults shelf.new) }
+    ensures fault { IfErr result (FaultsAt slot (S.faults shelf.old) (S.faults shelf.new)) }
+{
+    match read_slot(alloc, shelf, slot, MAX_BYTES) {
+        Ok(bytes) => Ok(bytes),
+        Err(SlotRefusal::ReadFault) => Err(Stop::ReadFault(slot)),
+        Err(SlotRefusal::TooLarge) => Err(Stop::Refused(Refusal {
+            slot,
+            row: 0,
+            reason: Reason::TooLarge,
+        })),
+        Err(SlotRefusal::OutOfMemory) => Err(Stop::OutOfMemory),
+    }
+}
+
+/// Tables of no rows.
+fn no_rows(alloc: Global) -> Tables
+    ensures rows { result ≡ Reading.no_rows }
+    ensures ranges { AreTables result }
+{
+    Tables {
+        groups: Sequence::new(alloc),
+        programmes: Sequence::new(alloc),
+        schools: Sequence::new(alloc),
+        rankings: Sequence::new(alloc),
+        boarding: Sequence::new(alloc),
+        wishes: Sequence::new(alloc),
+        state: Sequence::new(alloc),
+        ceilings: Sequence::new(alloc),
+        answers: Sequence::new(alloc),
+    }
+}
+
+/// The tables with the rows of one slot, which has these bytes. The chain slot has no rows.
+#[tactic(auto, unfolding(crate::specs::Reading::with_rows))]
+fn with_rows(alloc: Global, tables: Tables, slot: Slot, bytes: &[u8]) -> Result<Tables, InFault>
+    requires { AreTables tables }
+    ensures value { Answers (λ more. more) result (Reading.with_rows tables slot bytes.now) }
+    ensures ranges { IfOk result AreTables }
+{
+    match slot {
+        Slot::Groups => Ok(Tables {
+            groups: Sequence::from_vec(read_groups(alloc, bytes)?),
+            ..tables
+        }),
+        Slot::Programmes => Ok(Tables {
+            programmes: Sequence::from_vec(read_programmes(alloc, bytes)?),
+            ..tables
+        }),
+        Slot::Schools => Ok(Tables {
+            schools: Sequence::from_vec(read_schools(alloc, bytes)?),
+            ..tables
+        }),
+        Slot::Rankings => Ok(Tables {
+            rankings: Sequence::from_vec(read_rankings(alloc, bytes)?),
+            ..tables
+        }),
+        Slot::Boarding => Ok(Tables {
+            boarding: Sequence::from_vec(read_boarding(alloc, bytes)?),
+            ..tables
+        }),
+        Slot::Wishes => Ok(Tables {
+            wishes: Sequence::from_vec(read_wishes(alloc, bytes)?),
+            ..tables
+        }),
+        Slot::State => Ok(Tables {
+            state: Sequence::from_vec(read_state(alloc, bytes)?),
+            ..tables
+        }),
+        Slot::Ceilings => Ok(Tables {
+            ceilings: Sequence::from_vec(read_ceilings(alloc, bytes)?),
+            ..tables
+        }),
+        Slot::Answers => Ok(Tables {
+            answers: Sequence::from_vec(read_answers(alloc, bytes)?),
+            ..tables
+        }),
+        Slot::Chain => Ok(tables),
+    }
+}
+
+/// The chain's bytes after those of a slot, which are the chain's where it is the chain slot.
+fn chain_after(chain: Sequence<u8>, slot: Slot, bytes: Vec<u8>) -> Sequence<u8>
+    ensures { result ≡ Reading.chain_after chain slot bytes.items }
+{
+    match slot {
+        Slot::Chain => Sequence::from_vec(bytes),
+        _ => chain,
+    }
+}
+
+/// The files with what one slot holds, which has these bytes.
+#[tactic(auto, unfolding(crate::specs::Reading::with_slot))]
+fn with_slot(alloc: Global, files: Files, slot: Slot, bytes: Vec<u8>) -> Result<Files, InFault>
+    requires { AreTables files.tables }
+    ensures value { Answers (λ more. more) result (Reading.with_slot files slot bytes.items) }
+    ensures ranges { IfOk result (λ more. AreTables more.tables) }
+{
+    let Files { tables, chain } = files;
+    let tables = with_rows(alloc, tables, slot, &bytes)?;
+    Ok(Files {
+        tables,
+        chain: chain_after(chain, slot, bytes),
+    })
+}
+
+/// The files of these slots, each read once, then tested by its size and then by its shape, in this
+/// order.
+pub(crate) fn read_slots<S: Shelf>(
+    alloc: Global,
+    shelf: &mut S,
+    order: &[Slot],
+) -> Result<Files, Stop>
+    requires { AllPairs (λ one other. one ≢ other) order.now }
+    ensures value { (slots : Slot → List ℕ) → Tells (S.left shelf.old) slots
+        → Gives (λ files. files) result (Reading.files_in order.now slots) }
+    ensures ranges { IfOk result (λ files. AreTables files.tables) }
+    ensures slots { TakesSlots order.now
+        (on_shelf S.left S.taken S.faults shelf.old) (on_shelf S.left S.taken S.faults shelf.new) result }
+{
+    let mut files = Files {
+        tables: no_rows(alloc),
+        chain: Sequence::new(alloc),
+    };
+    for slot in order {
+        let bytes = slot_bytes(alloc, shelf, *slot)?;
+        files = with_slot(alloc, files, *slot, bytes)?;
+    }
+    Ok(files)
+}
+
+/// The files of a sample.
+pub(crate) fn made(alloc: Global, number: u32) -> Result<Files, Stop>
+    requires some { 1 ≤ number }
+    requires at_most { number ≤ 1000000 }
+    ensures value { Gives (λ files. files) result (Reading.made number) }
+    ensures kinds { IfErr result IsOfFiles }
+    ensures ranges { IfOk result (λ files. AreTables files.tables) }
+{
+    Ok(Files {
+        tables: sample(alloc, number)?,
+        chain: Sequence::new(alloc),
+    })
+}

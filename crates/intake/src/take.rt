@@ -1,0 +1,87 @@
+//! Taking in what a request is about.
+ghost use Rattle.std.specs.Prelude.{◌≡◌, ℕ, List, IfErr, IfOk, IfSome, MatchResult};
+ghost use Rattle.admit_core.specs.Ranges.{AreTables};
+ghost use Rattle.admit_core.specs.declared.slot.Slot.{Slot};
+ghost use Rattle.admit_core.specs.declared.tables.Tables.{Tables};
+ghost use Rattle.dossier_check.specs.Ids.{ids_of};
+ghost use Rattle.request.specs.Modes as Modes;
+ghost use Rattle.request.specs.Modes.{IsMode};
+ghost use Rattle.sample_gen.specs.Samples.{sample_tables};
+ghost use Rattle.intake.specs.Reading as Reading;
+ghost use Rattle.intake.specs.Input.{IsInputFrom, IsOfFiles, TakesIn, having, is_there, tested};
+ghost use Rattle.intake.specs.Shelves.{TakesSlots, Tells, on_shelf};
+ghost use Rattle.intake.specs.Stops.{Gives, Stopped};
+ghost use Rattle.intake.specs.declared.files.Files.{Files};
+
+use crate::files::{Files, made, read_slots};
+use crate::input::Input;
+use crate::stop::Stop;
+use dossier_check::{Index, check, school_place, wish_place};
+use request::{Mode, Name, Request, named_by, sample_of, slots_of};
+use shelf_io::Shelf;
+use std::alloc::Global;
+
+/// The files that a mode is about: those of a sample, or of the slots that it reads.
+fn files_of<S: Shelf>(alloc: Global, shelf: &mut S, mode: Mode) -> Result<Files, Stop>
+    requires { IsMode mode }
+    ensures value { (slots : Slot → List ℕ) → Tells (S.left shelf.old) slots
+        → Gives (λ files. files) result (Reading.files_of mode slots) }
+    ensures ranges { IfOk result (λ files. AreTables files.tables) }
+    ensures made { IfSome (Modes.sample_of mode) (λ number. IfOk result (λ files. files.tables ≡ sample_tables number)) }
+    ensures slots { TakesSlots (Modes.slots_of mode)
+        (on_shelf S.left S.taken S.faults shelf.old) (on_shelf S.left S.taken S.faults shelf.new) result }
+{
+    match sample_of(mode) {
+        Some(number) => made(alloc, number),
+        None => read_slots(alloc, shelf, slots_of(mode)),
+    }
+}
+
+/// Whether a dossier with this index has what is named.
+fn is_there(index: &Index, name: Name) -> bool
+    ensures { (t : Tables) → index.now ≡ ids_of t → result ≡ is_there t name }
+{
+    match name {
+        Name::Wish(id) => wish_place(index, id).is_some(),
+        Name::School(id) => school_place(index, id).is_some(),
+    }
+}
+
+/// Stops where the dossier with this index does not have what a mode names.
+fn find_named(index: &Index, name: Option<Name>) -> Result<(), Stop>
+    ensures value { (files : Files) → index.now ≡ ids_of files.tables
+        → Gives (λ _. files) result (having name files) }
+    ensures kinds { IfErr result IsOfFiles }
+{
+    match name {
+        Some(name) if !is_there(index, name) => Err(Stop::NoSuch(name)),
+        _ => Ok(()),
+    }
+}
+
+/// The input of files that are accepted, or why they are not.
+fn input_of(alloc: Global, files: Files, mode: Mode) -> Result<Input, Stop>
+    requires { AreTables files.tables }
+    ensures value { MatchResult result (IsInputFrom mode files) (λ stop. Stopped stop (tested mode files)) }
+    ensures kinds { IfErr result IsOfFiles }
+{
+    let checked = check(alloc, &files.tables)?;
+    find_named(&checked.index, named_by(mode))?;
+    Ok(Input {
+        dossier: checked.dossier,
+        index: checked.index,
+        dates: checked.dates,
+        chain: files.chain,
+    })
+}
+
+/// Takes in what a request is about: the slots that its mode reads, in their order, each once and no
+/// other. The tables are dropped in here.
+pub fn take_in<S: Shelf>(alloc: Global, request: &Request, shelf: &mut S) -> Result<Input, Stop>
+    requires { IsMode request.now.mode }
+    ensures { TakesIn request.now
+        (on_shelf S.left S.taken S.faults shelf.old) (on_shelf S.left S.taken S.faults shelf.new) result }
+{
+    let files = files_of(alloc, shelf, request.mode)?;
+    input_of(alloc, files, request.mode)
+}

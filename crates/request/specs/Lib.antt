@@ -1,0 +1,4 @@
+pub mod Command
+pub mod Modes
+pub mod Pickers
+pub mod Request

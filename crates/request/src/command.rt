@@ -1,0 +1,43 @@
+//! The command whose words are read.
+ghost use Rattle.std.specs.Prelude.{◌≡◌, IfOk, map};
+ghost use Rattle.clap.specs.Words.{FailsBy, app_of, fault_of, found_of, matches_of, rows_of, with_rule};
+ghost use Rattle.request.specs.Command.{option_rule, parcours};
+
+use clap::{Arg, ArgMatches, Command, Error};
+use std::alloc::{AllocError, Global};
+
+/// The command with one more option of one text value.
+fn with_option<'a>(
+    alloc: Global,
+    command: Command<'a>,
+    name: &'a str,
+) -> Result<Command<'a>, AllocError>
+    ensures { IfOk result (λ c. app_of c ≡ with_rule (app_of command.entry) (option_rule name.entry.now)) }
+{
+    let option = Arg::new(alloc, name).long(name);
+    command.arg(option)
+}
+
+/// The command `parcours`.
+fn command<'a>(alloc: Global) -> Result<Command<'a>, AllocError>
+    ensures { IfOk result (λ c. app_of c ≡ parcours) }
+{
+    let mode = Arg::new(alloc, "mode").required(true);
+    let command = Command::new(alloc, "parcours").arg(mode)?;
+    let command = with_option(alloc, command, "days")?;
+    let command = with_option(alloc, command, "wish")?;
+    let command = with_option(alloc, command, "school")?;
+    let command = with_option(alloc, command, "picker")?;
+    let command = with_option(alloc, command, "number")?;
+    let command = with_option(alloc, command, "start")?;
+    with_option(alloc, command, "term")
+}
+
+/// The matches of the words, the program's name first.
+pub(crate) fn parse<'a>(alloc: Global, words: &'a [&'a str]) -> Result<ArgMatches<'a>, Error>
+    ensures kinds { FailsBy (fault_of parcours (map (λ s. s.now) words.entry.now)) result }
+    ensures matches { IfOk result (λ m. rows_of (found_of m) ≡ matches_of parcours (map (λ s. s.now) words.entry.now)) }
+{
+    let command = command(alloc)?;
+    command.try_get_matches_from(words)
+}

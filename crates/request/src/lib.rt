@@ -1,0 +1,15 @@
+//! What the words after the program's name ask for.
+#![tactic(auto)]
+
+mod command;
+mod modes;
+mod pickers;
+mod refusal;
+mod request;
+mod words;
+
+pub use modes::{Mode, Name, named_by, runs_days, sample_of, slots_of};
+pub use pickers::{PickerChoice, PickerName, picker_on};
+pub use refusal::WordsRefusal;
+pub use request::{Deadlines, Request};
+pub use words::read_request;

@@ -1,0 +1,117 @@
+//! The modes, and short tables by mode: its word, the slots that it reads, whether it runs days, and
+//! what it names in the dossier.
+ghost use Rattle.std.specs.Prelude.{◌≡◌, ◌≢◌, ◌≤◌, [], AllPairs, IfSome};
+ghost use Rattle.request.specs.Modes as Modes;
+ghost use Rattle.request.specs.Modes.{IsMode};
+
+use admit_core::Slot;
+use std::fmt;
+
+/// What a run is to do, with what this needs.
+#[derive(Clone, Copy, Debug, PartialEq, Eq)]
+pub enum Mode {
+    /// Writes the call orders of all groups.
+    Order,
+    /// Writes the call orders, the days that are run, and the final state.
+    Replay,
+    /// Makes a dossier of so many candidates, from 1 to 1,000,000, and writes a summary of its days.
+    Sample { number: u32 },
+}
+
+/// What an option of a mode names in the dossier, by its id.
+#[derive(Clone, Copy, Debug, PartialEq, Eq)]
+pub enum Name {
+    Wish(u32),
+    School(u32),
+}
+
+/// The words for it in a line.
+impl fmt::Display for Name {
+    ghost use Rattle.std.specs.Prelude.{Some};
+    ghost use Rattle.request.specs.Modes.{name_text};
+
+    ghost output = { λ name. Some (name_text name) };
+
+    fn fmt<W: fmt::Write>(&self, f: &mut fmt::Formatter<W>) -> fmt::Result {
+        match self {
+            Name::Wish(id) => write!(f, "wish {id}"),
+            Name::School(id) => write!(f, "school {id}"),
+        }
+    }
+}
+
+/// The numbers that the options give, each of which a mode may need.
+#[derive(Clone, Copy, Debug, PartialEq, Eq)]
+pub(crate) struct Numbers {
+    pub(crate) number: Option<u32>,
+    pub(crate) wish: Option<u32>,
+    pub(crate) school: Option<u32>,
+}
+
+/// The mode of a word, where it is given what it needs.
+pub(crate) fn mode_of(word: &str, numbers: Numbers) -> Option<Mode>
+    ensures { result ≡ Modes.mode_of numbers word.now }
+{
+    match word {
+        "order" => Some(Mode::Order),
+        "replay" => Some(Mode::Replay),
+        "sample" => numbers.number.map(|number| Mode::Sample { number }),
+        _ => None,
+    }
+}
+
+/// The slots that a mode reads, in this order.
+pub fn slots_of(mode: Mode) -> &'static [Slot]
+    ensures slots { result.now ≡ Modes.slots_of mode }
+    ensures distinct { AllPairs (λ one other. one ≢ other) result.now }
+{
+    match mode {
+        Mode::Order => &[Slot::Groups, Slot::Rankings],
+        Mode::Replay => &[
+            Slot::Groups,
+            Slot::Programmes,
+            Slot::Schools,
+            Slot::Rankings,
+            Slot::Boarding,
+            Slot::Wishes,
+            Slot::State,
+            Slot::Ceilings,
+            Slot::Answers,
+        ],
+        Mode::Sample { .. } => &[],
+    }
+}
+
+/// How many candidates the made-up dossier of a mode has; none where it reads its dossier.
+pub fn sample_of(mode: Mode) -> Option<u32>
+    ensures value { result ≡ Modes.sample_of mode }
+    ensures range { IsMode mode → IfSome result (λ number. (1 ≤ number) × (number ≤ 1000000)) }
+    ensures reads_none { IfSome result (λ _. Modes.slots_of mode ≡ []) }
+{
+    match mode {
+        Mode::Sample { number } => Some(number),
+        _ => None,
+    }
+}
+
+/// Whether a mode runs days, for which pickers are asked.
+pub fn runs_days(mode: Mode) -> bool
+    ensures { result ≡ Modes.runs_days mode }
+{
+    match mode {
+        Mode::Order => false,
+        Mode::Replay => true,
+        Mode::Sample { .. } => true,
+    }
+}
+
+/// What a mode names in the dossier.
+pub fn named_by(mode: Mode) -> Option<Name>
+    ensures { result ≡ Modes.named_by mode }
+{
+    match mode {
+        Mode::Order => None,
+        Mode::Replay => None,
+        Mode::Sample { .. } => None,
+    }
+}
