@@ -122,9 +122,10 @@ falls_once sys choice told bars shown places i f told_after after are all over i
       told_of = told_of ∙ ap (λ j. told ++ j ∷ []) (sym is);
     }
 
-pub told_one : (sys : FallingSystem) (bars told told_after : List ℕ) (i : ℕ) → is_overfilled sys bars i ≡ true → told_after ≡ told ++ i ∷ []
-    → TellsAtMostOne sys bars told told_after
-told_one sys bars told told_after i over told_of = inr (i, over, told_of)
+pub told_one : (sys : FallingSystem) (choice : List ℕ → List ℕ → ℕ) (told bars shown places told_after : List ℕ) (i : ℕ) → shown ≡ places → places ≡ all_overfilled sys bars
+    → is_overfilled sys bars i ≡ true → i ≡ choice told shown → told_after ≡ told ++ i ∷ [] → TellsAtMostOne sys choice bars told told_after
+told_one sys choice told bars shown places told_after i are all over chosen told_of =
+    inr (record { place = i; overfilled = over; chosen = chosen ∙ ap (choice told) (are ∙ all); told_of = told_of })
 
 pub on_err : {T E P : Type 0} (r : Result T E) → P → OnErr r P
 on_err (Ok x) p = tt

@@ -93,10 +93,10 @@ module _ (sys : FallingSystem) (lawful : IsLawful sys) (choice : List ℕ → Li
       subst (IsGreatest sys) (sym so_far.bars_fell) (run_is_greatest sys lawful falls (run_so_far falls bars told_now so_far settled))
 
   -- where want of memory ends the falls
-  pub early_so_far : (falls : List Fall) (bars told_now told_after : List ℕ) → SoFar sys choice told falls bars told_now → TellsAtMostOne sys bars told_now told_after
+  pub early_so_far : (falls : List Fall) (bars told_now told_after : List ℕ) → SoFar sys choice told falls bars told_now → TellsAtMostOne sys choice bars told_now told_after
       → EndsEarly sys choice told told_after bars
   early_so_far falls bars told_now told_after so_far tells =
-      let P : List ℕ → Type 0 = λ x. TellsAtMostOne sys bars x told_after in
+      let P : List ℕ → Type 0 = λ x. TellsAtMostOne sys choice bars x told_after in
       record {
         falls = falls;
         are_falls = so_far.are_falls;

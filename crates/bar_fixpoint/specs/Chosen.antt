@@ -19,9 +19,16 @@ pub record PickedFall (sys : FallingSystem) (choice : List ℕ → List ℕ → 
   pub chosen : f.school ≡ choice told (all_overfilled sys bars)
   pub told_of : told_after ≡ told ++ f.school ∷ []
 
--- a picker told of an overfilled place more, or of none
-abbrev pub TellsAtMostOne : FallingSystem → List ℕ → List ℕ → List ℕ → Type 0
-TellsAtMostOne sys bars told told_after = (told_after ≡ told) ⊎ ((i : ℕ) × IsTrue (is_overfilled sys bars i) × (told_after ≡ told ++ i ∷ []))
+-- a picker told of the overfilled place that it chose
+pub record TellsOne (sys : FallingSystem) (choice : List ℕ → List ℕ → ℕ) (bars told told_after : List ℕ) : Type 0 where
+  pub place : ℕ
+  pub overfilled : IsTrue (is_overfilled sys bars place)
+  pub chosen : place ≡ choice told (all_overfilled sys bars)
+  pub told_of : told_after ≡ told ++ place ∷ []
+
+-- a picker told of one place more, or of none
+abbrev pub TellsAtMostOne : FallingSystem → (List ℕ → List ℕ → ℕ) → List ℕ → List ℕ → List ℕ → Type 0
+TellsAtMostOne sys choice bars told told_after = (told_after ≡ told) ⊎ TellsOne sys choice bars told told_after
 
 -- falls from the ceilings led to these bars, and the picker told of each, and perhaps of one that was yet to fall
 pub record EndsEarly (sys : FallingSystem) (choice : List ℕ → List ℕ → ℕ) (told told_after after : List ℕ) : Type 0 where
@@ -29,4 +36,8 @@ pub record EndsEarly (sys : FallingSystem) (choice : List ℕ → List ℕ → �
   pub are_falls : AreFalls sys sys.ceilings falls
   pub chosen : AreChosen sys choice told sys.ceilings falls
   pub bars_fell : after ≡ bars_after sys.ceilings falls
-  pub told_of : TellsAtMostOne sys after (told ++ schools_of falls) told_after
+  pub told_of : TellsAtMostOne sys choice after (told ++ schools_of falls) told_after
+
+-- what a picker told where falls from the ceilings ended early, over whatever bars
+abbrev pub TellsOfFalls : FallingSystem → (List ℕ → List ℕ → ℕ) → List ℕ → List ℕ → Type 0
+TellsOfFalls sys choice told told_after = (bars : List ℕ) × EndsEarly sys choice told told_after bars

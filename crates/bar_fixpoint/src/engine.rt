@@ -56,13 +56,14 @@ fn fall_once<F: Falling, L: Ledger>(
     ensures settled { IfOk result (λ fall. IfNone fall (IsTrue (is_settled (F.system system.old) (F.bars system.old)))) }
     ensures rest { IfOk result (λ fall. IfNone fall ((F.bars system.new ≡ F.bars system.old) × (told picker.new ≡ told picker.old))) }
     ensures err { OnErr result (F.bars system.new ≡ F.bars system.old) }
-    ensures told { OnErr result (TellsAtMostOne (F.system system.old) (F.bars system.old) (told picker.old) (told picker.new)) }
+    ensures told { OnErr result (TellsAtMostOne (F.system system.old) (choice picker.old) (F.bars system.old) (told picker.old) (told picker.new)) }
     ensures same { F.system system.new ≡ F.system system.old }
     ensures offers { F.offers system.new ≡ F.offers system.old }
     ensures choice { choice picker.new ≡ choice picker.old }
 {
     let places = system.overfilled(alloc)?;
-    if places.is_empty() {
+    let is_settled = places.is_empty();
+    if is_settled {
         return Ok(None);
     }
     let school = picker.pick(places.as_slice())?;

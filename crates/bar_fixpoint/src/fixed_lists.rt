@@ -1,5 +1,5 @@
 //! A system for tests, whose places have fixed lists of ranks.
-ghost use Rattle.std.specs.Prelude.{◌≡◌, ℕ, ◌<◌, ◌≤◌, ◌^◌, length, [], Contains, IfOk, filter, nat_le, slice_get};
+ghost use Rattle.std.specs.Prelude.{◌≡◌, ℕ, ◌+◌, ◌<◌, ◌≤◌, ◌^◌, length, [], Contains, IfOk, filter, nat_le, slice_get, slice_index, slice_set};
 ghost use Rattle.std.specs.List.Sorted.{IsStrictlyIncreasing};
 ghost use Rattle.bar_fixpoint.specs.FixedSystems.{list_of};
 
@@ -56,7 +56,14 @@ impl Falling for FixedLists {
         up_to(alloc, ranks.as_slice(), upto)
     }
 
-    fn lower<L: Ledger>(&mut self, i: u32, to: u32, steps: &mut Steps<L>) {
+    fn lower<L: Ledger>(&mut self, i: u32, to: u32, steps: &mut Steps<L>)
+        requires in_range { i < length self.old.ceilings.items }
+        requires lower { to < slice_index self.old.bars.items i }
+        ensures bars { self.new.bars.items ≡ slice_set self.old.bars.items i to }
+        ensures same { ⟦<FixedLists as Falling>⟧.system self.new ≡ ⟦<FixedLists as Falling>⟧.system self.old }
+        ensures offers { ⟦<FixedLists as Falling>⟧.offers self.new ≡ ⟦<FixedLists as Falling>⟧.offers self.old }
+        ensures steps { steps.new ≡ steps.old + 1 }
+    {
         self.bars[i as usize] = to;
         steps.tick();
     }

@@ -1,5 +1,5 @@
 //! What chooses the place whose bar falls.
-ghost use Rattle.std.specs.Prelude.{◌≡◌, ℕ, ◌<◌, List, length, [], ◌++◌, ◌∷◌, Contains, IfOk, OnErr};
+ghost use Rattle.std.specs.Prelude.{◌≡◌, ℕ, ◌<◌, ◌≤◌, List, length, [], ◌++◌, ◌∷◌, Contains, IfOk, OnErr, vec_capacity, vec_len};
 
 use admit_core::OutOfMemory;
 
@@ -29,6 +29,7 @@ pub trait Picker: Drop {
 pub(crate) fn tell(told: &mut Vec<u32>, place: u32) -> Result<u32, OutOfMemory>
     ensures ok { IfOk result (λ i. (i ≡ place) × (told.new.items ≡ told.old.items ++ place ∷ [])) }
     ensures err { OnErr result (told.new.items ≡ told.old.items) }
+    ensures full { OnErr result (vec_capacity told.old ≤ vec_len told.old) }
 {
     told.push(place)?;
     Ok(place)

@@ -1,5 +1,5 @@
 //! A picker that refuses once, for tests of what a refusal leaves.
-ghost use Rattle.std.specs.Prelude.{◌≡◌, ◌==◌, ◌+◌, ◌-◌, ◌^◌, ◌<◌, ◌≤◌, List, length, [], ◌++◌, ◌∷◌, Contains, IfOk, OnErr, IsErr, min};
+ghost use Rattle.std.specs.Prelude.{◌≡◌, ◌==◌, ◌+◌, ◌-◌, ◌^◌, ◌<◌, ◌≤◌, List, length, [], ◌++◌, ◌∷◌, Contains, IfOk, OnErr, IsErr, min, ◌⊎◌, vec_capacity, vec_len};
 ghost use Rattle.bar_fixpoint.specs.Choices.{first_of};
 
 use crate::picker::{Picker, tell};
@@ -46,6 +46,7 @@ impl Picker for TiredPicker {
         ensures err { OnErr result (⟦<TiredPicker as Picker>⟧.told self.new ≡ ⟦<TiredPicker as Picker>⟧.told self.old) }
         ensures same { ⟦<TiredPicker as Picker>⟧.choice self.new ≡ ⟦<TiredPicker as Picker>⟧.choice self.old }
         ensures tired { self.old.picks + 1 ≡ self.old.at → IsErr result }
+        ensures rested { OnErr result ((self.old.picks + 1 ≡ self.old.at) ⊎ (vec_capacity self.old.told ≤ vec_len self.old.told)) }
         ensures picks { self.new.picks ≡ min (self.old.picks + 1) (2 ^ 64 - 1) }
         ensures at { self.new.at ≡ self.old.at }
     {

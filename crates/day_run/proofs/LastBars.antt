@@ -11,7 +11,7 @@ use Rattle.admit_core.specs.DossierRows.{DossierRows}
 use Rattle.admit_core.specs.State.{State}
 use Rattle.admit_core.specs.Days.{Passes, closing, ceiling_on, ceilings_of}
 use Rattle.admit_core.specs.EveningLaws.{last_bars}
-use Rattle.day_run.proofs.PassesSoFar.{stamp_of}
+use Rattle.day_run.specs.DayPasses.{stamp_of}
 
 -- there is one bar for each ceiling
 pub last_bars_long : (orders : List CallOrder) (ceilings : List ℕ) (day k : ℕ) (s evening : State) (passes : List PassEnd) → Passes orders ceilings day k s passes evening

@@ -8,4 +8,8 @@ pub mod MarkPairs
 pub mod LatestCeilings
 pub mod LastBars
 pub mod SameDays
+pub mod SameDossier
+pub mod DayPlaces
+pub mod Stamps
 pub mod DayLaws
+pub mod DayEnds

@@ -1,17 +1,19 @@
 -- The passes that a day has made.
-use Rattle.std.proofs.Common.{ℕ, ◌+◌, ◌≤◌, ◌<◌, ◌≡◌, not, List, [], ◌∷◌, ◌++◌, length, refl, sym, ◌∙◌, ap, arith}
-use Rattle.std.specs.Prelude.{IsTrue}
-use Rattle.std.proofs.lemmas.List.{flat_map_more, length_push}
+use Rattle.std.proofs.Common.{ℕ, ◌+◌, ◌≤◌, ◌<◌, ◌≡◌, not, List, [], ◌∷◌, ◌++◌, length, refl, sym, ◌∙◌, ap, arith, inl, inr, append_assoc, subst, Result, Ok, Err, IfErr}
+use Rattle.std.specs.Prelude.{IsErrAnd, IsTrue}
+use Rattle.std.proofs.lemmas.List.{append-nil, flat_map_more, length_push}
 use Rattle.admit_core.specs.declared.ranking.CallOrder.{CallOrder}
 use Rattle.admit_core.specs.declared.records.PassEnd.{PassEnd}
-use Rattle.admit_core.specs.declared.state.Stamp.{Stamp}
 use Rattle.bar_law.specs.Runs.{schools_of}
+use Rattle.bar_fixpoint.specs.Chosen.{AreChosen, TellsOfFalls}
+use Rattle.admit_core.specs.Boarding.{boarding}
+use Rattle.admit_core.specs.Falls.{FallingSystem}
 use Rattle.admit_core.specs.State.{State}
 use Rattle.admit_core.specs.Days.{IsPassEnd, Passes, closing, frees_nothing}
-use Rattle.day_run.specs.DayPasses.{last_opening, schools_of_passes, open_wishes}
-
-abbrev pub stamp_of : ℕ → ℕ → Stamp
-stamp_of day k = record { day = day; pass = k }
+use Rattle.day_run.specs.declared.refusal.DayRefusal.{DayRefusal}
+use Rattle.day_run.specs.declared.refusal.DayRefusal.TheVariants as refusals
+use Rattle.day_run.specs.RunDay.{TellsNoneUnfit}
+use Rattle.day_run.specs.DayPasses.{AreChosenPasses, TellsMore, last_opening, schools_of_passes, open_wishes, stamp_of}
 
 -- passes from s on, each of which freed something, lead to the present state
 abbrev pub Earlier : List CallOrder → List ℕ → ℕ → ℕ → State → List PassEnd → State → Type 0
@@ -95,3 +97,58 @@ told_more first told next passes ends pass so_far more ends_is =
     more ∙ ap (λ (l : List ℕ). l ++ schools_of pass.pass.falls) so_far
     ∙ flat_map_more (λ (end : PassEnd). schools_of end.pass.falls) first passes pass
     ∙ ap (λ (l : List PassEnd). first ++ schools_of_passes l) (sym ends_is)
+
+-- one more pass whose schools were chosen
+chosen_on : (orders : List CallOrder) (ceilings : List ℕ) (day k : ℕ) (s : State) (choice : List ℕ → List ℕ → ℕ) (first told : List ℕ) (passes : List PassEnd) (now : State) (pass : PassEnd)
+    → Earlier orders ceilings day k s passes now → AreChosenPasses orders ceilings day k s choice first passes → told ≡ first ++ schools_of_passes passes
+    → AreChosen (boarding now orders ceilings) choice told ceilings pass.pass.falls
+    → AreChosenPasses orders ceilings day k s choice first (passes ++ pass ∷ [])
+chosen_on orders ceilings day k s choice first told [] now pass so_far chosen told_is is =
+    (rw (so_far, told_is ∙ append-nil first) at is, tt)
+chosen_on orders ceilings day k s choice first told (p ∷ ps) now pass so_far chosen told_is is = (
+  chosen.0,
+  chosen_on orders ceilings day (k + 1) (closing s orders p.pass.bars (stamp_of day k)) choice (first ++ schools_of p.pass.falls) told ps now pass so_far.2 chosen.1
+      (told_is ∙ sym (append_assoc first (schools_of p.pass.falls) (schools_of_passes ps))) is,
+)
+
+pub chosen_none : (orders : List CallOrder) (ceilings : List ℕ) (day k : ℕ) (s : State) (choice : List ℕ → List ℕ → ℕ) (first : List ℕ) (passes : List PassEnd) → passes ≡ []
+    → AreChosenPasses orders ceilings day k s choice first passes
+chosen_none orders ceilings day k s choice first passes none = rw none tt
+
+pub chosen_more : (orders : List CallOrder) (ceilings : List ℕ) (day number : ℕ) (s : State) (choice choice_now : List ℕ → List ℕ → ℕ) (first told : List ℕ) (passes ends : List PassEnd)
+    (now : State) (pass : PassEnd) → SoFar orders ceilings day number s now passes → AreChosenPasses orders ceilings day 1 s choice first passes
+    → told ≡ first ++ schools_of_passes passes → choice_now ≡ choice → AreChosen (boarding now orders ceilings) choice_now told ceilings pass.pass.falls
+    → ends ≡ passes ++ pass ∷ [] → AreChosenPasses orders ceilings day 1 s choice first ends
+chosen_more orders ceilings day number s choice choice_now first told passes ends now pass so_far chosen told_is same is ends_are =
+    rw ends_are (chosen_on orders ceilings day 1 s choice first told passes now pass so_far.earlier chosen told_is (rw same at is))
+
+-- what a picker told where memory ran out
+pub tells_still : (before after : List ℕ) → after ≡ before → TellsMore before after
+tells_still before after same = ([], same ∙ sym (append-nil before))
+
+pub tells_from : (before mid after : List ℕ) (picks : List ℕ) → mid ≡ before ++ picks → TellsMore mid after → TellsMore before after
+tells_from before mid after picks first then =
+    (picks ++ then.0, then.1 ∙ ap (λ (l : List ℕ). l ++ then.0) first ∙ append_assoc before picks then.0)
+
+pub tells_of_falls : (sys : FallingSystem) (choice : List ℕ → List ℕ → ℕ) (before after : List ℕ) → TellsOfFalls sys choice before after → TellsMore before after
+tells_of_falls sys choice before after told =
+    elim told.1.told_of [
+      | inl all ↦ (schools_of told.1.falls, all)
+      | inr one ↦ (schools_of told.1.falls ++ one.place ∷ [], one.told_of ∙ append_assoc before (schools_of told.1.falls) (one.place ∷ []))
+    ]
+
+pub untold_memory : {T : Type 0} (r : Result T DayRefusal) (before after : List ℕ) → IsErrAnd r (λ x. x ≡ refusals.OutOfMemory) → TellsMore before after
+    → IfErr r (TellsNoneUnfit before after)
+untold_memory (Ok x) before after from more = tt
+untold_memory (Err e) before after from more = subst (TellsNoneUnfit before after) (sym from) more
+
+pub untold_other : {T : Type 0} (r : Result T DayRefusal) (refusal : DayRefusal) (before after : List ℕ) → IsErrAnd r (λ x. x ≡ refusal) → TellsNoneUnfit before after refusal
+    → IfErr r (TellsNoneUnfit before after)
+untold_other (Ok x) refusal before after from told = tt
+untold_other (Err e) refusal before after from told = subst (TellsNoneUnfit before after) (sym from) told
+
+-- no picker was asked
+pub untold_same : {T : Type 0} (r : Result T DayRefusal) (told : List ℕ) → IfErr r (TellsNoneUnfit told told)
+untold_same (Ok x) told = tt
+untold_same (Err (refusals.Unfit refusal)) told = refl
+untold_same (Err refusals.OutOfMemory) told = tells_still told told refl

@@ -1,17 +1,22 @@
 -- Days by different picks.
-use Rattle.std.proofs.Common.{ℕ, ◌+◌, ◌≡◌, true, not, List, [], ◌∷◌, map, length, refl, sym, ◌∙◌, ap}
+use Rattle.std.proofs.Common.{ℕ, ◌+◌, ◌≡◌, true, not, List, [], ◌∷◌, map, length, Option, refl, sym, ◌∙◌, ap, subst, arith}
 use Rattle.std.specs.List.{AllZip, range_with_len}
 use Rattle.std.proofs.lemmas.Bool.{not-true, false≢true}
 use Rattle.admit_core.specs.declared.ranking.CallOrder.{CallOrder}
+use Rattle.admit_core.specs.declared.ranking.RankGroup.{RankGroup}
+use Rattle.admit_core.specs.declared.records.DayRecord.{DayRecord}
 use Rattle.admit_core.specs.declared.records.PassEnd.{PassEnd}
+use Rattle.admit_core.specs.declared.records.Terms.{Terms}
 use Rattle.admit_core.specs.declared.state.Stamp.{Stamp}
 use Rattle.admit_core.specs.State.{State, seats_left, free_beds}
+use Rattle.admit_core.specs.CallOrder.{AreCallOrders}
+use Rattle.admit_core.proofs.OneOrder.{same_order}
 use Rattle.admit_core.specs.Boarding.{boarding}
 use Rattle.admit_core.specs.Proposals.{proposed}
-use Rattle.admit_core.specs.Days.{IsPassEnd, Passes, closing, offered, changes, freed_after, frees_nothing, morning, lapsed_on}
+use Rattle.admit_core.specs.Days.{IsPassEnd, Passes, closing, offered, changes, freed_after, frees_nothing, morning, lapsed_on, Days, ceilings_of}
 use Rattle.bar_law.proofs.RunLaws.{unique_greatest}
-use Rattle.day_run.specs.DayLaws.{SameButFalls, OnlyFallsDiffer}
-use Rattle.day_run.proofs.PassesSoFar.{stamp_of}
+use Rattle.day_run.specs.DayLaws.{SameButFalls, OnlyFallsDiffer, SameDayButFalls, CampaignsAreFixed}
+use Rattle.day_run.specs.DayPasses.{stamp_of}
 
 same_pass : (s : State) (orders : List CallOrder) (ceilings : List ℕ) (stamp : Stamp) (one other : PassEnd)
     → IsPassEnd s orders ceilings stamp one → IsPassEnd s orders ceilings stamp other → SameButFalls one other
@@ -58,9 +63,37 @@ only_falls_differ terms orders ceilings old one other evening night number a b =
     let passes = same_passes orders ceilings one.day 1 (morning terms one.day old) (morning terms one.day old) one.passes other.passes evening night refl a.passes (rw (← number) at b.passes) in (
       passes.0,
       record {
+        number = number;
         lapsed = a.lapsed ∙ ap (λ d. lapsed_on terms d old) number ∙ sym b.lapsed;
         passes = passes.1;
         left = a.left ∙ ap (λ (s : State). map (seats_left s) (range_with_len 0 (length s.dossier.programmes))) passes.0 ∙ sym b.left;
         free = a.free ∙ ap (λ (s : State). map (free_beds s) (range_with_len 0 (length s.dossier.schools))) passes.0 ∙ sym b.free;
       },
     )
+
+-- days of a campaign by different picks
+days_differ_in_falls : (terms : Option Terms) (orders : List CallOrder) (first : ℕ) (old : State) (days twins : List DayRecord) (evening night : State)
+    → length days ≡ length twins → Days terms orders first old days evening → Days terms orders first old twins night → (evening ≡ night) × AllZip SameDayButFalls days twins
+days_differ_in_falls terms orders first old [] [] evening night same one other = (sym one ∙ other, tt)
+days_differ_in_falls terms orders first old [] (twin ∷ twins) evening night same one other = absurd (omega arith)
+days_differ_in_falls terms orders first old (day ∷ days) [] evening night same one other = absurd (omega arith)
+days_differ_in_falls terms orders first old (day ∷ days) (twin ∷ twins) evening night same one other =
+    let here = only_falls_differ terms orders (ceilings_of old.dossier first) old day twin one.0 other.0 (one.1 ∙ sym other.1) one.2 other.2 in
+    let later = subst (λ (s : State). Days terms orders (first + 1) s twins night) (sym here.0) other.3 in
+    let rest = days_differ_in_falls terms orders (first + 1) one.0 days twins evening night (omega arith) one.3 later in
+    (rest.0, (here.1, rest.1))
+
+-- the groups of a dossier have one list of call orders
+same_orders : (groups : List RankGroup) (one other : List CallOrder) → AreCallOrders groups one → AreCallOrders groups other → one ≡ other
+same_orders [] [] [] a b = refl
+same_orders [] [] (y ∷ ys) a b = absurd b
+same_orders [] (x ∷ xs) other a b = absurd a
+same_orders (g ∷ gs) [] other a b = absurd a
+same_orders (g ∷ gs) (x ∷ xs) [] a b = absurd b
+same_orders (g ∷ gs) (x ∷ xs) (y ∷ ys) a b =
+    ap (λ (o : CallOrder). o ∷ xs) (same_order g x y a.0 b.0) ∙ ap (λ (os : List CallOrder). y ∷ os) (same_orders gs xs ys a.1 b.1)
+
+pub campaigns_are_fixed : CampaignsAreFixed
+campaigns_are_fixed terms orders others first old days twins evening night called called_too same one other =
+    let as_one = subst (λ (os : List CallOrder). Days terms os first old twins night) (same_orders old.dossier.groups others orders called_too called) other in
+    days_differ_in_falls terms orders first old days twins evening night same one as_one

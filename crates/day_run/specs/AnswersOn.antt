@@ -50,8 +50,3 @@ IsApplied old day (Ok x) new =
     × (new ≡ after_all old (answers_stamp day) (answers_of old.dossier day))
 IsApplied old day (Err refusal) new =
     IsSomeAnd (first_unfit 0 old (answers_stamp day) (answers_of old.dossier day)) (λ x. refusal ≡ refusals.Unfit (unfit_refusal old.dossier day x))
-
--- a picker told of nothing before an unfit answer; it may have told of schools before memory was wanting
-abbrev pub TellsNoneUnfit : List ℕ → List ℕ → DayRefusal → Type 0
-TellsNoneUnfit before after (refusals.Unfit refusal) = after ≡ before
-TellsNoneUnfit before after refusals.OutOfMemory = Unit {0}

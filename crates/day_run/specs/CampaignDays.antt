@@ -1,24 +1,27 @@
 -- How far a campaign has come, and what its next day makes of it.
-use Rattle.std.specs.Prelude.{◌≡◌, ◌≤◌, ℕ, ◌+◌, Bool, true, false, List, length, Option}
+use Rattle.std.specs.Prelude.{◌≡◌, ℕ, ◌+◌, Bool, true, false, List, length, map, Option, Result, IfOk, IfErr, OnErr}
 use Rattle.std.specs.Option.{ForSome}
 use Rattle.admit_core.specs.declared.ranking.CallOrder.{CallOrder}
 use Rattle.admit_core.specs.declared.records.DayRecord.{DayRecord}
 use Rattle.admit_core.specs.declared.records.Terms.{Terms}
 use Rattle.admit_core.specs.CallOrder.{AreCallOrders}
+use Rattle.admit_core.specs.DossierRows.{DossierRows}
 use Rattle.admit_core.specs.State.{State}
-use Rattle.admit_core.specs.Days.{IsDay, morning, ceilings_of}
+use Rattle.admit_core.specs.Days.{ceilings_of, first_evening, unfit_on}
 use Rattle.admit_core.specs.EveningLaws.{last_bars}
-use Rattle.day_run.specs.DayLaws.{KeepsLaws}
-use Rattle.day_run.specs.DayPasses.{last_opening}
+use Rattle.day_run.specs.AnswersOn.{IsUnfitOf}
+use Rattle.day_run.specs.RunDay.{Moment, IsDayDone, TellsNoneUnfit}
+use Rattle.day_run.specs.declared.refusal.DayRefusal.{DayRefusal}
 
--- the orders and the terms of a campaign, the days that were run, and whether the last one came about; the present state,
--- the opening of the last pass, its bars, and the ceilings of its day
+-- the orders and the terms of a campaign, the days that were run, and whether the last one came about; the present state, that of
+-- the evening before, the opening of the last pass, its bars, and the ceilings of its day
 pub record Progress : Type 0 where
   pub orders : List CallOrder
   pub terms : Option Terms
   pub day : ℕ
   pub has_day : Bool
   pub present : State
+  pub evening : State
   pub opening : State
   pub bars : List ℕ
   pub ceilings : List ℕ
@@ -29,21 +32,48 @@ pub record IsProgress (p : Progress) : Type 0 where
   pub before : ForSome p.terms (λ t. length t.before ≡ length p.present.dossier.wishes)
   pub bars : length p.bars ≡ length p.present.dossier.schools
 
--- the next day came about
-pub record RunsDay (old new : Progress) (done : DayRecord) : Type 0 where
-  pub number : done.day ≡ old.day + 1
-  pub day : IsDay old.terms old.orders (ceilings_of old.present.dossier (old.day + 1)) old.present done new.present
-  pub few : length done.passes ≤ length old.present.dossier.wishes + 1
-  pub laws : KeepsLaws old.terms old.orders (ceilings_of old.present.dossier (old.day + 1)) old.present done new.present
-  pub opening : new.opening ≡ last_opening old.orders (old.day + 1) 1 (morning old.terms (old.day + 1) old.present) done.passes
-  pub bars : new.bars ≡ last_bars done.passes
-  pub ceilings : new.ceilings ≡ ceilings_of old.present.dossier (old.day + 1)
-  pub counted : new.day ≡ old.day + 1
-  pub has_day : new.has_day ≡ true
+-- the schools' own ceilings
+abbrev pub own_ceilings : DossierRows → List ℕ
+own_ceilings d = map (λ school. school.ceiling) d.schools
+
+-- no day was run: the bars and the ceilings are the schools' own ceilings
+pub record IsBegun (d : DossierRows) (called : List CallOrder) (given : Option Terms) (p : Progress) : Type 0 where
+  pub orders : p.orders ≡ called
+  pub terms : p.terms ≡ given
+  pub day : p.day ≡ 0
+  pub has_day : p.has_day ≡ false
+  pub present : p.present ≡ first_evening d
+  pub evening : p.evening ≡ first_evening d
+  pub opening : p.opening ≡ first_evening d
+  pub bars : p.bars ≡ own_ceilings d
+  pub ceilings : p.ceilings ≡ own_ceilings d
+
+-- a campaign on a day, with what the picker of the day has told and how it chooses
+pub record Stage : Type 0 where
+  pub course : Progress
+  pub told : List ℕ
+  pub choice : List ℕ → List ℕ → ℕ
+
+-- the same as a day on a desk sees it
+abbrev pub moment_of : Stage → Moment
+moment_of stage =
+    let p = stage.course in
+    record { desk = record { present = p.present; evening = p.evening; opening = p.opening }; told = stage.told; choice = stage.choice }
+
+-- the next day came about, under its own ceilings
+pub record RunsDay (before : Stage) (done : DayRecord) (after : Stage) : Type 0 where
+  pub is_done : IsDayDone before.course.terms before.course.orders (ceilings_of before.course.present.dossier (before.course.day + 1))
+      (before.course.day + 1) (moment_of before) done (moment_of after)
+  pub bars : after.course.bars ≡ last_bars done.passes
+  pub ceilings : after.course.ceilings ≡ ceilings_of before.course.present.dossier (before.course.day + 1)
+  pub counted : after.course.day ≡ before.course.day + 1
+  pub has_day : after.course.has_day ≡ true
 
 -- the next day did not come about: it may be tried again
 pub record StaysAt (old new : Progress) : Type 0 where
   pub present : new.present ≡ old.present
+  pub bars : new.bars ≡ old.bars
+  pub ceilings : new.ceilings ≡ old.ceilings
   pub counted : new.day ≡ old.day
   pub has_day : new.has_day ≡ false
 
@@ -52,3 +82,12 @@ pub record SameCampaign (old new : Progress) : Type 0 where
   pub orders : new.orders ≡ old.orders
   pub terms : new.terms ≡ old.terms
   pub dossier : new.present.dossier ≡ old.present.dossier
+
+-- how the next day of a campaign ends
+pub record EndsNextDay (before after : Stage) (result : Result DayRecord DayRefusal) : Type 0 where
+  pub runs : IfOk result (λ done. RunsDay before done after)
+  pub unfit : IfErr result (IsUnfitOf before.course.present.dossier (before.course.day + 1) (unfit_on before.course.terms (before.course.day + 1) before.course.present))
+  pub stays : OnErr result (StaysAt before.course after.course)
+  pub same : SameCampaign before.course after.course
+  pub untold : IfErr result (TellsNoneUnfit before.told after.told)
+  pub choice : after.choice ≡ before.choice

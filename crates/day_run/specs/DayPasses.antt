@@ -1,11 +1,15 @@
 -- The passes of a day.
-use Rattle.std.specs.Prelude.{ℕ, ◌+◌, ◌||◌, List, [], ◌∷◌, count_by}
+use Rattle.std.specs.Prelude.{◌≡◌, ℕ, ◌+◌, ◌||◌, List, [], ◌∷◌, ◌++◌, count_by, ⊤}
 use Rattle.std.specs.List.{flat_map}
 use Rattle.admit_core.specs.declared.ranking.CallOrder.{CallOrder}
 use Rattle.admit_core.specs.declared.records.PassEnd.{PassEnd}
+use Rattle.admit_core.specs.declared.state.Stamp.{Stamp}
 use Rattle.admit_core.specs.State.{State, is_live, is_waiting}
-use Rattle.admit_core.specs.Days.{closing}
+use Rattle.admit_core.specs.Boarding.{boarding}
+use Rattle.admit_core.specs.Days.{closing, offered}
 use Rattle.bar_law.specs.Runs.{schools_of}
+use Rattle.bar_fixpoint.specs.Chosen.{AreChosen}
+use Rattle.round.specs.PassLaws.{KeepsPassLaws}
 
 -- the schools whose bars fell in the passes, in their order
 abbrev pub schools_of_passes : List PassEnd → List ℕ
@@ -21,3 +25,25 @@ last_opening orders day k s (pass ∷ next ∷ rest) =
 -- how many wishes are live or wait
 abbrev pub open_wishes : State → ℕ
 open_wishes s = count_by (λ m. is_live m || is_waiting m) s.marks
+
+-- the stamp of a pass of a day
+abbrev pub stamp_of : ℕ → ℕ → Stamp
+stamp_of day k = record { day = day; pass = k }
+
+-- in the passes that begin with the opening s and the number k, each school that fell was chosen from all that were overfilled
+abbrev pub AreChosenPasses : List CallOrder → List ℕ → ℕ → ℕ → State → (List ℕ → List ℕ → ℕ) → List ℕ → List PassEnd → Type 0
+AreChosenPasses orders ceilings day k s choice told [] = ⊤
+AreChosenPasses orders ceilings day k s choice told (pass ∷ rest) =
+    AreChosen (boarding s orders ceilings) choice told ceilings pass.pass.falls
+    × AreChosenPasses orders ceilings day (k + 1) (closing s orders pass.pass.bars (stamp_of day k)) choice (told ++ schools_of pass.pass.falls) rest
+
+-- each of these passes keeps the laws of passes
+abbrev pub PassesKeepLaws : List CallOrder → List ℕ → ℕ → ℕ → State → List PassEnd → Type 0
+PassesKeepLaws orders ceilings day k s [] = ⊤
+PassesKeepLaws orders ceilings day k s (pass ∷ rest) =
+    KeepsPassLaws s (offered s orders pass.pass.bars (stamp_of day k)) ceilings pass.pass
+    × PassesKeepLaws orders ceilings day (k + 1) (closing s orders pass.pass.bars (stamp_of day k)) rest
+
+-- what was told before is a prefix of what is told now
+abbrev pub TellsMore : List ℕ → List ℕ → Type 0
+TellsMore before after = (picks : List ℕ) × (after ≡ before ++ picks)

@@ -5,3 +5,5 @@ pub mod DeskStates
 pub mod Ceilings
 pub mod CampaignDays
 pub mod DayLaws
+pub mod DayPlaces
+pub mod RunDay

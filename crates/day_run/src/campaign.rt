@@ -1,10 +1,7 @@
 //! A campaign: day after day, with a picker of its own.
-ghost use Rattle.std.specs.Prelude.{◌≡◌, ◌++◌, ◌<◌, ◌+◌, length, IfOk, IfErr, OnErr, None, Some, false};
+ghost use Rattle.std.specs.Prelude.{◌≡◌, ◌<◌, length, IfOk, IfErr, None, Some};
 ghost use Rattle.admit_core.specs.CallOrder.{AreCallOrders};
-ghost use Rattle.admit_core.specs.Days.{first_evening, unfit_on};
-ghost use Rattle.day_run.specs.AnswersOn.{IsUnfitOf, TellsNoneUnfit};
-ghost use Rattle.day_run.specs.CampaignDays.{RunsDay, StaysAt, SameCampaign};
-ghost use Rattle.day_run.specs.DayPasses.{schools_of_passes};
+ghost use Rattle.day_run.specs.CampaignDays.{EndsNextDay, IsBegun};
 
 use crate::course::Course;
 use crate::refusal::DayRefusal;
@@ -36,11 +33,7 @@ impl<'d> Campaign<'d> {
         picker: Box<dyn Picker>,
     ) -> Result<Campaign<'d>, NoRoom>
         requires { AreCallOrders dossier.now.groups orders.now.orders }
-        ensures orders { IfOk result (λ campaign. campaign.course.orders ≡ orders.now.orders) }
-        ensures terms { IfOk result (λ campaign. campaign.course.terms ≡ None) }
-        ensures day { IfOk result (λ campaign. campaign.course.day ≡ 0) }
-        ensures has_day { IfOk result (λ campaign. campaign.course.has_day ≡ false) }
-        ensures present { IfOk result (λ campaign. campaign.course.present ≡ first_evening dossier.now) }
+        ensures begun { IfOk result (λ campaign. IsBegun dossier.now orders.now.orders None campaign.course) }
         ensures picker { IfOk result (λ campaign. campaign.picker ≡ picker) }
         ensures back { IfErr result (λ no_room. no_room.picker ≡ picker) }
     {
@@ -60,11 +53,7 @@ impl<'d> Campaign<'d> {
     ) -> Result<Campaign<'d>, NoRoom>
         requires orders { AreCallOrders dossier.now.groups orders.now.orders }
         requires before { length terms.before ≡ length dossier.now.wishes }
-        ensures orders { IfOk result (λ campaign. campaign.course.orders ≡ orders.now.orders) }
-        ensures terms { IfOk result (λ campaign. campaign.course.terms ≡ Some terms) }
-        ensures day { IfOk result (λ campaign. campaign.course.day ≡ 0) }
-        ensures has_day { IfOk result (λ campaign. campaign.course.has_day ≡ false) }
-        ensures present { IfOk result (λ campaign. campaign.course.present ≡ first_evening dossier.now) }
+        ensures begun { IfOk result (λ campaign. IsBegun dossier.now orders.now.orders (Some terms) campaign.course) }
         ensures picker { IfOk result (λ campaign. campaign.picker ≡ picker) }
         ensures back { IfErr result (λ no_room. no_room.picker ≡ picker) }
     {
@@ -79,14 +68,9 @@ impl<'d> Campaign<'d> {
     pub fn next_day(&mut self, alloc: Global) -> Result<DayRecord, DayRefusal>
         requires { self.old.course.day < 366 }
 
-        ensures runs { IfOk result (RunsDay self.old.course self.new.course) }
-        ensures unfit { IfErr result (IsUnfitOf self.old.course.present.dossier (self.old.course.day + 1) (unfit_on self.old.course.terms (self.old.course.day + 1) self.old.course.present)) }
-        ensures stays { OnErr result (StaysAt self.old.course self.new.course) }
-        ensures same { SameCampaign self.old.course self.new.course }
-
-        ensures told { IfOk result (λ done. told self.new.picker ≡ told self.old.picker ++ schools_of_passes done.passes) }
-        ensures untold { IfErr result (TellsNoneUnfit (told self.old.picker) (told self.new.picker)) }
-        ensures choice { choice self.new.picker ≡ choice self.old.picker }
+        ensures { EndsNextDay
+            (record { course = self.old.course; told = told self.old.picker; choice = choice self.old.picker })
+            (record { course = self.new.course; told = told self.new.picker; choice = choice self.new.picker }) result }
     {
         self.course.next_day(alloc, &mut *self.picker)
     }

@@ -8,7 +8,8 @@ use std::alloc::Global;
 
 /// The ceilings of a day, by school: that of its latest change by then, or its own.
 pub fn ceilings_on(alloc: Global, dossier: &Dossier, day: u32) -> Result<Vec<u32>, OutOfMemory>
-    ensures { IfOk result (λ v. v.items ≡ ceilings_of dossier.now day) }
+    ensures ceilings { IfOk result (λ v. v.items ≡ ceilings_of dossier.now day) }
+    ensures one_each { IfOk result (λ v. length v.items ≡ length dossier.now.schools) }
 {
     let mut ceilings = own_ceilings(alloc, dossier)?;
     apply_changes(&mut ceilings, dossier.ceilings.as_slice(), day);

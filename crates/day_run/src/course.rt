@@ -1,12 +1,9 @@
 //! How far a campaign has come.
-ghost use Rattle.std.specs.Prelude.{◌≡◌, ◌++◌, ◌<◌, ◌+◌, length, IfOk, IfErr, OnErr, None, Some, false};
+ghost use Rattle.std.specs.Prelude.{◌≡◌, ◌<◌, length, IfOk};
 ghost use Rattle.std.specs.Option.{ForSome};
 ghost use Rattle.admit_core.specs.CallOrder.{AreCallOrders};
-ghost use Rattle.admit_core.specs.Days.{first_evening, unfit_on};
-ghost use Rattle.day_run.specs.AnswersOn.{IsUnfitOf, TellsNoneUnfit};
-ghost use Rattle.day_run.specs.CampaignDays.{RunsDay, StaysAt, SameCampaign};
 ghost use Rattle.admit_core.specs.EveningLaws.{last_bars};
-ghost use Rattle.day_run.specs.DayPasses.{schools_of_passes};
+ghost use Rattle.day_run.specs.CampaignDays.{EndsNextDay, IsBegun};
 
 use crate::ceilings::{ceilings_on, own_ceilings};
 use crate::day::run_with;
@@ -35,9 +32,9 @@ impl<'d> Model for Course<'d> {
 
     ghost Value = { Progress };
 
-    ghost view = { λ s. record { orders = s.orders.now.orders; terms = s.terms; day = s.day; has_day = s.has_day; present = s.desk.present; opening = s.desk.opening; bars = s.bars.items; ceilings = s.ceilings.items } };
+    ghost view = { λ s. record { orders = s.orders.now.orders; terms = s.terms; day = s.day; has_day = s.has_day; present = s.desk.present; evening = s.desk.evening; opening = s.desk.opening; bars = s.bars.items; ceilings = s.ceilings.items } };
 
-    ghost invariant = { λ s. IsProgress (record { orders = s.orders.now.orders; terms = s.terms; day = s.day; has_day = s.has_day; present = s.desk.present; opening = s.desk.opening; bars = s.bars.items; ceilings = s.ceilings.items }) };
+    ghost invariant = { λ s. IsProgress (record { orders = s.orders.now.orders; terms = s.terms; day = s.day; has_day = s.has_day; present = s.desk.present; evening = s.desk.evening; opening = s.desk.opening; bars = s.bars.items; ceilings = s.ceilings.items }) };
 }
 
 impl<'d> Course<'d> {
@@ -50,11 +47,7 @@ impl<'d> Course<'d> {
     ) -> Result<Course<'d>, OutOfMemory>
         requires orders { AreCallOrders dossier.now.groups orders.now.orders }
         requires before { ForSome terms (λ t. length t.before ≡ length dossier.now.wishes) }
-        ensures orders { IfOk result (λ course. course.orders ≡ orders.now.orders) }
-        ensures terms { IfOk result (λ course. course.terms ≡ terms) }
-        ensures day { IfOk result (λ course. course.day ≡ 0) }
-        ensures has_day { IfOk result (λ course. course.has_day ≡ false) }
-        ensures present { IfOk result (λ course. course.present ≡ first_evening dossier.now) }
+        ensures { IfOk result (IsBegun dossier.now orders.now.orders terms) }
     {
         let desk = Desk::begin(alloc, dossier)?;
         let bars = own_ceilings(alloc, dossier)?;
@@ -78,14 +71,9 @@ impl<'d> Course<'d> {
     ) -> Result<DayRecord, DayRefusal>
         requires { self.old.day < 366 }
 
-        ensures runs { IfOk result (RunsDay self.old self.new) }
-        ensures unfit { IfErr result (IsUnfitOf self.old.present.dossier (self.old.day + 1) (unfit_on self.old.terms (self.old.day + 1) self.old.present)) }
-        ensures stays { OnErr result (StaysAt self.old self.new) }
-        ensures same { SameCampaign self.old self.new }
-
-        ensures told { IfOk result (λ done. told picker.new ≡ told picker.old ++ schools_of_passes done.passes) }
-        ensures untold { IfErr result (TellsNoneUnfit (told picker.old) (told picker.new)) }
-        ensures choice { choice picker.new ≡ choice picker.old }
+        ensures { EndsNextDay
+            (record { course = self.old; told = told picker.old; choice = choice picker.old })
+            (record { course = self.new; told = told picker.new; choice = choice picker.new }) result }
     {
         self.has_day = false;
         let day = self.day + 1;

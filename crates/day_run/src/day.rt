@@ -1,12 +1,11 @@
 //! A day.
-ghost use Rattle.std.specs.Prelude.{◌≡◌, ◌++◌, ◌<◌, ◌≤◌, ◌+◌, length, IfOk, IfErr, OnErr, None, Some};
+ghost use Rattle.std.specs.Prelude.{◌≡◌, length, IfOk, IfErr, None, Some};
 ghost use Rattle.std.specs.Option.{option_copied, ForSome};
 ghost use Rattle.admit_core.specs.CallOrder.{AreCallOrders};
 ghost use Rattle.admit_core.specs.Ranges.{IsDay as IsDayNumber};
-ghost use Rattle.admit_core.specs.Days.{IsDay, unfit_on, morning};
-ghost use Rattle.day_run.specs.AnswersOn.{IsUnfitOf, TellsNoneUnfit};
-ghost use Rattle.day_run.specs.DayLaws.{KeepsLaws};
-ghost use Rattle.day_run.specs.DayPasses.{schools_of_passes, last_opening};
+ghost use Rattle.admit_core.specs.Days.{unfit_on};
+ghost use Rattle.day_run.specs.AnswersOn.{IsUnfitOf};
+ghost use Rattle.day_run.specs.RunDay.{EndsDay, IsDayDone, TellsNoneUnfit};
 
 use crate::answers_on::answer;
 use crate::desk::Desk;
@@ -33,20 +32,9 @@ pub fn run_day(
     requires ceilings { length ceilings.now ≡ length desk.old.present.dossier.schools }
     requires day { IsDayNumber day }
 
-    ensures number { IfOk result (λ done. done.day ≡ day) }
-    ensures day { IfOk result (λ done. IsDay None orders.now.orders ceilings.now desk.old.present done desk.new.present) }
-    ensures laws { IfOk result (λ done. KeepsLaws None orders.now.orders ceilings.now desk.old.present done desk.new.present) }
-    ensures opening { IfOk result (λ done. desk.new.opening ≡ last_opening orders.now.orders day 1 (morning None day desk.old.present) done.passes) }
-    ensures few { IfOk result (λ done. length done.passes ≤ length desk.old.present.dossier.wishes + 1) }
-
-    ensures unfit { IfErr result (IsUnfitOf desk.old.present.dossier day (unfit_on None day desk.old.present)) }
-    ensures restored { OnErr result (desk.new.present ≡ desk.old.present) }
-    ensures evening { desk.new.evening ≡ desk.old.present }
-    ensures dossier { desk.new.present.dossier ≡ desk.old.present.dossier }
-
-    ensures told { IfOk result (λ done. told picker.new ≡ told picker.old ++ schools_of_passes done.passes) }
-    ensures untold { IfErr result (TellsNoneUnfit (told picker.old) (told picker.new)) }
-    ensures choice { choice picker.new ≡ choice picker.old }
+    ensures { EndsDay None orders.now.orders ceilings.now day
+        (record { desk = desk.old; told = told picker.old; choice = choice picker.old })
+        (record { desk = desk.new; told = told picker.new; choice = choice picker.new }) result }
 {
     run_with(alloc, desk, orders, ceilings, None, day, picker)
 }
@@ -66,20 +54,9 @@ pub fn run_dated_day(
     requires before { length terms.now.before ≡ length desk.old.present.dossier.wishes }
     requires day { IsDayNumber day }
 
-    ensures number { IfOk result (λ done. done.day ≡ day) }
-    ensures day { IfOk result (λ done. IsDay (Some terms.now) orders.now.orders ceilings.now desk.old.present done desk.new.present) }
-    ensures laws { IfOk result (λ done. KeepsLaws (Some terms.now) orders.now.orders ceilings.now desk.old.present done desk.new.present) }
-    ensures opening { IfOk result (λ done. desk.new.opening ≡ last_opening orders.now.orders day 1 (morning (Some terms.now) day desk.old.present) done.passes) }
-    ensures few { IfOk result (λ done. length done.passes ≤ length desk.old.present.dossier.wishes + 1) }
-
-    ensures unfit { IfErr result (IsUnfitOf desk.old.present.dossier day (unfit_on (Some terms.now) day desk.old.present)) }
-    ensures restored { OnErr result (desk.new.present ≡ desk.old.present) }
-    ensures evening { desk.new.evening ≡ desk.old.present }
-    ensures dossier { desk.new.present.dossier ≡ desk.old.present.dossier }
-
-    ensures told { IfOk result (λ done. told picker.new ≡ told picker.old ++ schools_of_passes done.passes) }
-    ensures untold { IfErr result (TellsNoneUnfit (told picker.old) (told picker.new)) }
-    ensures choice { choice picker.new ≡ choice picker.old }
+    ensures { EndsDay (Some terms.now) orders.now.orders ceilings.now day
+        (record { desk = desk.old; told = told picker.old; choice = choice picker.old })
+        (record { desk = desk.new; told = told picker.new; choice = choice picker.new }) result }
 {
     run_with(alloc, desk, orders, ceilings, Some(terms), day, picker)
 }
@@ -99,20 +76,9 @@ pub(crate) fn run_with(
     requires before { ForSome (option_copied terms) (λ t. length t.before ≡ length desk.old.present.dossier.wishes) }
     requires day { IsDayNumber day }
 
-    ensures number { IfOk result (λ done. done.day ≡ day) }
-    ensures day { IfOk result (λ done. IsDay (option_copied terms.entry) orders.now.orders ceilings.now desk.old.present done desk.new.present) }
-    ensures laws { IfOk result (λ done. KeepsLaws (option_copied terms.entry) orders.now.orders ceilings.now desk.old.present done desk.new.present) }
-    ensures opening { IfOk result (λ done. desk.new.opening ≡ last_opening orders.now.orders day 1 (morning (option_copied terms.entry) day desk.old.present) done.passes) }
-    ensures few { IfOk result (λ done. length done.passes ≤ length desk.old.present.dossier.wishes + 1) }
-
-    ensures unfit { IfErr result (IsUnfitOf desk.old.present.dossier day (unfit_on (option_copied terms.entry) day desk.old.present)) }
-    ensures restored { OnErr result (desk.new.present ≡ desk.old.present) }
-    ensures evening { desk.new.evening ≡ desk.old.present }
-    ensures dossier { desk.new.present.dossier ≡ desk.old.present.dossier }
-
-    ensures told { IfOk result (λ done. told picker.new ≡ told picker.old ++ schools_of_passes done.passes) }
-    ensures untold { IfErr result (TellsNoneUnfit (told picker.old) (told picker.new)) }
-    ensures choice { choice picker.new ≡ choice picker.old }
+    ensures { EndsDay (option_copied terms.entry) orders.now.orders ceilings.now day
+        (record { desk = desk.old; told = told picker.old; choice = choice picker.old })
+        (record { desk = desk.new; told = told picker.new; choice = choice picker.new }) result }
 {
     desk.evening.set_from(&desk.present);
     let outcome = play(
@@ -148,18 +114,14 @@ fn play<'d>(
     requires before { ForSome (option_copied terms) (λ t. length t.before ≡ length state.old.dossier.wishes) }
     requires day { IsDayNumber day }
 
-    ensures number { IfOk result (λ done. done.day ≡ day) }
-    ensures day { IfOk result (λ done. IsDay (option_copied terms.entry) orders.now.orders ceilings.now state.old done state.new) }
-    ensures laws { IfOk result (λ done. KeepsLaws (option_copied terms.entry) orders.now.orders ceilings.now state.old done state.new) }
-    ensures opening { IfOk result (λ done. opening.new ≡ last_opening orders.now.orders day 1 (morning (option_copied terms.entry) day state.old) done.passes) }
-    ensures few { IfOk result (λ done. length done.passes ≤ length state.old.dossier.wishes + 1) }
-
+    ensures done { IfOk result (λ done. IsDayDone (option_copied terms.entry) orders.now.orders ceilings.now day
+        (record { desk = record { present = state.old; evening = state.old; opening = opening.old }; told = told picker.old; choice = choice picker.old })
+        done
+        (record { desk = record { present = state.new; evening = state.old; opening = opening.new }; told = told picker.new; choice = choice picker.new })) }
     ensures unfit { IfErr result (IsUnfitOf state.old.dossier day (unfit_on (option_copied terms.entry) day state.old)) }
+    ensures untold { IfErr result (TellsNoneUnfit (told picker.old) (told picker.new)) }
     ensures same { state.new.dossier ≡ state.old.dossier }
     ensures opening_same { opening.new.dossier ≡ state.old.dossier }
-
-    ensures told { IfOk result (λ done. told picker.new ≡ told picker.old ++ schools_of_passes done.passes) }
-    ensures untold { IfErr result (TellsNoneUnfit (told picker.old) (told picker.new)) }
     ensures choice { choice picker.new ≡ choice picker.old }
 {
     let _ = state.dossier().wishes.len(); // learns that the dossier is valid

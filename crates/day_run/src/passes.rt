@@ -1,9 +1,11 @@
 //! The passes of a day.
-ghost use Rattle.std.specs.Prelude.{◌≡◌, ◌≤◌, ◌<◌, ◌+◌, ◌++◌, length, not, IfOk, IsTrue};
+ghost use Rattle.std.specs.Prelude.{◌≡◌, ◌≤◌, ◌<◌, ◌+◌, ◌++◌, length, not, IfOk, OnErr, IsTrue};
 ghost use Rattle.admit_core.specs.CallOrder.{AreCallOrders};
+ghost use Rattle.admit_core.specs.Boarding.{boarding};
 ghost use Rattle.admit_core.specs.Days.{IsPassEnd, Passes, closing, frees_nothing};
 ghost use Rattle.bar_law.specs.Runs.{schools_of};
-ghost use Rattle.day_run.specs.DayPasses.{schools_of_passes, last_opening, open_wishes};
+ghost use Rattle.bar_fixpoint.specs.Chosen.{AreChosen};
+ghost use Rattle.day_run.specs.DayPasses.{AreChosenPasses, TellsMore, schools_of_passes, last_opening, open_wishes};
 
 use crate::changes::answered_changes;
 use admit_core::{CallOrders, Freed, OutOfMemory, PassEnd, Sequence, Stamp};
@@ -35,6 +37,8 @@ pub(crate) fn make_passes<'d>(
     ensures few { IfOk result (λ ends. length ends.items ≤ length state.old.dossier.wishes + 1) }
 
     ensures told { IfOk result (λ ends. told picker.new ≡ told picker.old ++ schools_of_passes ends.items) }
+    ensures chosen { IfOk result (λ ends. AreChosenPasses orders.now.orders ceilings.now day 1 state.old (choice picker.old) (told picker.old) ends.items) }
+    ensures early { OnErr result (TellsMore (told picker.old) (told picker.new)) }
     ensures choice { choice picker.new ≡ choice picker.old }
 
     ensures dossier { state.new.dossier ≡ state.old.dossier }
@@ -84,6 +88,8 @@ fn make_pass<'d>(
     ensures marks { IfOk result (λ _. length state.new.marks ≡ length state.new.dossier.wishes) }
 
     ensures told { IfOk result (λ end. told picker.new ≡ told picker.old ++ schools_of end.pass.falls) }
+    ensures chosen { IfOk result (λ end. AreChosen (boarding state.old orders.now.orders ceilings.now) (choice picker.old) (told picker.old) ceilings.now end.pass.falls) }
+    ensures early { OnErr result (TellsMore (told picker.old) (told picker.new)) }
     ensures choice { choice picker.new ≡ choice picker.old }
 
     ensures dossier { state.new.dossier ≡ state.old.dossier }

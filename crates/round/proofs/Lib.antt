@@ -6,3 +6,4 @@ pub mod Offering
 pub mod OfferLaws
 pub mod PassClauses
 pub mod SeatLaw
+pub mod EarlyEnds

@@ -2,6 +2,7 @@
 use Rattle.std.specs.Prelude.{◌≡◌, ℕ, ◌<◌, ◌≤◌, not, ◌&&◌, List, length, filter, count_by, max, is_some, slice_index}
 use Rattle.admit_core.specs.declared.ranking.CallOrder.{CallOrder}
 use Rattle.admit_core.specs.declared.records.Fall.{Fall}
+use Rattle.admit_core.specs.declared.records.PassRecord.{PassRecord}
 use Rattle.admit_core.specs.declared.state.Stamp.{Stamp}
 use Rattle.admit_core.specs.CallOrder.{AreCallOrders}
 use Rattle.admit_core.specs.DossierRows.{limit_of}
@@ -33,6 +34,14 @@ LowersForBeds old new ceilings bars = (h : ℕ) → slice_index bars h < slice_i
 -- how many wishes with a school wait
 abbrev pub waiting_boarders : State → ℕ
 waiting_boarders s = count_by (λ (w, m). is_waiting m && is_some w.school) (entries s)
+
+-- what a pass keeps: no programme takes in more than its seats or its call limit, and no school more than its beds;
+-- a bar is below its ceiling only where exactly the free beds were taken; and bars fall at most as often as wishes with a school wait
+pub record KeepsPassLaws (old new : State) (ceilings : List ℕ) (pass : PassRecord) : Type 0 where
+  pub seats : FitsSeats old new
+  pub beds : FitsBeds old new
+  pub lowered : LowersForBeds old new ceilings pass.bars
+  pub few : length pass.falls ≤ waiting_boarders old
 
 -- offers fit the seats and the call limits, under whatever bars
 abbrev pub OffersFitSeats : Type 0

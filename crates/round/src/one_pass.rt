@@ -1,11 +1,11 @@
 //! One pass.
-ghost use Rattle.std.specs.Prelude.{◌≡◌, ◌++◌, ◌<◌, ◌≤◌, length, IfOk, OnOk, OnErr};
+ghost use Rattle.std.specs.Prelude.{◌≡◌, ◌++◌, ◌<◌, length, IfOk, OnErr};
 ghost use Rattle.admit_core.specs.CallOrder.{AreCallOrders};
 ghost use Rattle.admit_core.specs.Boarding.{boarding};
 ghost use Rattle.admit_core.specs.Days.{IsPass, offered};
 ghost use Rattle.bar_law.specs.Runs.{schools_of};
-ghost use Rattle.bar_fixpoint.specs.Chosen.{AreChosen};
-ghost use Rattle.round.specs.PassLaws.{FitsSeats, FitsBeds, LowersForBeds, waiting_boarders};
+ghost use Rattle.bar_fixpoint.specs.Chosen.{AreChosen, TellsOfFalls};
+ghost use Rattle.round.specs.PassLaws.{KeepsPassLaws};
 
 use crate::bars::bars_of;
 use admit_core::{CallOrders, OutOfMemory, PassRecord, Sequence, Stamp, Steps};
@@ -38,14 +38,12 @@ pub fn pass(
     ensures chosen { IfOk result (λ found. AreChosen (boarding state.old orders.now.orders ceilings.now) (choice picker.old) (told picker.old) ceilings.now found.falls) }
     ensures choice { choice picker.new ≡ choice picker.old }
 
-    // No programme takes in more than its seats or its call limit, and no school more than its beds.
-    ensures seats { OnOk result (FitsSeats state.old state.new) }
-    ensures beds { OnOk result (FitsBeds state.old state.new) }
-    ensures lowered { IfOk result (λ found. LowersForBeds state.old state.new ceilings.now found.bars) }
-    ensures few { IfOk result (λ found. length found.falls ≤ waiting_boarders state.old) }
+    // Seats, call limits and beds suffice, bars are lowered for beds alone, and falls are few.
+    ensures laws { IfOk result (KeepsPassLaws state.old state.new ceilings.now) }
 
-    // The picker may have told of schools by then.
+    // Memory ran out: nothing was offered, but the picker may have told of schools by then.
     ensures refused { OnErr result (state.new ≡ state.old) }
+    ensures early { OnErr result (TellsOfFalls (boarding state.old orders.now.orders ceilings.now) (choice picker.old) (told picker.old) (told picker.new)) }
 {
     let dossier = state.dossier();
     let _ = &dossier.wishes; // learns that the dossier is valid
@@ -73,6 +71,7 @@ fn find<L: Ledger>(
 
     ensures told { IfOk result (λ found. told picker.new ≡ told picker.old ++ schools_of found.falls) }
     ensures chosen { IfOk result (λ found. AreChosen (boarding state.now orders.now.orders ceilings.now) (choice picker.old) (told picker.old) ceilings.now found.falls) }
+    ensures early { OnErr result (TellsOfFalls (boarding state.now orders.now.orders ceilings.now) (choice picker.old) (told picker.old) (told picker.new)) }
     ensures choice { choice picker.new ≡ choice picker.old }
 {
     let mut steps: Steps<L> = Steps::new(blank);

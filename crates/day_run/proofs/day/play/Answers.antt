@@ -1,15 +1,31 @@
-use Rattle.std.proofs.Common.{◌∙◌, subst, rules}
+use Rattle.std.proofs.Common.{◌∙◌, refl, subst, rules}
 use Rattle.std.specs.Option.{option_copied}
 use Rattle.admit_core.specs.declared.records.DayRecord.{DayRecord}
 use Rattle.admit_core.specs.Days.{IsDay}
 use Rattle.admit_core.specs.Validity.{IsValid}
 use Rattle.day_run.proofs.DayLaws.{laws_kept}
+use Rattle.day_run.proofs.DayPlaces.{day_in}
+use Rattle.day_run.proofs.Stamps.{stamps_kept}
 use Rattle.day_run.proofs.day.play.Goals as goal
 
-pub returns-clause-laws : goal.returns-clause-laws
-returns-clause-laws g c =
+pub returns-clause-done : goal.returns-clause-done
+returns-clause-done g c =
     let s = c.args.state.now in
+    let terms = option_copied c.args.terms in
+    let orders = c.args.orders.now.orders in
+    let ceilings = c.args.ceilings.now in
+    let evening = c.make_passes.new.state in
     let done : DayRecord = record { day = c.args.day; passes = c.from_vec.result; left = c.in_ok-left.left; free = c.in_ok-free.free; lapsed = c.from_vec-2.result } in
     let valid : IsValid s.dossier = subst IsValid (c.behind-state.view_is ∙ c.dossier.ensures) c.behind-state.invariant in
-    let is : IsDay (option_copied c.args.terms) c.args.orders.now.orders c.args.ceilings.now s done c.make_passes.new.state = search rules in
-    laws_kept (option_copied c.args.terms) c.args.orders.now.orders c.args.ceilings.now s done c.make_passes.new.state valid c.requires.orders is
+    let is : IsDay terms orders ceilings s done evening = search rules in
+    record {
+      number = refl;
+      is_day = is;
+      laws = laws_kept terms orders ceilings s done evening valid c.requires.orders c.requires.ceilings is;
+      few = search rules;
+      opening = search rules;
+      places = day_in terms orders ceilings s done evening c.requires.before c.requires.ceilings is;
+      stamps = stamps_kept terms orders ceilings s done evening is;
+      told = search rules;
+      chosen = search rules;
+    }

@@ -5,9 +5,10 @@ use Rattle.std.proofs.lemmas.List.{append-nil}
 use Rattle.admit_core.specs.declared.state.Mark.{Mark}
 use Rattle.admit_core.specs.DossierRows.{DossierRows}
 use Rattle.admit_core.specs.Days.{frees_nothing}
+use Rattle.bar_fixpoint.proofs.OneFall.{on_err}
 use Rattle.day_run.specs.DayPasses.{schools_of_passes}
 use Rattle.day_run.proofs.OnePass.{open_at_most}
-use Rattle.day_run.proofs.PassesSoFar.{so_far_none, so_far_more, so_far_end, told_more}
+use Rattle.day_run.proofs.PassesSoFar.{so_far_none, so_far_more, so_far_end, chosen_none, chosen_more, told_more, tells_from}
 use Rattle.day_run.proofs.passes.make_passes.Goals as goal
 
 pub passes-init : goal.passes-init
@@ -18,6 +19,7 @@ passes-init g c =
     record {
       so_far = so_far_none c.args.orders.now.orders c.args.ceilings.now c.args.day s c.new-ends.result.items c.new-ends.ensures.items long (open_at_most s long);
       opening = c.requires.same;
+      chosen = chosen_none c.args.orders.now.orders c.args.ceilings.now c.args.day 1 s (first.choice c.args.picker.now.1) (first.told c.args.picker.now.1) c.new-ends.result.items c.new-ends.ensures.items;
       told = sym (ap (λ l. first.told c.args.picker.now.1 ++ schools_of_passes l) c.new-ends.ensures.items ∙ append-nil (first.told c.args.picker.now.1));
       choice = refl;
     }
@@ -32,6 +34,9 @@ passes-preserved g c =
       so_far = so_far_more c.args.orders.now.orders c.args.ceilings.now c.args.day c.passes.number c.args.state.now c.passes.state c.make_pass.new.state c.passes.ends.items c.push.new.self.items c.in_ok-end.end
           c.passes.invariant.so_far c.in_ok-end.ensures.end some c.in_ok-end.ensures.state (c.in_ok-end.ensures.fewer some) c.in_ok-end.ensures.marks c.in_ok-end.ensures.dossier c.in_ok-push.ensures.items;
       opening = ap (λ s. s.dossier) c.make_pass.ensures.opening ∙ c.passes.invariant.so_far.dossier;
+      chosen =
+          chosen_more c.args.orders.now.orders c.args.ceilings.now c.args.day c.passes.number c.args.state.now _ _ _ _ c.passes.ends.items c.push.new.self.items c.passes.state c.in_ok-end.end
+          c.passes.invariant.so_far c.passes.invariant.chosen c.passes.invariant.told c.passes.invariant.choice c.in_ok-end.ensures.chosen c.in_ok-push.ensures.items;
       told = told_more _ _ _ c.passes.ends.items c.push.new.self.items c.in_ok-end.end c.passes.invariant.told c.in_ok-end.ensures.told c.in_ok-push.ensures.items;
       choice = c.make_pass.ensures.choice ∙ c.passes.invariant.choice;
     }
@@ -59,3 +64,14 @@ returns-then-frees_nothing-clause-few g c =
 
 pub returns-then-frees_nothing-clause-told : goal.returns-then-frees_nothing-clause-told
 returns-then-frees_nothing-clause-told g c = told_more _ _ _ c.passes.ends.items c.push.new.self.items c.in_ok-end.end c.passes.invariant.told c.in_ok-end.ensures.told c.in_ok-push.ensures.items
+
+pub returns-then-frees_nothing-clause-chosen : goal.returns-then-frees_nothing-clause-chosen
+returns-then-frees_nothing-clause-chosen g c =
+    chosen_more c.args.orders.now.orders c.args.ceilings.now c.args.day c.passes.number c.args.state.now _ _ _ _ c.passes.ends.items c.push.new.self.items c.passes.state c.in_ok-end.end
+    c.passes.invariant.so_far c.passes.invariant.chosen c.passes.invariant.told c.passes.invariant.choice c.in_ok-end.ensures.chosen c.in_ok-push.ensures.items
+
+pub returns-in_err-end-clause-early : goal.returns-in_err-end-clause-early
+returns-in_err-end-clause-early g c = on_err _ (tells_from _ _ _ _ c.passes.invariant.told c.in_err-end.ensures.early)
+
+pub returns-in_err-push-clause-early : goal.returns-in_err-push-clause-early
+returns-in_err-push-clause-early g c = on_err _ (tells_from _ _ _ _ c.passes.invariant.told (_, c.in_ok-end.ensures.told))

@@ -1,5 +1,7 @@
 use Rattle.std.proofs.Common.{rules, List, ℕ, sym, ◌∙◌, ap}
 use Rattle.admit_core.specs.Proposals.{proposed}
+use Rattle.bar_fixpoint.proofs.OneFall.{on_err}
+use Rattle.round.proofs.EarlyEnds.{told_nothing, told_early, told_of_all}
 use Rattle.round.proofs.one_pass.find.Goals as goal
 
 pub returns-clause-pass : goal.returns-clause-pass
@@ -15,3 +17,17 @@ returns-clause-pass g c =
           ∙ ap (proposed end.state end.orders) (sym (c.from_vec.ensures ∙ c.in_ok-bars.ensures))
           ∙ ap (λ (offers : List ℕ → List ℕ). offers c.from_vec.result) (c.greatest.ensures.offers ∙ c.in_ok-round.ensures.offers);
     }
+
+pub returns-in_err-round-clause-early : goal.returns-in_err-round-clause-early
+returns-in_err-round-clause-early g c = on_err _ (told_nothing _ _ _)
+
+pub returns-in_err-falls-clause-early : goal.returns-in_err-falls-clause-early
+returns-in_err-falls-clause-early g c = on_err _ (told_early _ _ _ _ _ _ c.in_ok-round.ensures.system c.in_err-falls.ensures.early)
+
+pub returns-in_err-bars-clause-early : goal.returns-in_err-bars-clause-early
+returns-in_err-bars-clause-early g c =
+    on_err _ (told_of_all _ _ _ _ _ _ c.in_ok-round.ensures.system c.in_ok-falls.ensures.run c.in_ok-falls.ensures.chosen c.in_ok-falls.ensures.told)
+
+pub returns-in_err-offers-clause-early : goal.returns-in_err-offers-clause-early
+returns-in_err-offers-clause-early g c =
+    on_err _ (told_of_all _ _ _ _ _ _ c.in_ok-round.ensures.system c.in_ok-falls.ensures.run c.in_ok-falls.ensures.chosen c.in_ok-falls.ensures.told)

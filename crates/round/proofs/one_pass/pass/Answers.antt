@@ -3,7 +3,7 @@ use Rattle.admit_core.specs.Validity.{IsValid}
 use Rattle.admit_core.specs.Proposals.{proposed}
 use Rattle.admit_core.specs.Days.{offered}
 use Rattle.round.proofs.Offering.{proposed_are_wishes, offers_recorded}
-use Rattle.round.proofs.PassClauses.{seats_kept, beds_kept, bars_lowered, few_falls}
+use Rattle.round.proofs.PassClauses.{laws_kept}
 use Rattle.round.proofs.one_pass.pass.Goals as goal
 
 pub offer_all-requires : goal.offer_all-requires
@@ -28,9 +28,7 @@ returns g c =
       told = c.in_ok-found.ensures.told;
       chosen = c.in_ok-found.ensures.chosen;
       choice = c.find.ensures.choice;
-      seats = seats_kept s c.offer_all.new.self orders c.args.ceilings.now c.args.stamp found is_pass made valid c.requires.orders;
-      beds = beds_kept s c.offer_all.new.self orders c.args.ceilings.now c.args.stamp found is_pass made valid c.requires.ceilings;
-      lowered = bars_lowered s c.offer_all.new.self orders c.args.ceilings.now c.args.stamp found is_pass made valid;
-      few = few_falls s c.offer_all.new.self orders c.args.ceilings.now c.args.stamp found is_pass made valid;
+      laws = laws_kept s c.offer_all.new.self orders c.args.ceilings.now c.args.stamp found is_pass made valid c.requires.orders c.requires.ceilings;
       refused = search rules;
+      early = search rules;
     }

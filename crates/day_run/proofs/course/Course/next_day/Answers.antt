@@ -1,31 +1,32 @@
-use Rattle.std.proofs.Common.{◌∙◌, ap, sym, ℕ, ◌+◌, List, length}
+use Rattle.std.proofs.Common.{◌∙◌, ap, sym, ℕ, List, length}
 use Rattle.admit_core.specs.declared.records.PassEnd.{PassEnd}
 use Rattle.admit_core.specs.DossierRows.{DossierRows}
 use Rattle.admit_core.specs.State.{State}
 use Rattle.admit_core.specs.EveningLaws.{last_bars}
-use Rattle.day_run.proofs.LastBars.{last_bars_long, length-ceilings_of}
+use Rattle.day_run.proofs.LastBars.{last_bars_long}
+use Rattle.day_run.proofs.DayEnds.{next_ran}
 use Rattle.day_run.proofs.course.Course.next_day.Goals as goal
 
 pub run_with-requires-clause-ceilings : goal.run_with-requires-clause-ceilings
 run_with-requires-clause-ceilings g c =
-    ap (λ (l : List ℕ). length l) (c.as_slice.ensures.value ∙ c.in_ok-ceilings.ensures)
-    ∙ length-ceilings_of c.dossier.result.now (c.self.inside.day + 1)
+    ap (λ (l : List ℕ). length l) c.as_slice.ensures.value
+    ∙ c.in_ok-ceilings.ensures.one_each
     ∙ ap (λ (d : DossierRows). length d.schools) (c.dossier.ensures ∙ ap (λ (s : State). s.dossier) c.now.ensures)
 
 pub keep_bars-requires : goal.keep_bars-requires
 keep_bars-requires g c =
     let schools =
-    ap (λ (l : List ℕ). length l) (c.as_slice.ensures.value ∙ c.in_ok-ceilings.ensures)
-    ∙ length-ceilings_of c.dossier.result.now (c.self.inside.day + 1)
+    ap (λ (l : List ℕ). length l) c.as_slice.ensures.value
+    ∙ c.in_ok-ceilings.ensures.one_each
     ∙ ap (λ (d : DossierRows). length d.schools) (c.dossier.ensures ∙ ap (λ (s : State). s.dossier) c.now.ensures) in
     c.self.invariant.bars
-    ∙ sym (ap (λ (l : List PassEnd). length (last_bars l)) c.as_slice-2.ensures ∙ last_bars_long _ _ _ _ _ _ c.in_ok-done.done.passes c.in_ok-done.ensures.day.passes ∙ schools)
+    ∙ sym (ap (λ (l : List PassEnd). length (last_bars l)) c.as_slice-2.ensures ∙ last_bars_long _ _ _ _ _ _ c.in_ok-done.done.passes c.in_ok-done.ensures.done.is_day.passes ∙ schools)
 
 pub invariant_of-self-2 : goal.invariant_of-self-2
 invariant_of-self-2 g c =
     let schools =
-    ap (λ (l : List ℕ). length l) (c.as_slice.ensures.value ∙ c.in_ok-ceilings.ensures)
-    ∙ length-ceilings_of c.dossier.result.now (c.self.inside.day + 1)
+    ap (λ (l : List ℕ). length l) c.as_slice.ensures.value
+    ∙ c.in_ok-ceilings.ensures.one_each
     ∙ ap (λ (d : DossierRows). length d.schools) (c.dossier.ensures ∙ ap (λ (s : State). s.dossier) c.now.ensures) in
     record {
       orders = rw c.run_with.ensures.dossier c.self.invariant.orders;
@@ -33,7 +34,13 @@ invariant_of-self-2 g c =
       bars =
           ap (λ (l : List ℕ). length l) c.keep_bars.ensures
           ∙ ap (λ (l : List PassEnd). length (last_bars l)) c.as_slice-2.ensures
-          ∙ last_bars_long _ _ _ _ _ _ c.in_ok-done.done.passes c.in_ok-done.ensures.day.passes
+          ∙ last_bars_long _ _ _ _ _ _ c.in_ok-done.done.passes c.in_ok-done.ensures.done.is_day.passes
           ∙ schools
           ∙ ap (λ (d : DossierRows). length d.schools) (sym c.run_with.ensures.dossier);
     }
+
+pub returns : goal.returns
+returns g c =
+    next_ran c.args.self.now _ _ c.as_slice.result.now c.in_ok-ceilings.ceilings.items _ c.dossier.result.now c.run_with.new.desk _ _ _ _ c.in_ok-done.done c.self.view_is
+    c.as_ref.ensures.value c.as_slice.ensures.value c.in_ok-ceilings.ensures.ceilings (c.dossier.ensures ∙ ap (λ (s : State). s.dossier) c.now.ensures)
+    c.in_ok-done.ensures.done c.run_with.ensures.dossier (c.keep_bars.ensures ∙ ap last_bars c.as_slice-2.ensures) c.run_with.ensures.choice

@@ -1,0 +1,26 @@
+-- What a picker told where memory ran out in a pass.
+use Rattle.std.proofs.Common.{ℕ, ◌≡◌, List, [], ◌++◌, refl, sym, inl, subst}
+use Rattle.std.proofs.lemmas.List.{append-nil}
+use Rattle.admit_core.specs.declared.records.Fall.{Fall}
+use Rattle.admit_core.specs.Falls.{FallingSystem, IsRun, bars_after}
+use Rattle.bar_law.specs.Runs.{schools_of}
+use Rattle.bar_fixpoint.specs.Chosen.{AreChosen, EndsEarly, TellsOfFalls}
+
+-- nothing, where no bar had fallen
+pub told_nothing : (sys : FallingSystem) (choice : List ℕ → List ℕ → ℕ) (told : List ℕ) → TellsOfFalls sys choice told told
+told_nothing sys choice told = (
+  sys.ceilings,
+  record { falls = []; are_falls = tt; chosen = tt; bars_fell = refl; told_of = inl (sym (append-nil told)) },
+)
+
+-- what the engine says, by the system's name
+pub told_early : (sys now : FallingSystem) (choice : List ℕ → List ℕ → ℕ) (told told_after bars : List ℕ) → now ≡ sys
+    → EndsEarly now choice told told_after bars → TellsOfFalls sys choice told told_after
+told_early sys now choice told told_after bars same ends = (bars, subst (λ (s : FallingSystem). EndsEarly s choice told told_after bars) same ends)
+
+-- of each fall, where all were made
+pub told_of_all : (sys now : FallingSystem) (choice : List ℕ → List ℕ → ℕ) (told told_after : List ℕ) (falls : List Fall) → now ≡ sys → IsRun now falls
+    → AreChosen now choice told now.ceilings falls → told_after ≡ told ++ schools_of falls → TellsOfFalls sys choice told told_after
+told_of_all sys now choice told told_after falls same is_run chosen told_of =
+    told_early sys now choice told told_after (bars_after now.ceilings falls) same
+    (record { falls = falls; are_falls = is_run.are_falls; chosen = chosen; bars_fell = refl; told_of = inl told_of })
