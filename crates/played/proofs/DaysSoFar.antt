@@ -79,6 +79,10 @@ nothing_played plan begun before days none =
     subst (λ (ds : List DayRecord). SoFar plan begun before 0 ds begun before) (sym none)
     (record { lead = refl; number = refl; told = λ name. sym (append-nil (before.told name)); back = back_untouched before })
 
+told_nothing : (who : PickerChoice) (days : List DayRecord) (before after : Lent) → length days ≡ 0 → Told who days before after → Untold before after
+told_nothing who [] before after none told = λ name. told name ∙ append-nil (before.told name)
+told_nothing who (day ∷ days) before after none told = absurd (omega (arith, none))
+
 module _ (plan : Plan) (old : DeskStates) (before : Lent) (played : ℕ) (days : List DayRecord) (mid : DeskStates) (between : Lent) (so_far : SoFar plan old before played days mid between) where
   pub called_still : AreCallOrders old.present.dossier.groups plan.orders → AreCallOrders mid.present.dossier.groups plan.orders
   called_still called =
@@ -121,9 +125,10 @@ module _ (plan : Plan) (old : DeskStates) (before : Lent) (played : ℕ) (days :
         };
         told = untold_still after ends.untold;
         back = back_again before between after so_far.back ends.back;
+        idle = λ none. absurd (omega arith);
       }
   stopped number refusals.OutOfMemory new after fewer ends =
-      record { last = mid; lead = tt; stops = tt; told = tt; back = back_again before between after so_far.back ends.back }
+      record { last = mid; lead = tt; stops = tt; told = tt; back = back_again before between after so_far.back ends.back; idle = λ none. absurd (omega arith) }
 
   pub plays_some : (number : ℕ) (refusal : DayRefusal) (new : DeskStates) (after : Lent) (r : Result (Unit {0}) DayRefusal) → IsErrAnd r (λ x. x ≡ refusal) → played < number
       → EndsNext plan (played + 1) mid between (Err refusal) new after → PlaysDays plan number old before days r new after
@@ -132,15 +137,22 @@ module _ (plan : Plan) (old : DeskStates) (before : Lent) (played : ℕ) (days :
       subst (λ (x : DayRefusal). PlaysDays plan number old before days (Err x) new after) (sym from) (stopped number refusal new after fewer ends)
 
   -- memory runs out after the next day
-  pub plays_out : (number : ℕ) (day : DayRecord) (kept : List DayRecord) (new : DeskStates) (after : Lent) (r : Result (Unit {0}) DayRefusal) → IsErrAnd r (λ x. x ≡ refusals.OutOfMemory)
+  pub plays_out : (number : ℕ) (day : DayRecord) (kept : List DayRecord) (new : DeskStates) (after : Lent) (r : Result (Unit {0}) DayRefusal) → IsErrAnd r (λ x. x ≡ refusals.OutOfMemory) → played < number
       → EndsNext plan (played + 1) mid between (Ok day) new after → PlaysDays plan number old before kept r new after
-  plays_out number day kept new after (Ok done) from ends = absurd from
-  plays_out number day kept new after (Err other) from ends =
+  plays_out number day kept new after (Ok done) from fewer ends = absurd from
+  plays_out number day kept new after (Err other) from fewer ends =
       subst (λ (x : DayRefusal). PlaysDays plan number old before kept (Err x) new after) (sym from)
-      (record { last = mid; lead = tt; stops = tt; told = tt; back = back_again before between after so_far.back ends.back })
+      (record { last = mid; lead = tt; stops = tt; told = tt; back = back_again before between after so_far.back ends.back; idle = λ none. absurd (omega arith) })
 
   pub plays_all : (number : ℕ) → played ≡ number → PlaysDays plan number old before days (Ok tt) mid between
-  plays_all number all = record { last = mid; lead = so_far.lead; stops = (so_far.number ∙ all, refl); told = so_far.told; back = so_far.back }
+  plays_all number all = record {
+    last = mid;
+    lead = so_far.lead;
+    stops = (so_far.number ∙ all, refl);
+    told = so_far.told;
+    back = so_far.back;
+    idle = λ none. told_nothing plan.who days before between (so_far.number ∙ all ∙ none) so_far.told;
+  }
 
 -- what became of the days that were asked for
 module _ (d : DossierRows) (number : ℕ) (plan : Plan) (old new : DeskStates) (before after : Lent) (days : List DayRecord) (end : Result DeskStates Refusal) (called : AreCallOrders d.groups plan.orders) (begun : old ≡ first_desk d) where

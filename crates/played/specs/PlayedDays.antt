@@ -82,6 +82,7 @@ pub record PlaysDays (plan : Plan) (number : ℕ) (old : DeskStates) (before : L
   pub stops : StopsAfter plan number days last new result
   pub told : OnFit result (Told plan.who days before after)
   pub back : AreBack before after
+  pub idle : number ≡ 0 → Untold before after
 
 -- the desk on which a campaign begins
 abbrev pub first_desk : DossierRows → DeskStates

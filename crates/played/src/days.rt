@@ -1,7 +1,7 @@
 //! The days of a run.
 ghost use Rattle.std.specs.Prelude.{◌≡◌, ◌≤◌, [], ◌∷◌, ◌++◌, IfOk, IfSome, OnOk, length, option_copied};
 ghost use Rattle.admit_core.specs.CallOrder.{AreCallOrders};
-ghost use Rattle.played.specs.Lent.{AreBack, AreThere, lent};
+ghost use Rattle.played.specs.Lent.{AreBack, AreThere, Untold, lent};
 ghost use Rattle.played.specs.PlayedDays.{IsPlayed, PlaysDays, first_desk};
 
 use crate::day::next_day;
@@ -88,6 +88,7 @@ pub fn play<'d>(
 
     ensures there { AreThere pickers.new }
     ensures back { AreBack (lent (λ p. told p) (λ p. choice p) pickers.old) (lent (λ p. told p) (λ p. choice p) pickers.new) }
+    ensures idle { number ≡ 0 → Untold (lent (λ p. told p) (λ p. choice p) pickers.old) (lent (λ p. told p) (λ p. choice p) pickers.new) }
     ensures played { IfOk result (λ p. IsPlayed dossier.now (option_copied terms.entry) number who
         (lent (λ p. told p) (λ p. choice p) pickers.old)
         (record { orders = p.orders.orders; days = p.days.items; end = p.end })

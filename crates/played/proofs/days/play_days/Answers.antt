@@ -21,10 +21,13 @@ returns-in_err-day-clause-plays g c =
 
 pub returns-in_err-keep-clause-plays : goal.returns-in_err-keep-clause-plays
 returns-in_err-keep-clause-plays g c =
-    plays_out _ _ _ _ _ _ _ c.loop-played.invariant.so_far c.args.number c.in_ok-day.day _ _ _ c.from_residual-in_err-keep.result c.from_residual-in_err-keep.ensures.1 c.in_ok-day.ensures.ends
+    plays_out _ _ _ _ _ _ _ c.loop-played.invariant.so_far c.args.number c.in_ok-day.day _ _ _ c.from_residual-in_err-keep.result c.from_residual-in_err-keep.ensures.1 c.loop-played-test.true c.in_ok-day.ensures.ends
 
 pub loop-played-preserved : goal.loop-played-preserved
 loop-played-preserved g c = record {
   so_far = played_on _ _ _ _ _ _ _ c.loop-played.invariant.so_far c.in_ok-day.day _ _ _ c.in_ok-day.ensures.ends c.in_ok-keep.ensures;
   there = c.in_ok-day.ensures.there;
 }
+
+pub returns-clause-plays : goal.returns-clause-plays
+returns-clause-plays g c = plays_all _ _ _ _ _ _ _ c.loop-played.invariant.so_far c.args.number (omega arith)
