@@ -167,8 +167,11 @@ within_year terms number days last (Err refusal) ends few = omega (arith, ends.f
 evening_written : (d : DossierRows) (dated : Option DatedTerms) (terms : Option Terms) (number : ℕ) (days : List DayRecord) (last : DeskStates) (end : Result DeskStates Refusal) → EndsAfter terms number days last end
     → IfSome dated (AreDatedFor d) → IsBefore d dated last.present → ForOk end (λ desk. CanBeDated dated desk.present)
 evening_written d dated terms number days last (Ok desk) ends is known =
-    let at : CanBeDated dated last.present = finals_dated last.present dated (subst (λ (e : DossierRows). IfSome dated (AreDatedFor e)) (sym known.dossier) is) known.stamped in ?
-evening_written d dated terms number days last (Err refusal) ends is known = ?
+    let at : CanBeDated dated last.present = finals_dated last.present dated (subst (λ (e : DossierRows). IfSome dated (AreDatedFor e)) (sym known.dossier) is) known.stamped in
+    λ x same.
+    let here : desk ≡ x = cc in
+    subst (λ (y : DeskStates). CanBeDated dated y.present) (sym ends.1 ∙ here) at
+evening_written d dated terms number days last (Err refusal) ends is known = λ x same. cc
 
 -- the days that were played, and the evening after them
 pub played_written : (d : DossierRows) (dated : Option DatedTerms) (number : ℕ) (who : PickerChoice) (before : Lent) (played : Played) (after : Lent) → number ≤ 366 → IfSome dated (AreDatedFor d)

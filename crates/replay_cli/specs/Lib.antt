@@ -1,0 +1,3 @@
+pub mod Answering
+pub mod Outcome
+pub mod Run
