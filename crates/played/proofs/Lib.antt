@@ -1,3 +1,3 @@
-mod Naming
+pub mod Naming
 mod NextDay
 mod DaysSoFar

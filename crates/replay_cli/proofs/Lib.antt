@@ -1,0 +1,4 @@
+mod Played
+mod Replying
+mod Taking
+mod Writing

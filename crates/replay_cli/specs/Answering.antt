@@ -42,7 +42,7 @@ pub record TakesAll (words : List (List ℕ)) (before after : OnShelf) (result :
   pub slots : TakesAsked (request_of words) before after result
 
 -- the exit and the text of a run, before anything is written, with the shelf and the pickers before it and after it
-pub record Replies (words : List (List ℕ)) (shelf shelf' : OnShelf) (before after : Lent) (result : Result Reply (Unit {0})) : Type 0 where
+pub record Replies {E : Type 0} (words : List (List ℕ)) (shelf shelf' : OnShelf) (before after : Lent) (result : Result Reply E) : Type 0 where
   pub outcome : IfOk result (λ reply. (slots : Slot → List ℕ) → Tells shelf.left slots → IsTrue (is_answer reply.exit) → IsOutcome words slots before after reply.exit reply.text.items)
   pub kinds : IfOk result (λ reply. IsTrue (is_answer reply.exit) ⊎ ((reply.exit ≡ ReadFault) × NamesFault (request_of words) shelf shelf' reply.text.items))
   pub untold : IfOk result (λ reply. IsTrue (asks_nobody reply.exit) → Untold before after)

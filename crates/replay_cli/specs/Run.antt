@@ -8,7 +8,8 @@ use Rattle.modes.specs.Exits.{asks_nobody, is_answer}
 use Rattle.modes.specs.Jobs.{FitsAnswers}
 use Rattle.modes.specs.declared.exit.Exit.{Exit}
 use Rattle.modes.specs.declared.exit.Exit.TheVariants.{BadWords, Done, NoMemory, ReadFault, WriteFault}
-use Rattle.played.specs.Lent.{AreBack, Lent, Untold}
+use Rattle.played.specs.Lent.{AreBack, Lent, Untold, lent}
+use Rattle.played.specs.declared.pickers.Pickers.{Pickers}
 use Rattle.request.specs.Request.{request_of}
 use Rattle.request.specs.declared.request.Request.{Request}
 use Rattle.shelf_io.specs.Bytes.{AppendsPrefix}
@@ -22,6 +23,10 @@ pub record AtSink : Type 0 where
 
 abbrev pub at_sink : {K : Type 0} → (K → Option (List ℕ)) → (K → ℕ) → K → AtSink
 at_sink held faults sink = record { held = held sink; faults = faults sink }
+
+-- the pickers as they stand, by what a picker has told and how it chooses
+abbrev pub standing : {X : Type 0} {F : X → Type 0} → ((x : X) × F x → List ℕ) → ((x : X) × F x → List ℕ → List ℕ → ℕ) → Pickers X F → Lent
+standing told choice = lent (λ p. told (p.vtable, p.value)) (λ p. choice (p.vtable, p.value))
 
 -- what stands around a run, before it or after it
 pub record Around : Type 0 where

@@ -5,9 +5,9 @@ ghost use Rattle.intake.specs.Input.{IsInputOf, IsJobOf, Job};
 ghost use Rattle.intake.specs.Shelves.{on_shelf};
 ghost use Rattle.modes.specs.Endings.{IsEnding};
 ghost use Rattle.modes.specs.Jobs as Jobs;
-ghost use Rattle.played.specs.Lent.{AreBack, AreThere, Untold, lent};
+ghost use Rattle.played.specs.Lent.{AreBack, AreThere, Untold};
 ghost use Rattle.replay_cli.specs.Answering.{Replies, TakesAll};
-ghost use Rattle.replay_cli.specs.Outcome.{RunsNoDay};
+ghost use Rattle.replay_cli.specs.Run.{standing};
 ghost use Rattle.request.specs.Request.{IsRequest};
 
 use admit_core::{OutOfMemory, Terms};
@@ -53,10 +53,10 @@ fn play_out(
     requires there { AreThere pickers.old }
 
     ensures there { AreThere pickers.new }
-    ensures back { AreBack (lent (λ p. told p) (λ p. choice p) pickers.old) (lent (λ p. told p) (λ p. choice p) pickers.new) }
-    ensures idle { Jobs.days_of request.now ≡ 0 → Untold (lent (λ p. told p) (λ p. choice p) pickers.old) (lent (λ p. told p) (λ p. choice p) pickers.new) }
+    ensures back { AreBack (standing (λ p. told p) (λ p. choice p) pickers.old) (standing (λ p. told p) (λ p. choice p) pickers.new) }
+    ensures idle { Jobs.days_of request.now ≡ 0 → Untold (standing (λ p. told p) (λ p. choice p) pickers.old) (standing (λ p. told p) (λ p. choice p) pickers.new) }
     ensures ends { (job : Job) → IsJobOf request.now job → IsInputOf job input.now → IfOk result (λ reply. IsEnding job
-        (lent (λ p. told p) (λ p. choice p) pickers.old) (lent (λ p. told p) (λ p. choice p) pickers.new)
+        (standing (λ p. told p) (λ p. choice p) pickers.old) (standing (λ p. told p) (λ p. choice p) pickers.new)
         reply.exit reply.text.items) }
 {
     let dated = dated_terms(alloc, input, deadlines_of(request))?;
@@ -77,7 +77,7 @@ pub(crate) fn answer<S: Shelf>(
     ensures there { AreThere pickers.new }
     ensures replies { Replies (map string_bytes words.now)
         (on_shelf S.left S.taken S.faults shelf.old) (on_shelf S.left S.taken S.faults shelf.new)
-        (lent (λ p. told p) (λ p. choice p) pickers.old) (lent (λ p. told p) (λ p. choice p) pickers.new) result }
+        (standing (λ p. told p) (λ p. choice p) pickers.old) (standing (λ p. told p) (λ p. choice p) pickers.new) result }
 {
     match take(alloc, words, shelf) {
         Ok((request, input)) => play_out(alloc, &request, &input, pickers),

@@ -1,8 +1,8 @@
 //! One run of the program, over any shelf and any sink.
 ghost use Rattle.std.specs.Prelude.{map, string_bytes};
 ghost use Rattle.intake.specs.Shelves.{on_shelf};
-ghost use Rattle.played.specs.Lent.{AreThere, lent};
-ghost use Rattle.replay_cli.specs.Run.{IsRun, at_sink};
+ghost use Rattle.played.specs.Lent.{AreThere};
+ghost use Rattle.replay_cli.specs.Run.{IsRun, at_sink, standing};
 
 use crate::answer::answer;
 use modes::Exit;
@@ -25,10 +25,10 @@ pub fn run<S: Shelf, K: Sink>(
         IsRun (map string_bytes words.now)
             (record { shelf = on_shelf S.left S.taken S.faults shelf.old;
                 sink = at_sink K.held K.faults sink.old;
-                pickers = lent (λ p. told p) (λ p. choice p) pickers.old })
+                pickers = standing (λ p. told p) (λ p. choice p) pickers.old })
             (record { shelf = on_shelf S.left S.taken S.faults shelf.new;
                 sink = at_sink K.held K.faults sink.new;
-                pickers = lent (λ p. told p) (λ p. choice p) pickers.new })
+                pickers = standing (λ p. told p) (λ p. choice p) pickers.new })
             result
     }
 {
