@@ -28,7 +28,7 @@ use Rattle.replay_cli.specs.Run.{KeepsOthers}
 use Rattle.replay_cli.proofs.Played.{ending_done, ending_exit, no_days}
 
 no_none : (request : Request) → IsNone (Some request) → ⊥
-no_none request none = false≢true none
+no_none request none = false≢true (sym none)
 
 -- where a job is accepted its ending is the outcome
 outcome_of : (words : List (List ℕ)) (slots : Slot → List ℕ) (job : Job) (before after : Lent) (exit : Exit) (text : List ℕ) → accepted words slots ≡ Ok job → IsEnding job before after exit text
