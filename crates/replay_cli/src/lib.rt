@@ -1,20 +1,9 @@
 //! One run of the admission engine, over any shelf and any sink.
 #![tactic(auto)]
 
-mod command;
-mod engine;
-mod exit;
-mod orders;
-mod pickers;
-mod replay;
-mod reply;
-mod request;
-mod sample;
-mod stop;
-mod tables;
-mod terms;
-mod words;
+mod answer;
+mod run_over;
 
-pub use engine::run;
-pub use exit::Exit;
-pub use pickers::Pickers;
+pub use modes::{Exit, exit_number};
+pub use played::Pickers;
+pub use run_over::run;
