@@ -1,5 +1,5 @@
 -- The days and the evening of a job can be written.
-use Rattle.std.proofs.Common.{◌≡◌, ◌∙◌, ℕ, ◌+◌, ◌<◌, ◌≤◌, List, [], ◌∷◌, Option, None, Some, Result, Ok, Err, All, IfSome, ap, arith, filter, get_or, inl, inr, length, map, refl, subst, sym}
+use Rattle.std.proofs.Common.{◌≡◌, ◌∙◌, ℕ, ◌+◌, ◌<◌, ◌≤◌, List, [], ◌∷◌, Option, None, Some, Result, Ok, Err, All, IfSome, arith, filter, get_or, inl, inr, length, refl, subst, sym}
 use Rattle.std.specs.Prelude.{ℤ, pos, ◌≤ℤ◌, nat_lt, zip}
 use Rattle.std.specs.List.{enumerate_from}
 use Rattle.std.specs.Result.{ForOk}
@@ -18,16 +18,14 @@ use Rattle.admit_core.specs.declared.records.PassEnd.{PassEnd}
 use Rattle.admit_core.specs.declared.records.Terms.{Terms}
 use Rattle.admit_core.specs.declared.refusal.Refusal.{Refusal}
 use Rattle.admit_core.specs.declared.state.Mark.{Mark}
-use Rattle.admit_core.specs.declared.state.Status.{Status}
 use Rattle.calendar.specs.Dates.{IsCivil, IsRead, last_day}
-use Rattle.day_run.specs.DayPlaces.{IsFallIn, IsPassIn}
+use Rattle.day_run.specs.DayPlaces.{IsPassIn}
 use Rattle.day_run.specs.DeskStates.{DeskStates}
-use Rattle.day_run.specs.RunDay.{IsStampedBy}
 use Rattle.intake.specs.Dated.{AreDatedFor, terms_in}
 use Rattle.intake.specs.declared.terms.DatedTerms.{DatedTerms}
 use Rattle.played.specs.Lent.{Lent}
 use Rattle.played.specs.PlayedDays.{EndsAfter, IsNext, IsPlayed, Lead, Plan, Played, lent_after}
-use Rattle.report.specs.DayText.{IsFallOf, IsLapseOf, IsPassOf, date_on, last_date}
+use Rattle.report.specs.DayText.{IsLapseOf, IsPassOf, date_on, last_date}
 use Rattle.report.specs.FinalText.{HasDates}
 use Rattle.request.specs.Request.{IsStart}
 use Rattle.request.specs.declared.pickers.PickerChoice.{PickerChoice}

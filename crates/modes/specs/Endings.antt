@@ -1,5 +1,5 @@
 -- How a run over a job ends, by its mode.
-use Rattle.std.specs.Prelude.{◌≡◌, ℕ, List, [], ◌++◌, All, Result, Ok, Err, IfOk, length}
+use Rattle.std.specs.Prelude.{◌≡◌, ℕ, List, [], ◌++◌, Result, Ok, Err, length}
 use Rattle.admit_core.specs.declared.refusal.Refusal.{Refusal}
 use Rattle.day_run.specs.DeskStates.{DeskStates}
 use Rattle.intake.specs.Input.{Job}

@@ -48,14 +48,7 @@ fn ended(
     let dossier = &input.dossier;
     match request.mode {
         Mode::Order => Ok(done(orders_text(alloc, dossier.groups.as_slice(), orders)?)),
-        Mode::Replay => Ok(done(replay_text(
-            alloc,
-            dossier,
-            dated,
-            orders,
-            days,
-            desk.now(),
-        )?)),
+        Mode::Replay => Ok(done(replay_text(alloc, dossier, dated, orders, days, desk.now())?)),
         Mode::Sample { number } => {
             let wishes = dossier.wishes.len() as u32;
             Ok(done(sample_text(alloc, number, wishes, days, desk.now())?))

@@ -1,5 +1,5 @@
 -- The days that were played so far.
-use Rattle.std.proofs.Common.{◌≡◌, ◌∙◌, ℕ, ◌+◌, ◌<◌, List, [], ◌∷◌, ◌++◌, Option, Result, Ok, Err, IfSome, IsErrAnd, IsSomeAnd, ap, append_assoc, arith, length, refl, subst, sym}
+use Rattle.std.proofs.Common.{◌≡◌, ◌∙◌, ℕ, ◌+◌, ◌<◌, List, [], ◌∷◌, ◌++◌, Result, Ok, Err, IfSome, IsErrAnd, IsSomeAnd, ap, append_assoc, arith, length, refl, subst, sym}
 use Rattle.std.proofs.lemmas.List.{append-nil, length-append}
 use Rattle.admit_core.specs.CallOrder.{AreCallOrders}
 use Rattle.admit_core.specs.Days.{ceilings_of, unfit_on}
@@ -61,8 +61,7 @@ lead_more plan d old before [] mid day new same next =
     let at : d + 0 ≡ d = omega arith in
     (new, subst (λ (desk : DeskStates). IsNext plan d desk before day new) (sym same) (subst (λ (n : ℕ). IsNext plan n mid before day new) at next), refl)
 lead_more plan d old before (first ∷ days) mid day new lead next =
-    let at : d + length (first ∷ days) ≡ d + 1 + length days = omega arith in
-    (
+    let at : d + length (first ∷ days) ≡ d + 1 + length days = omega arith in (
       lead.0,
       lead.1,
       lead_more plan (d + 1) lead.0 (lent_after plan.who first before) days mid day new lead.2

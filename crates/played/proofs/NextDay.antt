@@ -1,19 +1,19 @@
 -- How a day ends with the picker of the day.
-use Rattle.std.proofs.Common.{◌≡◌, ◌∙◌, ℕ, true, false, List, [], ◌∷◌, ◌++◌, Option, Result, Ok, Err, IfErr, IfOk, ap, refl, subst, sym}
+use Rattle.std.proofs.Common.{◌≡◌, ◌∙◌, ℕ, false, List, [], ◌∷◌, ◌++◌, Option, Result, Ok, Err, ap, refl, subst, sym}
 use Rattle.std.proofs.lemmas.List.{append-nil}
 use Rattle.admit_core.specs.Days.{ceilings_of}
 use Rattle.admit_core.specs.declared.records.DayRecord.{DayRecord}
 use Rattle.day_run.specs.DayPasses.{TellsMore, schools_of_passes}
 use Rattle.day_run.specs.DeskStates.{DeskStates}
-use Rattle.day_run.specs.RunDay.{IsDayDone, Moment}
+use Rattle.day_run.specs.RunDay.{IsDayDone}
 use Rattle.day_run.specs.declared.refusal.DayRefusal.{DayRefusal}
 use Rattle.day_run.specs.declared.refusal.DayRefusal.TheVariants as refusals
 use Rattle.request.specs.Pickers.{picker_on}
 use Rattle.request.specs.declared.pickers.PickerName.{PickerName}
 use Rattle.request.specs.declared.pickers.PickerName.TheVariants.{First, Last, Turn}
-use Rattle.played.specs.Lent.{AreBack, Lent, Told, choice_in, is_named, named, picked_by, told_in}
+use Rattle.played.specs.Lent.{Lent, Told, choice_in, is_named, named, picked_by, told_in}
 use Rattle.played.specs.OneDay.{EndsWith}
-use Rattle.played.specs.PlayedDays.{AsksNone, EndsNext, IsNext, Plan, lent_after, moment_of}
+use Rattle.played.specs.PlayedDays.{EndsNext, IsNext, Plan, moment_of}
 use Rattle.played.proofs.Naming.{each_named, named_self, picked_here, picked_none}
 
 -- only the picker of the name was lent

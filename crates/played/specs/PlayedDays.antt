@@ -1,5 +1,5 @@
 -- The days of a campaign, each with the picker of the day, and what becomes of the days that are asked for.
-use Rattle.std.specs.Prelude.{◌≡◌, ℕ, ◌+◌, ◌<◌, List, [], ◌∷◌, ◌++◌, Option, IsSomeAnd, Result, Ok, Err, IfErr, IfOk, OnErr, length, ⊤}
+use Rattle.std.specs.Prelude.{◌≡◌, ℕ, ◌+◌, ◌<◌, List, [], ◌∷◌, ◌++◌, Option, IsSomeAnd, Result, Ok, Err, IfErr, IfOk, length, ⊤}
 use Rattle.admit_core.specs.CallOrder.{AreCallOrders}
 use Rattle.admit_core.specs.Days.{ceilings_of, first_evening, unfit_on}
 use Rattle.admit_core.specs.DossierRows.{DossierRows}
@@ -9,15 +9,13 @@ use Rattle.admit_core.specs.declared.records.DayRecord.{DayRecord}
 use Rattle.admit_core.specs.declared.records.Terms.{Terms}
 use Rattle.admit_core.specs.declared.refusal.Refusal.{Refusal}
 use Rattle.day_run.specs.AnswersOn.{IsUnfitOf, unfit_refusal}
-use Rattle.day_run.specs.DayPasses.{schools_of_passes}
 use Rattle.day_run.specs.DeskStates.{DeskStates}
-use Rattle.day_run.specs.RunDay.{IsDayDone, Moment, TellsNoneUnfit}
+use Rattle.day_run.specs.RunDay.{IsDayDone, Moment}
 use Rattle.day_run.specs.declared.refusal.DayRefusal.{DayRefusal}
 use Rattle.day_run.specs.declared.refusal.DayRefusal.TheVariants as refusals
 use Rattle.played.specs.Lent.{AreBack, Lent, Told, Untold, picked_by}
 use Rattle.request.specs.Pickers.{picker_on}
 use Rattle.request.specs.declared.pickers.PickerChoice.{PickerChoice}
-use Rattle.request.specs.declared.pickers.PickerName.{PickerName}
 
 -- how days are run: by which call orders, under which terms, and with which picker each
 pub record Plan : Type 0 where

@@ -60,10 +60,7 @@ fn play_days(
 }
 
 /// What a campaign begins with.
-fn begin<'d>(
-    alloc: Global,
-    dossier: &'d Dossier,
-) -> Result<(CallOrders, Desk<'d>), OutOfMemory>
+fn begin<'d>(alloc: Global, dossier: &'d Dossier) -> Result<(CallOrders, Desk<'d>), OutOfMemory>
     ensures orders { IfOk result (λ x. AreCallOrders dossier.now.groups x.0.orders) }
     ensures desk { IfOk result (λ x. x.1 ≡ first_desk dossier.now) }
 {

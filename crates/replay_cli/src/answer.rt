@@ -19,11 +19,7 @@ use shelf_io::Shelf;
 use std::alloc::Global;
 
 /// Reads the words, and takes in what they ask for.
-fn take<S: Shelf>(
-    alloc: Global,
-    words: &[String],
-    shelf: &mut S,
-) -> Result<(Request, Input), Stop>
+fn take<S: Shelf>(alloc: Global, words: &[String], shelf: &mut S) -> Result<(Request, Input), Stop>
     ensures { TakesAll (map string_bytes words.now)
         (on_shelf S.left S.taken S.faults shelf.old) (on_shelf S.left S.taken S.faults shelf.new) result }
 {
@@ -62,7 +58,14 @@ fn play_out(
     let dated = dated_terms(alloc, input, deadlines_of(request))?;
     let dated = dated.as_ref();
     let number = days_of(request);
-    let played = play(alloc, &input.dossier, terms_in(dated), number, request.picker, pickers)?;
+    let played = play(
+        alloc,
+        &input.dossier,
+        terms_in(dated),
+        number,
+        request.picker,
+        pickers,
+    )?;
     ending(alloc, request, input, dated, &played)
 }
 

@@ -21,16 +21,18 @@ pub fn run<S: Shelf, K: Sink>(
 ) -> Exit
     requires { AreThere pickers.old }
     ensures there { AreThere pickers.new }
-    ensures is_run {
-        IsRun (map string_bytes words.now)
-            (record { shelf = on_shelf S.left S.taken S.faults shelf.old;
-                sink = at_sink K.held K.faults sink.old;
-                pickers = standing (λ p. told p) (λ p. choice p) pickers.old })
-            (record { shelf = on_shelf S.left S.taken S.faults shelf.new;
-                sink = at_sink K.held K.faults sink.new;
-                pickers = standing (λ p. told p) (λ p. choice p) pickers.new })
-            result
-    }
+    ensures is_run { IsRun (map string_bytes words.now)
+        (record {
+          shelf = on_shelf S.left S.taken S.faults shelf.old;
+          sink = at_sink K.held K.faults sink.old;
+          pickers = standing (λ p. told p) (λ p. choice p) pickers.old;
+        })
+        (record {
+          shelf = on_shelf S.left S.taken S.faults shelf.new;
+          sink = at_sink K.held K.faults sink.new;
+          pickers = standing (λ p. told p) (λ p. choice p) pickers.new;
+        })
+        result }
 {
     let Ok(reply) = answer(alloc, words, shelf, pickers) else {
         return Exit::NoMemory;

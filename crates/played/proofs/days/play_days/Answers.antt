@@ -1,4 +1,4 @@
-use Rattle.std.proofs.Common.{◌∙◌, arith, refl}
+use Rattle.std.proofs.Common.{arith}
 use Rattle.played.proofs.DaysSoFar.{called_still, nothing_played, played_on, plays_all, plays_out, plays_some, terms_still}
 use Rattle.played.proofs.days.play_days.Goals as goal
 
