@@ -18,4 +18,3 @@ pub mod Bundled
 pub mod Independence
 pub mod Lapsing
 pub mod FittingLists
-pub mod FourWishes

@@ -8,10 +8,6 @@ mod day;
 mod index;
 mod laws;
 mod mark;
-#[cfg(test)]
-mod small_dossier;
-#[cfg(test)]
-mod tests;
 
 pub use day::{DayState, UnfitAnswer, UnfitAt};
 pub use laws::candidates_stand_apart;

@@ -8,8 +8,8 @@ ghost use Rattle.dossier_check.specs.Keys.{AreKeysOf};
 
 use crate::noted::row_with;
 use admit_core::{
-    Answer, AnswerKind, CeilingChange, OutOfMemory, Programme, School, Since, StateRow, Status, Tables, Wish,
-    WishRow,
+    Answer, AnswerKind, CeilingChange, OutOfMemory, Programme, School, Since, StateRow, Status,
+    Tables, Wish, WishRow,
 };
 use indexmap::IndexSet;
 use std::alloc::Global;

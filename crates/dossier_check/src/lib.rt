@@ -18,6 +18,3 @@ mod wishes;
 
 pub use index::{Index, school_place, wish_place};
 pub use relations::{Checked, check};
-
-#[cfg(test)]
-mod tests;

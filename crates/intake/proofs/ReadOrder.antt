@@ -1,5 +1,5 @@
 -- Reading slots in their order.
-use Rattle.std.proofs.Common.{◌≡◌, ◌≢◌, ◌∙◌, ℕ, ◌+◌, ◌<◌, ◌≤◌, List, [], ◌∷◌, ◌++◌, AllPairs, Contains, Option, Some, Result, Ok, Err, IfErr, IsErrAnd, arith, ap, drop, inl, inr, length, refl, slice_index_or, subst, sym, take}
+use Rattle.std.proofs.Common.{◌≡◌, ◌≢◌, ◌∙◌, ℕ, ◌+◌, ◌<◌, ◌≤◌, List, [], ◌∷◌, ◌++◌, AllPairs, Contains, Some, Result, Ok, Err, IsErrAnd, arith, ap, drop, inl, inr, length, refl, slice_index_or, subst, sym, take}
 use Rattle.std.proofs.lemmas.Bool.{cases_lt}
 use Rattle.std.proofs.lemmas.List.{get_or_default, take-append-drop, take_all, take_more}
 use Rattle.admit_core.specs.declared.refusal.InFault.{InFault}

@@ -1,5 +1,5 @@
 -- What is taken in for a request.
-use Rattle.std.proofs.Common.{◌≡◌, ◌<◌, ℕ, Bool, true, false, List, [], Option, Some, None, Result, Ok, Err, IfErr, IsErrAnd, IsTrue, ap, arith, length, refl, subst, sym}
+use Rattle.std.proofs.Common.{◌≡◌, ℕ, Bool, true, false, List, [], Option, Some, None, Result, Ok, Err, IfErr, IsErrAnd, IsTrue, ap, arith, length, refl, subst}
 use Rattle.std.specs.Prelude.{IfSome, MatchResult, if◌then◌else◌}
 use Rattle.admit_core.specs.Relations.{first_fault}
 use Rattle.admit_core.specs.declared.refusal.Refusal.{Refusal}
@@ -9,7 +9,7 @@ use Rattle.request.specs.Modes.{named_by, sample_of, slots_of}
 use Rattle.request.specs.declared.modes.Mode.{Mode}
 use Rattle.request.specs.declared.modes.Name.{Name}
 use Rattle.request.specs.declared.request.Request.{Request}
-use Rattle.intake.specs.Input.{IsInputFrom, IsOfFiles, Job, TakesIn, faultless, having, is_there, job_of, tested}
+use Rattle.intake.specs.Input.{IsInputFrom, IsOfFiles, TakesIn, faultless, having, is_there, job_of, tested}
 use Rattle.intake.specs.Reading.{files_in, files_of, made, made_or_read}
 use Rattle.intake.specs.Shelves.{HasCause, OnShelf, TakesSlots, Tells}
 use Rattle.intake.specs.Stops.{◌>>=◌, Gives, Stopped}

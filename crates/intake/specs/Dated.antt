@@ -1,5 +1,5 @@
 -- The terms of offers, with the date of day 1.
-use Rattle.std.specs.Prelude.{◌≡◌, ◌≤◌, ℕ, ℤ, pos, ◌+ℤ◌, ◌-ℤ◌, List, Option, All, length, map, option_map, unwrap_or}
+use Rattle.std.specs.Prelude.{◌≡◌, ◌≤◌, ℤ, pos, ◌+ℤ◌, ◌-ℤ◌, List, Option, All, length, map, option_map, unwrap_or}
 use Rattle.std.specs.Option.{option_and_then}
 use Rattle.admit_core.specs.DossierRows.{DossierRows}
 use Rattle.admit_core.specs.declared.records.Terms.{Terms}
@@ -25,7 +25,8 @@ since_day start since = day_before start (option_and_then date_number since)
 
 -- the terms of the offers of wishes with these dates
 abbrev pub terms_from : List (Option Since) → Deadlines → Terms
-terms_from dates deadlines = record { term = deadlines.term; before = map (since_day deadlines.start) dates }
+terms_from dates deadlines =
+    record { term = deadlines.term; before = map (since_day deadlines.start) dates }
 
 abbrev pub dated_from : List (Option Since) → Deadlines → DatedTerms
 dated_from dates deadlines = record { start = deadlines.start; terms = terms_from dates deadlines }

@@ -19,23 +19,35 @@ use Rattle.intake.specs.declared.stop.Stop.TheVariants as stops
 -- the bytes of a slot that is not too large
 unfoldable pub sized : Slot → List ℕ → Result (List ℕ) Stop
 sized slot bytes =
-    if nat_lt 1073741824 (length bytes) then Err (stops.Refused (record { slot = slot; row = 0; reason = TooLarge })) else Ok bytes
+    if nat_lt 1073741824 (length bytes)
+    then Err (stops.Refused (record { slot = slot; row = 0; reason = TooLarge }))
+    else Ok bytes
 
 -- tables made of a slot's rows
-abbrev pub made_by : {A : Type 0} → (List A → Tables) → Result (List A) Refusal → Result Tables Refusal
+abbrev pub made_by : {A : Type 0} → (List A → Tables) → Result (List A) Refusal
+    → Result Tables Refusal
 made_by make rows = result_map_both make (λ refusal. refusal) rows
 
 -- the tables with the rows that the bytes of one slot stand for; the chain slot has none
 unfoldable pub with_rows : Tables → Slot → List ℕ → Result Tables Refusal
-with_rows tables Groups bytes = made_by (λ rows. record tables { groups = rows }) (shape Rows.groups bytes)
-with_rows tables Programmes bytes = made_by (λ rows. record tables { programmes = rows }) (shape Rows.programmes bytes)
-with_rows tables Schools bytes = made_by (λ rows. record tables { schools = rows }) (shape Rows.schools bytes)
-with_rows tables Rankings bytes = made_by (λ rows. record tables { rankings = rows }) (shape Rows.rankings bytes)
-with_rows tables Boarding bytes = made_by (λ rows. record tables { boarding = rows }) (shape Rows.boarding bytes)
-with_rows tables Wishes bytes = made_by (λ rows. record tables { wishes = rows }) (shape Rows.wishes bytes)
-with_rows tables State bytes = made_by (λ rows. record tables { state = rows }) (shape Rows.state bytes)
-with_rows tables Ceilings bytes = made_by (λ rows. record tables { ceilings = rows }) (shape Rows.ceilings bytes)
-with_rows tables Answers bytes = made_by (λ rows. record tables { answers = rows }) (shape Rows.answers bytes)
+with_rows tables Groups bytes =
+    made_by (λ rows. record tables { groups = rows }) (shape Rows.groups bytes)
+with_rows tables Programmes bytes =
+    made_by (λ rows. record tables { programmes = rows }) (shape Rows.programmes bytes)
+with_rows tables Schools bytes =
+    made_by (λ rows. record tables { schools = rows }) (shape Rows.schools bytes)
+with_rows tables Rankings bytes =
+    made_by (λ rows. record tables { rankings = rows }) (shape Rows.rankings bytes)
+with_rows tables Boarding bytes =
+    made_by (λ rows. record tables { boarding = rows }) (shape Rows.boarding bytes)
+with_rows tables Wishes bytes =
+    made_by (λ rows. record tables { wishes = rows }) (shape Rows.wishes bytes)
+with_rows tables State bytes =
+    made_by (λ rows. record tables { state = rows }) (shape Rows.state bytes)
+with_rows tables Ceilings bytes =
+    made_by (λ rows. record tables { ceilings = rows }) (shape Rows.ceilings bytes)
+with_rows tables Answers bytes =
+    made_by (λ rows. record tables { answers = rows }) (shape Rows.answers bytes)
 with_rows tables Chain bytes = Ok tables
 
 -- the chain's bytes after those of a slot
@@ -46,9 +58,12 @@ chain_after chain _ bytes = chain
 -- the files with what the bytes of one slot stand for
 unfoldable pub with_slot : Files → Slot → List ℕ → Result Files Refusal
 with_slot files slot bytes =
-    result_map_both (λ tables. record { tables = tables; chain = chain_after files.chain slot bytes }) (λ refusal. refusal) (with_rows files.tables slot bytes)
+    result_map_both
+    (λ tables. record { tables = tables; chain = chain_after files.chain slot bytes })
+    (λ refusal. refusal) (with_rows files.tables slot bytes)
 
--- the files with what these slots stand for, in their order: of each slot the size is tested, and then the shape
+-- the files with what these slots stand for, in their order: of each slot the size is tested, and
+-- then the shape
 unfoldable pub with_slots : Files → List Slot → (Slot → List ℕ) → Result Files Stop
 with_slots files [] slots = Ok files
 with_slots files (slot ∷ others) slots = do
@@ -57,7 +72,18 @@ with_slots files (slot ∷ others) slots = do
   with_slots more others slots
 
 abbrev pub no_rows : Tables
-no_rows = record { groups = []; programmes = []; schools = []; rankings = []; boarding = []; wishes = []; state = []; ceilings = []; answers = [] }
+no_rows =
+    record {
+      groups = [];
+      programmes = [];
+      schools = [];
+      rankings = [];
+      boarding = [];
+      wishes = [];
+      state = [];
+      ceilings = [];
+      answers = [];
+    }
 
 abbrev pub no_files : Files
 no_files = record { tables = no_rows; chain = [] }

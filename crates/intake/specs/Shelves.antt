@@ -7,26 +7,31 @@ use Rattle.intake.specs.Reading.{files_in}
 use Rattle.intake.specs.declared.stop.Stop.{Stop}
 use Rattle.intake.specs.declared.stop.Stop.TheVariants as stops
 
--- the bytes left in each slot, where a shelf tells them, how many were taken, and how often its reads have failed
+-- the bytes left in each slot, where a shelf tells them, how many were taken, and how often its
+-- reads have failed
 pub record OnShelf : Type 0 where
   pub left : Slot → Option (List ℕ)
   pub taken : Slot → ℕ
   pub faults : Slot → ℕ
 
-abbrev pub on_shelf : {S : Type 0} → (S → Slot → Option (List ℕ)) → (S → Slot → ℕ) → (S → Slot → ℕ) → S → OnShelf
-on_shelf left taken faults shelf = record { left = left shelf; taken = taken shelf; faults = faults shelf }
+abbrev pub on_shelf : {S : Type 0} → (S → Slot → Option (List ℕ)) → (S → Slot → ℕ)
+    → (S → Slot → ℕ) → S → OnShelf
+on_shelf left taken faults shelf =
+    record { left = left shelf; taken = taken shelf; faults = faults shelf }
 
 -- the shelf tells these bytes
 abbrev pub Tells : (Slot → Option (List ℕ)) → (Slot → List ℕ) → Type 0
 Tells left slots = (slot : Slot) → left slot ≡ Some (slots slot)
 
--- the slot at a place of the order could not be read: its count rose, and the slots before it have their sizes and shapes
+-- the slot at a place of the order could not be read: its count rose, and the slots before it have
+-- their sizes and shapes
 pub record IsFaultAt (order : List Slot) (before after : OnShelf) (slot : Slot) : Type 0 where
   pub place : ℕ
   pub within : place < length order
   pub is_there : slice_index_or order place slot ≡ slot
   pub rose : Rose (before.faults slot) (after.faults slot)
-  pub shapes : (slots : Slot → List ℕ) → Tells before.left slots → IsOk (files_in (take place order) slots)
+  pub shapes : (slots : Slot → List ℕ) → Tells before.left slots
+      → IsOk (files_in (take place order) slots)
 
 -- one slot is read, of which no more is taken than one reading may take, and no other is touched
 pub record TouchesOnly (slot : Slot) (before after : OnShelf) : Type 0 where
@@ -52,9 +57,11 @@ HasCause order before after (stops.NoSuch name) = ⊤
 HasCause order before after stops.OutOfMemory = ⊤
 
 -- the slots of the order are read, each once, and no other is touched
-pub record TakesSlots {A : Type 0} (order : List Slot) (before after : OnShelf) (result : Result A Stop) : Type 0 where
+pub record TakesSlots {A : Type 0} (order : List Slot) (before after : OnShelf)
+    (result : Result A Stop) : Type 0 where
   -- to their ends, where there is an answer and the shelf tells its bytes
-  pub ends : (slots : Slot → List ℕ) → Tells before.left slots → OnOk result ((slot : Slot) → Contains order slot → after.left slot ≡ Some [])
+  pub ends : (slots : Slot → List ℕ) → Tells before.left slots
+      → OnOk result ((slot : Slot) → Contains order slot → after.left slot ≡ Some [])
   -- of a slot no more is taken than one reading may take
   pub once : (slot : Slot) → Contains order slot → after.taken slot ≤ before.taken slot + 1073807360
   pub others : (slot : Slot) → ¬ Contains order slot → after.left slot ≡ before.left slot

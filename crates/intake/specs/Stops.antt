@@ -44,7 +44,8 @@ stop_text (stops.ReadFault slot) = codes "read fault " ++ slot_name slot ++ 10 �
 stop_text (stops.NoSuch name) = codes "no such " ++ name_text name ++ 10 ∷ []
 stop_text stops.OutOfMemory = []
 
--- a stop is what is expected, but for a fault of the shelf and running out of memory, of which nothing is said here
+-- a stop is what is expected; nothing is said here of a fault of the shelf and of running out of
+-- memory
 abbrev pub Stopped : {Y : Type 0} → Stop → Result Y Stop → Type 0
 Stopped stops.OutOfMemory expected = ⊤
 Stopped (stops.ReadFault slot) expected = ⊤

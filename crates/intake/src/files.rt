@@ -36,7 +36,8 @@ fn slot_bytes<S: Shelf>(alloc: Global, shelf: &mut S, slot: Slot) -> Result<Vec<
     ensures ends { (bytes : List ℕ) → S.left shelf.old slot ≡ Some bytes
         → OnOk result (S.left shelf.new slot ≡ Some []) }
     ensures touches { TouchesOnly slot
-        (on_shelf S.left S.taken S.faults shelf.old) (on_shelf S.left S.taken S.faults shelf.new) }
+        (on_shelf S.left S.taken S.faults shelf.old)
+        (on_shelf S.left S.taken S.faults shelf.new) }
     ensures fault { IfErr result (FaultsAt slot (S.faults shelf.old) (S.faults shelf.new)) }
 {
     match read_slot(alloc, shelf, slot, MAX_BYTES) {
@@ -154,7 +155,8 @@ pub(crate) fn read_slots<S: Shelf>(
         → Gives (λ files. files) result (Reading.files_in order.now slots) }
     ensures ranges { IfOk result (λ files. AreTables files.tables) }
     ensures slots { TakesSlots order.now
-        (on_shelf S.left S.taken S.faults shelf.old) (on_shelf S.left S.taken S.faults shelf.new) result }
+        (on_shelf S.left S.taken S.faults shelf.old)
+        (on_shelf S.left S.taken S.faults shelf.new) result }
 {
     let mut files = Files {
         tables: no_rows(alloc),

@@ -9,7 +9,8 @@ use dossier_check::Index;
 pub struct Input {
     pub dossier: Dossier,
     pub index: Index,
-    /// Since when each wish has its status, by the wishes' places; none where the state gives no date.
+    /// Since when each wish has its status, by the wishes' places; none where the state gives no
+    /// date.
     pub dates: Sequence<Option<Since>>,
     /// The bytes of the chain slot; none where the mode does not read it.
     pub chain: Sequence<u8>,

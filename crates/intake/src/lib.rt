@@ -1,5 +1,5 @@
-//! From the slots' bytes to what a run works on: the dossier, its index, the dates of its statuses and
-//! the chain's bytes; or why a run stops.
+//! From the slots' bytes to what a run works on: the dossier, its index, the dates of its statuses
+//! and the chain's bytes; or why a run stops.
 #![tactic(auto)]
 
 mod files;

@@ -27,9 +27,11 @@ fn files_of<S: Shelf>(alloc: Global, shelf: &mut S, mode: Mode) -> Result<Files,
     ensures value { (slots : Slot → List ℕ) → Tells (S.left shelf.old) slots
         → Gives (λ files. files) result (Reading.files_of mode slots) }
     ensures ranges { IfOk result (λ files. AreTables files.tables) }
-    ensures made { IfSome (Modes.sample_of mode) (λ number. IfOk result (λ files. files.tables ≡ sample_tables number)) }
+    ensures made { IfSome (Modes.sample_of mode) (λ number.
+        IfOk result (λ files. files.tables ≡ sample_tables number)) }
     ensures slots { TakesSlots (Modes.slots_of mode)
-        (on_shelf S.left S.taken S.faults shelf.old) (on_shelf S.left S.taken S.faults shelf.new) result }
+        (on_shelf S.left S.taken S.faults shelf.old)
+        (on_shelf S.left S.taken S.faults shelf.new) result }
 {
     match sample_of(mode) {
         Some(number) => made(alloc, number),
@@ -62,7 +64,8 @@ fn find_named(index: &Index, name: Option<Name>) -> Result<(), Stop>
 /// The input of files that are accepted, or why they are not.
 fn input_of(alloc: Global, files: Files, mode: Mode) -> Result<Input, Stop>
     requires { AreTables files.tables }
-    ensures value { MatchResult result (IsInputFrom mode files) (λ stop. Stopped stop (tested mode files)) }
+    ensures value { MatchResult result (IsInputFrom mode files)
+        (λ stop. Stopped stop (tested mode files)) }
     ensures kinds { IfErr result IsOfFiles }
 {
     let checked = check(alloc, &files.tables)?;
@@ -75,12 +78,13 @@ fn input_of(alloc: Global, files: Files, mode: Mode) -> Result<Input, Stop>
     })
 }
 
-/// Takes in what a request is about: the slots that its mode reads, in their order, each once and no
-/// other. The tables are dropped in here.
+/// Takes in what a request is about: the slots that its mode reads, in their order, each once and
+/// no other. The tables are dropped in here.
 pub fn take_in<S: Shelf>(alloc: Global, request: &Request, shelf: &mut S) -> Result<Input, Stop>
     requires { IsMode request.now.mode }
     ensures { TakesIn request.now
-        (on_shelf S.left S.taken S.faults shelf.old) (on_shelf S.left S.taken S.faults shelf.new) result }
+        (on_shelf S.left S.taken S.faults shelf.old)
+        (on_shelf S.left S.taken S.faults shelf.new) result }
 {
     let files = files_of(alloc, shelf, request.mode)?;
     input_of(alloc, files, request.mode)

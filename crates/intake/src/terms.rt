@@ -60,7 +60,8 @@ pub fn dated_terms(
     deadlines: Option<Deadlines>,
 ) -> Result<Option<DatedTerms>, OutOfMemory>
     requires { IfSome deadlines IsDeadlines }
-    ensures value { IfOk result (λ dated. dated ≡ option_map (dated_from input.now.dates) deadlines) }
+    ensures value { IfOk result (λ dated.
+        dated ≡ option_map (dated_from input.now.dates) deadlines) }
     ensures dates { IfOk result (λ dated. IfSome dated (AreDatedFor input.now.dossier)) }
 {
     match deadlines {

@@ -1,12 +1,4 @@
-pub mod Accepted
-pub mod CampaignSoFar
-pub mod DatedOffers
-pub mod DayPlaces
-pub mod Parses
-pub mod GivenDays
-pub mod PickedDay
-pub mod PlayedDays
-pub mod ReadOrder
-pub mod Replies
-pub mod SampleDays
-pub mod Stamps
+mod Played
+mod Replying
+mod Taking
+mod Writing

@@ -1,12 +1,3 @@
-pub mod Command
-pub mod Dated
-pub mod Input
-pub mod Modes
-pub mod OrderText
+pub mod Answering
 pub mod Outcome
-pub mod Picks
-pub mod Played
-pub mod Replay
-pub mod Request
-pub mod Sample
-pub mod Stops
+pub mod Run

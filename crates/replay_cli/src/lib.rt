@@ -1,22 +1,9 @@
 //! One run of the admission engine, over any shelf and any sink.
 #![tactic(auto)]
 
-mod command;
-mod exit;
-mod orders;
-mod pickers;
-mod replay;
-mod reply;
-mod request;
-mod run;
-mod sample;
-mod stop;
-mod tables;
-mod terms;
-#[cfg(test)]
-mod tests;
-mod words;
+mod answer;
+mod run_over;
 
-pub use exit::Exit;
-pub use pickers::Pickers;
-pub use run::run;
+pub use modes::{Exit, exit_number};
+pub use played::Pickers;
+pub use run_over::run;

@@ -10,8 +10,6 @@ mod ids;
 mod order;
 mod refusal;
 mod sample;
-#[cfg(test)]
-mod tests;
 mod words;
 mod worked;
 

@@ -1,4 +1,4 @@
--- The tables by mode: its word, the slots that it reads, whether it runs days, and what it names in the dossier.
+-- The tables by mode: its word, the slots that it reads, whether it runs days, and what it names.
 use Rattle.std.specs.Prelude.{ℕ, ◌≤◌, Bool, true, false, List, [], ◌∷◌, ◌++◌, Option, Some, None, IfSome, codes, option_map, ⊤}
 use Rattle.std.specs.Fmt.{decimal}
 use Rattle.std.specs.Option.{option_and_then}
@@ -30,7 +30,8 @@ mode_of numbers word = option_and_then (λ mode. mode) (choice (modes_by_word nu
 -- the slots that a mode reads, in this order; a sample is made, and reads none
 abbrev pub slots_of : Mode → List Slot
 slots_of Order = Groups ∷ Rankings ∷ []
-slots_of Replay = Groups ∷ Programmes ∷ Schools ∷ Rankings ∷ Boarding ∷ Wishes ∷ State ∷ Ceilings ∷ Answers ∷ []
+slots_of Replay =
+    Groups ∷ Programmes ∷ Schools ∷ Rankings ∷ Boarding ∷ Wishes ∷ State ∷ Ceilings ∷ Answers ∷ []
 slots_of (Sample number) = []
 
 -- how many candidates the made-up dossier of a mode has

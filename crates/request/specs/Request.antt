@@ -19,17 +19,21 @@ use Rattle.request.specs.declared.request.Deadlines.{Deadlines}
 use Rattle.request.specs.declared.request.Request.{Request}
 
 abbrev pub picker_named : Text → Option PickerChoice
-picker_named = choice ((codes "first", Same First) ∷ (codes "last", Same Last) ∷ (codes "turn", Same Turn) ∷ (codes "each", Each) ∷ [])
+picker_named =
+    choice ((codes "first", Same First) ∷ (codes "last", Same Last) ∷ (codes "turn", Same Turn)
+    ∷ (codes "each", Each) ∷ [])
 
 -- a number within limits
 abbrev pub between : ℕ → ℕ → Option ℕ → Option ℕ
 between least most None = None
-between least most (Some number) = if nat_le least number && nat_le number most then Some number else None
+between least most (Some number) =
+    if nat_le least number && nat_le number most then Some number else None
 
 -- a date, by its number of days, of a year from 1901 to 2298
 abbrev pub in_start_years : Option ℤ → Option ℤ
 in_start_years None = None
-in_start_years (Some date) = if nat_le 1901 (date_of date).0 && nat_le (date_of date).0 2298 then Some date else None
+in_start_years (Some date) =
+    if nat_le 1901 (date_of date).0 && nat_le (date_of date).0 2298 then Some date else None
 
 -- the only fault of words
 abbrev pub bad_words : BadWords
@@ -47,7 +51,8 @@ given named None = Ok None
 given named (Some text) = ok_or (option_map Some (named text)) bad_words
 
 unfoldable pub number_option : Text → ℕ → ℕ → List Row → Result (Option ℕ) BadWords
-number_option name least most rows = given (λ text. between least most (number_of text)) (first_of name rows)
+number_option name least most rows =
+    given (λ text. between least most (number_of text)) (first_of name rows)
 
 -- the numbers that a mode may need
 unfoldable pub numbers_option : List Row → Result Numbers BadWords
@@ -59,7 +64,8 @@ numbers_option rows = do
 
 -- the mode, which is required
 unfoldable pub mode_option : Numbers → List Row → Result Mode BadWords
-mode_option numbers rows = ok_or (option_and_then (mode_of numbers) (first_of (codes "mode") rows)) bad_words
+mode_option numbers rows =
+    ok_or (option_and_then (mode_of numbers) (first_of (codes "mode") rows)) bad_words
 
 -- the picker; the first where none is given
 unfoldable pub picker_option : List Row → Result PickerChoice BadWords
@@ -103,13 +109,15 @@ abbrev pub named_words : List Text → List Text
 named_words words = codes "parcours" ∷ words
 
 unfoldable pub request_of_named : List Text → Option Request
-request_of_named words = where_sound (fault_of parcours words) (request_in (matches_of parcours words))
+request_of_named words =
+    where_sound (fault_of parcours words) (request_in (matches_of parcours words))
 
 -- what the words after the program's name ask for; nothing where they are bad
 abbrev pub request_of : List Text → Option Request
 request_of words = request_of_named (named_words words)
 
--- a reading answers what is asked for, or that the words are bad; of running out of memory nothing is said
+-- a reading answers what is asked for, or that the words are bad; nothing is said of running out of
+-- memory
 abbrev pub Reads : Result Request WordsRefusal → Option Request → Type 0
 Reads (Ok request) asked = asked ≡ Some request
 Reads (Err refusals.Bad) asked = asked ≡ None

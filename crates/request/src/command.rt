@@ -12,7 +12,8 @@ fn with_option<'a>(
     command: Command<'a>,
     name: &'a str,
 ) -> Result<Command<'a>, AllocError>
-    ensures { IfOk result (λ c. app_of c ≡ with_rule (app_of command.entry) (option_rule name.entry.now)) }
+    ensures { IfOk result (λ c.
+        app_of c ≡ with_rule (app_of command.entry) (option_rule name.entry.now)) }
 {
     let option = Arg::new(alloc, name).long(name);
     command.arg(option)
@@ -36,7 +37,8 @@ fn command<'a>(alloc: Global) -> Result<Command<'a>, AllocError>
 /// The matches of the words, the program's name first.
 pub(crate) fn parse<'a>(alloc: Global, words: &'a [&'a str]) -> Result<ArgMatches<'a>, Error>
     ensures kinds { FailsBy (fault_of parcours (map (λ s. s.now) words.entry.now)) result }
-    ensures matches { IfOk result (λ m. rows_of (found_of m) ≡ matches_of parcours (map (λ s. s.now) words.entry.now)) }
+    ensures matches { IfOk result (λ m.
+        rows_of (found_of m) ≡ matches_of parcours (map (λ s. s.now) words.entry.now)) }
 {
     let command = command(alloc)?;
     command.try_get_matches_from(words)

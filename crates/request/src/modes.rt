@@ -1,5 +1,5 @@
-//! The modes, and short tables by mode: its word, the slots that it reads, whether it runs days, and
-//! what it names in the dossier.
+//! The modes, and short tables by mode: its word, the slots that it reads, whether it runs days,
+//! and what it names in the dossier.
 ghost use Rattle.std.specs.Prelude.{◌≡◌, ◌≢◌, ◌≤◌, [], AllPairs, IfSome};
 ghost use Rattle.request.specs.Modes as Modes;
 ghost use Rattle.request.specs.Modes.{IsMode};
@@ -14,7 +14,8 @@ pub enum Mode {
     Order,
     /// Writes the call orders, the days that are run, and the final state.
     Replay,
-    /// Makes a dossier of so many candidates, from 1 to 1,000,000, and writes a summary of its days.
+    /// Makes a dossier of so many candidates, from 1 to 1,000,000, and writes a summary of its
+    /// days.
     Sample { number: u32 },
 }
 

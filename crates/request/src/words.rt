@@ -215,7 +215,8 @@ fn read_named(alloc: Global, words: &[&str]) -> Result<Request, WordsRefusal>
 
 /// The words with the program's name before them.
 fn with_name<'a>(alloc: Global, words: &'a [String]) -> Result<Vec<&'a str>, AllocError>
-    ensures { IfOk result (λ all. map (λ s. s.now) all.items ≡ named_words (map string_bytes words.entry.now)) }
+    ensures { IfOk result (λ all.
+        map (λ s. s.now) all.items ≡ named_words (map string_bytes words.entry.now)) }
 {
     let mut all: Vec<&'a str> = Vec::new(alloc);
     all.push("parcours")?;

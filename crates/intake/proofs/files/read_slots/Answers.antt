@@ -1,4 +1,4 @@
-use Rattle.std.proofs.Common.{◌≡◌, ◌∙◌, ◌<◌, Ok, ap, arith, get_or, length, sym}
+use Rattle.std.proofs.Common.{◌≡◌, ◌<◌, arith, get_or, length}
 use Rattle.std.proofs.lemmas.List.{get_or_default}
 use Rattle.admit_core.specs.declared.slot.Slot.TheVariants.{Groups}
 use Rattle.intake.specs.Reading.{no_files}

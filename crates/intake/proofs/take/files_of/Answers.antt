@@ -1,4 +1,3 @@
-use Rattle.intake.specs.Shelves.{on_shelf}
 use Rattle.intake.proofs.TakenIn.{made_gives, read_gives, untouched}
 use Rattle.intake.proofs.take.files_of.Goals as goal
 

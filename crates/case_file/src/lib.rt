@@ -1,0 +1,11 @@
+//! Files of worked cases: dossiers by their slots, and what is to be done with them.
+//!
+//! A file is a row of sections. A section is a line that begins with its name, and below it the lines
+//! of its text, each behind a bar and a space. A line that begins with `#` tells the reader something.
+#![tactic(auto)]
+
+mod given;
+mod reading;
+
+pub use given::{SLOTS, Slots, slot_named};
+pub use reading::{Section, sections};

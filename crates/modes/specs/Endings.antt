@@ -1,0 +1,50 @@
+-- How a run over a job ends, by its mode.
+use Rattle.std.specs.Prelude.{◌≡◌, ℕ, List, [], ◌++◌, Result, Ok, Err, length}
+use Rattle.admit_core.specs.declared.refusal.Refusal.{Refusal}
+use Rattle.day_run.specs.DeskStates.{DeskStates}
+use Rattle.intake.specs.Input.{Job}
+use Rattle.played.specs.Lent.{Lent}
+use Rattle.played.specs.PlayedDays.{IsPlayed, Played}
+use Rattle.report.specs.RefusalText.{refusal_line}
+use Rattle.report.specs.SampleText.{sample_text}
+use Rattle.request.specs.declared.modes.Mode.{Mode}
+use Rattle.request.specs.declared.modes.Mode.TheVariants.{Order, Replay, Sample}
+use Rattle.modes.specs.Jobs.{Seen, days_of, dossier, seen_of, terms_of}
+use Rattle.modes.specs.Order.{orders_text}
+use Rattle.modes.specs.Replay.{days_text, replay_text}
+use Rattle.modes.specs.declared.exit.Exit.{Exit}
+use Rattle.modes.specs.declared.exit.Exit.TheVariants.{Done, Refused}
+
+-- a run is done with its whole text
+abbrev pub IsDoneWith : List ℕ → Exit → List ℕ → Type 0
+IsDoneWith whole exit text = (exit ≡ Done) × (text ≡ whole)
+
+-- how each mode ends once all its days have led to a desk
+abbrev pub IsEndOf : Mode → Seen → Played → DeskStates → Exit → List ℕ → Type 0
+IsEndOf Order seen played desk = IsDoneWith (orders_text seen.dossier.groups played.orders)
+IsEndOf Replay seen played desk = IsDoneWith (replay_text seen.dossier seen.dated played.orders played.days desk.present)
+IsEndOf (Sample number) seen played desk = IsDoneWith (sample_text number (length seen.dossier.wishes) played.days desk.present)
+
+-- what a mode writes before the refusal of an answer that does not fit
+abbrev pub lines_before : Mode → Seen → Played → List ℕ
+lines_before Replay seen played = days_text seen.dossier seen.dated played.orders played.days
+lines_before _ seen played = []
+
+-- a run ends with an answer that does not fit
+abbrev pub IsRefusedWith : Refusal → List ℕ → Exit → List ℕ → Type 0
+IsRefusedWith refusal before exit text = (exit ≡ Refused) × (text ≡ before ++ refusal_line refusal)
+
+-- how a run ends after its days
+abbrev pub EndsWith : Result DeskStates Refusal → Seen → Played → Exit → List ℕ → Type 0
+EndsWith (Ok desk) seen played = IsEndOf seen.request.mode seen played desk
+EndsWith (Err refusal) seen played = IsRefusedWith refusal (lines_before seen.request.mode seen played)
+
+-- the days of a job, as many as are asked for, with these pickers
+abbrev pub AreDaysOf : Job → Lent → Played → Lent → Type 0
+AreDaysOf job = IsPlayed (dossier job) (terms_of job) (days_of job.request) job.request.picker
+
+-- a job's days were played with these pickers, and the run ends by its mode
+pub record IsEnding (job : Job) (before after : Lent) (exit : Exit) (text : List ℕ) : Type 0 where
+  pub played : Played
+  pub days : AreDaysOf job before played after
+  pub ends : EndsWith played.end (seen_of job) played exit text

@@ -1,0 +1,60 @@
+-- What a job asks of its days.
+use Rattle.std.specs.Prelude.{◌≡◌, ◌<◌, ℕ, ◌+◌, List, Option, None, is_some, length, option_map, if◌then◌else◌}
+use Rattle.admit_core.specs.CallOrder.{AreCallOrders}
+use Rattle.admit_core.specs.Days.{Days, first_evening, unfit_on}
+use Rattle.admit_core.specs.DossierRows.{DossierRows}
+use Rattle.admit_core.specs.Standing.{dossier_of}
+use Rattle.admit_core.specs.State.{State}
+use Rattle.admit_core.specs.declared.ranking.CallOrder.{CallOrder}
+use Rattle.admit_core.specs.declared.records.DayRecord.{DayRecord}
+use Rattle.admit_core.specs.declared.records.Terms.{Terms}
+use Rattle.dossier_check.specs.Dates.{dates_of}
+use Rattle.dossier_check.specs.Ids.{Ids, ids_of}
+use Rattle.intake.specs.Dated.{dated_from, terms_in}
+use Rattle.intake.specs.Input.{Job}
+use Rattle.intake.specs.declared.terms.DatedTerms.{DatedTerms}
+use Rattle.request.specs.Modes.{runs_days, sample_of}
+use Rattle.request.specs.declared.request.Deadlines.{Deadlines}
+use Rattle.request.specs.declared.request.Request.{Request}
+
+-- how many days are run
+abbrev pub days_of : Request → ℕ
+days_of request = if runs_days request.mode then request.days else 0
+
+-- when offers lapse; in a sample they do not
+abbrev pub deadlines_of : Request → Option Deadlines
+deadlines_of request = if is_some (sample_of request.mode) then None else request.deadlines
+
+abbrev pub dossier : Job → DossierRows
+dossier job = dossier_of job.tables
+
+-- the terms of a job's offers, where these lapse
+abbrev pub dated_of : Job → Option DatedTerms
+dated_of job = option_map (dated_from (dates_of job.tables)) (deadlines_of job.request)
+
+abbrev pub terms_of : Job → Option Terms
+terms_of job = terms_in (dated_of job)
+
+-- what the modes see of a job: no tables, which are dropped before the days
+pub record Seen : Type 0 where
+  pub request : Request
+  pub dossier : DossierRows
+  pub index : Ids
+  pub chain : List ℕ
+  pub dated : Option DatedTerms
+
+abbrev pub seen_of : Job → Seen
+seen_of job = record { request = job.request; dossier = dossier job; index = ids_of job.tables; chain = job.chain; dated = dated_of job }
+
+-- the first days of a job's campaign, and the evening of the last of them
+pub record AreDays (job : Job) (orders : List CallOrder) (days : List DayRecord) (evening : State) : Type 0 where
+  pub called : AreCallOrders (dossier job).groups orders
+  pub run : Days (terms_of job) orders 1 (first_evening (dossier job)) days evening
+
+-- each answer fits on each day that is run: after days of the job no answer of the next day is unfit
+abbrev pub FitsAnswers : Job → Type 0
+FitsAnswers job =
+    (orders : List CallOrder) (days : List DayRecord) (evening : State)
+    → AreDays job orders days evening
+    → length days < days_of job.request
+    → unfit_on (terms_of job) (length days + 1) evening ≡ None

@@ -1,0 +1,6 @@
+pub mod Endings
+pub mod Exits
+pub mod Jobs
+pub mod Order
+pub mod Replay
+pub mod Stopping

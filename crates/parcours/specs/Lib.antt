@@ -1,0 +1,2 @@
+pub mod NewRun
+pub mod Start

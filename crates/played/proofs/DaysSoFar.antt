@@ -1,0 +1,180 @@
+-- The days that were played so far.
+use Rattle.std.proofs.Common.{◌≡◌, ◌∙◌, ℕ, ◌+◌, ◌<◌, List, [], ◌∷◌, ◌++◌, Result, Ok, Err, IfSome, IsErrAnd, IsSomeAnd, ap, append_assoc, arith, length, refl, subst, sym}
+use Rattle.std.proofs.lemmas.List.{append-nil, length-append}
+use Rattle.admit_core.specs.CallOrder.{AreCallOrders}
+use Rattle.admit_core.specs.Days.{ceilings_of, unfit_on}
+use Rattle.admit_core.specs.DossierRows.{DossierRows}
+use Rattle.admit_core.specs.declared.records.DayRecord.{DayRecord}
+use Rattle.admit_core.specs.declared.refusal.Refusal.{Refusal}
+use Rattle.day_run.specs.AnswersOn.{unfit_refusal}
+use Rattle.day_run.specs.DeskStates.{DeskStates}
+use Rattle.day_run.specs.RunDay.{IsDayDone}
+use Rattle.day_run.specs.declared.refusal.DayRefusal.{DayRefusal}
+use Rattle.day_run.specs.declared.refusal.DayRefusal.TheVariants as refusals
+use Rattle.request.specs.Pickers.{picker_on}
+use Rattle.request.specs.declared.pickers.PickerChoice.{PickerChoice}
+use Rattle.request.specs.declared.pickers.PickerName.{PickerName}
+use Rattle.played.specs.Lent.{AreBack, Lent, Told, Untold, picked_by}
+use Rattle.played.specs.PlayedDays.{EndsNext, IsNext, IsPlayed, Lead, Plan, PlaysDays, first_desk, lent_after}
+use Rattle.played.proofs.Naming.{back_again, back_untouched, picked_by-append, told_more}
+
+-- so many days were played
+pub record SoFar (plan : Plan) (old : DeskStates) (before : Lent) (played : ℕ) (days : List DayRecord) (new : DeskStates) (after : Lent) : Type 0 where
+  pub lead : Lead plan 1 old before days new
+  pub number : length days ≡ played
+  pub told : Told plan.who days before after
+  pub back : AreBack before after
+
+-- the pickers after several days
+abbrev lents_after : PickerChoice → List DayRecord → Lent → Lent
+lents_after who [] lent = lent
+lents_after who (day ∷ days) lent = lents_after who days (lent_after who day lent)
+
+told_after : (who : PickerChoice) (days : List DayRecord) (lent : Lent) (name : PickerName) → (lents_after who days lent).told name ≡ lent.told name ++ picked_by who name days
+told_after who [] lent name = sym (append-nil (lent.told name))
+told_after who (day ∷ days) lent name =
+    told_after who days (lent_after who day lent) name ∙ append_assoc (lent.told name) (picked_by who name (day ∷ [])) (picked_by who name days)
+    ∙ ap (λ l. lent.told name ++ l) (sym (picked_by-append who name (day ∷ []) days))
+
+choice_after : (who : PickerChoice) (days : List DayRecord) (lent : Lent) (name : PickerName) → (lents_after who days lent).choice name ≡ lent.choice name
+choice_after who [] lent name = refl
+choice_after who (day ∷ days) lent name = choice_after who days (lent_after who day lent) name
+
+-- a day speaks of its own picker alone
+next_same : (plan : Plan) (d : ℕ) (old new : DeskStates) (one other : Lent) (day : DayRecord) → one.told (picker_on plan.who d) ≡ other.told (picker_on plan.who d) → one.choice (picker_on plan.who d) ≡ other.choice (picker_on plan.who d)
+    → IsNext plan d old one day new → IsNext plan d old other day new
+next_same plan d old new one other day told choice next =
+    let name = picker_on plan.who d in
+    let P : List ℕ → (List ℕ → List ℕ → ℕ) → Type 0 =
+    λ t c.
+    IsDayDone plan.terms plan.orders (ceilings_of old.present.dossier d) d (record { desk = old; told = t; choice = c }) day
+    (record { desk = new; told = t ++ picked_by plan.who name (day ∷ []); choice = c }) in
+    record {
+      done = subst (λ c. P (other.told name) c) choice (subst (λ t. P t (one.choice name)) told next.done);
+      evening = next.evening;
+      dossier = next.dossier;
+    }
+
+lead_more : (plan : Plan) (d : ℕ) (old : DeskStates) (before : Lent) (days : List DayRecord) (mid : DeskStates) (day : DayRecord) (new : DeskStates)
+    → Lead plan d old before days mid → IsNext plan (d + length days) mid (lents_after plan.who days before) day new → Lead plan d old before (days ++ day ∷ []) new
+lead_more plan d old before [] mid day new same next =
+    let at : d + 0 ≡ d = omega arith in
+    (new, subst (λ (desk : DeskStates). IsNext plan d desk before day new) (sym same) (subst (λ (n : ℕ). IsNext plan n mid before day new) at next), refl)
+lead_more plan d old before (first ∷ days) mid day new lead next =
+    let at : d + length (first ∷ days) ≡ d + 1 + length days = omega arith in (
+      lead.0,
+      lead.1,
+      lead_more plan (d + 1) lead.0 (lent_after plan.who first before) days mid day new lead.2
+          (subst (λ (n : ℕ). IsNext plan n mid (lents_after plan.who days (lent_after plan.who first before)) day new) at next),
+    )
+
+-- the dossier stays as it was
+pub lead_dossier : (plan : Plan) (d : ℕ) (old : DeskStates) (before : Lent) (days : List DayRecord) (new : DeskStates) → Lead plan d old before days new → new.present.dossier ≡ old.present.dossier
+lead_dossier plan d old before [] new same = ap (λ (desk : DeskStates). desk.present.dossier) (sym same)
+lead_dossier plan d old before (day ∷ days) new lead = lead_dossier plan (d + 1) lead.0 (lent_after plan.who day before) days new lead.2 ∙ lead.1.dossier
+
+pub nothing_played : (plan : Plan) (begun : DeskStates) (before : Lent) (days : List DayRecord) → days ≡ [] → SoFar plan begun before 0 days begun before
+nothing_played plan begun before days none =
+    subst (λ (ds : List DayRecord). SoFar plan begun before 0 ds begun before) (sym none)
+    (record { lead = refl; number = refl; told = λ name. sym (append-nil (before.told name)); back = back_untouched before })
+
+told_nothing : (who : PickerChoice) (days : List DayRecord) (before after : Lent) → length days ≡ 0 → Told who days before after → Untold before after
+told_nothing who [] before after none told = λ name. told name ∙ append-nil (before.told name)
+told_nothing who (day ∷ days) before after none told = absurd (omega (arith, none))
+
+module _ (plan : Plan) (old : DeskStates) (before : Lent) (played : ℕ) (days : List DayRecord) (mid : DeskStates) (between : Lent) (so_far : SoFar plan old before played days mid between) where
+  pub called_still : AreCallOrders old.present.dossier.groups plan.orders → AreCallOrders mid.present.dossier.groups plan.orders
+  called_still called =
+      subst (λ (d : DossierRows). AreCallOrders d.groups plan.orders) (sym (lead_dossier plan 1 old before days mid so_far.lead)) called
+
+  pub terms_still : IfSome plan.terms (λ t. length t.before ≡ length old.present.dossier.wishes) → IfSome plan.terms (λ t. length t.before ≡ length mid.present.dossier.wishes)
+  terms_still each =
+      subst (λ (d : DossierRows). IfSome plan.terms (λ t. length t.before ≡ length d.wishes)) (sym (lead_dossier plan 1 old before days mid so_far.lead)) each
+
+  -- one more day
+  pub played_on : (day : DayRecord) (more : List DayRecord) (new : DeskStates) (after : Lent) → EndsNext plan (played + 1) mid between (Ok day) new after → more ≡ days ++ day ∷ []
+      → SoFar plan old before (played + 1) more new after
+  played_on day more new after ends more_is =
+      let at : played + 1 ≡ 1 + length days = omega (arith, so_far.number) in
+      let name = picker_on plan.who (1 + length days) in
+      subst (λ (ds : List DayRecord). SoFar plan old before (played + 1) ds new after) (sym more_is)
+      (record {
+        lead = lead_more plan 1 old before days mid day new so_far.lead
+            (next_same plan (1 + length days) mid new between (lents_after plan.who days before) day (so_far.told name ∙ sym (told_after plan.who days before name))
+            (so_far.back.choice name ∙ sym (choice_after plan.who days before name)) (subst (λ (n : ℕ). IsNext plan n mid between day new) at ends.done));
+        number = omega (arith, so_far.number, length-append days (day ∷ []));
+        told = told_more plan.who days day before between after so_far.told ends.told;
+        back = back_again before between after so_far.back ends.back;
+      })
+
+  untold_still : (after : Lent) → Untold between after → Told plan.who days before after
+  untold_still after untold = λ name. untold name ∙ so_far.told name
+
+  -- the next day does not come about
+  stopped : (number : ℕ) (refusal : DayRefusal) (new : DeskStates) (after : Lent) → played < number → EndsNext plan (played + 1) mid between (Err refusal) new after
+      → PlaysDays plan number old before days (Err refusal) new after
+  stopped number (refusals.Unfit refusal) new after fewer ends =
+      let at : played + 1 ≡ length days + 1 = omega (arith, so_far.number) in
+      record {
+        last = mid;
+        lead = so_far.lead;
+        stops = record {
+          fewer = omega (arith, so_far.number);
+          unfit = subst (λ (n : ℕ). IsSomeAnd (unfit_on plan.terms n mid.present) (λ x. refusal ≡ unfit_refusal mid.present.dossier n x)) at ends.unfit;
+        };
+        told = untold_still after ends.untold;
+        back = back_again before between after so_far.back ends.back;
+        idle = λ none. absurd (omega arith);
+      }
+  stopped number refusals.OutOfMemory new after fewer ends =
+      record { last = mid; lead = tt; stops = tt; told = tt; back = back_again before between after so_far.back ends.back; idle = λ none. absurd (omega arith) }
+
+  pub plays_some : (number : ℕ) (refusal : DayRefusal) (new : DeskStates) (after : Lent) (r : Result (Unit {0}) DayRefusal) → IsErrAnd r (λ x. x ≡ refusal) → played < number
+      → EndsNext plan (played + 1) mid between (Err refusal) new after → PlaysDays plan number old before days r new after
+  plays_some number refusal new after (Ok done) from fewer ends = absurd from
+  plays_some number refusal new after (Err other) from fewer ends =
+      subst (λ (x : DayRefusal). PlaysDays plan number old before days (Err x) new after) (sym from) (stopped number refusal new after fewer ends)
+
+  -- memory runs out after the next day
+  pub plays_out : (number : ℕ) (day : DayRecord) (kept : List DayRecord) (new : DeskStates) (after : Lent) (r : Result (Unit {0}) DayRefusal) → IsErrAnd r (λ x. x ≡ refusals.OutOfMemory) → played < number
+      → EndsNext plan (played + 1) mid between (Ok day) new after → PlaysDays plan number old before kept r new after
+  plays_out number day kept new after (Ok done) from fewer ends = absurd from
+  plays_out number day kept new after (Err other) from fewer ends =
+      subst (λ (x : DayRefusal). PlaysDays plan number old before kept (Err x) new after) (sym from)
+      (record { last = mid; lead = tt; stops = tt; told = tt; back = back_again before between after so_far.back ends.back; idle = λ none. absurd (omega arith) })
+
+  pub plays_all : (number : ℕ) → played ≡ number → PlaysDays plan number old before days (Ok tt) mid between
+  plays_all number all = record {
+    last = mid;
+    lead = so_far.lead;
+    stops = (so_far.number ∙ all, refl);
+    told = so_far.told;
+    back = so_far.back;
+    idle = λ none. told_nothing plan.who days before between (so_far.number ∙ all ∙ none) so_far.told;
+  }
+
+-- what became of the days that were asked for
+module _ (d : DossierRows) (number : ℕ) (plan : Plan) (old new : DeskStates) (before after : Lent) (days : List DayRecord) (end : Result DeskStates Refusal) (called : AreCallOrders d.groups plan.orders) (begun : old ≡ first_desk d) where
+  abbrev IsAll : Type 0
+  IsAll = IsPlayed d plan.terms number plan.who before (record { orders = plan.orders; days = days; end = end }) after
+
+  leads : (last : DeskStates) → Lead plan 1 old before days last → Lead plan 1 (first_desk d) before days last
+  leads last lead = subst (λ (desk : DeskStates). Lead plan 1 desk before days last) begun lead
+
+  pub all_played : PlaysDays plan number old before days (Ok tt) new after → end ≡ Ok new → IsAll
+  all_played plays is = record {
+    called = called;
+    last = plays.last;
+    days = leads plays.last plays.lead;
+    ends = rw is plays.stops;
+    told = plays.told;
+  }
+
+  pub cut_short : (refusal : Refusal) → PlaysDays plan number old before days (Err (refusals.Unfit refusal)) new after → end ≡ Err refusal → IsAll
+  cut_short refusal plays is = record {
+    called = called;
+    last = plays.last;
+    days = leads plays.last plays.lead;
+    ends = rw is plays.stops;
+    told = plays.told;
+  }

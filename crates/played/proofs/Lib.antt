@@ -1,0 +1,3 @@
+pub mod Naming
+mod NextDay
+mod DaysSoFar

@@ -1,0 +1,116 @@
+-- How a day ends with the picker of the day.
+use Rattle.std.proofs.Common.{◌≡◌, ◌∙◌, ℕ, false, List, [], ◌∷◌, ◌++◌, Option, Result, Ok, Err, ap, refl, subst, sym}
+use Rattle.std.proofs.lemmas.List.{append-nil}
+use Rattle.admit_core.specs.Days.{ceilings_of}
+use Rattle.admit_core.specs.declared.records.DayRecord.{DayRecord}
+use Rattle.day_run.specs.DayPasses.{TellsMore, schools_of_passes}
+use Rattle.day_run.specs.DeskStates.{DeskStates}
+use Rattle.day_run.specs.RunDay.{IsDayDone}
+use Rattle.day_run.specs.declared.refusal.DayRefusal.{DayRefusal}
+use Rattle.day_run.specs.declared.refusal.DayRefusal.TheVariants as refusals
+use Rattle.request.specs.Pickers.{picker_on}
+use Rattle.request.specs.declared.pickers.PickerName.{PickerName}
+use Rattle.request.specs.declared.pickers.PickerName.TheVariants.{First, Last, Turn}
+use Rattle.played.specs.Lent.{Lent, Told, choice_in, is_named, named, picked_by, told_in}
+use Rattle.played.specs.OneDay.{EndsWith}
+use Rattle.played.specs.PlayedDays.{EndsNext, IsNext, Plan, moment_of}
+use Rattle.played.proofs.Naming.{each_named, named_self, picked_here, picked_none}
+
+-- only the picker of the name was lent
+pub record OnlyNamed (name : PickerName) (before after : Lent) : Type 0 where
+  pub told : (other : PickerName) → is_named other name ≡ false → after.told other ≡ before.told other
+  pub choice : (other : PickerName) → is_named other name ≡ false → after.choice other ≡ before.choice other
+
+module _ (plan : Plan) (d : ℕ) (old new : DeskStates) (before after : Lent) (only : OnlyNamed (picker_on plan.who d) before after) where
+  abbrev name : PickerName
+  name = picker_on plan.who d
+
+  abbrev Ends : Result DayRecord DayRefusal → Type 0
+  Ends r = EndsWith plan.orders plan.terms d (moment_of plan d old before) (moment_of plan d new after) r
+
+  choices : after.choice name ≡ before.choice name → (n : PickerName) → after.choice n ≡ before.choice n
+  choices same = each_named (λ n. after.choice n ≡ before.choice n) name same only.choice
+
+  more : TellsMore (before.told name) (after.told name) → (n : PickerName) → TellsMore (before.told n) (after.told n)
+  more told = each_named (λ n. TellsMore (before.told n) (after.told n)) name told (λ other none. ([], only.told other none ∙ sym (append-nil (before.told other))))
+
+  picked : (day : DayRecord) → day.day ≡ d → picked_by plan.who name (day ∷ []) ≡ schools_of_passes day.passes
+  picked day number = picked_here plan.who name day (ap (λ n. is_named name (picker_on plan.who n)) number ∙ named_self name)
+
+  -- what the pickers told on a day that came about
+  told_on : (day : DayRecord) → day.day ≡ d → after.told name ≡ before.told name ++ schools_of_passes day.passes → Told plan.who (day ∷ []) before after
+  told_on day number told =
+      each_named (λ n. after.told n ≡ before.told n ++ picked_by plan.who n (day ∷ [])) name (told ∙ ap (λ l. before.told name ++ l) (sym (picked day number)))
+      (λ other none.
+      only.told other none ∙ sym (append-nil (before.told other))
+      ∙ ap (λ l. before.told other ++ l) (sym (picked_none plan.who other day (ap (λ n. is_named other (picker_on plan.who n)) number ∙ none))))
+
+  is_next : (day : DayRecord) → Ends (Ok day) → IsNext plan d old before day new
+  is_next day ends =
+      let P : List ℕ → (List ℕ → List ℕ → ℕ) → Type 0 =
+      λ told choice. IsDayDone plan.terms plan.orders (ceilings_of old.present.dossier d) d (moment_of plan d old before) day (record { desk = new; told = told; choice = choice }) in
+      record {
+        done = subst (λ choice. P (before.told name ++ picked_by plan.who name (day ∷ [])) choice) ends.choice
+            (subst (λ told. P told (after.choice name)) (ends.done.told ∙ ap (λ l. before.told name ++ l) (sym (picked day ends.done.number))) ends.done);
+        evening = ends.evening;
+        dossier = ends.dossier;
+      }
+
+  pub ends_at : (r : Result DayRecord DayRefusal) → Ends r → EndsNext plan d old before r new after
+  ends_at (Ok day) ends = record {
+    done = is_next day ends;
+    told = told_on day ends.done.number ends.done.told;
+    unfit = tt;
+    untold = tt;
+    back = record { choice = choices ends.choice; told = more (schools_of_passes day.passes, ends.done.told) };
+  }
+  ends_at (Err (refusals.Unfit refusal)) ends = record {
+    done = tt;
+    told = tt;
+    unfit = ends.unfit;
+    untold = each_named (λ n. after.told n ≡ before.told n) name ends.untold only.told;
+    back = record { choice = choices ends.choice; told = more ([], ends.untold ∙ sym (append-nil (before.told name))) };
+  }
+  ends_at (Err refusals.OutOfMemory) ends = record {
+    done = tt;
+    told = tt;
+    unfit = ends.unfit;
+    untold = tt;
+    back = record { choice = choices ends.choice; told = more ends.untold };
+  }
+
+-- the same of a picker whose name was found
+pub ends_next : (plan : Plan) (d : ℕ) (old new : DeskStates) (before after : Lent) (n : PickerName) (r : Result DayRecord DayRefusal) → n ≡ picker_on plan.who d → OnlyNamed n before after
+    → EndsWith plan.orders plan.terms d (record { desk = old; told = before.told n; choice = before.choice n }) (record { desk = new; told = after.told n; choice = after.choice n }) r
+    → EndsNext plan d old before r new after
+ends_next plan d old new before after n r is only ends =
+    ends_at plan d old new before after (subst (λ x. OnlyNamed x before after) is only) r
+    (subst
+    (λ x. EndsWith plan.orders plan.terms d (record { desk = old; told = before.told x; choice = before.choice x }) (record { desk = new; told = after.told x; choice = after.choice x }) r)
+    is ends)
+
+-- pickers of which one alone is another
+module _ {B : Type 0} (told : B → List ℕ) (choice : B → List ℕ → List ℕ → ℕ) (a b c new : Option B) where
+  abbrev these : Option B → Option B → Option B → Lent
+  these x y z = record { told = λ n. told_in told (named x y z n); choice = λ n. choice_in choice (named x y z n) }
+
+  pub only_first : OnlyNamed First (these a b c) (these new b c)
+  only_first = record { told = λ n none. ap (told_in told) (first_else n none); choice = λ n none. ap (choice_in choice) (first_else n none) } where
+    first_else : (n : PickerName) → is_named n First ≡ false → named new b c n ≡ named a b c n
+    first_else First none = cc
+    first_else Last none = refl
+    first_else Turn none = refl
+
+  pub only_last : OnlyNamed Last (these a b c) (these a new c)
+  only_last = record { told = λ n none. ap (told_in told) (last_else n none); choice = λ n none. ap (choice_in choice) (last_else n none) } where
+    last_else : (n : PickerName) → is_named n Last ≡ false → named a new c n ≡ named a b c n
+    last_else First none = refl
+    last_else Last none = cc
+    last_else Turn none = refl
+
+  pub only_turn : OnlyNamed Turn (these a b c) (these a b new)
+  only_turn = record { told = λ n none. ap (told_in told) (turn_else n none); choice = λ n none. ap (choice_in choice) (turn_else n none) } where
+    turn_else : (n : PickerName) → is_named n Turn ≡ false → named a b new n ≡ named a b c n
+    turn_else First none = refl
+    turn_else Last none = refl
+    turn_else Turn none = cc

@@ -1,0 +1,15 @@
+use Rattle.request.specs.declared.pickers.PickerName.TheVariants.{First, Last, Turn}
+use Rattle.played.proofs.NextDay.{ends_next, only_first, only_last, only_turn}
+use Rattle.played.proofs.day.next_day.Goals as goal
+
+pub returns-in-First-clause-ends : goal.returns-in-First-clause-ends
+returns-in-First-clause-ends g c =
+    ends_next _ _ _ _ _ _ First c.run_lent.result c.in-First.ensures (only_first _ _ _ _ _ _) c.run_lent.ensures.ends
+
+pub returns-in-Last-clause-ends : goal.returns-in-Last-clause-ends
+returns-in-Last-clause-ends g c =
+    ends_next _ _ _ _ _ _ Last c.run_lent-in-Last.result c.in-Last.ensures (only_last _ _ _ _ _ _) c.run_lent-in-Last.ensures.ends
+
+pub returns-in-Turn-clause-ends : goal.returns-in-Turn-clause-ends
+returns-in-Turn-clause-ends g c =
+    ends_next _ _ _ _ _ _ Turn c.run_lent-in-Turn.result c.in-Turn.ensures (only_turn _ _ _ _ _ _) c.run_lent-in-Turn.ensures.ends

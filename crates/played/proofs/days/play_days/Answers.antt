@@ -1,0 +1,33 @@
+use Rattle.std.proofs.Common.{arith}
+use Rattle.played.proofs.DaysSoFar.{called_still, nothing_played, played_on, plays_all, plays_out, plays_some, terms_still}
+use Rattle.played.proofs.days.play_days.Goals as goal
+
+pub loop-played-init : goal.loop-played-init
+loop-played-init g c = record { so_far = nothing_played _ _ _ _ c.requires.none; there = c.requires.there }
+
+pub next_day-requires-clause-orders : goal.next_day-requires-clause-orders
+next_day-requires-clause-orders g c = called_still _ _ _ _ _ _ _ c.loop-played.invariant.so_far c.requires.orders
+
+pub next_day-requires-clause-terms : goal.next_day-requires-clause-terms
+next_day-requires-clause-terms g c = terms_still _ _ _ _ _ _ _ c.loop-played.invariant.so_far c.requires.terms
+
+pub next_day-requires-clause-there : goal.next_day-requires-clause-there
+next_day-requires-clause-there g c = c.loop-played.invariant.there
+
+pub returns-in_err-day-clause-plays : goal.returns-in_err-day-clause-plays
+returns-in_err-day-clause-plays g c =
+    plays_some _ _ _ _ _ _ _ c.loop-played.invariant.so_far c.args.number c.in_err-day.field-0.0 _ _ c.from_residual.result c.from_residual.ensures.1 c.loop-played-test.true
+    c.in_err-day.ensures.ends
+
+pub returns-in_err-keep-clause-plays : goal.returns-in_err-keep-clause-plays
+returns-in_err-keep-clause-plays g c =
+    plays_out _ _ _ _ _ _ _ c.loop-played.invariant.so_far c.args.number c.in_ok-day.day _ _ _ c.from_residual-in_err-keep.result c.from_residual-in_err-keep.ensures.1 c.loop-played-test.true c.in_ok-day.ensures.ends
+
+pub loop-played-preserved : goal.loop-played-preserved
+loop-played-preserved g c = record {
+  so_far = played_on _ _ _ _ _ _ _ c.loop-played.invariant.so_far c.in_ok-day.day _ _ _ c.in_ok-day.ensures.ends c.in_ok-keep.ensures;
+  there = c.in_ok-day.ensures.there;
+}
+
+pub returns-clause-plays : goal.returns-clause-plays
+returns-clause-plays g c = plays_all _ _ _ _ _ _ _ c.loop-played.invariant.so_far c.args.number (omega arith)

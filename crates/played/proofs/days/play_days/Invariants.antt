@@ -1,0 +1,16 @@
+use Rattle.std.specs.Option.{option_copied}
+use Rattle.played.specs.Lent.{AreThere, lent}
+use Rattle.played.proofs.DaysSoFar.{SoFar}
+use Rattle.played.proofs.days.play_days.Given as goal
+
+pub record Invariant (SoFar There : Type 0) : Type 0 where
+  pub so_far : SoFar
+  pub there : There
+
+abbrev pub invariant-loop-played : goal.invariant-loop-played
+invariant-loop-played g l =
+    Invariant
+    (SoFar (record { orders = l.orders.orders; terms = option_copied l.terms; who = l.who }) l.fn.desk
+    (lent (λ p. (goal.Picker-dyn g (p.vtable, p.value)).told p.value) (λ p. (goal.Picker-dyn g (p.vtable, p.value)).choice p.value) l.fn.pickers) l.played l.days.items l.desk
+    (lent (λ p. (goal.Picker-dyn g (p.vtable, p.value)).told p.value) (λ p. (goal.Picker-dyn g (p.vtable, p.value)).choice p.value) l.pickers))
+    (AreThere l.pickers)

@@ -1,0 +1,92 @@
+//! One day of a run.
+ghost use Rattle.std.specs.Prelude.{◌≡◌, IfSome, IsSome, length, option_copied};
+ghost use Rattle.admit_core.specs.CallOrder.{AreCallOrders};
+ghost use Rattle.admit_core.specs.Ranges.{IsDay as IsDayNumber};
+ghost use Rattle.played.specs.Lent.{AreThere, choice_in, lent, told_in};
+ghost use Rattle.played.specs.OneDay.{EndsWith};
+ghost use Rattle.played.specs.PlayedDays.{EndsNext};
+
+use crate::pickers::Pickers;
+use admit_core::{CallOrders, DayRecord, Terms};
+use bar_fixpoint::Picker;
+use day_run::{DayRefusal, Desk, ceilings_on, run_dated_day, run_day};
+use request::{PickerChoice, PickerName, picker_on};
+use std::alloc::Global;
+
+/// Runs a day under its own ceilings, with this picker.
+fn run_with(
+    alloc: Global,
+    desk: &mut Desk<'_>,
+    orders: &CallOrders,
+    terms: Option<&Terms>,
+    day: u32,
+    picker: &mut dyn Picker,
+) -> Result<DayRecord, DayRefusal>
+    requires orders { AreCallOrders desk.old.present.dossier.groups orders.now.orders }
+    requires terms { IfSome (option_copied terms) (λ t. length t.before ≡ length desk.old.present.dossier.wishes) }
+    requires day { IsDayNumber day }
+
+    ensures { EndsWith orders.now.orders (option_copied terms.entry) day
+        (record { desk = desk.old; told = told picker.old; choice = choice picker.old })
+        (record { desk = desk.new; told = told picker.new; choice = choice picker.new }) result }
+{
+    let ceilings = ceilings_on(alloc, desk.now().dossier(), day)?;
+    match terms {
+        None => run_day(alloc, desk, orders, &ceilings, day, picker),
+        Some(terms) => run_dated_day(alloc, desk, orders, &ceilings, terms, day, picker),
+    }
+}
+
+/// Runs a day with the picker of this place, which is there again afterwards.
+fn run_lent(
+    alloc: Global,
+    desk: &mut Desk<'_>,
+    orders: &CallOrders,
+    terms: Option<&Terms>,
+    day: u32,
+    place: &mut Option<Box<dyn Picker>>,
+) -> Result<DayRecord, DayRefusal>
+    requires orders { AreCallOrders desk.old.present.dossier.groups orders.now.orders }
+    requires terms { IfSome (option_copied terms) (λ t. length t.before ≡ length desk.old.present.dossier.wishes) }
+    requires day { IsDayNumber day }
+    requires there { IsSome place.old }
+
+    ensures there { IsSome place.new }
+    ensures ends { EndsWith orders.now.orders (option_copied terms.entry) day
+        (record { desk = desk.old; told = told_in (λ p. told p) place.old; choice = choice_in (λ p. choice p) place.old })
+        (record { desk = desk.new; told = told_in (λ p. told p) place.new; choice = choice_in (λ p. choice p) place.new }) result }
+{
+    let Some(mut picker) = place.take() else {
+        unreachable!()
+    };
+    let done = run_with(alloc, desk, orders, terms, day, &mut *picker);
+    *place = Some(picker);
+    done
+}
+
+/// Runs a day with the picker of the day; an answer that does not fit leaves the evening before.
+pub(crate) fn next_day(
+    alloc: Global,
+    desk: &mut Desk<'_>,
+    orders: &CallOrders,
+    terms: Option<&Terms>,
+    who: PickerChoice,
+    day: u32,
+    pickers: &mut Pickers,
+) -> Result<DayRecord, DayRefusal>
+    requires orders { AreCallOrders desk.old.present.dossier.groups orders.now.orders }
+    requires terms { IfSome (option_copied terms) (λ t. length t.before ≡ length desk.old.present.dossier.wishes) }
+    requires day { IsDayNumber day }
+    requires there { AreThere pickers.old }
+
+    ensures there { AreThere pickers.new }
+    ensures ends { EndsNext (record { orders = orders.now.orders; terms = option_copied terms.entry; who = who }) day
+        desk.old (lent (λ p. told p) (λ p. choice p) pickers.old) result
+        desk.new (lent (λ p. told p) (λ p. choice p) pickers.new) }
+{
+    match picker_on(who, day) {
+        PickerName::First => run_lent(alloc, desk, orders, terms, day, &mut pickers.first),
+        PickerName::Last => run_lent(alloc, desk, orders, terms, day, &mut pickers.last),
+        PickerName::Turn => run_lent(alloc, desk, orders, terms, day, &mut pickers.turn),
+    }
+}

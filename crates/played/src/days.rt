@@ -1,0 +1,104 @@
+//! The days of a run.
+ghost use Rattle.std.specs.Prelude.{◌≡◌, ◌≤◌, [], ◌∷◌, ◌++◌, IfOk, IfSome, OnOk, length, option_copied};
+ghost use Rattle.admit_core.specs.CallOrder.{AreCallOrders};
+ghost use Rattle.played.specs.Lent.{AreBack, AreThere, Untold, lent};
+ghost use Rattle.played.specs.PlayedDays.{IsPlayed, PlaysDays, first_desk};
+
+use crate::day::next_day;
+use crate::pickers::Pickers;
+use admit_core::{CallOrders, DayRecord, Dossier, OutOfMemory, Refusal, Terms};
+use call_order::call_orders;
+use day_run::{DayRefusal, Desk};
+use request::PickerChoice;
+use std::alloc::Global;
+
+/// What became of the days that were asked for.
+#[derive(Drop)]
+pub struct Played<'d> {
+    pub orders: CallOrders,
+    /// The days that came about, from day 1 on.
+    pub days: Vec<DayRecord>,
+    /// The desk after all of them, or the refusal of the first answer that does not fit.
+    pub end: Result<Desk<'d>, Refusal>,
+}
+
+/// Keeps the record of a day.
+fn keep(days: &mut Vec<DayRecord>, day: DayRecord) -> Result<(), OutOfMemory>
+    ensures { OnOk result (days.new.items ≡ days.old.items ++ day ∷ []) }
+{
+    days.push(day)?;
+    Ok(())
+}
+
+/// Runs so many days, and keeps the records of those that come about.
+fn play_days(
+    alloc: Global,
+    desk: &mut Desk<'_>,
+    orders: &CallOrders,
+    terms: Option<&Terms>,
+    number: u32,
+    who: PickerChoice,
+    pickers: &mut Pickers,
+    days: &mut Vec<DayRecord>,
+) -> Result<(), DayRefusal>
+    requires orders { AreCallOrders desk.old.present.dossier.groups orders.now.orders }
+    requires terms { IfSome (option_copied terms) (λ t. length t.before ≡ length desk.old.present.dossier.wishes) }
+    requires number { number ≤ 366 }
+    requires there { AreThere pickers.old }
+    requires none { days.old.items ≡ [] }
+
+    ensures there { AreThere pickers.new }
+    ensures plays { PlaysDays (record { orders = orders.now.orders; terms = option_copied terms.entry; who = who }) number
+        desk.old (lent (λ p. told p) (λ p. choice p) pickers.old) days.new.items result
+        desk.new (lent (λ p. told p) (λ p. choice p) pickers.new) }
+{
+    for played in 0..number {
+        let day = next_day(alloc, desk, orders, terms, who, played + 1, pickers)?;
+        keep(days, day)?;
+    }
+    Ok(())
+}
+
+/// What a campaign begins with.
+fn begin<'d>(alloc: Global, dossier: &'d Dossier) -> Result<(CallOrders, Desk<'d>), OutOfMemory>
+    ensures orders { IfOk result (λ x. AreCallOrders dossier.now.groups x.0.orders) }
+    ensures desk { IfOk result (λ x. x.1 ≡ first_desk dossier.now) }
+{
+    let orders = call_orders(alloc, dossier.groups.as_slice())?;
+    let desk = Desk::begin(alloc, dossier)?;
+    Ok((orders, desk))
+}
+
+/// Runs so many days of a dossier, each with the picker of the day, from the evening that it comes in
+/// with: all of them, or those before one with an answer that does not fit.
+pub fn play<'d>(
+    alloc: Global,
+    dossier: &'d Dossier,
+    terms: Option<&Terms>,
+    number: u32,
+    who: PickerChoice,
+    pickers: &mut Pickers,
+) -> Result<Played<'d>, OutOfMemory>
+    requires terms { IfSome (option_copied terms) (λ t. length t.before ≡ length dossier.now.wishes) }
+    requires number { number ≤ 366 }
+    requires there { AreThere pickers.old }
+
+    ensures there { AreThere pickers.new }
+    ensures back { AreBack (lent (λ p. told p) (λ p. choice p) pickers.old) (lent (λ p. told p) (λ p. choice p) pickers.new) }
+    ensures idle { number ≡ 0 → Untold (lent (λ p. told p) (λ p. choice p) pickers.old) (lent (λ p. told p) (λ p. choice p) pickers.new) }
+    ensures played { IfOk result (λ p. IsPlayed dossier.now (option_copied terms.entry) number who
+        (lent (λ p. told p) (λ p. choice p) pickers.old)
+        (record { orders = p.orders.orders; days = p.days.items; end = p.end })
+        (lent (λ p. told p) (λ p. choice p) pickers.new)) }
+{
+    let (orders, mut desk) = begin(alloc, dossier)?;
+    let mut days = Vec::new(alloc);
+    let end = match play_days(
+        alloc, &mut desk, &orders, terms, number, who, pickers, &mut days,
+    ) {
+        Ok(()) => Ok(desk),
+        Err(DayRefusal::Unfit(refusal)) => Err(refusal),
+        Err(DayRefusal::OutOfMemory) => return Err(OutOfMemory),
+    };
+    Ok(Played { orders, days, end })
+}

@@ -1,0 +1,10 @@
+//! The days of a run: one loop over them, which keeps their records, with three pickers that take
+//! turns by the day.
+#![tactic(auto)]
+
+mod day;
+mod days;
+mod pickers;
+
+pub use days::{Played, play};
+pub use pickers::Pickers;

@@ -1,0 +1,130 @@
+-- A job's days, and how the run ends after them.
+use Rattle.std.proofs.Common.{◌≡◌, ◌∙◌, ℕ, ◌+◌, ◌<◌, ◌≤◌, ◌⊎◌, List, [], ◌∷◌, Option, None, Some, Result, Ok, Err, All, IfOk, IfSome, IsSomeAnd, IsTrue, ap, arith, inl, inr, length, option_map, refl, subst, sym}
+use Rattle.std.specs.Prelude.{is_some, not}
+use Rattle.std.specs.Result.{ForOk}
+use Rattle.std.proofs.lemmas.Bool.{cases_Bool, false≢true}
+use Rattle.admit_core.specs.Days.{Days, first_evening, unfit_on}
+use Rattle.admit_core.specs.DossierRows.{DossierRows}
+use Rattle.admit_core.specs.Standing.{dossier_of}
+use Rattle.admit_core.specs.State.{State}
+use Rattle.admit_core.specs.declared.records.DayRecord.{DayRecord}
+use Rattle.admit_core.specs.declared.records.Terms.{Terms}
+use Rattle.admit_core.specs.declared.refusal.Refusal.{Refusal}
+use Rattle.admit_core.specs.declared.state.Status.{Status}
+use Rattle.admit_core.specs.declared.tables.Since.{Since}
+use Rattle.day_run.specs.AnswersOn.{unfit_refusal}
+use Rattle.day_run.specs.DeskStates.{DeskStates}
+use Rattle.dossier_check.specs.Dates.{dates_of}
+use Rattle.dossier_check.specs.Ids.{Ids, ids_of}
+use Rattle.intake.specs.Dated.{AreDatedFor, dated_from, terms_in}
+use Rattle.intake.specs.Input.{IsInputOf, IsJobOf, Job}
+use Rattle.intake.specs.declared.input.Input.{Input}
+use Rattle.intake.specs.declared.terms.DatedTerms.{DatedTerms}
+use Rattle.modes.specs.Endings.{AreDaysOf, EndsWith, IsEndOf, IsEnding}
+use Rattle.modes.specs.Jobs.{AreDays, FitsAnswers, Seen, dated_of, days_of, deadlines_of, dossier, seen_of, terms_of}
+use Rattle.modes.specs.Replay.{CanBeDated, CanBeWritten}
+use Rattle.modes.specs.declared.exit.Exit.{Exit}
+use Rattle.modes.specs.declared.exit.Exit.TheVariants as exits
+use Rattle.modes.specs.declared.reply.Reply.{Reply}
+use Rattle.modes.proofs.Writable.{played_written}
+use Rattle.played.specs.Lent.{Lent}
+use Rattle.played.specs.PlayedDays.{EndsAfter, IsPlayed, Lead, Plan, Played, lent_after}
+use Rattle.request.specs.Modes.{runs_days, sample_of}
+use Rattle.request.specs.Request.{IsDeadlines, IsRequest}
+use Rattle.request.specs.declared.modes.Mode.{Mode}
+use Rattle.request.specs.declared.modes.Mode.TheVariants as modes
+use Rattle.request.specs.declared.request.Request.{Request}
+
+pub deadlines_known : (request : Request) → IsRequest request → IfSome (deadlines_of request) IsDeadlines
+deadlines_known request is = elim (cases_Bool (is_some (sample_of request.mode))) [ inl made ↦ rw made tt | inr none ↦ rw none is.deadlines ]
+
+pub few_days : (request : Request) → IsRequest request → days_of request ≤ 366
+few_days request is = elim (cases_Bool (runs_days request.mode)) [ inl runs ↦ rw runs is.days | inr none ↦ rw none (omega arith) ]
+
+pub no_days : (request : Request) → IsTrue (not (runs_days request.mode)) → days_of request ≡ 0
+no_days request none = elim (cases_Bool (runs_days request.mode)) [ inl runs ↦ absurd (false≢true (rw runs at none)) | inr is ↦ rw is refl ]
+
+pub one_each : (d : DossierRows) (dated : Option DatedTerms) → IfSome dated (AreDatedFor d) → IfSome (terms_in dated) (λ t. length t.before ≡ length d.wishes)
+one_each d None is = tt
+one_each d (Some dated) is = is.one_each
+
+-- what is played and written is the job's
+pub job_ends : (job : Job) (request : Request) (d : DossierRows) (ids : Ids) (chain : List ℕ) (dates : List (Option Since)) (dated : Option DatedTerms) (before after : Lent) (played : Played) (exit : Exit) (text : List ℕ)
+    → job.request ≡ request → d ≡ dossier_of job.tables → ids ≡ ids_of job.tables → chain ≡ job.chain → dates ≡ dates_of job.tables → dated ≡ option_map (dated_from dates) (deadlines_of request)
+    → IsPlayed d (terms_in dated) (days_of request) request.picker before played after
+    → EndsWith played.end (record { request = request; dossier = d; index = ids; chain = chain; dated = dated }) played exit text → IsEnding job before after exit text
+job_ends job request d ids chain dates dated before after played exit text asked same indexed chained dates_are dated_is plays ends =
+    let dated_job : dated ≡ dated_of job =
+    dated_is ∙ ap (λ (ds : List (Option Since)). option_map (dated_from ds) (deadlines_of request)) dates_are
+    ∙ ap (λ (q : Request). option_map (dated_from (dates_of job.tables)) (deadlines_of q)) (sym asked) in
+    record {
+      played = played;
+      days =
+          subst (λ (q : Request). IsPlayed (dossier job) (terms_of job) (days_of q) q.picker before played after) (sym asked)
+          (subst (λ (x : Option DatedTerms). IsPlayed (dossier job) (terms_in x) (days_of request) request.picker before played after) dated_job
+          (subst (λ (e : DossierRows). IsPlayed e (terms_in dated) (days_of request) request.picker before played after) same plays));
+      ends =
+          let P : Request → DossierRows → Ids → List ℕ → Option DatedTerms → Type 0 =
+          λ q e i c x. EndsWith played.end (record { request = q; dossier = e; index = i; chain = c; dated = x }) played exit text in
+          subst (λ (q : Request). P q (dossier job) (ids_of job.tables) job.chain (dated_of job)) (sym asked)
+          (subst (λ (x : Option DatedTerms). P request (dossier job) (ids_of job.tables) job.chain x) dated_job
+          (subst (λ (c : List ℕ). P request (dossier job) (ids_of job.tables) c dated) chained
+          (subst (λ (i : Ids). P request (dossier job) i chain dated) indexed (subst (λ (e : DossierRows). P request e ids chain dated) same ends))));
+    }
+
+-- the plain days of a campaign
+lead_days : (plan : Plan) (d : ℕ) (old : DeskStates) (before : Lent) (days : List DayRecord) (new : DeskStates) → Lead plan d old before days new → Days plan.terms plan.orders d old.present days new.present
+lead_days plan d old before [] new same = ap (λ (desk : DeskStates). desk.present) same
+lead_days plan d old before (day ∷ days) new lead =
+    (lead.0.present, lead.1.done.number, lead.1.done.is_day, lead_days plan (d + 1) lead.0 (lent_after plan.who day before) days new lead.2)
+
+-- every mode is done once all its days have led to a desk
+done_of : (mode : Mode) (seen : Seen) (played : Played) (desk : DeskStates) (exit : Exit) (text : List ℕ) → IsEndOf mode seen played desk exit text → exit ≡ exits.Done
+done_of modes.Order seen played desk exit text ends = ends.0
+done_of modes.Replay seen played desk exit text ends = ends.0
+done_of (modes.Sample number) seen played desk exit text ends = ends.0
+
+exit_after : (end : Result DeskStates Refusal) (seen : Seen) (played : Played) (exit : Exit) (text : List ℕ) → EndsWith end seen played exit text → (exit ≡ exits.Done) ⊎ (exit ≡ exits.Refused)
+exit_after (Ok desk) seen played exit text ends = inl (done_of seen.request.mode seen played desk exit text ends)
+exit_after (Err refusal) seen played exit text ends = inr ends.0
+
+-- a run over a job is done, or an answer does not fit
+pub ending_exit : (job : Job) (before after : Lent) (exit : Exit) (text : List ℕ) → IsEnding job before after exit text → (exit ≡ exits.Done) ⊎ (exit ≡ exits.Refused)
+ending_exit job before after exit text ending = exit_after ending.played.end (seen_of job) ending.played exit text ending.ends
+
+not_unfit : (unfit : Option (ℕ × Status)) (P : ℕ × Status → Type 0) → unfit ≡ None → IsSomeAnd unfit P → ⊥
+not_unfit None P none some = some
+not_unfit (Some x) P none some = absurd (cc)
+
+done_where_fit : (job : Job) (played : Played) (last : DeskStates) (end : Result DeskStates Refusal) (exit : Exit) (text : List ℕ) → AreDays job played.orders played.days last.present
+    → EndsAfter (terms_of job) (days_of job.request) played.days last end → EndsWith end (seen_of job) played exit text → FitsAnswers job → exit ≡ exits.Done
+done_where_fit job played last (Ok desk) exit text days after ends fit = done_of job.request.mode (seen_of job) played desk exit text ends
+done_where_fit job played last (Err refusal) exit text days after ends fit =
+    absurd (not_unfit _ _ (fit played.orders played.days last.present days after.fewer) after.unfit)
+
+-- where each answer fits the run is done
+pub ending_done : (job : Job) (before after : Lent) (exit : Exit) (text : List ℕ) → IsEnding job before after exit text → FitsAnswers job → exit ≡ exits.Done
+ending_done job before after exit text ending fit =
+    done_where_fit job ending.played ending.days.last ending.played.end exit text
+    (record { called = ending.days.called; run = lead_days _ 1 _ before ending.played.days ending.days.last ending.days.days }) ending.days.ends ending.ends fit
+
+-- the days of a request, as they were played over its input
+module _ (request : Request) (known : IsRequest request) (input : Input) (dated given : Option DatedTerms) (terms : Option Terms) (number : ℕ) (before after : Lent) (played : Played) (same : dated ≡ given)
+    (is : IfSome given (AreDatedFor input.dossier)) (terms_are : terms ≡ terms_in dated) (number_is : number ≡ days_of request) (plays : IsPlayed input.dossier terms number request.picker before played after) where
+  asked_days : IsPlayed input.dossier (terms_in dated) (days_of request) request.picker before played after
+  asked_days =
+      subst (λ (n : ℕ). IsPlayed input.dossier (terms_in dated) n request.picker before played after) number_is
+      (subst (λ (t : Option Terms). IsPlayed input.dossier t number request.picker before played after) terms_are plays)
+
+  pub all_written : All (CanBeWritten input.dossier dated) played.days × ForOk played.end (λ desk. CanBeDated dated desk.present)
+  all_written =
+      played_written input.dossier dated (days_of request) request.picker before played after (few_days request known)
+      (subst (λ (x : Option DatedTerms). IfSome x (AreDatedFor input.dossier)) (sym same) is) asked_days
+
+  pub reply_ends : {E : Type 0} (result : Result Reply E) (job : Job) → given ≡ option_map (dated_from input.dates) (deadlines_of request) → IsJobOf request job → IsInputOf job input
+      → IfOk result (λ reply. EndsWith played.end (record { request = request; dossier = input.dossier; index = input.index; chain = input.chain; dated = dated }) played reply.exit reply.text.items)
+      → IfOk result (λ reply. IsEnding job before after reply.exit reply.text.items)
+  reply_ends (Err e) job given_is is_job is_input ends = tt
+  reply_ends (Ok reply) job given_is is_job is_input ends =
+      job_ends job request input.dossier input.index input.chain input.dates dated before after played reply.exit reply.text.items is_job.request is_input.dossier is_input.index is_input.chain is_input.dates
+      (same ∙ given_is) asked_days ends

@@ -1,0 +1,123 @@
+-- What a run writes of its reply.
+use Rattle.std.proofs.Common.{◌≡◌, ◌≢◌, ◌∙◌, false, ℕ, ◌≤◌, ◌⊎◌, List, [], Option, None, Some, Result, Ok, Err, IsTrue, inl, inr, refl, subst, sym}
+use Rattle.std.specs.Io.KnownBytes.{Appends}
+use Rattle.std.proofs.lemmas.Bool.{false≢true}
+use Rattle.std.proofs.lemmas.List.{append-nil}
+use Rattle.admit_core.specs.declared.slot.Slot.{Slot}
+use Rattle.intake.specs.Shelves.{Tells}
+use Rattle.modes.specs.Exits.{is_answer}
+use Rattle.modes.specs.declared.exit.Exit.{Exit}
+use Rattle.modes.specs.declared.exit.Exit.TheVariants as exits
+use Rattle.modes.specs.declared.reply.Reply.{Reply}
+use Rattle.shelf_io.specs.Bytes.{AppendsPrefix}
+use Rattle.shelf_io.specs.Faults.{Rose}
+use Rattle.replay_cli.specs.Answering.{Replies}
+use Rattle.replay_cli.specs.Run.{Around, AtSink, IsRun, IsWhole}
+
+appends_none : (held : Option (List ℕ)) → Appends held held []
+appends_none None = tt
+appends_none (Some xs) = sym (append-nil xs)
+
+-- a reply is an answer, or the line of a read fault
+not_of_sink : (exit other : Exit) (Fault : Type 0) → is_answer other ≡ false → other ≢ exits.ReadFault → IsTrue (is_answer exit) ⊎ ((exit ≡ exits.ReadFault) × Fault) → exit ≡ other → ⊥
+not_of_sink exit other Fault none fault kind is =
+    elim kind [ inl answers ↦ false≢true (sym none ∙ (rw is at answers)) | inr faulted ↦ fault (sym is ∙ faulted.0) ]
+
+fault_of : (exit : Exit) (Fault : Type 0) → IsTrue (is_answer exit) ⊎ ((exit ≡ exits.ReadFault) × Fault) → exit ≡ exits.ReadFault → Fault
+fault_of exit Fault kind is = elim kind [ inl answers ↦ absurd (false≢true (rw is at answers)) | inr faulted ↦ faulted.1 ]
+
+module _ {E : Type 0} (words : List (List ℕ)) (before after : Around) (counts : before.sink.faults ≤ after.sink.faults) where
+  module _ (reply : Reply) (bytes : List ℕ) (same : bytes ≡ reply.text.items) (replies : Replies {E = E} words before.shelf after.shelf before.pickers after.pickers (Ok reply)) where
+    whole : (slots : Slot → List ℕ) → Tells before.shelf.left slots → IsWhole words slots before after reply.text.items
+    whole slots tells =
+        elim replies.kinds [
+          | inl answers ↦ inl (reply.exit, replies.outcome slots tells answers)
+          | inr faulted ↦ inr (record { names = faulted.1; untold = replies.untold (rw faulted.0 refl) })
+        ]
+
+    part : AppendsPrefix before.sink.held after.sink.held bytes → AppendsPrefix before.sink.held after.sink.held reply.text.items
+    part prefix = subst (λ (text : List ℕ). AppendsPrefix before.sink.held after.sink.held text) same prefix
+
+    pub written : Appends before.sink.held after.sink.held bytes → IsRun words before after reply.exit
+    written appended =
+        let all = subst (λ (text : List ℕ). Appends before.sink.held after.sink.held text) same appended in
+        record {
+          answers = λ slots tells. record {
+            outcome = λ is. (reply.text.items, replies.outcome slots tells is, all);
+            ends = λ done. replies.ends slots tells done;
+            cut_off = λ is. absurd (not_of_sink reply.exit exits.WriteFault _ refl (λ e. cc) replies.kinds is);
+            no_memory = λ is. absurd (not_of_sink reply.exit exits.NoMemory _ refl (λ e. cc) replies.kinds is);
+            complete = λ fits none. inl (replies.complete slots tells fits none.reads);
+          };
+          others = replies.others;
+          bad_words = replies.bad_words;
+          words_first = λ none. record { exits = inl (replies.only_bad none); shelf = replies.untouched none };
+          read_fault = λ is.
+              (reply.text.items, record { names = fault_of reply.exit _ replies.kinds is; untold = replies.untold (rw is refl) }, all);
+          write_fault = λ is. absurd (not_of_sink reply.exit exits.WriteFault _ refl (λ e. cc) replies.kinds is);
+          counts = record { reads = replies.counts; writes = counts };
+          back = replies.back;
+          untold = replies.untold;
+          no_day = replies.no_day;
+        }
+
+    pub failed : AppendsPrefix before.sink.held after.sink.held bytes → Rose before.sink.faults after.sink.faults → IsRun words before after exits.WriteFault
+    failed prefix rose = record {
+      answers = λ slots tells. record {
+        outcome = λ is. absurd (false≢true is);
+        ends = λ is. absurd (cc);
+        cut_off = λ is. (reply.text.items, whole slots tells, part prefix);
+        no_memory = λ is. absurd (cc);
+        complete = λ fits none. absurd (none.writes rose);
+      };
+      others = replies.others;
+      bad_words = λ is. absurd (cc);
+      words_first = λ none. record { exits = inr (inl refl); shelf = replies.untouched none };
+      read_fault = λ is. absurd (cc);
+      write_fault = λ is. rose;
+      counts = record { reads = replies.counts; writes = counts };
+      back = replies.back;
+      untold = λ is. absurd (false≢true is);
+      no_day = replies.no_day;
+    }
+
+    pub cut : AppendsPrefix before.sink.held after.sink.held bytes → IsRun words before after exits.NoMemory
+    cut prefix = record {
+      answers = λ slots tells. record {
+        outcome = λ is. absurd (false≢true is);
+        ends = λ is. absurd (cc);
+        cut_off = λ is. absurd (cc);
+        no_memory = λ is. inr (reply.text.items, whole slots tells, part prefix);
+        complete = λ fits none. inr refl;
+      };
+      others = replies.others;
+      bad_words = λ is. absurd (cc);
+      words_first = λ none. record { exits = inr (inr refl); shelf = replies.untouched none };
+      read_fault = λ is. absurd (cc);
+      write_fault = λ is. absurd (cc);
+      counts = record { reads = replies.counts; writes = counts };
+      back = replies.back;
+      untold = λ is. absurd (false≢true is);
+      no_day = replies.no_day;
+    }
+
+  -- there was no memory for the reply
+  pub unanswered : (e : E) → after.sink ≡ before.sink → Replies {E = E} words before.shelf after.shelf before.pickers after.pickers (Err e) → IsRun words before after exits.NoMemory
+  unanswered e same replies = record {
+    answers = λ slots tells. record {
+      outcome = λ is. absurd (false≢true is);
+      ends = λ is. absurd (cc);
+      cut_off = λ is. absurd (cc);
+      no_memory = λ is. inl (subst (λ (sink : AtSink). Appends before.sink.held sink.held []) (sym same) (appends_none before.sink.held));
+      complete = λ fits none. inr refl;
+    };
+    others = replies.others;
+    bad_words = λ is. absurd (cc);
+    words_first = λ none. record { exits = inr (inr refl); shelf = replies.untouched none };
+    read_fault = λ is. absurd (cc);
+    write_fault = λ is. absurd (cc);
+    counts = record { reads = replies.counts; writes = counts };
+    back = replies.back;
+    untold = λ is. absurd (false≢true is);
+    no_day = replies.no_day;
+  }

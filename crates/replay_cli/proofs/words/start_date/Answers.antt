@@ -1,7 +1,0 @@
-use Rattle.std.proofs.Common.{◌≤◌, subst, ℕ}
-use Rattle.replay_cli.proofs.DatedOffers.{start_of}
-use Rattle.replay_cli.proofs.words.start_date.Goals as goal
-
-pub returns-then-year-le2298-clause-range : goal.returns-then-year-le2298-clause-range
-returns-then-year-le2298-clause-range c =
-    start_of c.in_ok-date.date c.in_ok-date.ensures.range (subst (λ (d : ℕ × ℕ × ℕ). 1901 ≤ d.0) c.parts-year.ensures.value c.if-year-ge1901.true)

@@ -1,0 +1,97 @@
+-- What a run does, as a whole: its exit, what it takes and writes, and what becomes of the pickers.
+use Rattle.std.specs.Prelude.{◌≡◌, ◌⊎◌, ◌≤◌, ℕ, List, [], Contains, Option, None, Some, IsNone, IsOkAnd, IsTrue}
+use Rattle.std.specs.Io.KnownBytes.{Appends}
+use Rattle.admit_core.specs.declared.slot.Slot.{Slot}
+use Rattle.intake.specs.Input.{accepted}
+use Rattle.intake.specs.Shelves.{OnShelf, Tells}
+use Rattle.modes.specs.Exits.{asks_nobody, is_answer}
+use Rattle.modes.specs.Jobs.{FitsAnswers}
+use Rattle.modes.specs.declared.exit.Exit.{Exit}
+use Rattle.modes.specs.declared.exit.Exit.TheVariants.{BadWords, Done, NoMemory, ReadFault, WriteFault}
+use Rattle.played.specs.Lent.{AreBack, Lent, Untold, lent}
+use Rattle.played.specs.declared.pickers.Pickers.{Pickers}
+use Rattle.request.specs.Request.{request_of}
+use Rattle.request.specs.declared.request.Request.{Request}
+use Rattle.shelf_io.specs.Bytes.{AppendsPrefix}
+use Rattle.shelf_io.specs.Faults.{NoneFell, Rose}
+use Rattle.replay_cli.specs.Outcome.{IsOutcome, NamesFault, RunsNoDay, slots_read}
+
+-- the bytes that a sink holds, where it tells them, and how often its writes have failed
+pub record AtSink : Type 0 where
+  pub held : Option (List ℕ)
+  pub faults : ℕ
+
+abbrev pub at_sink : {K : Type 0} → (K → Option (List ℕ)) → (K → ℕ) → K → AtSink
+at_sink held faults sink = record { held = held sink; faults = faults sink }
+
+-- the pickers as they stand, by what a picker has told and how it chooses
+abbrev pub standing : {X : Type 0} {F : X → Type 0} → ((x : X) × F x → List ℕ) → ((x : X) × F x → List ℕ → List ℕ → ℕ) → Pickers X F → Lent
+standing told choice = lent (λ p. told (p.vtable, p.value)) (λ p. choice (p.vtable, p.value))
+
+-- what stands around a run, before it or after it
+pub record Around : Type 0 where
+  pub shelf : OnShelf
+  pub sink : AtSink
+  pub pickers : Lent
+
+-- a text was written whole, or a prefix of it
+abbrev pub Writes : Around → Around → (List ℕ → Type 0) → Type 0
+Writes before after IsText = (text : List ℕ) × IsText text × Appends before.sink.held after.sink.held text
+
+abbrev pub WritesPart : Around → Around → (List ℕ → Type 0) → Type 0
+WritesPart before after IsText = (text : List ℕ) × IsText text × AppendsPrefix before.sink.held after.sink.held text
+
+-- the line of a read fault; no picker was asked
+pub record IsFaultLine (words : List (List ℕ)) (before after : Around) (line : List ℕ) : Type 0 where
+  pub names : NamesFault (request_of words) before.shelf after.shelf line
+  pub untold : Untold before.pickers after.pickers
+
+-- what is written where nothing is cut off: the outcome's text, or the line of a read fault
+abbrev pub IsWhole : List (List ℕ) → (Slot → List ℕ) → Around → Around → List ℕ → Type 0
+IsWhole words slots before after text =
+    ((exit : Exit) × IsOutcome words slots before.pickers after.pickers exit text) ⊎ IsFaultLine words before after text
+
+-- no call of the shelf or the sink failed
+pub record NoneFails (before after : Around) : Type 0 where
+  pub reads : (slot : Slot) → ¬ Rose (before.shelf.faults slot) (after.shelf.faults slot)
+  pub writes : ¬ Rose before.sink.faults after.sink.faults
+
+-- what holds of a run where the shelf tells these bytes
+pub record Answers (words : List (List ℕ)) (slots : Slot → List ℕ) (before after : Around) (exit : Exit) : Type 0 where
+  -- the exit and the text are the outcome of the words and these bytes
+  pub outcome : IsTrue (is_answer exit) → Writes before after (IsOutcome words slots before.pickers after.pickers exit)
+  -- the slots that are read are read to their end
+  pub ends : exit ≡ Done → (slot : Slot) → Contains (slots_read (request_of words)) slot → after.shelf.left slot ≡ Some []
+  -- a run that is cut off has written a prefix of its text; where memory runs out it may be that nobody knows of which
+  pub cut_off : exit ≡ WriteFault → WritesPart before after (IsWhole words slots before after)
+  pub no_memory : exit ≡ NoMemory → Appends before.sink.held after.sink.held [] ⊎ WritesPart before after (IsWhole words slots before after)
+  -- where the job is accepted, each answer fits, and no call fails, the run is done, or memory ran out
+  pub complete : IsOkAnd (accepted words slots) FitsAnswers → NoneFails before after → (exit ≡ Done) ⊎ (exit ≡ NoMemory)
+
+-- with bad words no slot is touched
+pub record IsRefusal (before after : Around) (exit : Exit) : Type 0 where
+  pub exits : (exit ≡ BadWords) ⊎ (exit ≡ WriteFault) ⊎ (exit ≡ NoMemory)
+  pub shelf : after.shelf ≡ before.shelf
+
+-- the slots that are not read are as they were, whether or not the shelf tells their bytes
+pub record KeepsOthers (order : List Slot) (before after : OnShelf) : Type 0 where
+  pub left : (slot : Slot) → ¬ Contains order slot → after.left slot ≡ before.left slot
+  pub taken : (slot : Slot) → ¬ Contains order slot → after.taken slot ≡ before.taken slot
+
+-- no count of faults fell
+pub record NoCountFell (before after : Around) : Type 0 where
+  pub reads : NoneFell before.shelf.faults after.shelf.faults
+  pub writes : before.sink.faults ≤ after.sink.faults
+
+-- a run with these words, from what stood around it before to what stands after it
+pub record IsRun (words : List (List ℕ)) (before after : Around) (exit : Exit) : Type 0 where
+  pub answers : (slots : Slot → List ℕ) → Tells before.shelf.left slots → Answers words slots before after exit
+  pub others : KeepsOthers (slots_read (request_of words)) before.shelf after.shelf
+  pub bad_words : exit ≡ BadWords → IsNone (request_of words)
+  pub words_first : IsNone (request_of words) → IsRefusal before after exit
+  pub read_fault : exit ≡ ReadFault → Writes before after (IsFaultLine words before after)
+  pub write_fault : exit ≡ WriteFault → Rose before.sink.faults after.sink.faults
+  pub counts : NoCountFell before after
+  pub back : AreBack before.pickers after.pickers
+  pub untold : IsTrue (asks_nobody exit) → Untold before.pickers after.pickers
+  pub no_day : RunsNoDay (request_of words) → Untold before.pickers after.pickers

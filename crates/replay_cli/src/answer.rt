@@ -1,0 +1,89 @@
+//! What a run answers, before anything is written.
+ghost use Rattle.std.specs.Prelude.{◌≡◌, IfOk, map, option_copied, option_map, string_bytes};
+ghost use Rattle.intake.specs.Dated.{terms_in};
+ghost use Rattle.intake.specs.Input.{IsInputOf, IsJobOf, Job};
+ghost use Rattle.intake.specs.Shelves.{on_shelf};
+ghost use Rattle.modes.specs.Endings.{IsEnding};
+ghost use Rattle.modes.specs.Jobs as Jobs;
+ghost use Rattle.played.specs.Lent.{AreBack, AreThere, Untold};
+ghost use Rattle.replay_cli.specs.Answering.{Replies, TakesAll};
+ghost use Rattle.replay_cli.specs.Run.{standing};
+ghost use Rattle.request.specs.Request.{IsRequest};
+
+use admit_core::{OutOfMemory, Terms};
+use intake::{DatedTerms, Input, Stop, dated_terms, take_in};
+use modes::{Reply, days_of, deadlines_of, ending, stopped};
+use played::{Pickers, play};
+use request::{Request, read_request};
+use shelf_io::Shelf;
+use std::alloc::Global;
+
+/// Reads the words, and takes in what they ask for.
+fn take<S: Shelf>(alloc: Global, words: &[String], shelf: &mut S) -> Result<(Request, Input), Stop>
+    ensures { TakesAll (map string_bytes words.now)
+        (on_shelf S.left S.taken S.faults shelf.old) (on_shelf S.left S.taken S.faults shelf.new) result }
+{
+    let request = read_request(alloc, words)?;
+    let input = take_in(alloc, &request, shelf)?;
+    Ok((request, input))
+}
+
+/// The terms alone.
+fn terms_in<'a>(dated: Option<&'a DatedTerms>) -> Option<&'a Terms>
+    ensures { option_copied result ≡ terms_in (option_copied dated.entry) }
+{
+    match dated {
+        None => None,
+        Some(dated) => Some(&dated.terms),
+    }
+}
+
+/// Runs the days that are asked for, and ends by the mode.
+fn play_out(
+    alloc: Global,
+    request: &Request,
+    input: &Input,
+    pickers: &mut Pickers,
+) -> Result<Reply, OutOfMemory>
+    requires request { IsRequest request.now }
+    requires there { AreThere pickers.old }
+
+    ensures there { AreThere pickers.new }
+    ensures back { AreBack (standing (λ p. told p) (λ p. choice p) pickers.old) (standing (λ p. told p) (λ p. choice p) pickers.new) }
+    ensures idle { Jobs.days_of request.now ≡ 0 → Untold (standing (λ p. told p) (λ p. choice p) pickers.old) (standing (λ p. told p) (λ p. choice p) pickers.new) }
+    ensures ends { (job : Job) → IsJobOf request.now job → IsInputOf job input.now → IfOk result (λ reply. IsEnding job
+        (standing (λ p. told p) (λ p. choice p) pickers.old) (standing (λ p. told p) (λ p. choice p) pickers.new)
+        reply.exit reply.text.items) }
+{
+    let dated = dated_terms(alloc, input, deadlines_of(request))?;
+    let dated = dated.as_ref();
+    let number = days_of(request);
+    let played = play(
+        alloc,
+        &input.dossier,
+        terms_in(dated),
+        number,
+        request.picker,
+        pickers,
+    )?;
+    ending(alloc, request, input, dated, &played)
+}
+
+/// What a run answers, before anything is written.
+pub(crate) fn answer<S: Shelf>(
+    alloc: Global,
+    words: &[String],
+    shelf: &mut S,
+    pickers: &mut Pickers,
+) -> Result<Reply, OutOfMemory>
+    requires { AreThere pickers.old }
+    ensures there { AreThere pickers.new }
+    ensures replies { Replies (map string_bytes words.now)
+        (on_shelf S.left S.taken S.faults shelf.old) (on_shelf S.left S.taken S.faults shelf.new)
+        (standing (λ p. told p) (λ p. choice p) pickers.old) (standing (λ p. told p) (λ p. choice p) pickers.new) result }
+{
+    match take(alloc, words, shelf) {
+        Ok((request, input)) => play_out(alloc, &request, &input, pickers),
+        Err(stop) => stopped(alloc, stop),
+    }
+}
