@@ -1,5 +1,7 @@
 """The runs in the pages: what stands behind `$` is run, and must give the bytes that stand below it.
 
+What a page links to, and what it names as a path of the repository, must be there.
+
 A run stands in a fenced or an indented block. Each page has a copy of the repository to itself. A block begins at the
 page's own folder under `examples/`, else at the top; its lines go to one shell. Of an output, a last line `..` stands
 for what else there is. A line that begins with `$` and is in no such block fails.
@@ -23,6 +25,8 @@ BEFORE_COMMAND = "\x1e"
 REST = ".."
 INDENT = "    "
 SHELL = ("sh", "-c")
+LINK = re.compile(r"\]\(([^)#:]+)\)")
+PATH = re.compile(r"`((?:crates|docs|examples|tools)/[\w./-]+)`")
 
 
 @dataclass(frozen=True)
@@ -91,6 +95,7 @@ def check_page(tally: Tally, name: Path) -> None:
     """Runs what stands in one page, in a copy of the repository."""
     tally.begin(str(name))
     page = (TOP / name).read_text()
+    check_paths(tally, page, (TOP / name).parent)
     blocks = [block for block in blocks_of(page) if block.runs()]
     in_blocks = {run.line for block in blocks for run in block.runs()}
     for number, text in enumerate(page.splitlines(), start=1):
@@ -104,7 +109,15 @@ def check_page(tally: Tally, name: Path) -> None:
         for block in blocks:
             runs = block.runs()
             for run, output in zip(runs, outputs_of(runs, folder, environment), strict=True):
-                tally.check(f"line {run.line}: {run.command}", is_as_shown(output, run.shown), f"{run.shown}  but printed\n{output}")
+                seen = f"{run.shown}  but printed\n{output}"
+                tally.check(f"line {run.line}: {run.command}", is_as_shown(output, run.shown), seen)
+
+
+def check_paths(tally: Tally, page: str, folder: Path) -> None:
+    """What the page links to, from its own folder, and the paths that it names, from the top."""
+    paths = {folder / link for link in LINK.findall(page)} | {TOP / path for path in PATH.findall(page)}
+    for path in sorted(paths):
+        tally.check(f"{os.path.relpath(path, TOP)} is there", path.exists())
 
 
 def copy_repository(top: Path) -> dict[str, str]:
