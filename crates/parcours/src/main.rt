@@ -1,6 +1,7 @@
 //! `parcours`, the admission engine's program: it reads the slots' files in the current folder and
 //! writes to standard output.
 #![tactic(auto)]
+
 ghost use Rattle.std.specs.Prelude.{◌≡◌};
 ghost use Rattle.std.specs.Process.{exit_status};
 ghost use Rattle.parcours.specs.Start.{status_of};

@@ -2,7 +2,7 @@
 ghost use Rattle.std.specs.Prelude.{◌≤◌};
 
 use crate::expected::Expected;
-use crate::played::{CALM, Outside, Ran, play};
+use crate::outside::{CALM, Outside, Ran, play};
 use crate::sweeps::{comes_about, each_cut_is_answered, each_read_fails, each_room_cuts_off};
 use crate::told::Told;
 use admit_core::Slot;

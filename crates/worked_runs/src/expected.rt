@@ -1,6 +1,6 @@
 //! What a run is to come to.
 
-use crate::played::Ran;
+use crate::outside::Ran;
 use crate::told::Told;
 use replay_cli::Exit;
 use std::alloc::{AllocError, Global};

@@ -4,7 +4,7 @@
 
 mod bench;
 mod expected;
-mod played;
+mod outside;
 mod sweeps;
 mod told;
 

@@ -2,7 +2,7 @@
 //! each length.
 
 use crate::expected::Expected;
-use crate::played::{CALM, Outside, Ran, play_anew};
+use crate::outside::{CALM, Outside, Ran, play_anew};
 use crate::told::Told;
 use case_file::{Slots, slot_named};
 use replay_cli::Exit;
