@@ -18,7 +18,7 @@ use std::env;
 use std::process::ExitCode;
 
 /// Runs the program with the words that it was given.
-fn start(rt: HostRuntime) -> Result<Exit, AllocError> {
+fn run_given(rt: HostRuntime) -> Result<Exit, AllocError> {
     let alloc = rt.alloc();
     let words = words_of(alloc, env::args(&rt))?;
     run_new(alloc, &words, &mut DirShelf::new(rt), &mut StdSink::new(rt))
@@ -32,5 +32,5 @@ fn exit_code(ended: Result<Exit, AllocError>) -> ExitCode
 }
 
 fn main(rt: HostRuntime) -> ExitCode {
-    exit_code(start(rt))
+    exit_code(run_given(rt))
 }
