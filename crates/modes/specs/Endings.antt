@@ -1,6 +1,7 @@
 -- How a run over a job ends, by its mode.
-use Rattle.std.specs.Prelude.{◌≡◌, ℕ, List, [], ◌++◌, Result, Ok, Err, length}
+use Rattle.std.specs.Prelude.{◌≡◌, ℕ, List, [], ◌++◌, Result, Ok, Err, IfOk, length}
 use Rattle.admit_core.specs.declared.refusal.Refusal.{Refusal}
+use Rattle.day_run.specs.DayPasses.{TellsMore}
 use Rattle.day_run.specs.DeskStates.{DeskStates}
 use Rattle.intake.specs.Input.{Job}
 use Rattle.played.specs.Lent.{Lent}
@@ -9,11 +10,13 @@ use Rattle.report.specs.RefusalText.{refusal_line}
 use Rattle.report.specs.SampleText.{sample_text}
 use Rattle.request.specs.declared.modes.Mode.{Mode}
 use Rattle.request.specs.declared.modes.Mode.TheVariants.{Order, Replay, Sample}
-use Rattle.modes.specs.Jobs.{Seen, days_of, dossier, seen_of, terms_of}
+use Rattle.modes.specs.Asking.{ArePicks, Asked, IsLent, TellsAfter, TellsPicks}
+use Rattle.modes.specs.Jobs.{Seen, days_of, dossier, picker_after, seen_of, terms_of}
 use Rattle.modes.specs.Order.{orders_text}
 use Rattle.modes.specs.Replay.{days_text, replay_text}
 use Rattle.modes.specs.declared.exit.Exit.{Exit}
 use Rattle.modes.specs.declared.exit.Exit.TheVariants.{Done, Refused}
+use Rattle.modes.specs.declared.reply.Reply.{Reply}
 
 -- a run is done with its whole text
 abbrev pub IsDoneWith : List ℕ → Exit → List ℕ → Type 0
@@ -43,8 +46,24 @@ EndsWith (Err refusal) seen played = IsRefusedWith refusal (lines_before seen.re
 abbrev pub AreDaysOf : Job → Lent → Played → Lent → Type 0
 AreDaysOf job = IsPlayed (dossier job) (terms_of job) (days_of job.request) job.request.picker
 
--- a job's days were played with these pickers, and the run ends by its mode
+-- how a mode ends that is lent a picker, which is there again afterwards
+pub record EndsLent {E : Type 0} (seen : Seen) (played : Played) (desk : DeskStates) (before after : Asked) (result : Result Reply E) : Type 0 where
+  pub ends : IfOk result (λ reply. IsEndOf seen.request.mode seen played desk reply.exit reply.text.items)
+  pub picks : IfOk result (λ reply. TellsPicks (ArePicks seen.request.mode seen played desk before) before.told after.told)
+  pub told : TellsMore before.told after.told
+  pub choice : after.choice ≡ before.choice
+
+-- how a run ends after its days, with the pickers as they stand between the days and the ending, and afterwards
+pub record EndsAfter {E : Type 0} (end : Result DeskStates Refusal) (seen : Seen) (played : Played) (between after : Lent) (result : Result Reply E) : Type 0 where
+  pub ends : IfOk result (λ reply. EndsWith end seen played reply.exit reply.text.items)
+  pub tells : IfOk result (λ reply. TellsAfter end seen played between after)
+  pub lends : IsLent (picker_after seen.request) between after
+
+-- a job's days were played with these pickers, and the run ends by its mode, with the pickers as they stand between the two
 pub record IsEnding (job : Job) (before after : Lent) (exit : Exit) (text : List ℕ) : Type 0 where
   pub played : Played
-  pub days : AreDaysOf job before played after
+  pub between : Lent
+  pub days : AreDaysOf job before played between
+  pub tells : TellsAfter played.end (seen_of job) played between after
+  pub lends : IsLent (picker_after job.request) between after
   pub ends : EndsWith played.end (seen_of job) played exit text

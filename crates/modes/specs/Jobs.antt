@@ -1,5 +1,5 @@
 -- What a job asks of its days.
-use Rattle.std.specs.Prelude.{◌≡◌, ◌<◌, ℕ, ◌+◌, List, Option, None, is_some, length, option_map, if◌then◌else◌}
+use Rattle.std.specs.Prelude.{◌≡◌, ◌<◌, ℕ, ◌+◌, List, Option, None, IsTrue, is_some, length, not, option_map, if◌then◌else◌}
 use Rattle.admit_core.specs.CallOrder.{AreCallOrders}
 use Rattle.admit_core.specs.Days.{Days, first_evening, unfit_on}
 use Rattle.admit_core.specs.DossierRows.{DossierRows}
@@ -13,13 +13,24 @@ use Rattle.dossier_check.specs.Ids.{Ids, ids_of}
 use Rattle.intake.specs.Dated.{dated_from, terms_in}
 use Rattle.intake.specs.Input.{Job}
 use Rattle.intake.specs.declared.terms.DatedTerms.{DatedTerms}
-use Rattle.request.specs.Modes.{runs_days, sample_of}
+use Rattle.request.specs.Modes.{picks_after, runs_days, sample_of}
+use Rattle.request.specs.Pickers.{picker_on}
+use Rattle.request.specs.declared.pickers.PickerName.{PickerName}
 use Rattle.request.specs.declared.request.Deadlines.{Deadlines}
 use Rattle.request.specs.declared.request.Request.{Request}
 
 -- how many days are run
 abbrev pub days_of : Request → ℕ
 days_of request = if runs_days request.mode then request.days else 0
+
+-- the picker that the ending is lent, of the modes that ask one once their days are over
+abbrev pub picker_after : Request → Option PickerName
+picker_after request = option_map (picker_on request.picker) (picks_after request.mode request.days)
+
+-- a run of this request asks no picker: its mode runs no day, and its ending is lent none
+pub record IsIdle (request : Request) : Type 0 where
+  pub no_day : IsTrue (not (runs_days request.mode))
+  pub none_after : picker_after request ≡ None
 
 -- when offers lapse; in a sample they do not
 abbrev pub deadlines_of : Request → Option Deadlines

@@ -1,19 +1,23 @@
 //! How a run ends after its days, by its mode.
-ghost use Rattle.std.specs.Prelude.{◌≡◌, All, IfOk, option_copied};
+ghost use Rattle.std.specs.Prelude.{◌≡◌, All, IfOk, IsSome, option_copied};
 ghost use Rattle.std.specs.Result.{ForOk};
-ghost use Rattle.modes.specs.Endings.{EndsWith, IsEndOf, IsRefusedWith, lines_before};
+ghost use Rattle.modes.specs.Endings.{EndsAfter, EndsLent, IsEndOf, IsRefusedWith, lines_before};
 ghost use Rattle.modes.specs.Replay.{CanBeDated, CanBeWritten};
+ghost use Rattle.played.specs.Lent.{AreThere, choice_in, standing, told_in};
+ghost use Rattle.request.specs.Modes.{picks_after};
 
 use crate::exit::Exit;
+use crate::job::picker_after;
 use crate::order::orders_text;
 use crate::replay::{days_text, replay_text};
 use crate::reply::Reply;
 use admit_core::{OutOfMemory, Refusal};
+use bar_fixpoint::Picker;
 use day_run::Desk;
 use intake::{DatedTerms, Input};
-use played::Played;
+use played::{Pickers, Played};
 use report::{refusal_text, sample_text};
-use request::{Mode, Request};
+use request::{Mode, PickerName, Request};
 use std::alloc::Global;
 
 /// A run that is done with its whole text.
@@ -88,26 +92,127 @@ fn refused(alloc: Global, before: Vec<u8>, refusal: Refusal) -> Result<Reply, Ou
     })
 }
 
-/// How a run ends after its days, and what it writes.
+/// A run whose days were cut short by an answer that does not fit.
+fn cut_short(
+    alloc: Global,
+    request: &Request,
+    input: &Input,
+    dated: Option<&DatedTerms>,
+    played: &Played<'_>,
+    refusal: Refusal,
+) -> Result<Reply, OutOfMemory>
+    requires { All (CanBeWritten input.now.dossier (option_copied dated)) played.now.days.items }
+    ensures { IfOk result (λ reply. let seen = record { request = request.now; dossier = input.now.dossier; index = input.now.index; chain = input.now.chain; dated = option_copied dated.entry } in
+        let days = record { orders = played.now.orders.orders; days = played.now.days.items; end = played.now.end } in
+        IsRefusedWith refusal (lines_before request.now.mode seen days) reply.exit reply.text.items) }
+{
+    let before = lines_before(alloc, request, input, dated, played)?;
+    refused(alloc, before, refusal)
+}
+
+/// How each mode ends that asks a picker once its days have led to a desk.
+fn ended_asking(
+    request: &Request,
+    input: &Input,
+    dated: Option<&DatedTerms>,
+    played: &Played<'_>,
+    desk: &Desk<'_>,
+    picker: &mut dyn Picker,
+) -> Result<Reply, OutOfMemory>
+    requires { IsSome (picks_after request.now.mode request.now.days) }
+    ensures { EndsLent
+        (record { request = request.now; dossier = input.now.dossier; index = input.now.index; chain = input.now.chain; dated = option_copied dated.entry })
+        (record { orders = played.now.orders.orders; days = played.now.days.items; end = played.now.end })
+        desk.now
+        (record { told = told picker.old; choice = choice picker.old })
+        (record { told = told picker.new; choice = choice picker.new }) result }
+{
+    match request.mode {
+        _ => unreachable!(),
+    }
+}
+
+/// How a mode ends with the picker of this place, which is there again afterwards.
+fn ended_lent(
+    request: &Request,
+    input: &Input,
+    dated: Option<&DatedTerms>,
+    played: &Played<'_>,
+    desk: &Desk<'_>,
+    place: &mut Option<Box<dyn Picker>>,
+) -> Result<Reply, OutOfMemory>
+    requires asks { IsSome (picks_after request.now.mode request.now.days) }
+    requires there { IsSome place.old }
+    ensures there { IsSome place.new }
+    ensures ends { EndsLent
+        (record { request = request.now; dossier = input.now.dossier; index = input.now.index; chain = input.now.chain; dated = option_copied dated.entry })
+        (record { orders = played.now.orders.orders; days = played.now.days.items; end = played.now.end })
+        desk.now
+        (record { told = told_in (λ p. told p) place.old; choice = choice_in (λ p. choice p) place.old })
+        (record { told = told_in (λ p. told p) place.new; choice = choice_in (λ p. choice p) place.new }) result }
+{
+    let Some(mut picker) = place.take() else {
+        unreachable!()
+    };
+    let reply = ended_asking(request, input, dated, played, desk, &mut *picker);
+    *place = Some(picker);
+    reply
+}
+
+/// How a run ends once all its days have led to a desk, with the picker that its mode asks.
+fn ended_by(
+    alloc: Global,
+    request: &Request,
+    input: &Input,
+    dated: Option<&DatedTerms>,
+    played: &Played<'_>,
+    desk: &Desk<'_>,
+    pickers: &mut Pickers,
+) -> Result<Reply, OutOfMemory>
+    requires days { All (CanBeWritten input.now.dossier (option_copied dated)) played.now.days.items }
+    requires offers { CanBeDated (option_copied dated) desk.now.present }
+    requires there { AreThere pickers.old }
+    ensures there { AreThere pickers.new }
+    ensures ends { EndsAfter (Ok desk.now)
+        (record { request = request.now; dossier = input.now.dossier; index = input.now.index; chain = input.now.chain; dated = option_copied dated.entry })
+        (record { orders = played.now.orders.orders; days = played.now.days.items; end = played.now.end })
+        (standing (λ p. told p) (λ p. choice p) pickers.old) (standing (λ p. told p) (λ p. choice p) pickers.new) result }
+{
+    match picker_after(request) {
+        None => ended(alloc, request, input, dated, played, desk),
+        Some(PickerName::First) => {
+            ended_lent(request, input, dated, played, desk, &mut pickers.first)
+        }
+        Some(PickerName::Last) => {
+            ended_lent(request, input, dated, played, desk, &mut pickers.last)
+        }
+        Some(PickerName::Turn) => {
+            ended_lent(request, input, dated, played, desk, &mut pickers.turn)
+        }
+    }
+}
+
+/// How a run ends after its days, and what it writes. The picker that the mode asks is lent for it,
+/// and is in its place again afterwards.
 pub fn ending(
     alloc: Global,
     request: &Request,
     input: &Input,
     dated: Option<&DatedTerms>,
     played: &Played<'_>,
+    pickers: &mut Pickers,
 ) -> Result<Reply, OutOfMemory>
     requires days { All (CanBeWritten input.now.dossier (option_copied dated)) played.now.days.items }
     requires offers { ForOk played.now.end (λ desk. CanBeDated (option_copied dated) desk.present) }
-    ensures { IfOk result (λ reply. EndsWith played.now.end
+    requires there { AreThere pickers.old }
+    ensures there { AreThere pickers.new }
+    ensures ends { EndsAfter played.now.end
         (record { request = request.now; dossier = input.now.dossier; index = input.now.index; chain = input.now.chain; dated = option_copied dated.entry })
         (record { orders = played.now.orders.orders; days = played.now.days.items; end = played.now.end })
-        reply.exit reply.text.items) }
+        (standing (λ p. told p) (λ p. choice p) pickers.old) (standing (λ p. told p) (λ p. choice p) pickers.new) result }
 {
     match &played.end {
-        Ok(desk) => ended(alloc, request, input, dated, played, desk),
-        Err(refusal) => {
-            let before = lines_before(alloc, request, input, dated, played)?;
-            refused(alloc, before, *refusal)
-        }
+        Ok(desk) => ended_by(alloc, request, input, dated, played, desk, pickers),
+        Err(refusal) => cut_short(alloc, request, input, dated, played, *refusal),
     }
 }

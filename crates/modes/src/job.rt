@@ -2,7 +2,7 @@
 ghost use Rattle.std.specs.Prelude.{◌≡◌, ◌≤◌};
 ghost use Rattle.modes.specs.Jobs as Jobs;
 
-use request::{Deadlines, Request, runs_days, sample_of};
+use request::{Deadlines, PickerName, Request, picker_on, picks_after, runs_days, sample_of};
 
 /// How many days are run.
 pub fn days_of(request: &Request) -> u32
@@ -12,6 +12,16 @@ pub fn days_of(request: &Request) -> u32
         request.days
     } else {
         0
+    }
+}
+
+/// The picker that the ending is lent, of the modes that ask one once their days are over.
+pub(crate) fn picker_after(request: &Request) -> Option<PickerName>
+    ensures { result ≡ Jobs.picker_after request.now }
+{
+    match picks_after(request.mode, request.days) {
+        None => None,
+        Some(day) => Some(picker_on(request.picker, day)),
     }
 }
 

@@ -1,5 +1,5 @@
 -- Pickers by name.
-use Rattle.std.proofs.Common.{◌≡◌, ◌∙◌, ℕ, Bool, true, false, List, [], ◌∷◌, ◌++◌, ap, append_assoc, filter, flat_map, inl, inr, refl, subst, sym}
+use Rattle.std.proofs.Common.{◌≡◌, ◌∙◌, ℕ, Bool, true, false, List, [], ◌∷◌, ◌++◌, Option, ap, append_assoc, filter, flat_map, inl, inr, refl, subst, sym}
 use Rattle.std.proofs.lemmas.Bool.{cases_Bool}
 use Rattle.std.proofs.lemmas.Grind.{flat_map-append}
 use Rattle.std.proofs.lemmas.List.{append-nil}
@@ -10,7 +10,7 @@ use Rattle.request.specs.Pickers.{picker_on}
 use Rattle.request.specs.declared.pickers.PickerChoice.{PickerChoice}
 use Rattle.request.specs.declared.pickers.PickerName.{PickerName}
 use Rattle.request.specs.declared.pickers.PickerName.TheVariants.{First, Last, Turn}
-use Rattle.played.specs.Lent.{AreBack, Lent, Told, is_named, picked_by}
+use Rattle.played.specs.Lent.{AreBack, Lent, Told, choice_in, is_named, named, picked_by, told_in}
 
 pub named_self : (name : PickerName) → is_named name name ≡ true
 named_self First = refl
@@ -63,3 +63,34 @@ told_more who days day before between after one two =
     λ name.
     two name ∙ ap (λ x. x ++ picked_by who name (day ∷ [])) (one name) ∙ append_assoc (before.told name) (picked_by who name days) (picked_by who name (day ∷ []))
     ∙ ap (λ x. before.told name ++ x) (sym (picked_by-append who name days (day ∷ [])))
+
+-- only the picker of the name was lent
+pub record OnlyNamed (name : PickerName) (before after : Lent) : Type 0 where
+  pub told : (other : PickerName) → is_named other name ≡ false → after.told other ≡ before.told other
+  pub choice : (other : PickerName) → is_named other name ≡ false → after.choice other ≡ before.choice other
+
+-- pickers of which one alone is another
+module _ {B : Type 0} (told : B → List ℕ) (choice : B → List ℕ → List ℕ → ℕ) (a b c new : Option B) where
+  abbrev these : Option B → Option B → Option B → Lent
+  these x y z = record { told = λ n. told_in told (named x y z n); choice = λ n. choice_in choice (named x y z n) }
+
+  pub only_first : OnlyNamed First (these a b c) (these new b c)
+  only_first = record { told = λ n none. ap (told_in told) (first_else n none); choice = λ n none. ap (choice_in choice) (first_else n none) } where
+    first_else : (n : PickerName) → is_named n First ≡ false → named new b c n ≡ named a b c n
+    first_else First none = cc
+    first_else Last none = refl
+    first_else Turn none = refl
+
+  pub only_last : OnlyNamed Last (these a b c) (these a new c)
+  only_last = record { told = λ n none. ap (told_in told) (last_else n none); choice = λ n none. ap (choice_in choice) (last_else n none) } where
+    last_else : (n : PickerName) → is_named n Last ≡ false → named a new c n ≡ named a b c n
+    last_else First none = refl
+    last_else Last none = cc
+    last_else Turn none = refl
+
+  pub only_turn : OnlyNamed Turn (these a b c) (these a b new)
+  only_turn = record { told = λ n none. ap (told_in told) (turn_else n none); choice = λ n none. ap (choice_in choice) (turn_else n none) } where
+    turn_else : (n : PickerName) → is_named n Turn ≡ false → named a b new n ≡ named a b c n
+    turn_else First none = refl
+    turn_else Last none = refl
+    turn_else Turn none = cc

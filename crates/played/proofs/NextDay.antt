@@ -1,5 +1,5 @@
 -- How a day ends with the picker of the day.
-use Rattle.std.proofs.Common.{◌≡◌, ◌∙◌, ℕ, false, List, [], ◌∷◌, ◌++◌, Option, Result, Ok, Err, ap, refl, subst, sym}
+use Rattle.std.proofs.Common.{◌≡◌, ◌∙◌, ℕ, false, List, [], ◌∷◌, ◌++◌, Result, Ok, Err, ap, subst, sym}
 use Rattle.std.proofs.lemmas.List.{append-nil}
 use Rattle.admit_core.specs.Days.{ceilings_of}
 use Rattle.admit_core.specs.declared.records.DayRecord.{DayRecord}
@@ -10,16 +10,10 @@ use Rattle.day_run.specs.declared.refusal.DayRefusal.{DayRefusal}
 use Rattle.day_run.specs.declared.refusal.DayRefusal.TheVariants as refusals
 use Rattle.request.specs.Pickers.{picker_on}
 use Rattle.request.specs.declared.pickers.PickerName.{PickerName}
-use Rattle.request.specs.declared.pickers.PickerName.TheVariants.{First, Last, Turn}
-use Rattle.played.specs.Lent.{Lent, Told, choice_in, is_named, named, picked_by, told_in}
+use Rattle.played.specs.Lent.{Lent, Told, is_named, picked_by}
 use Rattle.played.specs.OneDay.{EndsWith}
 use Rattle.played.specs.PlayedDays.{EndsNext, IsNext, Plan, moment_of}
-use Rattle.played.proofs.Naming.{each_named, named_self, picked_here, picked_none}
-
--- only the picker of the name was lent
-pub record OnlyNamed (name : PickerName) (before after : Lent) : Type 0 where
-  pub told : (other : PickerName) → is_named other name ≡ false → after.told other ≡ before.told other
-  pub choice : (other : PickerName) → is_named other name ≡ false → after.choice other ≡ before.choice other
+use Rattle.played.proofs.Naming.{OnlyNamed, each_named, named_self, picked_here, picked_none}
 
 module _ (plan : Plan) (d : ℕ) (old new : DeskStates) (before after : Lent) (only : OnlyNamed (picker_on plan.who d) before after) where
   abbrev name : PickerName
@@ -88,29 +82,3 @@ ends_next plan d old new before after n r is only ends =
     (subst
     (λ x. EndsWith plan.orders plan.terms d (record { desk = old; told = before.told x; choice = before.choice x }) (record { desk = new; told = after.told x; choice = after.choice x }) r)
     is ends)
-
--- pickers of which one alone is another
-module _ {B : Type 0} (told : B → List ℕ) (choice : B → List ℕ → List ℕ → ℕ) (a b c new : Option B) where
-  abbrev these : Option B → Option B → Option B → Lent
-  these x y z = record { told = λ n. told_in told (named x y z n); choice = λ n. choice_in choice (named x y z n) }
-
-  pub only_first : OnlyNamed First (these a b c) (these new b c)
-  only_first = record { told = λ n none. ap (told_in told) (first_else n none); choice = λ n none. ap (choice_in choice) (first_else n none) } where
-    first_else : (n : PickerName) → is_named n First ≡ false → named new b c n ≡ named a b c n
-    first_else First none = cc
-    first_else Last none = refl
-    first_else Turn none = refl
-
-  pub only_last : OnlyNamed Last (these a b c) (these a new c)
-  only_last = record { told = λ n none. ap (told_in told) (last_else n none); choice = λ n none. ap (choice_in choice) (last_else n none) } where
-    last_else : (n : PickerName) → is_named n Last ≡ false → named a new c n ≡ named a b c n
-    last_else First none = refl
-    last_else Last none = cc
-    last_else Turn none = refl
-
-  pub only_turn : OnlyNamed Turn (these a b c) (these a b new)
-  only_turn = record { told = λ n none. ap (told_in told) (turn_else n none); choice = λ n none. ap (choice_in choice) (turn_else n none) } where
-    turn_else : (n : PickerName) → is_named n Turn ≡ false → named a b new n ≡ named a b c n
-    turn_else First none = refl
-    turn_else Last none = refl
-    turn_else Turn none = cc

@@ -43,6 +43,10 @@ lent told choice pickers =
       choice = λ name. choice_in choice (named pickers.first pickers.last pickers.turn name);
     }
 
+-- the same, as the crates above see a picker
+abbrev pub standing : {X : Type 0} {F : X → Type 0} → ((x : X) × F x → List ℕ) → ((x : X) × F x → List ℕ → List ℕ → ℕ) → Pickers X F → Lent
+standing told choice = lent (λ p. told (p.vtable, p.value)) (λ p. choice (p.vtable, p.value))
+
 abbrev pub is_named : PickerName → PickerName → Bool
 is_named First First = true
 is_named Last Last = true

@@ -20,19 +20,22 @@ use Rattle.intake.specs.Dated.{AreDatedFor, dated_from, terms_in}
 use Rattle.intake.specs.Input.{IsInputOf, IsJobOf, Job}
 use Rattle.intake.specs.declared.input.Input.{Input}
 use Rattle.intake.specs.declared.terms.DatedTerms.{DatedTerms}
-use Rattle.modes.specs.Endings.{AreDaysOf, EndsWith, IsEndOf, IsEnding}
-use Rattle.modes.specs.Jobs.{AreDays, FitsAnswers, Seen, dated_of, days_of, deadlines_of, dossier, seen_of, terms_of}
+use Rattle.modes.specs.Asking.{AsksNoOther, IsLent, TellsAfter}
+use Rattle.modes.specs.Endings.{AreDaysOf, EndsAfter, EndsWith, IsEndOf, IsEnding}
+use Rattle.modes.specs.Jobs.{AreDays, FitsAnswers, IsIdle, Seen, dated_of, days_of, deadlines_of, dossier, picker_after, seen_of, terms_of}
 use Rattle.modes.specs.Replay.{CanBeDated, CanBeWritten}
 use Rattle.modes.specs.declared.exit.Exit.{Exit}
 use Rattle.modes.specs.declared.exit.Exit.TheVariants as exits
 use Rattle.modes.specs.declared.reply.Reply.{Reply}
 use Rattle.modes.proofs.Writable.{played_written}
-use Rattle.played.specs.Lent.{Lent}
-use Rattle.played.specs.PlayedDays.{EndsAfter, IsPlayed, Lead, Plan, Played, lent_after}
+use Rattle.played.specs.Lent.{Lent, Untold}
+use Rattle.played.specs.PlayedDays as PlayedDays
+use Rattle.played.specs.PlayedDays.{IsPlayed, Lead, Plan, Played, lent_after}
 use Rattle.request.specs.Modes.{runs_days, sample_of}
 use Rattle.request.specs.Request.{IsDeadlines, IsRequest}
 use Rattle.request.specs.declared.modes.Mode.{Mode}
 use Rattle.request.specs.declared.modes.Mode.TheVariants as modes
+use Rattle.request.specs.declared.pickers.PickerName.{PickerName}
 use Rattle.request.specs.declared.request.Request.{Request}
 
 pub deadlines_known : (request : Request) → IsRequest request → IfSome (deadlines_of request) IsDeadlines
@@ -48,28 +51,38 @@ pub one_each : (d : DossierRows) (dated : Option DatedTerms) → IfSome dated (A
 one_each d None is = tt
 one_each d (Some dated) is = is.one_each
 
+-- how a run ends, by what the modes see of its job
+record Ends (played : Played) (between after : Lent) (exit : Exit) (text : List ℕ) (seen : Seen) : Type 0 where
+  pub ends : EndsWith played.end seen played exit text
+  pub tells : TellsAfter played.end seen played between after
+  pub lends : IsLent (picker_after seen.request) between after
+
 -- what is played and written is the job's
-pub job_ends : (job : Job) (request : Request) (d : DossierRows) (ids : Ids) (chain : List ℕ) (dates : List (Option Since)) (dated : Option DatedTerms) (before after : Lent) (played : Played) (exit : Exit) (text : List ℕ)
+pub job_ends : (job : Job) (request : Request) (d : DossierRows) (ids : Ids) (chain : List ℕ) (dates : List (Option Since)) (dated : Option DatedTerms) (before between after : Lent) (played : Played) (exit : Exit) (text : List ℕ)
     → job.request ≡ request → d ≡ dossier_of job.tables → ids ≡ ids_of job.tables → chain ≡ job.chain → dates ≡ dates_of job.tables → dated ≡ option_map (dated_from dates) (deadlines_of request)
-    → IsPlayed d (terms_in dated) (days_of request) request.picker before played after
-    → EndsWith played.end (record { request = request; dossier = d; index = ids; chain = chain; dated = dated }) played exit text → IsEnding job before after exit text
-job_ends job request d ids chain dates dated before after played exit text asked same indexed chained dates_are dated_is plays ends =
+    → IsPlayed d (terms_in dated) (days_of request) request.picker before played between
+    → Ends played between after exit text (record { request = request; dossier = d; index = ids; chain = chain; dated = dated }) → IsEnding job before after exit text
+job_ends job request d ids chain dates dated before between after played exit text asked same indexed chained dates_are dated_is plays ends =
     let dated_job : dated ≡ dated_of job =
     dated_is ∙ ap (λ (ds : List (Option Since)). option_map (dated_from ds) (deadlines_of request)) dates_are
     ∙ ap (λ (q : Request). option_map (dated_from (dates_of job.tables)) (deadlines_of q)) (sym asked) in
+    let P : Request → DossierRows → Ids → List ℕ → Option DatedTerms → Type 0 =
+    λ q e i c x. Ends played between after exit text (record { request = q; dossier = e; index = i; chain = c; dated = x }) in
+    let of_job : P job.request (dossier job) (ids_of job.tables) job.chain (dated_of job) =
+    subst (λ (q : Request). P q (dossier job) (ids_of job.tables) job.chain (dated_of job)) (sym asked)
+    (subst (λ (x : Option DatedTerms). P request (dossier job) (ids_of job.tables) job.chain x) dated_job
+    (subst (λ (c : List ℕ). P request (dossier job) (ids_of job.tables) c dated) chained
+    (subst (λ (i : Ids). P request (dossier job) i chain dated) indexed (subst (λ (e : DossierRows). P request e ids chain dated) same ends)))) in
     record {
       played = played;
+      between = between;
       days =
-          subst (λ (q : Request). IsPlayed (dossier job) (terms_of job) (days_of q) q.picker before played after) (sym asked)
-          (subst (λ (x : Option DatedTerms). IsPlayed (dossier job) (terms_in x) (days_of request) request.picker before played after) dated_job
-          (subst (λ (e : DossierRows). IsPlayed e (terms_in dated) (days_of request) request.picker before played after) same plays));
-      ends =
-          let P : Request → DossierRows → Ids → List ℕ → Option DatedTerms → Type 0 =
-          λ q e i c x. EndsWith played.end (record { request = q; dossier = e; index = i; chain = c; dated = x }) played exit text in
-          subst (λ (q : Request). P q (dossier job) (ids_of job.tables) job.chain (dated_of job)) (sym asked)
-          (subst (λ (x : Option DatedTerms). P request (dossier job) (ids_of job.tables) job.chain x) dated_job
-          (subst (λ (c : List ℕ). P request (dossier job) (ids_of job.tables) c dated) chained
-          (subst (λ (i : Ids). P request (dossier job) i chain dated) indexed (subst (λ (e : DossierRows). P request e ids chain dated) same ends))));
+          subst (λ (q : Request). IsPlayed (dossier job) (terms_of job) (days_of q) q.picker before played between) (sym asked)
+          (subst (λ (x : Option DatedTerms). IsPlayed (dossier job) (terms_in x) (days_of request) request.picker before played between) dated_job
+          (subst (λ (e : DossierRows). IsPlayed e (terms_in dated) (days_of request) request.picker before played between) same plays));
+      tells = of_job.tells;
+      lends = of_job.lends;
+      ends = of_job.ends;
     }
 
 -- the plain days of a campaign
@@ -97,7 +110,7 @@ not_unfit None P none some = some
 not_unfit (Some x) P none some = absurd (cc)
 
 done_where_fit : (job : Job) (played : Played) (last : DeskStates) (end : Result DeskStates Refusal) (exit : Exit) (text : List ℕ) → AreDays job played.orders played.days last.present
-    → EndsAfter (terms_of job) (days_of job.request) played.days last end → EndsWith end (seen_of job) played exit text → FitsAnswers job → exit ≡ exits.Done
+    → PlayedDays.EndsAfter (terms_of job) (days_of job.request) played.days last end → EndsWith end (seen_of job) played exit text → FitsAnswers job → exit ≡ exits.Done
 done_where_fit job played last (Ok desk) exit text days after ends fit = done_of job.request.mode (seen_of job) played desk exit text ends
 done_where_fit job played last (Err refusal) exit text days after ends fit =
     absurd (not_unfit _ _ (fit played.orders played.days last.present days after.fewer) after.unfit)
@@ -109,22 +122,28 @@ ending_done job before after exit text ending fit =
     (record { called = ending.days.called; run = lead_days _ 1 _ before ending.played.days ending.days.last ending.days.days }) ending.days.ends ending.ends fit
 
 -- the days of a request, as they were played over its input
-module _ (request : Request) (known : IsRequest request) (input : Input) (dated given : Option DatedTerms) (terms : Option Terms) (number : ℕ) (before after : Lent) (played : Played) (same : dated ≡ given)
-    (is : IfSome given (AreDatedFor input.dossier)) (terms_are : terms ≡ terms_in dated) (number_is : number ≡ days_of request) (plays : IsPlayed input.dossier terms number request.picker before played after) where
-  asked_days : IsPlayed input.dossier (terms_in dated) (days_of request) request.picker before played after
+module _ (request : Request) (known : IsRequest request) (input : Input) (dated given : Option DatedTerms) (terms : Option Terms) (number : ℕ) (before between : Lent) (played : Played) (same : dated ≡ given)
+    (is : IfSome given (AreDatedFor input.dossier)) (terms_are : terms ≡ terms_in dated) (number_is : number ≡ days_of request) (plays : IsPlayed input.dossier terms number request.picker before played between) where
+  asked_days : IsPlayed input.dossier (terms_in dated) (days_of request) request.picker before played between
   asked_days =
-      subst (λ (n : ℕ). IsPlayed input.dossier (terms_in dated) n request.picker before played after) number_is
-      (subst (λ (t : Option Terms). IsPlayed input.dossier t number request.picker before played after) terms_are plays)
+      subst (λ (n : ℕ). IsPlayed input.dossier (terms_in dated) n request.picker before played between) number_is
+      (subst (λ (t : Option Terms). IsPlayed input.dossier t number request.picker before played between) terms_are plays)
 
   pub all_written : All (CanBeWritten input.dossier dated) played.days × ForOk played.end (λ desk. CanBeDated dated desk.present)
   all_written =
-      played_written input.dossier dated (days_of request) request.picker before played after (few_days request known)
+      played_written input.dossier dated (days_of request) request.picker before played between (few_days request known)
       (subst (λ (x : Option DatedTerms). IfSome x (AreDatedFor input.dossier)) (sym same) is) asked_days
 
-  pub reply_ends : {E : Type 0} (result : Result Reply E) (job : Job) → given ≡ option_map (dated_from input.dates) (deadlines_of request) → IsJobOf request job → IsInputOf job input
-      → IfOk result (λ reply. EndsWith played.end (record { request = request; dossier = input.dossier; index = input.index; chain = input.chain; dated = dated }) played reply.exit reply.text.items)
+  pub reply_ends : {E : Type 0} (after : Lent) (result : Result Reply E) (job : Job) → given ≡ option_map (dated_from input.dates) (deadlines_of request) → IsJobOf request job → IsInputOf job input
+      → EndsAfter played.end (record { request = request; dossier = input.dossier; index = input.index; chain = input.chain; dated = dated }) played between after result
       → IfOk result (λ reply. IsEnding job before after reply.exit reply.text.items)
-  reply_ends (Err e) job given_is is_job is_input ends = tt
-  reply_ends (Ok reply) job given_is is_job is_input ends =
-      job_ends job request input.dossier input.index input.chain input.dates dated before after played reply.exit reply.text.items is_job.request is_input.dossier is_input.index is_input.chain is_input.dates
-      (same ∙ given_is) asked_days ends
+  reply_ends after (Err e) job given_is is_job is_input ends = tt
+  reply_ends after (Ok reply) job given_is is_job is_input ends =
+      job_ends job request input.dossier input.index input.chain input.dates dated before between after played reply.exit reply.text.items is_job.request is_input.dossier is_input.index is_input.chain is_input.dates
+      (same ∙ given_is) asked_days (record { ends = ends.ends; tells = ends.tells; lends = ends.lends })
+
+-- a run that asks no picker, on its days or after them
+pub untold_idle : (request : Request) (before between after : Lent) → (days_of request ≡ 0 → Untold before between) → IsLent (picker_after request) between after → IsIdle request → Untold before after
+untold_idle request before between after days lends idle =
+    let ending : Untold between after = subst (λ (name : Option PickerName). AsksNoOther name between after) idle.none_after lends.others in
+    λ name. ending name ∙ days (no_days request idle.no_day) name

@@ -11,7 +11,7 @@ use Rattle.intake.specs.declared.stop.Stop.{Stop}
 use Rattle.intake.specs.declared.stop.Stop.TheVariants as stops
 use Rattle.modes.specs.Endings.{IsEnding}
 use Rattle.modes.specs.Exits.{asks_nobody, exit_of, is_answer}
-use Rattle.modes.specs.Jobs.{FitsAnswers, days_of}
+use Rattle.modes.specs.Jobs.{FitsAnswers, IsIdle}
 use Rattle.modes.specs.Stopping.{IsStoppedBy}
 use Rattle.modes.specs.declared.exit.Exit.{Exit}
 use Rattle.modes.specs.declared.exit.Exit.TheVariants as exits
@@ -23,9 +23,9 @@ use Rattle.request.specs.Request.{request_of}
 use Rattle.request.specs.declared.request.Request.{Request}
 use Rattle.shelf_io.specs.Faults.{NoneFell, Rose}
 use Rattle.replay_cli.specs.Answering.{Replies, TakesAll, TakesAsked}
-use Rattle.replay_cli.specs.Outcome.{Ends, IsOutcome, NamesFault, RunsNoDay, slots_read}
+use Rattle.replay_cli.specs.Outcome.{AsksNobody, Ends, IsOutcome, NamesFault, slots_read}
 use Rattle.replay_cli.specs.Run.{KeepsOthers}
-use Rattle.replay_cli.proofs.Played.{ending_done, ending_exit, no_days}
+use Rattle.replay_cli.proofs.Played.{ending_done, ending_exit}
 
 no_none : (request : Request) → IsNone (Some request) → ⊥
 no_none request none = false≢true (sym none)
@@ -68,7 +68,7 @@ module _ {A : Type 0} (before after : OnShelf) (r : Result A Stop) where
 
 -- the run came to its days
 module _ (words : List (List ℕ)) (shelf shelf' : OnShelf) (before after : Lent) (x : Request × Input) (takes : TakesAll words shelf shelf' (Ok x)) (back : AreBack before after)
-    (idle : days_of x.0 ≡ 0 → Untold before after) where
+    (idle : IsIdle x.0 → Untold before after) where
   accepted_is : (slots : Slot → List ℕ) → Tells shelf.left slots → accepted words slots ≡ Ok takes.input.job
   accepted_is slots tells =
       let P : Option Request → Type 0 = λ q. (asked q >>= (λ request. job_of request slots)) ≡ Ok takes.input.job in
@@ -80,8 +80,8 @@ module _ (words : List (List ℕ)) (shelf shelf' : OnShelf) (before after : Lent
   good : IsNone (request_of words) → ⊥
   good none = no_none x.0 (subst IsNone takes.asked none)
 
-  idle_day : RunsNoDay (request_of words) → Untold before after
-  idle_day none = idle (no_days x.0 (subst RunsNoDay takes.asked none))
+  asks_none : AsksNobody (request_of words) → Untold before after
+  asks_none none = idle (subst AsksNobody takes.asked none)
 
   all_read : (slots : Slot → List ℕ) → Tells shelf.left slots → (slot : Slot) → Contains (slots_read (request_of words)) slot → shelf'.left slot ≡ Some []
   all_read slots tells slot among =
@@ -103,7 +103,7 @@ module _ (words : List (List ℕ)) (shelf shelf' : OnShelf) (before after : Lent
         others = others_kept shelf shelf' (Ok x) (request_of words) takes.slots;
         counts = none_fell shelf shelf' (Ok x) (request_of words) takes.slots;
         back = back;
-        no_day = idle_day;
+        idle = asks_none;
         complete = λ slots tells fits none.
             ending_done takes.input.job before after reply.exit reply.text.items ending (subst (λ (a : Result Job Stop). IsOkAnd a FitsAnswers) (accepted_is slots tells) fits);
       }
@@ -118,7 +118,7 @@ module _ (words : List (List ℕ)) (shelf shelf' : OnShelf) (before after : Lent
     others = others_kept shelf shelf' (Ok x) (request_of words) takes.slots;
     counts = none_fell shelf shelf' (Ok x) (request_of words) takes.slots;
     back = back;
-    no_day = idle_day;
+    idle = asks_none;
     complete = λ slots tells fits none. tt;
   }
 
@@ -194,7 +194,7 @@ module _ (words : List (List ℕ)) (shelf shelf' : OnShelf) (before : Lent) wher
     others = others_kept shelf shelf' _ (request_of words) takes.slots;
     counts = none_fell shelf shelf' _ (request_of words) takes.slots;
     back = back_untouched before;
-    no_day = λ none name. refl;
+    idle = λ none name. refl;
     complete = λ slots tells fits none. absurd (no_stop (request_of words) slots stop reply.exit reply.text.items takes.slots (takes.stop slots tells) by fits none);
   }
   replies_stopped stop (Err e) takes by = record {
@@ -208,6 +208,6 @@ module _ (words : List (List ℕ)) (shelf shelf' : OnShelf) (before : Lent) wher
     others = others_kept shelf shelf' _ (request_of words) takes.slots;
     counts = none_fell shelf shelf' _ (request_of words) takes.slots;
     back = back_untouched before;
-    no_day = λ none name. refl;
+    idle = λ none name. refl;
     complete = λ slots tells fits none. tt;
   }

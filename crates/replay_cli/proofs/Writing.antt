@@ -58,7 +58,7 @@ module _ {E : Type 0} (words : List (List ℕ)) (before after : Around) (counts 
           counts = record { reads = replies.counts; writes = counts };
           back = replies.back;
           untold = replies.untold;
-          no_day = replies.no_day;
+          idle = replies.idle;
         }
 
     pub failed : AppendsPrefix before.sink.held after.sink.held bytes → Rose before.sink.faults after.sink.faults → IsRun words before after exits.WriteFault
@@ -78,7 +78,7 @@ module _ {E : Type 0} (words : List (List ℕ)) (before after : Around) (counts 
       counts = record { reads = replies.counts; writes = counts };
       back = replies.back;
       untold = λ is. absurd (false≢true is);
-      no_day = replies.no_day;
+      idle = replies.idle;
     }
 
     pub cut : AppendsPrefix before.sink.held after.sink.held bytes → IsRun words before after exits.NoMemory
@@ -98,7 +98,7 @@ module _ {E : Type 0} (words : List (List ℕ)) (before after : Around) (counts 
       counts = record { reads = replies.counts; writes = counts };
       back = replies.back;
       untold = λ is. absurd (false≢true is);
-      no_day = replies.no_day;
+      idle = replies.idle;
     }
 
   -- there was no memory for the reply
@@ -119,5 +119,5 @@ module _ {E : Type 0} (words : List (List ℕ)) (before after : Around) (counts 
     counts = record { reads = replies.counts; writes = counts };
     back = replies.back;
     untold = λ is. absurd (false≢true is);
-    no_day = replies.no_day;
+    idle = replies.idle;
   }

@@ -17,7 +17,7 @@ use Rattle.request.specs.Modes.{slots_of}
 use Rattle.request.specs.Request.{IsRequest, request_of}
 use Rattle.request.specs.declared.request.Request.{Request}
 use Rattle.shelf_io.specs.Faults.{NoneFell, Rose}
-use Rattle.replay_cli.specs.Outcome.{IsOutcome, NamesFault, RunsNoDay, slots_read}
+use Rattle.replay_cli.specs.Outcome.{AsksNobody, IsOutcome, NamesFault, slots_read}
 use Rattle.replay_cli.specs.Run.{KeepsOthers}
 
 -- what stops the reading of the words
@@ -53,6 +53,6 @@ pub record Replies {E : Type 0} (words : List (List ℕ)) (shelf shelf' : OnShel
   pub others : KeepsOthers (slots_read (request_of words)) shelf shelf'
   pub counts : NoneFell shelf.faults shelf'.faults
   pub back : AreBack before after
-  pub no_day : RunsNoDay (request_of words) → Untold before after
+  pub idle : AsksNobody (request_of words) → Untold before after
   pub complete : (slots : Slot → List ℕ) → Tells shelf.left slots → IsOkAnd (accepted words slots) FitsAnswers
       → ((slot : Slot) → ¬ Rose (shelf.faults slot) (shelf'.faults slot)) → IfOk result (λ reply. reply.exit ≡ Done)

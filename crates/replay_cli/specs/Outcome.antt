@@ -1,5 +1,5 @@
 -- How a run ends and what it writes, by its words and the slots' bytes.
-use Rattle.std.specs.Prelude.{◌≡◌, ◌⊎◌, ℕ, Bool, true, List, [], Option, None, Some, Result, Ok, Err, IsSome, IsTrue, not}
+use Rattle.std.specs.Prelude.{◌≡◌, ◌⊎◌, ℕ, List, [], Option, None, Some, Result, Ok, Err, IsSome, ⊤}
 use Rattle.admit_core.specs.declared.slot.Slot.{Slot}
 use Rattle.intake.specs.Input.{Job, accepted}
 use Rattle.intake.specs.Shelves.{IsFaultAt, OnShelf}
@@ -8,9 +8,10 @@ use Rattle.intake.specs.declared.stop.Stop.{Stop}
 use Rattle.intake.specs.declared.stop.Stop.TheVariants as stops
 use Rattle.modes.specs.Endings.{IsEnding}
 use Rattle.modes.specs.Exits.{exit_of}
+use Rattle.modes.specs.Jobs.{IsIdle}
 use Rattle.modes.specs.declared.exit.Exit.{Exit}
 use Rattle.played.specs.Lent.{Lent, Untold}
-use Rattle.request.specs.Modes.{runs_days, slots_of}
+use Rattle.request.specs.Modes.{slots_of}
 use Rattle.request.specs.Request.{request_of}
 use Rattle.request.specs.declared.request.Request.{Request}
 
@@ -34,10 +35,10 @@ abbrev pub slots_read : Option Request → List Slot
 slots_read None = []
 slots_read (Some request) = slots_of request.mode
 
--- the modes that run no day
-abbrev pub RunsNoDay : Option Request → Type 0
-RunsNoDay None = Unit {0}
-RunsNoDay (Some request) = IsTrue (not (runs_days request.mode))
+-- what is asked for runs no day, and asks no picker after its days
+abbrev pub AsksNobody : Option Request → Type 0
+AsksNobody None = ⊤
+AsksNobody (Some request) = IsIdle request
 
 -- the line of a slot that is read and could not be: its count rose, and those read before it have their sizes and shapes
 pub record NamesFault (request : Option Request) (before after : OnShelf) (line : List ℕ) : Type 0 where

@@ -8,13 +8,12 @@ use Rattle.modes.specs.Exits.{asks_nobody, is_answer}
 use Rattle.modes.specs.Jobs.{FitsAnswers}
 use Rattle.modes.specs.declared.exit.Exit.{Exit}
 use Rattle.modes.specs.declared.exit.Exit.TheVariants.{BadWords, Done, NoMemory, ReadFault, WriteFault}
-use Rattle.played.specs.Lent.{AreBack, Lent, Untold, lent}
-use Rattle.played.specs.declared.pickers.Pickers.{Pickers}
+use Rattle.played.specs.Lent.{AreBack, Lent, Untold}
 use Rattle.request.specs.Request.{request_of}
 use Rattle.request.specs.declared.request.Request.{Request}
 use Rattle.shelf_io.specs.Bytes.{AppendsPrefix}
 use Rattle.shelf_io.specs.Faults.{NoneFell, Rose}
-use Rattle.replay_cli.specs.Outcome.{IsOutcome, NamesFault, RunsNoDay, slots_read}
+use Rattle.replay_cli.specs.Outcome.{AsksNobody, IsOutcome, NamesFault, slots_read}
 
 -- the bytes that a sink holds, where it tells them, and how often its writes have failed
 pub record AtSink : Type 0 where
@@ -23,10 +22,6 @@ pub record AtSink : Type 0 where
 
 abbrev pub at_sink : {K : Type 0} → (K → Option (List ℕ)) → (K → ℕ) → K → AtSink
 at_sink held faults sink = record { held = held sink; faults = faults sink }
-
--- the pickers as they stand, by what a picker has told and how it chooses
-abbrev pub standing : {X : Type 0} {F : X → Type 0} → ((x : X) × F x → List ℕ) → ((x : X) × F x → List ℕ → List ℕ → ℕ) → Pickers X F → Lent
-standing told choice = lent (λ p. told (p.vtable, p.value)) (λ p. choice (p.vtable, p.value))
 
 -- what stands around a run, before it or after it
 pub record Around : Type 0 where
@@ -94,4 +89,4 @@ pub record IsRun (words : List (List ℕ)) (before after : Around) (exit : Exit)
   pub counts : NoCountFell before after
   pub back : AreBack before.pickers after.pickers
   pub untold : IsTrue (asks_nobody exit) → Untold before.pickers after.pickers
-  pub no_day : RunsNoDay (request_of words) → Untold before.pickers after.pickers
+  pub idle : AsksNobody (request_of words) → Untold before.pickers after.pickers

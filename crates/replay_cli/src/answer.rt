@@ -4,10 +4,9 @@ ghost use Rattle.intake.specs.Dated.{terms_in};
 ghost use Rattle.intake.specs.Input.{IsInputOf, IsJobOf, Job};
 ghost use Rattle.intake.specs.Shelves.{on_shelf};
 ghost use Rattle.modes.specs.Endings.{IsEnding};
-ghost use Rattle.modes.specs.Jobs as Jobs;
-ghost use Rattle.played.specs.Lent.{AreBack, AreThere, Untold};
+ghost use Rattle.modes.specs.Jobs.{IsIdle};
+ghost use Rattle.played.specs.Lent.{AreBack, AreThere, Untold, standing};
 ghost use Rattle.replay_cli.specs.Answering.{Replies, TakesAll};
-ghost use Rattle.replay_cli.specs.Run.{standing};
 ghost use Rattle.request.specs.Request.{IsRequest};
 
 use admit_core::{OutOfMemory, Terms};
@@ -50,7 +49,7 @@ fn play_out(
 
     ensures there { AreThere pickers.new }
     ensures back { AreBack (standing (λ p. told p) (λ p. choice p) pickers.old) (standing (λ p. told p) (λ p. choice p) pickers.new) }
-    ensures idle { Jobs.days_of request.now ≡ 0 → Untold (standing (λ p. told p) (λ p. choice p) pickers.old) (standing (λ p. told p) (λ p. choice p) pickers.new) }
+    ensures idle { IsIdle request.now → Untold (standing (λ p. told p) (λ p. choice p) pickers.old) (standing (λ p. told p) (λ p. choice p) pickers.new) }
     ensures ends { (job : Job) → IsJobOf request.now job → IsInputOf job input.now → IfOk result (λ reply. IsEnding job
         (standing (λ p. told p) (λ p. choice p) pickers.old) (standing (λ p. told p) (λ p. choice p) pickers.new)
         reply.exit reply.text.items) }
@@ -66,7 +65,7 @@ fn play_out(
         request.picker,
         pickers,
     )?;
-    ending(alloc, request, input, dated, &played)
+    ending(alloc, request, input, dated, &played, pickers)
 }
 
 /// What a run answers, before anything is written.

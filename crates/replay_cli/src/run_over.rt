@@ -1,8 +1,8 @@
 //! One run of the program, over any shelf and any sink.
 ghost use Rattle.std.specs.Prelude.{map, string_bytes};
 ghost use Rattle.intake.specs.Shelves.{on_shelf};
-ghost use Rattle.played.specs.Lent.{AreThere};
-ghost use Rattle.replay_cli.specs.Run.{IsRun, at_sink, standing};
+ghost use Rattle.played.specs.Lent.{AreThere, standing};
+ghost use Rattle.replay_cli.specs.Run.{IsRun, at_sink};
 
 use crate::answer::answer;
 use modes::Exit;

@@ -1,4 +1,4 @@
--- The tables by mode: its word, the slots that it reads, whether it runs days, and what it names.
+-- The tables by mode: its word, the slots that it reads, whether it runs days and picks after them, and what it names.
 use Rattle.std.specs.Prelude.{ℕ, ◌≤◌, Bool, true, false, List, [], ◌∷◌, ◌++◌, Option, Some, None, IfSome, codes, option_map, ⊤}
 use Rattle.std.specs.Fmt.{decimal}
 use Rattle.std.specs.Option.{option_and_then}
@@ -44,6 +44,10 @@ abbrev pub runs_days : Mode → Bool
 runs_days Order = false
 runs_days Replay = true
 runs_days (Sample number) = true
+
+-- the day whose picker the ending is lent, where so many days are asked for; most modes ask nobody once their days are over
+abbrev pub picks_after : Mode → ℕ → Option ℕ
+picks_after mode days = None
 
 -- what a mode names in the dossier
 abbrev pub named_by : Mode → Option Name

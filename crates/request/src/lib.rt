@@ -8,7 +8,7 @@ mod refusal;
 mod request;
 mod words;
 
-pub use modes::{Mode, Name, named_by, runs_days, sample_of, slots_of};
+pub use modes::{Mode, Name, named_by, picks_after, runs_days, sample_of, slots_of};
 pub use pickers::{PickerChoice, PickerName, picker_on};
 pub use refusal::WordsRefusal;
 pub use request::{Deadlines, Request};

@@ -1,5 +1,5 @@
-//! The modes, and short tables by mode: its word, the slots that it reads, whether it runs days,
-//! and what it names in the dossier.
+//! The modes, and short tables by mode: its word, the slots that it reads, whether it runs days and
+//! picks after them, and what it names in the dossier.
 ghost use Rattle.std.specs.Prelude.{◌≡◌, ◌≢◌, ◌≤◌, [], AllPairs, IfSome};
 ghost use Rattle.request.specs.Modes as Modes;
 ghost use Rattle.request.specs.Modes.{IsMode};
@@ -103,6 +103,16 @@ pub fn runs_days(mode: Mode) -> bool
         Mode::Order => false,
         Mode::Replay => true,
         Mode::Sample { .. } => true,
+    }
+}
+
+/// The day whose picker the ending of a run is lent, where so many days are asked for; most modes
+/// ask nobody once their days are over.
+pub fn picks_after(mode: Mode, days: u32) -> Option<u32>
+    ensures { result ≡ Modes.picks_after mode days }
+{
+    match (mode, days) {
+        _ => None,
     }
 }
 

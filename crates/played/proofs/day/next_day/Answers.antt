@@ -1,5 +1,6 @@
 use Rattle.request.specs.declared.pickers.PickerName.TheVariants.{First, Last, Turn}
-use Rattle.played.proofs.NextDay.{ends_next, only_first, only_last, only_turn}
+use Rattle.played.proofs.Naming.{only_first, only_last, only_turn}
+use Rattle.played.proofs.NextDay.{ends_next}
 use Rattle.played.proofs.day.next_day.Goals as goal
 
 pub returns-in-First-clause-ends : goal.returns-in-First-clause-ends

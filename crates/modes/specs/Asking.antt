@@ -1,0 +1,45 @@
+-- What the ending of a run asks of the picker that it is lent.
+use Rattle.std.specs.Prelude.{◌≡◌, ℕ, ◌++◌, false, List, [], Option, None, Some, Result, Ok, Err, ⊤}
+use Rattle.admit_core.specs.declared.refusal.Refusal.{Refusal}
+use Rattle.day_run.specs.DeskStates.{DeskStates}
+use Rattle.played.specs.Lent.{AreBack, Lent, Untold, is_named}
+use Rattle.played.specs.PlayedDays.{Played}
+use Rattle.request.specs.declared.modes.Mode.{Mode}
+use Rattle.request.specs.declared.pickers.PickerName.{PickerName}
+use Rattle.modes.specs.Jobs.{Seen, picker_after}
+
+-- a picker: what it has told, and what it answers, by what it has told and the places it is asked with
+pub record Asked : Type 0 where
+  pub told : List ℕ
+  pub choice : List ℕ → List ℕ → ℕ
+
+abbrev pub asked : Lent → PickerName → Asked
+asked lent name = record { told = lent.told name; choice = lent.choice name }
+
+-- what the picker that each mode asks tells in the ending; most modes ask nobody
+abbrev pub ArePicks : Mode → Seen → Played → DeskStates → Asked → List ℕ → Type 0
+ArePicks mode seen played desk before picks = picks ≡ []
+
+-- these are the picks that a picker told of
+abbrev pub TellsPicks : (List ℕ → Type 0) → List ℕ → List ℕ → Type 0
+TellsPicks Picks before after = (picks : List ℕ) × Picks picks × (after ≡ before ++ picks)
+
+-- what the picker that is lent tells, where one is
+abbrev pub TellsLent : Option PickerName → (Asked → List ℕ → Type 0) → Lent → Lent → Type 0
+TellsLent None Picks before after = ⊤
+TellsLent (Some name) Picks before after = TellsPicks (Picks (asked before name)) (before.told name) (after.told name)
+
+-- what is told after the days: nothing where they were cut short
+abbrev pub TellsAfter : Result DeskStates Refusal → Seen → Played → Lent → Lent → Type 0
+TellsAfter (Ok desk) seen played = TellsLent (picker_after seen.request) (ArePicks seen.request.mode seen played desk)
+TellsAfter (Err refusal) seen played = Untold
+
+-- no picker but the one that is lent is asked
+abbrev pub AsksNoOther : Option PickerName → Lent → Lent → Type 0
+AsksNoOther None before after = Untold before after
+AsksNoOther (Some name) before after = (other : PickerName) → is_named other name ≡ false → after.told other ≡ before.told other
+
+-- the picker of the name was lent, where one is given: it is back in its place, and the others were not asked
+pub record IsLent (name : Option PickerName) (before after : Lent) : Type 0 where
+  pub back : AreBack before after
+  pub others : AsksNoOther name before after
