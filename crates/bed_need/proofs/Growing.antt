@@ -1,0 +1,36 @@
+-- The greatest bars do not fall where beds and ceilings grow.
+use Rattle.std.proofs.Common.{◌≡◌, ◌∙◌, ℕ, ◌+◌, ◌-◌, ◌<◌, ◌≤◌, List, arith, inl, inr, length, refl, subst, sym, ap}
+use Rattle.std.specs.Prelude.{slice_index}
+use Rattle.std.proofs.lemmas.Bool.{cases_eq}
+use Rattle.admit_core.specs.declared.ranking.CallOrder.{CallOrder}
+use Rattle.admit_core.specs.Boarding.{boarding}
+use Rattle.admit_core.specs.DossierRows.{beds_of}
+use Rattle.admit_core.specs.Falls.{Fits, IsAtMost, IsGreatest}
+use Rattle.admit_core.specs.LeastBeds.{with_beds}
+use Rattle.admit_core.specs.State.{State, bed_holders, free_beds}
+use Rattle.bed_need.specs.BedLaws.{GreatestBarsDoNotFall}
+use Rattle.bed_need.proofs.RoomyBeds.{free_at, free_here, free_there}
+
+module _ (s : State) (orders : List CallOrder) (low high : List ℕ) (h n : ℕ) (long : length low ≡ length s.dossier.schools) (rise : IsAtMost low high) (more : beds_of s.dossier h ≤ n) where
+  more_free : (i : ℕ) → i < length high → slice_index (boarding s orders low).free i ≤ slice_index (boarding (with_beds s h n) orders high).free i
+  more_free i lt =
+      let in_low : i < length low = omega (arith, lt, rise.as_many) in
+      let high_long : length high ≡ length s.dossier.schools = sym rise.as_many ∙ long in
+      let now = free_at s orders low i in_low in
+      elim (cases_eq i h) [
+        | inl same ↦
+            let then = free_here s orders high h n i high_long lt same in
+            let beds : beds_of s.dossier i ≤ n = rw same more in
+            omega (arith, now, then, beds)
+        | inr other ↦ omega (arith, now, free_there s orders high h n i high_long lt other)
+      ]
+
+  still_fits : (bars : List ℕ) → Fits (boarding s orders low) bars → Fits (boarding (with_beds s h n) orders high) bars
+  still_fits bars fits = record {
+    under_ceilings = record { as_many = fits.under_ceilings.as_many ∙ rise.as_many; each = λ i. omega (arith, fits.under_ceilings.each i, rise.each i) };
+    room = λ i lt. omega (arith, fits.room i (omega (arith, lt, rise.as_many)), more_free i lt);
+  }
+
+pub bars_do_not_fall : GreatestBarsDoNotFall
+bars_do_not_fall s orders low high bars more_bars h n long rise more greatest then =
+    then.greatest bars (still_fits s orders low high h n long rise more bars greatest.fits)

@@ -1,0 +1,7 @@
+mod Alike
+mod Growing
+mod Least
+mod Refitting
+mod RoomyBeds
+mod Taking
+mod Telling

@@ -1,0 +1,26 @@
+-- What a picker told.
+use Rattle.std.proofs.Common.{◌≡◌, ◌∙◌, ℕ, List, [], ◌∷◌, ◌++◌, Result, Ok, Err, IfOk, OnErr, ap, append_assoc, subst, sym}
+use Rattle.admit_core.specs.declared.records.PassRecord.{PassRecord}
+use Rattle.admit_core.specs.declared.ranking.CallOrder.{CallOrder}
+use Rattle.admit_core.specs.Boarding.{boarding}
+use Rattle.admit_core.specs.Days.{IsPass}
+use Rattle.admit_core.specs.Falls.{FallingSystem}
+use Rattle.admit_core.specs.State.{State}
+use Rattle.bar_fixpoint.specs.Chosen.{AreChosen, TellsOfFalls}
+use Rattle.bar_law.specs.Runs.{schools_of}
+use Rattle.day_run.specs.DayPasses.{TellsMore}
+use Rattle.day_run.proofs.PassesSoFar.{tells_of_falls}
+use Rattle.bed_need.specs.Telling.{TellsOfBoth, TellsOfRun}
+
+-- of a run it told more
+pub run_more : (sys : FallingSystem) (choice : List ℕ → List ℕ → ℕ) (told after : List ℕ) → TellsOfRun sys choice told after → TellsMore told after
+run_more sys choice told after run = (schools_of run.falls, run.told_of)
+
+-- more, and then more
+pub more_again : (told between after : List ℕ) → TellsMore told between → TellsMore between after → TellsMore told after
+more_again told between after one two = (one.0 ++ two.0, two.1 ∙ ap (λ (l : List ℕ). l ++ two.0) one.1 ∙ append_assoc told one.0 two.0)
+
+-- of the falls of a pass
+pub run_of_pass : (s : State) (orders : List CallOrder) (ceilings : List ℕ) (choice : List ℕ → List ℕ → ℕ) (told after : List ℕ) (pass : PassRecord) → IsPass s orders ceilings pass
+    → after ≡ told ++ schools_of pass.falls → AreChosen (boarding s orders ceilings) choice told ceilings pass.falls → TellsOfRun (boarding s orders ceilings) choice told after
+run_of_pass s orders ceilings choice told after pass is_pass told_of chosen = record { falls = pass.falls; is_run = is_pass.falls; chosen = chosen; told_of = told_of }

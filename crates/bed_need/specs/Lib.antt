@@ -1,0 +1,6 @@
+pub mod BedLaws
+pub mod Growing
+pub mod Needing
+pub mod Refitted
+pub mod Telling
+pub mod Text

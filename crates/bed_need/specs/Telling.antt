@@ -1,0 +1,19 @@
+-- What a picker tells as bars are found.
+use Rattle.std.specs.Prelude.{◌≡◌, ℕ, ◌++◌, List}
+use Rattle.admit_core.specs.declared.records.Fall.{Fall}
+use Rattle.admit_core.specs.Falls.{FallingSystem, IsRun}
+use Rattle.bar_fixpoint.specs.Chosen.{AreChosen}
+use Rattle.bar_law.specs.Runs.{schools_of}
+
+-- a picker told of the schools of a run of falls, each of which it chose
+pub record TellsOfRun (sys : FallingSystem) (choice : List ℕ → List ℕ → ℕ) (told after : List ℕ) : Type 0 where
+  pub falls : List Fall
+  pub is_run : IsRun sys falls
+  pub chosen : AreChosen sys choice told sys.ceilings falls
+  pub told_of : after ≡ told ++ schools_of falls
+
+-- a picker told of a run of one system, and then of a run of another
+pub record TellsOfBoth (one other : FallingSystem) (choice : List ℕ → List ℕ → ℕ) (told after : List ℕ) : Type 0 where
+  pub between : List ℕ
+  pub first : TellsOfRun one choice told between
+  pub second : TellsOfRun other choice between after

@@ -1,0 +1,105 @@
+//! How many beds a school needs.
+ghost use Rattle.std.specs.Prelude.{◌≡◌, ◌+◌, ◌<◌, ◌==◌, if◌then◌else◌, length, IfOk};
+ghost use Rattle.admit_core.specs.Boarding.{boarding};
+ghost use Rattle.admit_core.specs.CallOrder.{AreCallOrders};
+ghost use Rattle.admit_core.specs.Falls.{IsGreatest};
+ghost use Rattle.admit_core.specs.LeastBeds.{IsLeastBeds, rebuilt};
+ghost use Rattle.day_run.specs.DayPasses.{TellsMore};
+ghost use Rattle.bed_need.specs.Growing.{with_n_beds};
+ghost use Rattle.bed_need.specs.Needing.{IsNeed, need_of};
+ghost use Rattle.bed_need.specs.Telling.{TellsOfRun};
+
+use crate::refitted::refitted;
+use admit_core::{CallOrders, Dossier, MAX_NUMBER, OutOfMemory, Stamp};
+use bar_fixpoint::Picker;
+use day_state::DayState;
+use round::pass;
+use std::alloc::Global;
+
+/// The stamp of offers that nobody is made.
+pub(crate) const NO_STAMP: Stamp = Stamp { day: 0, pass: 0 };
+
+/// The beds that a school needs, by how many live there before a pass and after it: none where
+/// nobody comes.
+fn need_of(before: u32, after: u32) -> u32
+    ensures { result ≡ need_of before after }
+{
+    if before == after { 0 } else { after }
+}
+
+/// The beds that a school needs, of a state in which it has enough. The offers are made in it.
+fn need_in(
+    alloc: Global,
+    roomy: &mut DayState<'_>,
+    orders: &CallOrders,
+    ceilings: &[u32],
+    school: u32,
+    picker: &mut dyn Picker,
+) -> Result<u32, OutOfMemory>
+    requires orders { AreCallOrders roomy.old.dossier.groups orders.now.orders }
+    requires ceilings { length ceilings.now ≡ length roomy.old.dossier.schools }
+    requires school { school < length roomy.old.dossier.schools }
+
+    ensures need { IfOk result (IsNeed roomy.old orders.now.orders ceilings.now school) }
+    ensures told { IfOk result (λ _. TellsOfRun (boarding roomy.old orders.now.orders ceilings.now) (choice picker.old) (told picker.old) (told picker.new)) }
+    ensures early { TellsMore (told picker.old) (told picker.new) }
+    ensures choice { choice picker.new ≡ choice picker.old }
+{
+    let dossier = roomy.dossier();
+    let _ = &dossier.wishes; // learns that the dossier is valid
+    let before = roomy.live_in_school(school);
+    pass(alloc, roomy, orders, ceilings, NO_STAMP, picker)?;
+    Ok(need_of(before, roomy.live_in_school(school)))
+}
+
+/// The beds that a school needs, by a state over this dossier, in which it has enough.
+fn need_over(
+    alloc: Global,
+    state: &DayState<'_>,
+    roomy: &Dossier,
+    orders: &CallOrders,
+    ceilings: &[u32],
+    school: u32,
+    picker: &mut dyn Picker,
+) -> Result<u32, OutOfMemory>
+    requires roomy { roomy.now ≡ rebuilt state.now.dossier school 2000000000 }
+    requires orders { AreCallOrders state.now.dossier.groups orders.now.orders }
+    requires ceilings { length ceilings.now ≡ length state.now.dossier.schools }
+    requires school { school < length state.now.dossier.schools }
+
+    ensures need { IfOk result (IsLeastBeds state.now orders.now.orders ceilings.now school) }
+    ensures told { IfOk result (λ _. TellsOfRun (with_n_beds state.now orders.now.orders ceilings.now school 2000000000) (choice picker.old) (told picker.old) (told picker.new)) }
+    ensures early { TellsMore (told picker.old) (told picker.new) }
+    ensures choice { choice picker.new ≡ choice picker.old }
+{
+    let dossier = state.dossier();
+    let _ = &dossier.wishes; // learns that the dossier is valid
+    let mut refitted = refitted(alloc, state, roomy, school, MAX_NUMBER)?;
+    need_in(alloc, &mut refitted, orders, ceilings, school, picker)
+}
+
+/// The least number of beds with which the bar of a school stays at its ceiling: with so many, nobody
+/// who is called and ranks within the ceiling lacks a bed.
+///
+/// One pass over a school with 2,000,000,000 beds tells who comes. The picker chooses the order of its
+/// falls, and nothing of the answer.
+pub fn least_beds(
+    alloc: Global,
+    state: &DayState<'_>,
+    orders: &CallOrders,
+    ceilings: &[u32],
+    school: u32,
+    picker: &mut dyn Picker,
+) -> Result<u32, OutOfMemory>
+    requires orders { AreCallOrders state.now.dossier.groups orders.now.orders }
+    requires ceilings { length ceilings.now ≡ length state.now.dossier.schools }
+    requires school { school < length state.now.dossier.schools }
+
+    ensures need { IfOk result (IsLeastBeds state.now orders.now.orders ceilings.now school) }
+    ensures told { IfOk result (λ _. TellsOfRun (with_n_beds state.now orders.now.orders ceilings.now school 2000000000) (choice picker.old) (told picker.old) (told picker.new)) }
+    ensures early { TellsMore (told picker.old) (told picker.new) }
+    ensures choice { choice picker.new ≡ choice picker.old }
+{
+    let roomy = state.dossier().with_beds(alloc, school, MAX_NUMBER)?;
+    need_over(alloc, state, &roomy, orders, ceilings, school, picker)
+}
