@@ -1,0 +1,3 @@
+pub mod LastPasses
+pub mod Laws
+pub mod Sayings
