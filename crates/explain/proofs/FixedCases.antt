@@ -13,7 +13,7 @@ use Rattle.admit_core.proofs.OneOrder.{same_order}
 use Rattle.day_run.specs.DayLaws.{SameButFalls}
 use Rattle.day_run.specs.DayPasses.{last_opening, stamp_of}
 use Rattle.day_run.proofs.SameDays.{campaigns_are_fixed, only_falls_differ}
-use Rattle.explain.specs.LastPasses.{last_of, last_pass}
+use Rattle.day_run.specs.LastPasses.{last_of, last_pass}
 use Rattle.explain.specs.Laws.{CampaignsFixThem, DaysFixThem}
 
 -- the last bars are the same

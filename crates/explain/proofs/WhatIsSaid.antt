@@ -25,7 +25,7 @@ use Rattle.day_state.proofs.Change.{wish_valid}
 use Rattle.day_state.proofs.Places.{entries_by_place, entry_in}
 use Rattle.day_state.specs.Kept.{mark_in, wish_in}
 use Rattle.round.proofs.OfferLaws.{lowered_for_beds}
-use Rattle.explain.specs.LastPasses.{IsLastPass, IsOfDossier}
+use Rattle.day_run.specs.LastPasses.{IsLastPass, IsOfDossier}
 use Rattle.explain.specs.Sayings.{Explains, IsCause, Says, explanation_at}
 use Rattle.explain.proofs.FullSchools.{beds_taken}
 use Rattle.explain.proofs.OneCase.{waits_else, when_barred, when_gone, when_live, when_seatless}

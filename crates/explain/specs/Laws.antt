@@ -1,5 +1,5 @@
 -- The laws of explanations.
-use Rattle.std.specs.Prelude.{◌≡◌, ◌↔◌, ℕ, not, List, length, map, Option, Some, Ok, IsTrue, slice_index}
+use Rattle.std.specs.Prelude.{◌≡◌, ◌↔◌, ℕ, not, List, length, map, Option, Some, IsTrue, slice_index}
 use Rattle.std.specs.List.{range_with_len}
 use Rattle.admit_core.specs.declared.dossier.Wish.{Wish}
 use Rattle.admit_core.specs.declared.explanation.Explanation.{Explanation}
@@ -14,9 +14,8 @@ use Rattle.admit_core.specs.Proposals.{is_barred}
 use Rattle.admit_core.specs.Days.{Days, IsDay, ceilings_of}
 use Rattle.admit_core.specs.EveningLaws.{last_bars}
 use Rattle.admit_core.specs.Explanations.{LastPass, cause_of, explained, explanation, no_seat}
-use Rattle.day_run.specs.CampaignDays.{EndsNextDay, Stage}
 use Rattle.day_run.specs.RunDay.{IsDayDone, Moment}
-use Rattle.explain.specs.LastPasses.{IsLastPass, last_of, last_pass, pass_of}
+use Rattle.day_run.specs.LastPasses.{IsLastPass, last_of, last_pass}
 use Rattle.explain.specs.Sayings.{explanation_at}
 
 -- each case by a condition of its own: what it takes for a wish that has the mark now in the evening, and had m in the opening
@@ -68,14 +67,6 @@ DesksEndSo =
     → length ceilings ≡ length before.desk.present.dossier.schools
     → IsDayDone terms orders ceilings day before done after
     → IsLastPass (last_pass after.desk.opening orders ceilings (last_bars done.passes)) after.desk.present
-
--- and the next day of a campaign
-abbrev pub CampaignsEndSo : Type 0
-CampaignsEndSo =
-    (before after : Stage) (done : DayRecord)
-    → AreCallOrders before.course.present.dossier.groups before.course.orders
-    → EndsNextDay before after (Ok done)
-    → IsLastPass (pass_of after.course) after.course.present
 
 -- whichever schools were picked, days of one number from one evening are explained alike
 abbrev pub DaysFixThem : Type 0

@@ -1,3 +1,2 @@
-pub mod LastPasses
 pub mod Laws
 pub mod Sayings

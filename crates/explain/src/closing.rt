@@ -3,7 +3,8 @@ ghost use Rattle.std.specs.Prelude.{◌≡◌, ◌≤◌, ◌<◌, length};
 ghost use Rattle.std.specs.Option.{ForSome};
 ghost use Rattle.admit_core.specs.Proposals.{order_of};
 ghost use Rattle.day_state.specs.Kept.{wish_in};
-ghost use Rattle.explain.specs.LastPasses.{IsOfDossier, last_pass, pass_of};
+ghost use Rattle.day_run.specs.LastPasses.{IsOfDossier, last_pass};
+ghost use Rattle.day_run.specs.CampaignDays.{pass_of};
 
 use admit_core::{CallOrders, Wish};
 use day_run::{Campaign, Desk};
@@ -23,7 +24,7 @@ pub struct Closing<'p, 'd> {
 
 impl<'p, 'd> Model for Closing<'p, 'd> {
     ghost use Rattle.admit_core.specs.Explanations.{LastPass};
-    ghost use Rattle.explain.specs.LastPasses.{IsOfDossier, last_pass};
+    ghost use Rattle.day_run.specs.LastPasses.{IsOfDossier, last_pass};
 
     ghost Value = { LastPass };
 

@@ -1,11 +1,12 @@
 //! The one case that holds of a wish.
-ghost use Rattle.std.specs.Prelude.{◌≡◌, ◌<◌, length};
+ghost use Rattle.std.specs.Prelude.{◌≡◌, ◌<◌, length, IsTrue};
 ghost use Rattle.std.specs.Option.{ForSome};
 ghost use Rattle.admit_core.specs.State.{is_gone, is_live};
 ghost use Rattle.admit_core.specs.Proposals.{is_barred};
 ghost use Rattle.admit_core.specs.Explanations.{explanation, barred_at, cause_of, no_seat};
 ghost use Rattle.day_state.specs.Kept.{mark_in, wish_in};
-ghost use Rattle.explain.specs.LastPasses.{IsLastPass, last_pass, pass_of};
+ghost use Rattle.day_run.specs.LastPasses.{IsLastPass, last_pass};
+ghost use Rattle.day_run.specs.CampaignDays.{pass_of};
 ghost use Rattle.explain.specs.Sayings.{Explains};
 
 use crate::ahead::{before, count_ahead};
@@ -16,14 +17,14 @@ use day_state::DayState;
 use demand::{is_open, is_waiting, limit_of, mark_at};
 use vacancies::seats_left;
 
-/// Why the wish at a place stands as it does in the evening of a campaign's last day: the one case that
-/// holds. Each day that comes about leaves a campaign with its last pass, as the clause `campaigns` of
-/// `laws_of_explanations` says.
+/// Why the wish at a place stands as it does in the evening of a campaign's last day, which came about:
+/// the one case that holds.
 pub fn explain(campaign: &Campaign<'_>, wish: u32) -> Explanation
-    requires last { IsLastPass (pass_of campaign.now.course) campaign.now.course.present }
+    requires day { IsTrue campaign.now.course.has_day }
     requires wish { wish < length campaign.now.course.present.dossier.wishes }
     ensures { Explains (pass_of campaign.now.course) campaign.now.course.present wish result }
 {
+    let _ = campaign.has_day(); // what its last day left
     let last = Closing::of_campaign(campaign);
     explained(campaign.state(), &last, wish)
 }

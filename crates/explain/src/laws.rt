@@ -1,6 +1,6 @@
 //! The laws of explanations, over definitions alone.
 ghost use Rattle.explain.specs.Laws.{EachHasOne, EachIsListed};
-ghost use Rattle.explain.specs.Laws.{DaysEndSo, DesksEndSo, CampaignsEndSo};
+ghost use Rattle.explain.specs.Laws.{DaysEndSo, DesksEndSo};
 ghost use Rattle.explain.specs.Laws.{DaysFixThem, CampaignsFixThem};
 
 /// The laws of explanations. The call does nothing: its clauses are theorems.
@@ -9,7 +9,6 @@ pub fn laws_of_explanations()
     ensures listed { EachIsListed }
     ensures days { DaysEndSo }
     ensures desks { DesksEndSo }
-    ensures campaigns { CampaignsEndSo }
     ensures fixed_by_days { DaysFixThem }
     ensures fixed_by_campaigns { CampaignsFixThem }
 {}

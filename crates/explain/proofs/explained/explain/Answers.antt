@@ -1,4 +1,4 @@
-use Rattle.explain.specs.LastPasses.{pass_of}
+use Rattle.day_run.specs.CampaignDays.{pass_of}
 use Rattle.explain.proofs.WhatIsSaid.{explains_there}
 use Rattle.explain.proofs.explained.explain.Goals as goal
 

@@ -1,4 +1,4 @@
-use Rattle.explain.specs.LastPasses.{last_pass}
+use Rattle.day_run.specs.LastPasses.{last_pass}
 use Rattle.explain.proofs.WhatIsSaid.{explains_there}
 use Rattle.explain.proofs.explained.explain_on_desk.Goals as goal
 

@@ -1,4 +1,4 @@
-use Rattle.explain.proofs.DayEnds.{campaigns_end_so, days_end_so, desks_end_so}
+use Rattle.explain.proofs.DayEnds.{days_end_so, desks_end_so}
 use Rattle.explain.proofs.FixedCases.{campaigns_fix_them, days_fix_them}
 use Rattle.explain.proofs.ByPlace.{each_is_listed}
 use Rattle.explain.proofs.OneCase.{each_has_one}
@@ -10,7 +10,6 @@ returns c = record {
   listed = each_is_listed;
   days = days_end_so;
   desks = desks_end_so;
-  campaigns = campaigns_end_so;
   fixed_by_days = days_fix_them;
   fixed_by_campaigns = campaigns_fix_them;
 }

@@ -11,7 +11,6 @@ use Rattle.admit_core.specs.Boarding.{boarding}
 use Rattle.admit_core.specs.Days.{closing, freed_after, frees_nothing, morning}
 use Rattle.admit_core.specs.EveningLaws.{last_bars}
 use Rattle.admit_core.specs.Explanations.{LastPass}
-use Rattle.day_run.specs.CampaignDays.{Progress}
 use Rattle.day_run.specs.DayPasses.{last_opening}
 
 -- the orders are those of the dossier, and each school has one ceiling and one bar
@@ -31,10 +30,6 @@ pub record IsLastPass (last : LastPass) (evening : State) : Type 0 where
 
 abbrev pub last_pass : State → List CallOrder → List ℕ → List ℕ → LastPass
 last_pass opening orders ceilings bars = record { opening = opening; orders = orders; ceilings = ceilings; bars = bars }
-
--- the last pass of a campaign
-abbrev pub pass_of : Progress → LastPass
-pass_of p = last_pass p.opening p.orders p.ceilings p.bars
 
 -- the last pass of a day that came after the evening old
 abbrev pub last_of : Option Terms → List CallOrder → List ℕ → State → DayRecord → LastPass
