@@ -1,2 +1,3 @@
+pub mod Ending
 mod Lending
 pub mod Writable

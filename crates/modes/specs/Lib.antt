@@ -1,6 +1,7 @@
 pub mod Asking
 pub mod Endings
 pub mod Exits
+pub mod Explained
 pub mod Jobs
 pub mod Order
 pub mod Replay

@@ -1,12 +1,13 @@
 //! How a run ends after its days, by its mode.
 ghost use Rattle.std.specs.Prelude.{◌≡◌, All, IfOk, IsSome, option_copied};
-ghost use Rattle.std.specs.Result.{ForOk};
-ghost use Rattle.modes.specs.Endings.{EndsAfter, EndsLent, IsEndOf, IsRefusedWith, lines_before};
-ghost use Rattle.modes.specs.Replay.{CanBeDated, CanBeWritten};
+ghost use Rattle.modes.specs.Endings.{CanBeEnded, CanEnd, EndsAfter, EndsLent, IsEndOf, IsRefusedWith, lines_before};
+ghost use Rattle.modes.specs.Jobs.{seen_by};
+ghost use Rattle.modes.specs.Replay.{CanBeWritten};
 ghost use Rattle.played.specs.Lent.{AreThere, choice_in, standing, told_in};
 ghost use Rattle.request.specs.Modes.{picks_after};
 
 use crate::exit::Exit;
+use crate::explained::explained_text;
 use crate::job::picker_after;
 use crate::order::orders_text;
 use crate::replay::{days_text, replay_text};
@@ -40,10 +41,11 @@ fn ended(
     played: &Played<'_>,
     desk: &Desk<'_>,
 ) -> Result<Reply, OutOfMemory>
-    requires days { All (CanBeWritten input.now.dossier (option_copied dated)) played.now.days.items }
-    requires offers { CanBeDated (option_copied dated) desk.now.present }
+    requires { CanBeEnded
+        (seen_by request.now input.now (option_copied dated))
+        (record { orders = played.now.orders.orders; days = played.now.days.items; end = played.now.end }) desk.now }
     ensures { IfOk result (λ reply. IsEndOf request.now.mode
-        (record { request = request.now; dossier = input.now.dossier; index = input.now.index; chain = input.now.chain; dated = option_copied dated.entry })
+        (seen_by request.now input.now (option_copied dated.entry))
         (record { orders = played.now.orders.orders; days = played.now.days.items; end = played.now.end })
         desk.now reply.exit reply.text.items) }
 {
@@ -53,6 +55,10 @@ fn ended(
     match request.mode {
         Mode::Order => Ok(done(orders_text(alloc, dossier.groups.as_slice(), orders)?)),
         Mode::Replay => Ok(done(replay_text(alloc, dossier, dated, orders, days, desk.now())?)),
+        Mode::Explain { wish } => {
+            let text = explained_text(alloc, input, &played.orders, days, desk, wish)?;
+            Ok(done(text))
+        }
         Mode::Sample { number } => {
             let wishes = dossier.wishes.len() as u32;
             Ok(done(sample_text(alloc, number, wishes, days, desk.now())?))
@@ -70,7 +76,7 @@ fn lines_before(
 ) -> Result<Vec<u8>, OutOfMemory>
     requires { All (CanBeWritten input.now.dossier (option_copied dated)) played.now.days.items }
     ensures { IfOk result (λ text. text.items ≡ lines_before request.now.mode
-        (record { request = request.now; dossier = input.now.dossier; index = input.now.index; chain = input.now.chain; dated = option_copied dated.entry })
+        (seen_by request.now input.now (option_copied dated.entry))
         (record { orders = played.now.orders.orders; days = played.now.days.items; end = played.now.end })) }
 {
     let orders = played.orders.orders.as_slice();
@@ -102,9 +108,11 @@ fn cut_short(
     refusal: Refusal,
 ) -> Result<Reply, OutOfMemory>
     requires { All (CanBeWritten input.now.dossier (option_copied dated)) played.now.days.items }
-    ensures { IfOk result (λ reply. let seen = record { request = request.now; dossier = input.now.dossier; index = input.now.index; chain = input.now.chain; dated = option_copied dated.entry } in
-        let days = record { orders = played.now.orders.orders; days = played.now.days.items; end = played.now.end } in
-        IsRefusedWith refusal (lines_before request.now.mode seen days) reply.exit reply.text.items) }
+    ensures { IfOk result (λ reply. IsRefusedWith refusal
+        (lines_before request.now.mode
+            (seen_by request.now input.now (option_copied dated.entry))
+            (record { orders = played.now.orders.orders; days = played.now.days.items; end = played.now.end }))
+        reply.exit reply.text.items) }
 {
     let before = lines_before(alloc, request, input, dated, played)?;
     refused(alloc, before, refusal)
@@ -119,9 +127,12 @@ fn ended_asking(
     desk: &Desk<'_>,
     picker: &mut dyn Picker,
 ) -> Result<Reply, OutOfMemory>
-    requires { IsSome (picks_after request.now.mode request.now.days) }
+    requires asks { IsSome (picks_after request.now.mode request.now.days) }
+    requires can { CanBeEnded
+        (seen_by request.now input.now (option_copied dated))
+        (record { orders = played.now.orders.orders; days = played.now.days.items; end = played.now.end }) desk.now }
     ensures { EndsLent
-        (record { request = request.now; dossier = input.now.dossier; index = input.now.index; chain = input.now.chain; dated = option_copied dated.entry })
+        (seen_by request.now input.now (option_copied dated.entry))
         (record { orders = played.now.orders.orders; days = played.now.days.items; end = played.now.end })
         desk.now
         (record { told = told picker.old; choice = choice picker.old })
@@ -142,10 +153,13 @@ fn ended_lent(
     place: &mut Option<Box<dyn Picker>>,
 ) -> Result<Reply, OutOfMemory>
     requires asks { IsSome (picks_after request.now.mode request.now.days) }
+    requires can { CanBeEnded
+        (seen_by request.now input.now (option_copied dated))
+        (record { orders = played.now.orders.orders; days = played.now.days.items; end = played.now.end }) desk.now }
     requires there { IsSome place.old }
     ensures there { IsSome place.new }
     ensures ends { EndsLent
-        (record { request = request.now; dossier = input.now.dossier; index = input.now.index; chain = input.now.chain; dated = option_copied dated.entry })
+        (seen_by request.now input.now (option_copied dated.entry))
         (record { orders = played.now.orders.orders; days = played.now.days.items; end = played.now.end })
         desk.now
         (record { told = told_in (λ p. told p) place.old; choice = choice_in (λ p. choice p) place.old })
@@ -169,12 +183,13 @@ fn ended_by(
     desk: &Desk<'_>,
     pickers: &mut Pickers,
 ) -> Result<Reply, OutOfMemory>
-    requires days { All (CanBeWritten input.now.dossier (option_copied dated)) played.now.days.items }
-    requires offers { CanBeDated (option_copied dated) desk.now.present }
+    requires can { CanBeEnded
+        (seen_by request.now input.now (option_copied dated))
+        (record { orders = played.now.orders.orders; days = played.now.days.items; end = played.now.end }) desk.now }
     requires there { AreThere pickers.old }
     ensures there { AreThere pickers.new }
     ensures ends { EndsAfter (Ok desk.now)
-        (record { request = request.now; dossier = input.now.dossier; index = input.now.index; chain = input.now.chain; dated = option_copied dated.entry })
+        (seen_by request.now input.now (option_copied dated.entry))
         (record { orders = played.now.orders.orders; days = played.now.days.items; end = played.now.end })
         (standing (λ p. told p) (λ p. choice p) pickers.old) (standing (λ p. told p) (λ p. choice p) pickers.new) result }
 {
@@ -202,12 +217,13 @@ pub fn ending(
     played: &Played<'_>,
     pickers: &mut Pickers,
 ) -> Result<Reply, OutOfMemory>
-    requires days { All (CanBeWritten input.now.dossier (option_copied dated)) played.now.days.items }
-    requires offers { ForOk played.now.end (λ desk. CanBeDated (option_copied dated) desk.present) }
+    requires can { CanEnd
+        (seen_by request.now input.now (option_copied dated))
+        (record { orders = played.now.orders.orders; days = played.now.days.items; end = played.now.end }) }
     requires there { AreThere pickers.old }
     ensures there { AreThere pickers.new }
     ensures ends { EndsAfter played.now.end
-        (record { request = request.now; dossier = input.now.dossier; index = input.now.index; chain = input.now.chain; dated = option_copied dated.entry })
+        (seen_by request.now input.now (option_copied dated.entry))
         (record { orders = played.now.orders.orders; days = played.now.days.items; end = played.now.end })
         (standing (λ p. told p) (λ p. choice p) pickers.old) (standing (λ p. told p) (λ p. choice p) pickers.new) result }
 {
