@@ -86,6 +86,13 @@ module _ (s : State) (orders : List CallOrder) (ceilings : List ℕ) (h : ℕ) (
       let all = count_at_most (λ c. holds_bed new c h) (map (λ w. w.candidate) s.dossier.wishes) in
       omega (arith, holders_after s orders bars stamp h valid, all, length-map s.dossier.wishes (λ w. w.candidate), valid.size.wishes)
 
+  pub few_need : (bars : List ℕ) (need : ℕ) → need ≡ need_of live (live + coming bars) → need ≤ 16000000
+  few_need bars need is =
+      elim (cases_Bool (live == live + coming bars)) [
+        | inl none ↦ let zero_is : need ≡ 0 = rw none at is in rw zero_is (omega arith)
+        | inr some ↦ let all_is : need ≡ live + coming bars = rw some at is in rw all_is (few bars)
+      ]
+
   free_in : (n : ℕ) → slice_index (with_n n).free h ≡ n - live
   free_in n = free_here s orders ceilings h n h long here refl
 

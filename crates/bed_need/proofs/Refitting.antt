@@ -1,5 +1,5 @@
 -- What is found in a state over a dossier with other beds holds of the state itself with these beds.
-use Rattle.std.proofs.Common.{◌≡◌, ◌∙◌, ℕ, ◌+◌, ◌-◌, List, Result, Ok, Err, IfOk, ap, length, refl, subst, sym}
+use Rattle.std.proofs.Common.{◌≡◌, ◌∙◌, ℕ, ◌+◌, ◌-◌, ◌<◌, ◌≤◌, List, Result, Ok, Err, IfOk, ap, length, refl, subst, sym}
 use Rattle.admit_core.specs.declared.ranking.CallOrder.{CallOrder}
 use Rattle.admit_core.specs.declared.state.Mark.{Mark}
 use Rattle.admit_core.specs.Boarding.{boarding}
@@ -13,7 +13,7 @@ use Rattle.admit_core.proofs.Rebuilt.{as_many}
 use Rattle.bed_need.specs.Needing.{IsNeed, need_of}
 use Rattle.bed_need.specs.Refitted.{AreAlike, IsRefitted}
 use Rattle.bed_need.proofs.Alike.{same_holders, same_system}
-use Rattle.bed_need.proofs.Least.{needs_least}
+use Rattle.bed_need.proofs.Least.{few_need, needs_least}
 
 -- a state over a dossier that is known
 made : (d e : DossierRows) (ms : List Mark) (P : State → Type 0) → d ≡ e → P (record { dossier = e; marks = ms }) → P (record { dossier = d; marks = ms })
@@ -41,3 +41,6 @@ need_found s t orders ceilings h need is valid in_range long found =
     let greatest = subst (λ (sys : FallingSystem). IsGreatest sys found.bars) same found.greatest in
     needs_least s orders ceilings h valid in_range long found.bars greatest need
     (rw (refitted_holders s t h 2000000000 is, ranks) at found.is)
+
+pub few_needed : (t : State) (orders : List CallOrder) (ceilings : List ℕ) (h need : ℕ) → IsValid t.dossier → h < length t.dossier.schools → length ceilings ≡ length t.dossier.schools → IsNeed t orders ceilings h need → need ≤ 16000000
+few_needed t orders ceilings h need valid in_range long found = few_need t orders ceilings h valid in_range long found.bars need found.is

@@ -1,4 +1,5 @@
 pub mod BedLaws
+pub mod Figures
 pub mod Growing
 pub mod Needing
 pub mod Refitted

@@ -1,8 +1,9 @@
-//! The law of bars as beds grow, over definitions alone.
+//! The laws of beds, over definitions alone.
 ghost use Rattle.bed_need.specs.BedLaws.{GreatestBarsDoNotFall};
+ghost use Rattle.bed_need.specs.Figures.{FiguresAreFixed};
 
-/// What holds of the bars of every valid dossier as beds and ceilings grow. The call does nothing: its
-/// clause is a theorem.
+/// What holds of beds and bars in every state. The call does nothing: its clauses are theorems.
 pub fn laws_of_beds()
-    ensures { GreatestBarsDoNotFall }
+    ensures bars { GreatestBarsDoNotFall }
+    ensures figures { FiguresAreFixed }
 {}

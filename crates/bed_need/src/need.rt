@@ -1,8 +1,7 @@
 //! How many beds a school needs.
-ghost use Rattle.std.specs.Prelude.{◌≡◌, ◌+◌, ◌<◌, ◌==◌, if◌then◌else◌, length, IfOk};
+ghost use Rattle.std.specs.Prelude.{◌≡◌, ◌<◌, ◌≤◌, length, IfOk};
 ghost use Rattle.admit_core.specs.Boarding.{boarding};
 ghost use Rattle.admit_core.specs.CallOrder.{AreCallOrders};
-ghost use Rattle.admit_core.specs.Falls.{IsGreatest};
 ghost use Rattle.admit_core.specs.LeastBeds.{IsLeastBeds, rebuilt};
 ghost use Rattle.day_run.specs.DayPasses.{TellsMore};
 ghost use Rattle.bed_need.specs.Growing.{with_n_beds};
@@ -68,6 +67,7 @@ fn need_over(
     requires school { school < length state.now.dossier.schools }
 
     ensures need { IfOk result (IsLeastBeds state.now orders.now.orders ceilings.now school) }
+    ensures few { IfOk result (λ need. need ≤ 16000000) }
     ensures told { IfOk result (λ _. TellsOfRun (with_n_beds state.now orders.now.orders ceilings.now school 2000000000) (choice picker.old) (told picker.old) (told picker.new)) }
     ensures early { TellsMore (told picker.old) (told picker.new) }
     ensures choice { choice picker.new ≡ choice picker.old }
@@ -96,6 +96,7 @@ pub fn least_beds(
     requires school { school < length state.now.dossier.schools }
 
     ensures need { IfOk result (IsLeastBeds state.now orders.now.orders ceilings.now school) }
+    ensures few { IfOk result (λ need. need ≤ 16000000) }
     ensures told { IfOk result (λ _. TellsOfRun (with_n_beds state.now orders.now.orders ceilings.now school 2000000000) (choice picker.old) (told picker.old) (told picker.new)) }
     ensures early { TellsMore (told picker.old) (told picker.new) }
     ensures choice { choice picker.new ≡ choice picker.old }

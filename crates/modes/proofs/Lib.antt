@@ -1,3 +1,4 @@
 pub mod Ending
+mod Figuring
 mod Lending
 pub mod Writable

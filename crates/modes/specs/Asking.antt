@@ -5,7 +5,9 @@ use Rattle.day_run.specs.DeskStates.{DeskStates}
 use Rattle.played.specs.Lent.{AreBack, Lent, Untold, is_named}
 use Rattle.played.specs.PlayedDays.{Played}
 use Rattle.request.specs.declared.modes.Mode.{Mode}
+use Rattle.request.specs.declared.modes.Mode.TheVariants.{Beds}
 use Rattle.request.specs.declared.pickers.PickerName.{PickerName}
+use Rattle.modes.specs.Beds.{PicksForFigures}
 use Rattle.modes.specs.Jobs.{Seen, picker_after}
 
 -- a picker: what it has told, and what it answers, by what it has told and the places it is asked with
@@ -18,7 +20,9 @@ asked lent name = record { told = lent.told name; choice = lent.choice name }
 
 -- what the picker that each mode asks tells in the ending; most modes ask nobody
 abbrev pub ArePicks : Mode → Seen → Played → DeskStates → Asked → List ℕ → Type 0
-ArePicks mode seen played desk before picks = picks ≡ []
+ArePicks (Beds school) seen played desk before picks =
+    PicksForFigures seen.dossier seen.index played.orders played.days desk school before.choice before.told picks
+ArePicks _ seen played desk before picks = picks ≡ []
 
 -- these are the picks that a picker told of
 abbrev pub TellsPicks : (List ℕ → Type 0) → List ℕ → List ℕ → Type 0

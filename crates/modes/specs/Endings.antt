@@ -12,8 +12,9 @@ use Rattle.report.specs.RefusalText.{refusal_line}
 use Rattle.report.specs.SampleText.{sample_text}
 use Rattle.request.specs.Request.{IsRequest}
 use Rattle.request.specs.declared.modes.Mode.{Mode}
-use Rattle.request.specs.declared.modes.Mode.TheVariants.{Order, Replay, Explain, Sample}
+use Rattle.request.specs.declared.modes.Mode.TheVariants.{Order, Replay, Explain, Beds, Sample}
 use Rattle.modes.specs.Asking.{ArePicks, Asked, IsLent, TellsAfter, TellsPicks}
+use Rattle.modes.specs.Beds.{TellsFigures}
 use Rattle.modes.specs.Explained.{IsExplained}
 use Rattle.modes.specs.Jobs.{Seen, days_of, dossier, picker_after, seen_of, terms_of}
 use Rattle.modes.specs.Order.{orders_text}
@@ -32,6 +33,8 @@ IsEndOf Order seen played desk = IsDoneWith (orders_text seen.dossier.groups pla
 IsEndOf Replay seen played desk = IsDoneWith (replay_text seen.dossier seen.dated played.orders played.days desk.present)
 IsEndOf (Explain wish) seen played desk exit text =
     (exit ≡ Done) × IsExplained seen.dossier seen.index played.orders played.days desk wish text
+IsEndOf (Beds school) seen played desk exit text =
+    (exit ≡ Done) × TellsFigures seen.dossier seen.index played.orders played.days desk school text
 IsEndOf (Sample number) seen played desk = IsDoneWith (sample_text number (length seen.dossier.wishes) played.days desk.present)
 
 -- what a mode writes before the refusal of an answer that does not fit

@@ -1,4 +1,5 @@
 pub mod Asking
+pub mod Beds
 pub mod Endings
 pub mod Exits
 pub mod Explained

@@ -1,11 +1,12 @@
 //! How a run ends after its days, by its mode.
-ghost use Rattle.std.specs.Prelude.{◌≡◌, All, IfOk, IsSome, option_copied};
+ghost use Rattle.std.specs.Prelude.{◌≡◌, All, IfOk, IsSome, None, option_copied};
 ghost use Rattle.modes.specs.Endings.{CanBeEnded, CanEnd, EndsAfter, EndsLent, IsEndOf, IsRefusedWith, lines_before};
 ghost use Rattle.modes.specs.Jobs.{seen_by};
 ghost use Rattle.modes.specs.Replay.{CanBeWritten};
 ghost use Rattle.played.specs.Lent.{AreThere, choice_in, standing, told_in};
 ghost use Rattle.request.specs.Modes.{picks_after};
 
+use crate::beds::school_text;
 use crate::exit::Exit;
 use crate::explained::explained_text;
 use crate::job::picker_after;
@@ -41,7 +42,8 @@ fn ended(
     played: &Played<'_>,
     desk: &Desk<'_>,
 ) -> Result<Reply, OutOfMemory>
-    requires { CanBeEnded
+    requires alone { picks_after request.now.mode request.now.days ≡ None }
+    requires can { CanBeEnded
         (seen_by request.now input.now (option_copied dated))
         (record { orders = played.now.orders.orders; days = played.now.days.items; end = played.now.end }) desk.now }
     ensures { IfOk result (λ reply. IsEndOf request.now.mode
@@ -59,6 +61,8 @@ fn ended(
             let text = explained_text(alloc, input, &played.orders, days, desk, wish)?;
             Ok(done(text))
         }
+        // Its ending is lent a picker.
+        Mode::Beds { .. } => unreachable!(),
         Mode::Sample { number } => {
             let wishes = dossier.wishes.len() as u32;
             Ok(done(sample_text(alloc, number, wishes, days, desk.now())?))
@@ -120,6 +124,7 @@ fn cut_short(
 
 /// How each mode ends that asks a picker once its days have led to a desk.
 fn ended_asking(
+    alloc: Global,
     request: &Request,
     input: &Input,
     dated: Option<&DatedTerms>,
@@ -139,12 +144,18 @@ fn ended_asking(
         (record { told = told picker.new; choice = choice picker.new }) result }
 {
     match request.mode {
+        Mode::Beds { school } => {
+            let days = played.days.as_slice();
+            let text = school_text(alloc, input, &played.orders, days, desk, school, picker)?;
+            Ok(done(text))
+        }
         _ => unreachable!(),
     }
 }
 
 /// How a mode ends with the picker of this place, which is there again afterwards.
 fn ended_lent(
+    alloc: Global,
     request: &Request,
     input: &Input,
     dated: Option<&DatedTerms>,
@@ -168,7 +179,7 @@ fn ended_lent(
     let Some(mut picker) = place.take() else {
         unreachable!()
     };
-    let reply = ended_asking(request, input, dated, played, desk, &mut *picker);
+    let reply = ended_asking(alloc, request, input, dated, played, desk, &mut *picker);
     *place = Some(picker);
     reply
 }
@@ -196,13 +207,13 @@ fn ended_by(
     match picker_after(request) {
         None => ended(alloc, request, input, dated, played, desk),
         Some(PickerName::First) => {
-            ended_lent(request, input, dated, played, desk, &mut pickers.first)
+            ended_lent(alloc, request, input, dated, played, desk, &mut pickers.first)
         }
         Some(PickerName::Last) => {
-            ended_lent(request, input, dated, played, desk, &mut pickers.last)
+            ended_lent(alloc, request, input, dated, played, desk, &mut pickers.last)
         }
         Some(PickerName::Turn) => {
-            ended_lent(request, input, dated, played, desk, &mut pickers.turn)
+            ended_lent(alloc, request, input, dated, played, desk, &mut pickers.turn)
         }
     }
 }

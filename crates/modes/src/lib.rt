@@ -1,6 +1,7 @@
 //! The modes: how a run ends, each mode's text, and the line of what stopped a run.
 #![tactic(auto)]
 
+mod beds;
 mod endings;
 mod exit;
 mod explained;

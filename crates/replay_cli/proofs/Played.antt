@@ -90,6 +90,7 @@ done_of : (mode : Mode) (seen : Seen) (played : Played) (desk : DeskStates) (exi
 done_of modes.Order seen played desk exit text ends = ends.0
 done_of modes.Replay seen played desk exit text ends = ends.0
 done_of (modes.Explain wish) seen played desk exit text ends = ends.0
+done_of (modes.Beds school) seen played desk exit text ends = ends.0
 done_of (modes.Sample number) seen played desk exit text ends = ends.0
 
 exit_after : (end : Result DeskStates Refusal) (seen : Seen) (played : Played) (exit : Exit) (text : List ℕ) → EndsWith end seen played exit text → (exit ≡ exits.Done) ⊎ (exit ≡ exits.Refused)

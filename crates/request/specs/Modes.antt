@@ -7,7 +7,7 @@ use Rattle.admit_core.specs.declared.slot.Slot.TheVariants.{Groups, Programmes, 
 use Rattle.clap.specs.Words.{Text}
 use Rattle.dossier_csv.specs.Columns.{choice}
 use Rattle.request.specs.declared.modes.Mode.{Mode}
-use Rattle.request.specs.declared.modes.Mode.TheVariants.{Order, Replay, Explain, Sample}
+use Rattle.request.specs.declared.modes.Mode.TheVariants.{Order, Replay, Explain, Beds, Sample}
 use Rattle.request.specs.declared.modes.Name.{Name}
 use Rattle.request.specs.declared.modes.Name.TheVariants.{Wish, School}
 use Rattle.request.specs.declared.modes.Numbers.{Numbers}
@@ -22,6 +22,7 @@ modes_by_word numbers =
     (codes "order", Some Order) ∷
     (codes "replay", Some Replay) ∷
     (codes "explain", option_map (λ wish. Explain wish) numbers.wish) ∷
+    (codes "beds", option_map (λ school. Beds school) numbers.school) ∷
     (codes "sample", option_map (λ number. Sample number) numbers.number) ∷ []
 
 -- the mode of a word, with what it needs
@@ -52,11 +53,13 @@ runs_days _ = true
 
 -- the day whose picker the ending is lent, where so many days are asked for; most modes ask nobody once their days are over
 abbrev pub picks_after : Mode → ℕ → Option ℕ
-picks_after mode days = None
+picks_after (Beds school) days = Some days
+picks_after _ days = None
 
 -- what a mode names in the dossier
 abbrev pub named_by : Mode → Option Name
 named_by (Explain wish) = Some (Wish wish)
+named_by (Beds school) = Some (School school)
 named_by _ = None
 
 -- the words for it in a line

@@ -16,6 +16,9 @@ pub enum Mode {
     Replay,
     /// Explains why a wish, named by its id, stands as it does after the days.
     Explain { wish: u32 },
+    /// Says how many beds a school, named by its id, needs so that its bar stays at its ceiling in the
+    /// last pass.
+    Beds { school: u32 },
     /// Makes a dossier of so many candidates, from 1 to 1,000,000, and writes a summary of its
     /// days.
     Sample { number: u32 },
@@ -59,6 +62,7 @@ pub(crate) fn mode_of(word: &str, numbers: Numbers) -> Option<Mode>
         "order" => Some(Mode::Order),
         "replay" => Some(Mode::Replay),
         "explain" => numbers.wish.map(|wish| Mode::Explain { wish }),
+        "beds" => numbers.school.map(|school| Mode::Beds { school }),
         "sample" => numbers.number.map(|number| Mode::Sample { number }),
         _ => None,
     }
@@ -113,7 +117,8 @@ pub fn runs_days(mode: Mode) -> bool
 pub fn picks_after(mode: Mode, days: u32) -> Option<u32>
     ensures { result ≡ Modes.picks_after mode days }
 {
-    match (mode, days) {
+    match mode {
+        Mode::Beds { .. } => Some(days),
         _ => None,
     }
 }
@@ -124,6 +129,7 @@ pub fn named_by(mode: Mode) -> Option<Name>
 {
     match mode {
         Mode::Explain { wish } => Some(Name::Wish(wish)),
+        Mode::Beds { school } => Some(Name::School(school)),
         _ => None,
     }
 }

@@ -1,0 +1,91 @@
+//! The mode `beds`: how many beds a school needs in the last pass, and how the bars stand then.
+ghost use Rattle.std.specs.Prelude.{◌≡◌, ◌<◌, ◌≤◌, ◌+◌, ◌-◌, IfOk, IsTrue, length};
+ghost use Rattle.admit_core.specs.CallOrder.{AreCallOrders};
+ghost use Rattle.admit_core.specs.DossierRows.{beds_of};
+ghost use Rattle.admit_core.specs.Lists.{is_among};
+ghost use Rattle.bed_need.specs.Figures.{Figures, TellsOfFigures};
+ghost use Rattle.day_run.specs.DayPasses.{TellsMore};
+ghost use Rattle.modes.specs.Asking.{TellsPicks};
+ghost use Rattle.modes.specs.Beds.{IsOnlyText, IsTextOf, PicksForFigures, TellsFigures};
+ghost use Rattle.played.specs.LastDays.{IsDeskAfter};
+
+use admit_core::{CallOrders, DayRecord, Dossier, OutOfMemory};
+use bar_fixpoint::Picker;
+use bed_need::{beds_text, grown_bars, least_beds};
+use day_run::{Desk, ceilings_on};
+use day_state::DayState;
+use dossier_check::school_place;
+use intake::Input;
+use std::alloc::Global;
+
+/// How many beds the school at a place lacks, of those that it needs.
+fn lacking(dossier: &Dossier, place: u32, need: u32) -> u32
+    requires place { place < length dossier.now.schools }
+    requires need { need ≤ 2000000000 }
+    ensures value { result ≡ need - beds_of dossier.now place }
+    ensures fits { beds_of dossier.now place + result ≤ 2000000000 }
+{
+    need.saturating_sub(dossier.schools.as_slice()[place as usize].beds)
+}
+
+/// The figures of the school at a place: the beds that it needs, and the bars before and after.
+fn figures_text(
+    alloc: Global,
+    dossier: &Dossier,
+    opening: &DayState<'_>,
+    orders: &CallOrders,
+    ceilings: &[u32],
+    place: u32,
+    picker: &mut dyn Picker,
+) -> Result<Vec<u8>, OutOfMemory>
+    requires dossier { opening.now.dossier ≡ dossier.now }
+    requires orders { AreCallOrders opening.now.dossier.groups orders.now.orders }
+    requires ceilings { length ceilings.now ≡ length opening.now.dossier.schools }
+    requires place { place < length opening.now.dossier.schools }
+
+    ensures text { IfOk result (λ text. (figures : Figures)
+        × IsTextOf dossier.now opening.now orders.now.orders ceilings.now place figures text.items
+        × TellsOfFigures opening.now orders.now.orders ceilings.now place figures.need (choice picker.old) (told picker.old) (told picker.new)) }
+    ensures early { TellsMore (told picker.old) (told picker.new) }
+    ensures choice { choice picker.new ≡ choice picker.old }
+{
+    let need = least_beds(alloc, opening, orders, ceilings, place, picker)?;
+    let more = lacking(dossier, place, need);
+    let growth = grown_bars(alloc, opening, orders, ceilings, ceilings, place, more, picker)?;
+    beds_text(alloc, dossier, place, need, &growth)
+}
+
+/// The figures of the school of this id in the last pass. The picker chooses nothing of them.
+pub(crate) fn school_text(
+    alloc: Global,
+    input: &Input,
+    orders: &CallOrders,
+    days: &[DayRecord],
+    desk: &Desk<'_>,
+    school: u32,
+    picker: &mut dyn Picker,
+) -> Result<Vec<u8>, OutOfMemory>
+    requires named { IsTrue (is_among school input.now.index.schools) }
+    requires some_day { 0 < length days.now }
+    requires desk { IsDeskAfter input.now.dossier orders.now.orders days.now desk.now }
+
+    ensures text { IfOk result (λ text. TellsFigures
+        input.now.dossier input.now.index orders.now.orders days.now desk.now school text.items) }
+    ensures only { IfOk result (λ text. IsOnlyText
+        input.now.dossier input.now.index orders.now.orders days.now desk.now school text.items) }
+    ensures picks { IfOk result (λ text. TellsPicks
+        (PicksForFigures input.now.dossier input.now.index orders.now.orders days.now desk.now school (choice picker.old) (told picker.old))
+        (told picker.old) (told picker.new)) }
+    ensures early { TellsMore (told picker.old) (told picker.new) }
+    ensures choice { choice picker.new ≡ choice picker.old }
+{
+    let Some(place) = school_place(&input.index, school) else {
+        unreachable!()
+    };
+    let Some(day) = days.last() else {
+        unreachable!()
+    };
+    let ceilings = ceilings_on(alloc, &input.dossier, day.day)?;
+    let opening = desk.opening();
+    figures_text(alloc, &input.dossier, opening, orders, &ceilings, place, picker)
+}
