@@ -1,5 +1,5 @@
 -- Marks that are alike make one system of bars.
-use Rattle.std.proofs.Common.{◌≡◌, ℕ, ◌+◌, Bool, not, ◌&&◌, ◌||◌, List, [], ◌∷◌, Option, None, Some, ap, filter, find, length, map, nat_le, nat_lt, option_map, refl, zip}
+use Rattle.std.proofs.Common.{◌≡◌, ◌∙◌, ℕ, ◌+◌, Bool, not, ◌&&◌, ◌||◌, List, [], ◌∷◌, Option, None, Some, ap, arith, cond, filter, find, length, map, nat_le, nat_lt, option_map, refl, sym, true, false, zip}
 use Rattle.std.specs.Prelude.{◌==◌, count_by, unwrap_or}
 use Rattle.std.specs.List.{enumerate_from, list_any, range_with_len}
 use Rattle.admit_core.specs.declared.dossier.Wish.{Wish}
@@ -11,6 +11,7 @@ use Rattle.admit_core.specs.Falls.{FallingSystem}
 use Rattle.admit_core.specs.Lists.{ascending}
 use Rattle.admit_core.specs.Proposals.{ahead, before, demanded_ranks, demands_bed, has_open_wish, is_behind_bar, is_open, is_open_in, is_proposed, needs_no_seat, position_of, wants_seat}
 use Rattle.admit_core.specs.State.{State, bed_holders, entries, free_beds, has_school, holds_bed, holds_seat, is_live, is_waiting, seat_holders, seats_left}
+use Rattle.admit_core.proofs.Tests.{count_implied}
 use Rattle.bed_need.specs.Refitted.{AreAlike, IsAlike}
 
 -- tests that agree
@@ -23,8 +24,7 @@ filter_same p q same [] = refl
 filter_same p q same (x ∷ xs) = rw (same x, filter_same p q same xs) refl
 
 count_same : {X : Type 0} (p q : X → Bool) → ((x : X) → p x ≡ q x) → (xs : List X) → count_by p xs ≡ count_by q xs
-count_same p q same [] = refl
-count_same p q same (x ∷ xs) = rw (same x, count_same p q same xs) refl
+count_same p q same xs = omega (arith, count_implied p q (λ x t. sym (same x) ∙ t) xs, count_implied q p (λ x t. same x ∙ t) xs)
 
 map_same : {X Y : Type 0} (f g : X → Y) → ((x : X) → f x ≡ g x) → (xs : List X) → map f xs ≡ map g xs
 map_same f g same [] = refl

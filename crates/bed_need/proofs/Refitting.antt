@@ -1,5 +1,5 @@
 -- What is found in a state over a dossier with other beds holds of the state itself with these beds.
-use Rattle.std.proofs.Common.{◌≡◌, ◌∙◌, ℕ, ◌+◌, ◌-◌, ◌<◌, ◌≤◌, List, Result, Ok, Err, IfOk, ap, length, refl, subst, sym}
+use Rattle.std.proofs.Common.{◌≡◌, ◌∙◌, ℕ, ◌+◌, ◌-◌, ◌<◌, ◌≤◌, List, Result, Ok, Err, IfOk, ap, arith, length, refl, subst, sym}
 use Rattle.admit_core.specs.declared.ranking.CallOrder.{CallOrder}
 use Rattle.admit_core.specs.declared.state.Mark.{Mark}
 use Rattle.admit_core.specs.Boarding.{boarding}
@@ -9,7 +9,7 @@ use Rattle.admit_core.specs.LeastBeds.{IsLeastBeds, rebuilt, with_beds}
 use Rattle.admit_core.specs.Proposals.{demanded_ranks}
 use Rattle.admit_core.specs.State.{State, bed_holders}
 use Rattle.admit_core.specs.Validity.{IsValid}
-use Rattle.admit_core.proofs.Rebuilt.{as_many}
+use Rattle.admit_core.proofs.Rebuilt.{as_many, rebuilt_is_valid}
 use Rattle.bed_need.specs.Needing.{IsNeed, need_of}
 use Rattle.bed_need.specs.Refitted.{AreAlike, IsRefitted}
 use Rattle.bed_need.proofs.Alike.{same_holders, same_system}
@@ -33,7 +33,7 @@ module _ (s t : State) (h n : ℕ) (is : IsRefitted s h n t) where
   refitted_schools = ap (λ (d : DossierRows). length d.schools) is.dossier ∙ as_many s.dossier.schools h n
 
 -- the beds that are needed in a state with enough of them
-pub need_found : (s t : State) (orders : List CallOrder) (ceilings : List ℕ) (h need : ℕ) → IsRefitted s h 2000000000 t → IsValid s.dossier → h < length s.dossier.schools
+need_found : (s t : State) (orders : List CallOrder) (ceilings : List ℕ) (h need : ℕ) → IsRefitted s h 2000000000 t → IsValid s.dossier → h < length s.dossier.schools
     → length ceilings ≡ length s.dossier.schools → IsNeed t orders ceilings h need → IsLeastBeds s orders ceilings h need
 need_found s t orders ceilings h need is valid in_range long found =
     let same = refitted_system s t h 2000000000 is orders ceilings in
@@ -42,5 +42,19 @@ need_found s t orders ceilings h need is valid in_range long found =
     needs_least s orders ceilings h valid in_range long found.bars greatest need
     (rw (refitted_holders s t h 2000000000 is, ranks) at found.is)
 
-pub few_needed : (t : State) (orders : List CallOrder) (ceilings : List ℕ) (h need : ℕ) → IsValid t.dossier → h < length t.dossier.schools → length ceilings ≡ length t.dossier.schools → IsNeed t orders ceilings h need → need ≤ 16000000
-few_needed t orders ceilings h need valid in_range long found = few_need t orders ceilings h valid in_range long found.bars need found.is
+few_found : (s t : State) (orders : List CallOrder) (ceilings : List ℕ) (h need : ℕ) → IsRefitted s h 2000000000 t → IsValid s.dossier → h < length s.dossier.schools
+    → length ceilings ≡ length s.dossier.schools → IsNeed t orders ceilings h need → need ≤ 16000000
+few_found s t orders ceilings h need is valid in_range long found =
+    let schools = refitted_schools s t h 2000000000 is in
+    let also : IsValid t.dossier = subst IsValid (sym is.dossier) (rebuilt_is_valid s.dossier h 2000000000 (omega arith) valid) in
+    few_need t orders ceilings h also (omega (arith, in_range, schools)) (long ∙ sym schools) found.bars need found.is
+
+module _ (s t : State) (orders : List CallOrder) (ceilings : List ℕ) (h : ℕ) (is : IsRefitted s h 2000000000 t) (valid : IsValid s.dossier) (in_range : h < length s.dossier.schools)
+    (long : length ceilings ≡ length s.dossier.schools) where
+  pub all_least : {E : Type 0} (r : Result ℕ E) → IfOk r (IsNeed t orders ceilings h) → IfOk r (IsLeastBeds s orders ceilings h)
+  all_least (Ok need) found = need_found s t orders ceilings h need is valid in_range long found
+  all_least (Err e) found = tt
+
+  pub all_few : {E : Type 0} (r : Result ℕ E) → IfOk r (IsNeed t orders ceilings h) → IfOk r (λ need. need ≤ 16000000)
+  all_few (Ok need) found = few_found s t orders ceilings h need is valid in_range long found
+  all_few (Err e) found = tt

@@ -24,3 +24,8 @@ more_again told between after one two = (one.0 ++ two.0, two.1 ∙ ap (λ (l : L
 pub run_of_pass : (s : State) (orders : List CallOrder) (ceilings : List ℕ) (choice : List ℕ → List ℕ → ℕ) (told after : List ℕ) (pass : PassRecord) → IsPass s orders ceilings pass
     → after ≡ told ++ schools_of pass.falls → AreChosen (boarding s orders ceilings) choice told ceilings pass.falls → TellsOfRun (boarding s orders ceilings) choice told after
 run_of_pass s orders ceilings choice told after pass is_pass told_of chosen = record { falls = pass.falls; is_run = is_pass.falls; chosen = chosen; told_of = told_of }
+
+-- of a run of a system that has another name
+pub run_named : {T E : Type 0} (one other : FallingSystem) (choice : List ℕ → List ℕ → ℕ) (told after : List ℕ) (r : Result T E) → one ≡ other → IfOk r (λ x. TellsOfRun one choice told after)
+    → IfOk r (λ x. TellsOfRun other choice told after)
+run_named one other choice told after r same is = subst (λ (sys : FallingSystem). IfOk r (λ x. TellsOfRun sys choice told after)) same is

@@ -16,7 +16,7 @@ abbrev pub with_more_beds : State → List CallOrder → List ℕ → ℕ → �
 with_more_beds s orders ceilings school more = with_n_beds s orders ceilings school (beds_of s.dossier school + more)
 
 -- the greatest bars under the low ceilings, and those with more beds in a school under the high ones
-pub record IsGrowth (s : State) (orders : List CallOrder) (low high : List ℕ) (school more : ℕ) (before after : List ℕ) : Type 0 where
-  pub before : IsGreatest (boarding s orders low) before
-  pub after : IsGreatest (with_more_beds s orders high school more) after
-  pub rises : IsAtMost before after
+pub record IsGrowth (s : State) (orders : List CallOrder) (low high : List ℕ) (school more : ℕ) (bars grown : List ℕ) : Type 0 where
+  pub before : IsGreatest (boarding s orders low) bars
+  pub after : IsGreatest (with_more_beds s orders high school more) grown
+  pub rises : IsAtMost bars grown

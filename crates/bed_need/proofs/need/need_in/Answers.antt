@@ -1,0 +1,23 @@
+use Rattle.std.proofs.Common.{◌≡◌, ◌∙◌, ◌+◌, ap, length, refl, subst}
+use Rattle.admit_core.specs.Days.{offered}
+use Rattle.admit_core.specs.Proposals.{demanded_ranks}
+use Rattle.admit_core.specs.State.{State, bed_holders}
+use Rattle.admit_core.specs.Validity.{IsValid}
+use Rattle.bed_need.specs.Needing.{need_of}
+use Rattle.bed_need.proofs.Least.{holders_after}
+use Rattle.bed_need.proofs.need.need_in.Goals as goal
+
+pub returns-clause-need : goal.returns-clause-need
+returns-clause-need g c =
+    let s = c.args.roomy.now in
+    let orders = c.args.orders.now.orders in
+    let found = c.in_ok-pass.field-0 in
+    let h = c.args.school in
+    let valid : IsValid s.dossier = subst IsValid (c.dossier.view_is ∙ c.dossier-dossier.ensures) c.dossier.invariant in
+    let live : c.live_in_school.result ≡ length (bed_holders s h) + length (demanded_ranks s orders found.bars h) =
+    c.live_in_school.ensures ∙ ap (λ (t : State). length (bed_holders t h)) c.in_ok-pass.ensures.state ∙ holders_after s orders found.bars _ h valid in
+    record {
+      bars = found.bars;
+      greatest = c.in_ok-pass.ensures.pass.greatest;
+      is = c.need_of.ensures ∙ rw (live, c.live_in_school-before.ensures) refl;
+    }
