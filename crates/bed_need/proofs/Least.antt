@@ -138,12 +138,12 @@ module _ (s : State) (orders : List CallOrder) (ceilings : List ℕ) (h : ℕ) (
         let lawful = boarding_is_lawful (with_beds s h 2000000000) orders ceilings in
         let bars_in : h < length bars = omega (arith, here, greatest.fits.under_ceilings.as_many) in
         let more = length-le_from_is_member nat_eq_equiv (demanded_ranks s orders bars h) (demanded_ranks s orders others h)
-            (rising_distinct (demanded_ranks s orders bars h) (lawful.ascending bars h greatest.fits.under_ceilings bars_in))
-            (λ q t.
-            let demanded = Contains-from_any eqb-true q (demanded_ranks s orders bars h) t in
-            let to_bar = lawful.to_bar bars h q greatest.fits.under_ceilings bars_in demanded in
-            list_any-from_Contains nat_eq_equiv q (demanded_ranks s orders others h)
-            (lawful.stay_demanded others bars h q at_most greatest.fits.under_ceilings others_in demanded (omega (arith, to_bar, at_ceiling, enough.2)))) in
+        (rising_distinct (demanded_ranks s orders bars h) (lawful.ascending bars h greatest.fits.under_ceilings bars_in))
+        (λ q t.
+        let demanded = Contains-from_any eqb-true q (demanded_ranks s orders bars h) t in
+        let to_bar = lawful.to_bar bars h q greatest.fits.under_ceilings bars_in demanded in
+        list_any-from_Contains nat_eq_equiv q (demanded_ranks s orders others h)
+        (lawful.stay_demanded others bars h q at_most greatest.fits.under_ceilings others_in demanded (omega (arith, to_bar, at_ceiling, enough.2)))) in
         omega (arith, more, enough.1.fits.room h here, free_in k)
 
     pub needs_least : (need : ℕ) → need ≡ need_of live (live + coming bars) → IsLeastBeds s orders ceilings h need

@@ -1,5 +1,5 @@
 mod Alike
-mod Growing
+pub mod Growing
 mod Least
 mod Refitting
 mod RoomyBeds

@@ -45,6 +45,11 @@ pub fn beds_text(
     let (id, beds) = (schools[school as usize].id, schools[school as usize].beds);
     let mut text = String::new(alloc);
     writeln!(text, "school {id} beds {beds} need {need}")?;
-    push_bars(&mut text, schools, growth.before.as_slice(), growth.after.as_slice())?;
+    push_bars(
+        &mut text,
+        schools,
+        growth.before.as_slice(),
+        growth.after.as_slice(),
+    )?;
     Ok(text.into_bytes())
 }

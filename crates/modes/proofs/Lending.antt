@@ -1,14 +1,15 @@
 -- The picker that the ending is lent.
 use Rattle.std.proofs.Common.{◌≡◌, ◌∙◌, ℕ, false, List, [], Option, None, Some, Result, Ok, Err, IfOk, refl, subst, sym}
 use Rattle.std.proofs.lemmas.List.{append-nil}
+use Rattle.admit_core.specs.declared.refusal.Refusal.{Refusal}
 use Rattle.day_run.specs.DayPasses.{TellsMore}
 use Rattle.day_run.specs.DeskStates.{DeskStates}
-use Rattle.played.specs.Lent.{Lent}
+use Rattle.played.specs.Lent.{Lent, Untold}
 use Rattle.played.specs.PlayedDays.{Played}
 use Rattle.played.proofs.Naming.{OnlyNamed, back_untouched, each_named}
 use Rattle.request.specs.declared.pickers.PickerName.{PickerName}
-use Rattle.modes.specs.Asking.{ArePicks, IsLent, TellsAfter, TellsLent, asked}
-use Rattle.modes.specs.Endings.{EndsAfter, EndsLent, EndsWith}
+use Rattle.modes.specs.Asking.{ArePicks, IsLent, TellsLent, asked}
+use Rattle.modes.specs.Endings.{EndsAfter, EndsLent, IsRefusedWith, lines_before}
 use Rattle.modes.specs.Jobs.{Seen, picker_after}
 use Rattle.modes.specs.declared.reply.Reply.{Reply}
 
@@ -28,22 +29,21 @@ module _ {E : Type 0} (seen : Seen) (played : Played) (desk : DeskStates) (betwe
     others = only.told;
   }
 
-  pub ends_lent : (name : PickerName) → Some name ≡ picker_after seen.request → OnlyNamed name between after → EndsLent seen played desk (asked between name) (asked after name) result
+  pub ends_lent : (name : PickerName) → EndsLent seen played desk (asked between name) (asked after name) result → OnlyNamed name between after → Some name ≡ picker_after seen.request
       → EndsAfter (Ok desk) seen played between after result
-  ends_lent name is only ends = record {
+  ends_lent name ends only is = record {
     ends = ends.ends;
     tells = subst (λ (n : Option PickerName). IfOk result (λ reply. TellsLent n (ArePicks seen.request.mode seen played desk) between after)) is ends.picks;
     lends = subst (λ (n : Option PickerName). IsLent n between after) is (lent_named name only ends);
   }
 
--- no picker is lent
-pub ends_alone : {E : Type 0} (seen : Seen) (played : Played) (desk : DeskStates) (pickers : Lent) (result : Result Reply E) → None ≡ picker_after seen.request
-    → IfOk result (λ reply. EndsWith (Ok desk) seen played reply.exit reply.text.items) → EndsAfter (Ok desk) seen played pickers pickers result
-ends_alone seen played desk pickers result is ends = record {
-  ends = ends;
-  tells = subst (λ (n : Option PickerName). IfOk result (λ reply. TellsLent n (ArePicks seen.request.mode seen played desk) pickers pickers)) is (told_nothing result);
-  lends = nobody_lent (picker_after seen.request) pickers;
-} where
-  told_nothing : {E : Type 0} (r : Result Reply E) → IfOk r (λ reply. ⊤)
-  told_nothing (Ok reply) = tt
-  told_nothing (Err e) = tt
+-- the days were cut short, and nobody is asked after them
+untold_after : {E : Type 0} (pickers : Lent) (result : Result Reply E) → IfOk result (λ reply. Untold pickers pickers)
+untold_after pickers (Ok reply) = λ name. refl
+untold_after pickers (Err e) = tt
+
+pub ends_cut_short : {E : Type 0} (end : Result DeskStates Refusal) (refusal : Refusal) (seen : Seen) (played : Played) (pickers : Lent) (result : Result Reply E) → end ≡ Err refusal
+    → IfOk result (λ reply. IsRefusedWith refusal (lines_before seen.request.mode seen played) reply.exit reply.text.items) → EndsAfter end seen played pickers pickers result
+ends_cut_short end refusal seen played pickers result is ends =
+    subst (λ (e : Result DeskStates Refusal). EndsAfter e seen played pickers pickers result) (sym is)
+    (record { ends = ends; tells = untold_after pickers result; lends = nobody_lent (picker_after seen.request) pickers })

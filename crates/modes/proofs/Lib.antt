@@ -1,4 +1,4 @@
-pub mod Ending
+pub mod OnDesks
 mod Figuring
 mod Lending
 pub mod Writable

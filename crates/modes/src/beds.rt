@@ -51,7 +51,9 @@ fn figures_text(
 {
     let need = least_beds(alloc, opening, orders, ceilings, place, picker)?;
     let more = lacking(dossier, place, need);
-    let growth = grown_bars(alloc, opening, orders, ceilings, ceilings, place, more, picker)?;
+    let growth = grown_bars(
+        alloc, opening, orders, ceilings, ceilings, place, more, picker,
+    )?;
     beds_text(alloc, dossier, place, need, &growth)
 }
 
@@ -87,5 +89,13 @@ pub(crate) fn school_text(
     };
     let ceilings = ceilings_on(alloc, &input.dossier, day.day)?;
     let opening = desk.opening();
-    figures_text(alloc, &input.dossier, opening, orders, &ceilings, place, picker)
+    figures_text(
+        alloc,
+        &input.dossier,
+        opening,
+        orders,
+        &ceilings,
+        place,
+        picker,
+    )
 }

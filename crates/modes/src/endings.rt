@@ -114,8 +114,8 @@ fn cut_short(
     requires { All (CanBeWritten input.now.dossier (option_copied dated)) played.now.days.items }
     ensures { IfOk result (λ reply. IsRefusedWith refusal
         (lines_before request.now.mode
-            (seen_by request.now input.now (option_copied dated.entry))
-            (record { orders = played.now.orders.orders; days = played.now.days.items; end = played.now.end }))
+        (seen_by request.now input.now (option_copied dated.entry))
+        (record { orders = played.now.orders.orders; days = played.now.days.items; end = played.now.end }))
         reply.exit reply.text.items) }
 {
     let before = lines_before(alloc, request, input, dated, played)?;
@@ -207,13 +207,37 @@ fn ended_by(
     match picker_after(request) {
         None => ended(alloc, request, input, dated, played, desk),
         Some(PickerName::First) => {
-            ended_lent(alloc, request, input, dated, played, desk, &mut pickers.first)
+            ended_lent(
+                alloc,
+                request,
+                input,
+                dated,
+                played,
+                desk,
+                &mut pickers.first,
+            )
         }
         Some(PickerName::Last) => {
-            ended_lent(alloc, request, input, dated, played, desk, &mut pickers.last)
+            ended_lent(
+                alloc,
+                request,
+                input,
+                dated,
+                played,
+                desk,
+                &mut pickers.last,
+            )
         }
         Some(PickerName::Turn) => {
-            ended_lent(alloc, request, input, dated, played, desk, &mut pickers.turn)
+            ended_lent(
+                alloc,
+                request,
+                input,
+                dated,
+                played,
+                desk,
+                &mut pickers.turn,
+            )
         }
     }
 }

@@ -1,0 +1,27 @@
+use Rattle.std.proofs.Common.{◌∙◌, nat_eq, sym}
+use Rattle.dossier_check.proofs.Places.{position-any}
+use Rattle.modes.proofs.Figuring.{all_only, all_picked, all_tell}
+use Rattle.modes.proofs.beds.school_text.Goals as goal
+
+pub unreachable-requires : goal.unreachable-requires
+unreachable-requires g c =
+    let some = position-any (nat_eq c.args.school) c.args.input.now.index.schools c.requires.named in
+    cc (c.in_default.is, c.school_place.ensures, some)
+
+pub returns-clause-text : goal.returns-clause-text
+returns-clause-text g c =
+    all_tell c.args.input.now.dossier c.args.input.now.index c.args.orders.now.orders c.args.days.now c.args.desk.now c.args.school c.in-Some.place c.in-Some-last.day.now (sym c.school_place.ensures ∙ c.in-Some.is)
+    (sym c.in-Some-last.ensures.value) c.requires.desk c.opening-opening.result.now c.deref.result.now _ _ _ c.opening-opening.ensures (c.deref.ensures.value ∙ c.in_ok-ceilings.ensures.ceilings)
+    c.figures_text.ensures.early (λ text. text.items) c.figures_text.result c.figures_text.ensures.text
+
+pub returns-clause-only : goal.returns-clause-only
+returns-clause-only g c =
+    all_only c.args.input.now.dossier c.args.input.now.index c.args.orders.now.orders c.args.days.now c.args.desk.now c.args.school c.in-Some.place c.in-Some-last.day.now (sym c.school_place.ensures ∙ c.in-Some.is)
+    (sym c.in-Some-last.ensures.value) c.requires.desk c.opening-opening.result.now c.deref.result.now _ _ _ c.opening-opening.ensures (c.deref.ensures.value ∙ c.in_ok-ceilings.ensures.ceilings)
+    c.figures_text.ensures.early (λ text. text.items) c.figures_text.result c.figures_text.ensures.text
+
+pub returns-clause-picks : goal.returns-clause-picks
+returns-clause-picks g c =
+    all_picked c.args.input.now.dossier c.args.input.now.index c.args.orders.now.orders c.args.days.now c.args.desk.now c.args.school c.in-Some.place c.in-Some-last.day.now (sym c.school_place.ensures ∙ c.in-Some.is)
+    (sym c.in-Some-last.ensures.value) c.requires.desk c.opening-opening.result.now c.deref.result.now _ _ _ c.opening-opening.ensures (c.deref.ensures.value ∙ c.in_ok-ceilings.ensures.ceilings)
+    c.figures_text.ensures.early (λ text. text.items) c.figures_text.result c.figures_text.ensures.text
