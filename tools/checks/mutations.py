@@ -91,10 +91,23 @@ def change_a_number(fields: list[bytes], by: random.Random) -> None:
         fields[at] = str(max(0, int(fields[at]) + by.choice((-1, 1, 1, 10, -10)))).encode()
 
 
+def swap_in_a_column(rows: list[bytes], by: random.Random) -> None:
+    """Exchanges a value of two rows below the header, which often leaves a dossier that is accepted."""
+    whole = [at for at in range(1, len(rows)) if rows[at]]
+    if len(whole) < 2:
+        return
+    a, b = by.sample(whole, 2)
+    one, other = rows[a].split(b","), rows[b].split(b",")
+    at = by.randrange(min(len(one), len(other)))
+    one[at], other[at] = other[at], one[at]
+    rows[a], rows[b] = b",".join(one), b",".join(other)
+
+
 CHANGES: tuple[Change, ...] = (
     flip_a_bit, drop_bytes, double_bytes, put_odd_bytes, cut_off, rows_changed(drop_a_row), rows_changed(double_a_row),
     rows_changed(swap_rows), fields_changed(drop_a_row), fields_changed(double_a_row), fields_changed(swap_rows),
-    fields_changed(put_an_odd_field), fields_changed(change_a_number), fields_changed(change_a_number))
+    fields_changed(put_an_odd_field), *[fields_changed(change_a_number)] * 4,
+    *[rows_changed(swap_in_a_column)] * 12)
 
 
 def mutated(job: Job, by: random.Random) -> Job:
