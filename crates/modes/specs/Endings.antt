@@ -23,12 +23,15 @@ use Rattle.modes.specs.declared.exit.Exit.TheVariants.{Done, Refused}
 abbrev pub IsDoneWith : List ℕ → Exit → List ℕ → Type 0
 IsDoneWith whole exit text = (exit ≡ Done) × (text ≡ whole)
 
+-- a run is done with a text of which this holds
+abbrev pub IsDoneSaying : (List ℕ → Type 0) → Exit → List ℕ → Type 0
+IsDoneSaying IsText exit text = (exit ≡ Done) × IsText text
+
 -- how each mode ends once all its days have led to a desk
 abbrev pub IsEndOf : Mode → Seen → Played → DeskStates → Exit → List ℕ → Type 0
 IsEndOf Order seen played desk = IsDoneWith (orders_text seen.dossier.groups played.orders)
 IsEndOf Replay seen played desk = IsDoneWith (replay_text seen.dossier seen.dated played.orders played.days desk.present)
-IsEndOf (Explain wish) seen played desk exit text =
-    (exit ≡ Done) × IsExplained seen.dossier seen.index played.orders played.days desk wish text
+IsEndOf (Explain wish) seen played desk = IsDoneSaying (IsExplained seen.dossier seen.index played.orders played.days desk wish)
 IsEndOf (Sample number) seen played desk = IsDoneWith (sample_text number (length seen.dossier.wishes) played.days desk.present)
 
 -- what a mode writes before the refusal of an answer that does not fit
@@ -55,7 +58,7 @@ pub record CanEnd (seen : Seen) (played : Played) : Type 0 where
   pub request : IsRequest seen.request
   pub dated : IfSome seen.dated (AreDatedFor seen.dossier)
   pub named : NamesIn seen.request.mode seen.index
-  pub played : (before : Lent) × (after : Lent) × IsPlayed seen.dossier (terms_in seen.dated) (days_of seen.request) seen.request.picker before played after
+  pub plays : (before : Lent) × (after : Lent) × IsPlayed seen.dossier (terms_in seen.dated) (days_of seen.request) seen.request.picker before played after
 
 -- what all modes may use once the days have led to a desk
 pub record CanBeEnded (seen : Seen) (played : Played) (desk : DeskStates) : Type 0 where
@@ -64,7 +67,7 @@ pub record CanBeEnded (seen : Seen) (played : Played) (desk : DeskStates) : Type
   pub number : length played.days ≡ days_of seen.request
   pub days : All (CanBeWritten seen.dossier seen.dated) played.days
   pub offers : CanBeDated seen.dated desk.present
-  pub desk : IsDeskAfter seen.dossier played.orders played.days desk
+  pub last : IsDeskAfter seen.dossier played.orders played.days desk
 
 -- a job's days were played with these pickers, and the run ends by its mode
 pub record IsEnding (job : Job) (before after : Lent) (exit : Exit) (text : List ℕ) : Type 0 where
