@@ -46,7 +46,7 @@ one_each d None is = tt
 one_each d (Some dated) is = is.one_each
 
 -- how a run ends, by what the modes see of its job
-record Ends (played : Played) (between after : Lent) (exit : Exit) (text : List ℕ) (seen : Seen) : Type 0 where
+pub record Ends (played : Played) (between after : Lent) (exit : Exit) (text : List ℕ) (seen : Seen) : Type 0 where
   pub ends : EndsWith played.end seen played exit text
   pub tells : TellsAfter played.end seen played between after
   pub lends : IsLent (picker_after seen.request) between after
@@ -141,8 +141,9 @@ module _ (request : Request) (known : IsRequest request) (input : Input) (dated 
       job_ends job request input.dossier input.index input.chain input.dates dated before between after played reply.exit reply.text.items is_job.request is_input.dossier is_input.index is_input.chain is_input.dates
       (same ∙ given_is) asked_days (record { ends = ends.ends; tells = ends.tells; lends = ends.lends })
 
--- a run that asks no picker, on its days or after them
-pub untold_idle : (request : Request) (before between after : Lent) → (days_of request ≡ 0 → Untold before between) → IsLent (picker_after request) between after → IsIdle request → Untold before after
-untold_idle request before between after days lends idle =
+-- a run that asks no picker, on its days or after them; told is what the pickers had told before it
+pub untold_idle : (request : Request) (told : PickerName → List ℕ) (between after : Lent) → (days_of request ≡ 0 → (name : PickerName) → between.told name ≡ told name)
+    → IsLent (picker_after request) between after → IsIdle request → (name : PickerName) → after.told name ≡ told name
+untold_idle request told between after days lends idle =
     let ending : Untold between after = subst (λ (name : Option PickerName). AsksNoOther name between after) idle.none_after lends.others in
     λ name. ending name ∙ days (no_days request idle.no_day) name
