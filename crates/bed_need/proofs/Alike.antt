@@ -1,16 +1,16 @@
 -- Marks that are alike make one system of bars.
-use Rattle.std.proofs.Common.{◌≡◌, ◌∙◌, ℕ, ◌+◌, Bool, not, ◌&&◌, ◌||◌, List, [], ◌∷◌, Option, None, Some, ap, arith, cond, filter, find, length, map, nat_le, nat_lt, option_map, refl, sym, true, false, zip}
+use Rattle.std.proofs.Common.{◌≡◌, ◌∙◌, ℕ, ◌+◌, Bool, ◌&&◌, List, [], ◌∷◌, Option, None, Some, ap, arith, cond, filter, find, length, map, option_map, refl, sym, true, false, zip}
 use Rattle.std.specs.Prelude.{◌==◌, count_by, unwrap_or}
 use Rattle.std.specs.List.{enumerate_from, list_any, range_with_len}
 use Rattle.admit_core.specs.declared.dossier.Wish.{Wish}
 use Rattle.admit_core.specs.declared.ranking.CallOrder.{CallOrder}
 use Rattle.admit_core.specs.declared.state.Mark.{Mark}
 use Rattle.admit_core.specs.Boarding.{boarding, name_of}
-use Rattle.admit_core.specs.DossierRows.{candidates_of, limit_of}
+use Rattle.admit_core.specs.DossierRows.{candidates_of}
 use Rattle.admit_core.specs.Falls.{FallingSystem}
 use Rattle.admit_core.specs.Lists.{ascending}
-use Rattle.admit_core.specs.Proposals.{ahead, before, demanded_ranks, demands_bed, has_open_wish, is_behind_bar, is_open, is_open_in, is_proposed, needs_no_seat, position_of, wants_seat}
-use Rattle.admit_core.specs.State.{State, bed_holders, entries, free_beds, has_school, holds_bed, holds_seat, is_live, is_waiting, seat_holders, seats_left}
+use Rattle.admit_core.specs.Proposals.{ahead, before, demanded_ranks, demands_bed, has_open_wish, is_behind_bar, is_open, is_open_in, is_proposed, needs_no_seat, wants_seat}
+use Rattle.admit_core.specs.State.{State, bed_holders, free_beds, has_school, holds_bed, holds_seat, is_live, seats_left}
 use Rattle.admit_core.proofs.Tests.{count_implied}
 use Rattle.bed_need.specs.Refitted.{AreAlike, IsAlike}
 

@@ -1,5 +1,5 @@
 -- The greatest bars do not fall where beds and ceilings grow, and what a school needs is fixed.
-use Rattle.std.proofs.Common.{◌≡◌, ◌∙◌, ℕ, ◌+◌, ◌-◌, ◌<◌, ◌≤◌, List, arith, inl, inr, length, refl, subst, sym, ap}
+use Rattle.std.proofs.Common.{◌≡◌, ◌∙◌, ℕ, ◌<◌, ◌≤◌, List, arith, inl, inr, length, subst, sym}
 use Rattle.std.specs.Prelude.{slice_index}
 use Rattle.std.proofs.lemmas.Bool.{cases_eq}
 use Rattle.std.proofs.lemmas.List.{get_or_default, same_lists}
@@ -8,9 +8,9 @@ use Rattle.admit_core.specs.Boarding.{boarding}
 use Rattle.admit_core.specs.DossierRows.{beds_of}
 use Rattle.admit_core.specs.Falls.{FallingSystem, Fits, IsAtMost, IsGreatest}
 use Rattle.admit_core.specs.LeastBeds.{IsLeastBeds, with_beds}
-use Rattle.admit_core.specs.State.{State, bed_holders, free_beds}
+use Rattle.admit_core.specs.State.{State}
 use Rattle.bed_need.specs.BedLaws.{GreatestBarsDoNotFall}
-use Rattle.bed_need.specs.Figures.{AreFigures, Figures, FiguresAreFixed, lacks}
+use Rattle.bed_need.specs.Figures.{Figures, FiguresAreFixed, lacks}
 use Rattle.bed_need.specs.Growing.{with_more_beds}
 use Rattle.bed_need.proofs.RoomyBeds.{free_at, free_here, free_there}
 

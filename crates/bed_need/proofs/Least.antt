@@ -1,31 +1,26 @@
 -- With those who live in a school and those who come under the greatest bars, a school has exactly enough beds.
-use Rattle.std.proofs.Common.{◌≡◌, ◌∙◌, ℕ, zero, suc, ◌+◌, ◌-◌, ◌<◌, ◌≤◌, Bool, true, false, not, ◌&&◌, List, [], ◌∷◌, ap, arith, cond, filter, if◌then◌else◌, inl, inr, length, map, nat_eq, refl, sym}
+use Rattle.std.proofs.Common.{◌≡◌, ℕ, zero, suc, ◌+◌, ◌-◌, ◌<◌, ◌≤◌, Bool, true, false, not, ◌&&◌, List, [], ◌∷◌, ap, arith, cond, filter, inl, inr, length, map, refl}
 use Rattle.std.specs.Prelude.{◌==◌, slice_index}
-use Rattle.std.specs.List.{list_any}
 use Rattle.std.proofs.lemmas.Bool.{cases_Bool, cases_eq, cases_lt, eq-eqb, eqb-true, ne_eqb}
 use Rattle.std.proofs.lemmas.Cmp.{nat_eq_equiv}
 use Rattle.std.proofs.lemmas.List.{length-map}
 use Rattle.std.proofs.lemmas.Map.Made.{length-le_from_is_member}
 use Rattle.std.proofs.lemmas.Map.Views.{Contains-from_any, list_any-from_Contains}
-use Rattle.admit_core.specs.declared.dossier.Wish.{Wish}
 use Rattle.admit_core.specs.declared.ranking.CallOrder.{CallOrder}
-use Rattle.admit_core.specs.declared.state.Mark.{Mark}
 use Rattle.admit_core.specs.declared.state.Stamp.{Stamp}
 use Rattle.admit_core.specs.Boarding.{boarding}
 use Rattle.admit_core.specs.Days.{offered}
 use Rattle.admit_core.specs.DossierRows.{candidates_of}
-use Rattle.admit_core.specs.Falls.{FallingSystem, Fits, IsAtMost, IsGreatest}
+use Rattle.admit_core.specs.Falls.{FallingSystem, Fits, IsGreatest}
 use Rattle.admit_core.specs.LeastBeds.{AreEnough, IsLeastBeds, with_beds}
-use Rattle.admit_core.specs.Lists.{is_among}
 use Rattle.admit_core.specs.Proposals.{demanded_ranks, is_proposed}
-use Rattle.admit_core.specs.State.{State, bed_holders, changed_to, has_school, holds_bed}
+use Rattle.admit_core.specs.State.{State, bed_holders, has_school, holds_bed}
 use Rattle.admit_core.specs.Validity.{IsValid}
 use Rattle.admit_core.proofs.DemandLaws.{boarding_is_lawful}
 use Rattle.admit_core.proofs.FilledSeats.{live_stays, offer_if}
 use Rattle.admit_core.proofs.FullBeds.{full_below, rising_distinct}
 use Rattle.admit_core.proofs.Holders.{holds_kept}
 use Rattle.day_state.proofs.Counting.{count_at_most}
-use Rattle.round.specs.PassLaws.{new_bed_holders}
 use Rattle.round.proofs.BedLaw.{length-new_bed_holders}
 use Rattle.bed_need.specs.Needing.{need_of}
 use Rattle.bed_need.proofs.RoomyBeds.{free_here, free_there}

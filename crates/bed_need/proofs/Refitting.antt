@@ -1,5 +1,5 @@
 -- What is found in a state over a dossier with other beds holds of the state itself with these beds.
-use Rattle.std.proofs.Common.{◌≡◌, ◌∙◌, ℕ, ◌+◌, ◌-◌, ◌<◌, ◌≤◌, List, Result, Ok, Err, IfOk, ap, arith, length, refl, subst, sym}
+use Rattle.std.proofs.Common.{◌≡◌, ◌∙◌, ℕ, ◌<◌, ◌≤◌, List, Result, Ok, Err, IfOk, ap, arith, length, subst, sym}
 use Rattle.admit_core.specs.declared.ranking.CallOrder.{CallOrder}
 use Rattle.admit_core.specs.declared.state.Mark.{Mark}
 use Rattle.admit_core.specs.Boarding.{boarding}
@@ -10,8 +10,8 @@ use Rattle.admit_core.specs.Proposals.{demanded_ranks}
 use Rattle.admit_core.specs.State.{State, bed_holders}
 use Rattle.admit_core.specs.Validity.{IsValid}
 use Rattle.admit_core.proofs.Rebuilt.{as_many, rebuilt_is_valid}
-use Rattle.bed_need.specs.Needing.{IsNeed, need_of}
-use Rattle.bed_need.specs.Refitted.{AreAlike, IsRefitted}
+use Rattle.bed_need.specs.Needing.{IsNeed}
+use Rattle.bed_need.specs.Refitted.{IsRefitted}
 use Rattle.bed_need.proofs.Alike.{same_holders, same_system}
 use Rattle.bed_need.proofs.Least.{few_need, needs_least}
 

@@ -1,16 +1,15 @@
 -- What a picker told.
-use Rattle.std.proofs.Common.{◌≡◌, ◌∙◌, ℕ, List, [], ◌∷◌, ◌++◌, Result, Ok, Err, IfOk, OnErr, ap, append_assoc, subst, sym}
+use Rattle.std.proofs.Common.{◌≡◌, ◌∙◌, ℕ, List, ◌++◌, Result, IfOk, ap, append_assoc, subst}
 use Rattle.admit_core.specs.declared.records.PassRecord.{PassRecord}
 use Rattle.admit_core.specs.declared.ranking.CallOrder.{CallOrder}
 use Rattle.admit_core.specs.Boarding.{boarding}
 use Rattle.admit_core.specs.Days.{IsPass}
 use Rattle.admit_core.specs.Falls.{FallingSystem}
 use Rattle.admit_core.specs.State.{State}
-use Rattle.bar_fixpoint.specs.Chosen.{AreChosen, TellsOfFalls}
+use Rattle.bar_fixpoint.specs.Chosen.{AreChosen}
 use Rattle.bar_law.specs.Runs.{schools_of}
 use Rattle.day_run.specs.DayPasses.{TellsMore}
-use Rattle.day_run.proofs.PassesSoFar.{tells_of_falls}
-use Rattle.bed_need.specs.Telling.{TellsOfBoth, TellsOfRun}
+use Rattle.bed_need.specs.Telling.{TellsOfRun}
 
 -- of a run it told more
 pub run_more : (sys : FallingSystem) (choice : List ℕ → List ℕ → ℕ) (told after : List ℕ) → TellsOfRun sys choice told after → TellsMore told after

@@ -1,5 +1,5 @@
 -- How a day ends with the picker of the day.
-use Rattle.std.proofs.Common.{◌≡◌, ◌∙◌, ℕ, false, List, [], ◌∷◌, ◌++◌, Result, Ok, Err, ap, subst, sym}
+use Rattle.std.proofs.Common.{◌≡◌, ◌∙◌, ℕ, List, [], ◌∷◌, ◌++◌, Result, Ok, Err, ap, subst, sym}
 use Rattle.std.proofs.lemmas.List.{append-nil}
 use Rattle.admit_core.specs.Days.{ceilings_of}
 use Rattle.admit_core.specs.declared.records.DayRecord.{DayRecord}

@@ -1,9 +1,7 @@
 use Rattle.std.proofs.Common.{◌≡◌, ◌∙◌, ◌+◌, ap, length, refl, subst}
-use Rattle.admit_core.specs.Days.{offered}
 use Rattle.admit_core.specs.Proposals.{demanded_ranks}
 use Rattle.admit_core.specs.State.{State, bed_holders}
 use Rattle.admit_core.specs.Validity.{IsValid}
-use Rattle.bed_need.specs.Needing.{need_of}
 use Rattle.bed_need.proofs.Least.{holders_after}
 use Rattle.bed_need.proofs.need.need_in.Goals as goal
 

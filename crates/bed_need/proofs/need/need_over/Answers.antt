@@ -1,4 +1,4 @@
-use Rattle.std.proofs.Common.{◌≡◌, ◌∙◌, arith, subst, sym}
+use Rattle.std.proofs.Common.{◌∙◌, arith, subst, sym}
 use Rattle.admit_core.specs.Validity.{IsValid}
 use Rattle.bed_need.proofs.Refitting.{all_few, all_least, refitted_schools, refitted_system}
 use Rattle.bed_need.proofs.Telling.{run_named}
