@@ -1,11 +1,12 @@
 -- Which wishes are open, as a list of flags, and what the rules say by it. A fall closes one wish after another; between two of them no bars belong to the flags.
-use Rattle.std.specs.Prelude.{ℕ, Bool, not, ◌&&◌, ◌||◌, List, map, nat_lt, ◌==◌, filter, zip, count_by}
-use Rattle.std.specs.List.{list_any}
+use Rattle.std.specs.Prelude.{ℕ, Bool, not, ◌&&◌, ◌||◌, List, map, nat_lt, ◌==◌, filter, length, zip, count_by}
+use Rattle.std.specs.List.{list_any, range_with_len}
 use Rattle.admit_core.specs.declared.dossier.Wish.{Wish}
 use Rattle.admit_core.specs.declared.state.Mark.{Mark}
 use Rattle.admit_core.specs.declared.ranking.CallOrder.{CallOrder}
 use Rattle.admit_core.specs.State.{State, entries, is_waiting, holds_seat, holds_bed, has_school, seats_left}
 use Rattle.admit_core.specs.Proposals.{is_open, order_of, before, needs_no_seat}
+use Rattle.day_state.specs.Kept.{has_seat_there}
 use Rattle.linked_demand.specs.Line.{LineRow}
 
 -- the open wishes under bars
@@ -23,6 +24,10 @@ is_flagged_in p c x = (is_waiting x.0.1 && x.1) && (x.0.0.candidate == c) && (x.
 -- a candidate wants a seat
 abbrev pub wants_by : State → List Bool → ℕ → ℕ → Bool
 wants_by s opens p c = list_any (is_flagged_in p c) (flagged s opens) && not (holds_seat s c p)
+
+-- whether the candidate of each wish is live in its programme, by place
+abbrev pub lives_of : State → List Bool
+lives_of s = map (has_seat_there s) (range_with_len 0 (length s.dossier.wishes))
 
 -- how many before the wish's candidate want a seat
 abbrev pub ahead_by : State → List CallOrder → List Bool → Wish → ℕ

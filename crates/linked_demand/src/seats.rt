@@ -1,17 +1,18 @@
 //! The lines of all programmes, and what is known of each waiting wish.
-ghost use Rattle.std.specs.Prelude.{◌≡◌, ℕ, ◌<◌, false, length, map, nat_eq, nat_lt, All, Bool, ◌||◌, IfOk, OnOk};
+ghost use Rattle.std.specs.Prelude.{◌≡◌, ℕ, ◌<◌, false, length, map, nat_eq, nat_lt, slice_index_or, All, Bool, ◌||◌, IfOk, OnOk};
 ghost use Rattle.std.specs.List.{IsDistinct};
 ghost use Rattle.admit_core.specs.CallOrder.{AreCallOrders};
 ghost use Rattle.admit_core.specs.Proposals.{order_of};
 ghost use Rattle.demand.specs.Called.{AreCalled};
 ghost use Rattle.linked_demand.specs.Claims.{AreWaiting};
 ghost use Rattle.linked_demand.specs.Links.{claim_of, IsLinked};
-ghost use Rattle.linked_demand.specs.Opens.{wants_by, line_of};
+ghost use Rattle.linked_demand.specs.Opens.{wants_by, line_of, lives_of};
 ghost use Rattle.linked_demand.specs.Seats.{PutAt, AreSeated, is_below, is_passed};
 
 use crate::claims::{Claims, any_open, candidates_of, part, span_of, wants_seat};
 use crate::line::Line;
 use crate::waiting::waiting_by_programme;
+use crate::wishes::wish_count;
 use admit_core::{CallOrders, OutOfMemory};
 use day_state::DayState;
 use demand::{call_everyone, limit_of, order_of, programme_count};
@@ -26,6 +27,27 @@ pub fn call_once(state: &DayState<'_>, orders: &CallOrders)
 {
     let dossier = state.dossier();
     let _ = &dossier.wishes; // learns the invariant
+}
+
+/// Whether the candidate of each wish is live in its programme, by place: a walk along call orders
+/// comes to the wishes in no order, and reads this list where it would read the whole state.
+fn live_flags(alloc: Global, state: &DayState<'_>) -> Result<Vec<bool>, OutOfMemory>
+    ensures { IfOk result (λ v. v.items ≡ lives_of state.now) }
+{
+    let mut flags = Vec::new(alloc);
+    let count = wish_count(state);
+    for place in 0..count {
+        flags.push(state.is_live_in_its_programme(place))?;
+    }
+    Ok(flags)
+}
+
+/// Whether a flag is set.
+fn is_set(flags: &[bool], place: u32) -> bool
+    requires { place < length flags.now }
+    ensures { result ≡ slice_index_or flags.now place false }
+{
+    flags[place as usize]
 }
 
 /// Notes for the wishes of a claim their candidate's place in the line, and whether they need no
@@ -64,6 +86,7 @@ fn wait_for(
     state: &DayState<'_>,
     orders: &CallOrders,
     opens: &[bool],
+    live: &[bool],
     programme: u32,
     wishes: Vec<u32>,
     places: &mut Vec<usize>,
@@ -73,6 +96,7 @@ fn wait_for(
     requires orders { AreCalled state.now.dossier orders.now.orders }
     requires once { IsDistinct nat_eq (order_of state.now.dossier orders.now.orders programme) }
     requires opens { length opens.now ≡ length state.now.dossier.wishes }
+    requires live { live.now ≡ lives_of state.now }
     requires wishes { AreWaiting state.now programme wishes.items }
     requires seated { AreSeated state.now orders.now.orders (is_below programme) places.old.items sure.old.items }
     ensures claims { IfOk result (λ x. x.claims ≡ map (claim_of state.now programme) (line_of state.now orders.now.orders programme)) }
@@ -93,7 +117,7 @@ fn wait_for(
         let span = span_of(&candidates, *candidate);
         let claim = part(&wishes, span);
         if let Some(wish) = claim.first() {
-            let is_live = state.is_live_in_its_programme(*wish);
+            let is_live = is_set(live, *wish);
             let is_sure = is_sure(is_live, before, limit);
             note(places, sure, claim, spans.len(), is_sure);
             wants.push(wants_seat(any_open(claim, opens), is_live))?;
@@ -127,6 +151,7 @@ pub fn seats_of(
     let _ = state.marks(); // one for each wish
     call_everyone(state, orders);
     call_once(state, orders);
+    let live = live_flags(alloc, state)?;
     let count = state.dossier().wishes.len();
     let mut places = vec![in alloc; 0; count]?;
     let mut sure = vec![in alloc; false; count]?;
@@ -141,6 +166,7 @@ pub fn seats_of(
             state,
             orders,
             opens,
+            &live,
             programme,
             wishes,
             &mut places,

@@ -6,9 +6,10 @@ use Rattle.std.specs.List.Sorted.{IsNonDecreasingBy}
 use Rattle.std.proofs.lemmas.Bool.{eqb-true}
 use Rattle.std.proofs.lemmas.List.{length-map, map-append}
 use Rattle.std.proofs.lemmas.List.Elements.{All-push}
+use Rattle.std.proofs.lemmas.List.FromFn.{get_or-map-range_with_len, length-map-range_with_len}
 use Rattle.admit_core.specs.Proposals.{order_of}
 use Rattle.admit_core.specs.State.{holds_seat}
-use Rattle.day_state.specs.Kept.{wish_in, candidate_in}
+use Rattle.day_state.specs.Kept.{wish_in, candidate_in, has_seat_there}
 use Rattle.demand.proofs.Ranking.{picked, passed_over}
 use Rattle.linked_demand.specs.declared.claims.Span.{Span}
 use Rattle.linked_demand.specs.Claims.{IsWithin, part_of}
@@ -60,8 +61,8 @@ part-claim-requires c =
     let P = λ (ks : List ℕ). IsWithin (length ks) c.span_of-span.result in
     subst P (sym c.deref-in-loop-before-2.ensures.value) found.0
 
-pub is_live_in_its_programme-is_live-requires : goal.is_live_in_its_programme-is_live-requires
-is_live_in_its_programme-is_live-requires c =
+pub is_set-is_live-requires : goal.is_set-is_live-requires
+is_set-is_live-requires c =
     let s = c.args.state.now in
     let p = c.args.programme in
     let x = get_or c.order_of-order.result.now c.loop-before.before 0 in
@@ -70,7 +71,8 @@ is_live_in_its_programme-is_live-requires c =
     claim_there c.requires.wishes x c.deref-in-loop-before.result.now are c.span_of-span.result c.span_of-span.ensures c.deref-in-loop-before-2.result.now c.part-claim.result.now
     c.deref-in-loop-before-2.ensures.value c.part-claim.ensures in
     let first : slice_get (claim_of s p x) 0 ≡ option_copied c.first.result = ap (λ (ks : List ℕ). slice_get ks 0) (sym claimed.is) ∙ sym c.first.ensures.value in
-    (claim_first s p x c.in-Some.wish.now (rw c.marks.ensures.marks at c.marks.ensures.one_each) (first ∙ ap option_copied c.in-Some.is)).within
+    let k = claim_first s p x c.in-Some.wish.now (rw c.marks.ensures.marks at c.marks.ensures.one_each) (first ∙ ap option_copied c.in-Some.is) in
+    omega (arith, k.within, ap length c.requires.live, length-map-range_with_len (has_seat_there s) 0 (length s.dossier.wishes))
 
 pub note-requires-clause-places : goal.note-requires-clause-places
 note-requires-clause-places c =
@@ -126,8 +128,10 @@ loop-before-preserved c =
           let k : ℕ = w.in-Some.wish.now in
           let first = claim_first s p x k long (at ∙ ap option_copied w.in-Some.is) in
           let waits : waits_for x ≡ true = waits_claim s p x ∙ first.some in
-          let live : w.is_live_in_its_programme-is_live.result ≡ holds_seat s x p =
-          w.is_live_in_its_programme-is_live.ensures
+          let live : w.is_set-is_live.result ≡ holds_seat s x p =
+          w.is_set-is_live.ensures
+          ∙ ap (λ (flags : List Bool). get_or flags k false) c.requires.live
+          ∙ get_or-map-range_with_len (has_seat_there s) 0 (length s.dossier.wishes) k k false first.within (omega arith)
           ∙ ap (λ y. holds_seat s y (wish_in s.dossier.wishes k).programme) first.candidate
           ∙ ap (holds_seat s x) first.programme in
           let P = λ (o : List ℕ). IsDistinct nat_eq o in
@@ -150,7 +154,7 @@ loop-before-preserved c =
                 ∙ ap (λ (xs : List Bool). xs ++ w.wants_seat.result ∷ []) inv.wants
                 ∙ ap (λ (y : Bool). map wants front ++ y ∷ [])
                 (w.wants_seat.ensures
-                ∙ ap (λ b. b && not w.is_live_in_its_programme-is_live.result)
+                ∙ ap (λ b. b && not w.is_set-is_live.result)
                 (w.any_open.ensures ∙ ap (list_any (λ v. get_or opens v false)) claimed.is ∙ claim_opens s opens p x c.requires.opens long)
                 ∙ ap (λ b. list_any (is_flagged_in p x) (flagged s opens) && not b) live)
                 ∙ sym (picked waits_for wants order i lt waits));
