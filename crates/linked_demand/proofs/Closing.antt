@@ -11,7 +11,7 @@ use Rattle.std.proofs.lemmas.Option.{slice_get_within}
 use Rattle.admit_core.specs.declared.dossier.Wish.{Wish}
 use Rattle.admit_core.specs.declared.state.Mark.{Mark}
 use Rattle.admit_core.specs.declared.ranking.CallOrder.{CallOrder}
-use Rattle.admit_core.specs.State.{State, entries, is_waiting, holds_seat, seats_left}
+use Rattle.admit_core.specs.State.{State, entries, holds_seat, seats_left}
 use Rattle.admit_core.specs.Proposals.{needs_no_seat}
 use Rattle.day_state.specs.Kept.{wish_in}
 use Rattle.linked_demand.specs.Line.{LineRow, is_reached}

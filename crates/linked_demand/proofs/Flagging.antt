@@ -1,5 +1,5 @@
 -- Who wants a seat and who needs none, read of flags by place.
-use Rattle.std.proofs.Common.{ℕ, zero, suc, ◌+◌, ◌<◌, ◌≡◌, Bool, true, false, not, ◌&&◌, ◌||◌, List, [], ◌∷◌, ◌++◌, map, length, get_or, take, inl, inr, refl, sym, ◌∙◌, ap, arith, nat_eq, filter, Option, Some, unwrap_or, subst}
+use Rattle.std.proofs.Common.{ℕ, suc, ◌+◌, ◌<◌, ◌≡◌, Bool, true, false, not, ◌&&◌, ◌||◌, List, [], ◌∷◌, ◌++◌, map, length, get_or, take, inl, inr, refl, sym, ◌∙◌, ap, arith, nat_eq, filter, Some, subst}
 use Rattle.std.specs.Prelude.{slice_get, All}
 use Rattle.std.specs.List.{list_any, enumerate_from, range_with_len, AllByRecursion}
 use Rattle.std.proofs.lemmas.Bool.{cases_Bool, and_parts, eqb-true}
@@ -11,8 +11,6 @@ use Rattle.admit_core.specs.declared.dossier.Wish.{Wish}
 use Rattle.admit_core.specs.declared.ranking.CallOrder.{CallOrder}
 use Rattle.admit_core.specs.DossierRows.{DossierRows}
 use Rattle.admit_core.specs.State.{State, holds_seat}
-use Rattle.admit_core.specs.Proposals.{needs_no_seat}
-use Rattle.day_state.specs.Kept.{wish_in}
 use Rattle.linked_demand.specs.Line.{LineRow}
 use Rattle.linked_demand.specs.Links.{claim_of, IsLinked}
 use Rattle.linked_demand.specs.Opens.{wants_by, line_of, seat_row, wanting_at, sure_at}
@@ -66,14 +64,14 @@ module _ (s : State) (orders : List CallOrder) (opens : List Bool) (long : lengt
       let t = λ (w : Wish). (nat_eq w.candidate c) && (nat_eq w.programme p) in
       any_scaled (λ k. get_or wanting k false) (λ k. get_or opens k false) (not (holds_seat s c p)) (claim_of s.dossier p c)
       (all_placed (λ k. get_or wanting k false ≡ (get_or opens k false && not (holds_seat s c p))) t ws 0 (λ j w at passes.
-          let parts = and_parts (nat_eq w.candidate c) (nat_eq w.programme p) passes in
-          let j_is : 0 + j ≡ j = omega arith in
-          let P = λ (k : ℕ). get_or wanting k false ≡ (get_or opens k false && not (holds_seat s c p)) in
-          subst P (sym j_is)
-          (get_or-map-range_with_len (wanting_at s opens) 0 (length ws) j j false (slice_get_within ws j w at) j_is
-          ∙ ap (λ (v : Wish). get_or opens j false && not (holds_seat s v.candidate v.programme)) (wish_in_is ws j w at)
-          ∙ ap (λ x. get_or opens j false && not (holds_seat s x w.programme)) (eqb-true w.candidate c parts.0)
-          ∙ ap (λ x. get_or opens j false && not (holds_seat s c x)) (eqb-true w.programme p parts.1))))
+      let parts = and_parts (nat_eq w.candidate c) (nat_eq w.programme p) passes in
+      let j_is : 0 + j ≡ j = omega arith in
+      let P = λ (k : ℕ). get_or wanting k false ≡ (get_or opens k false && not (holds_seat s c p)) in
+      subst P (sym j_is)
+      (get_or-map-range_with_len (wanting_at s opens) 0 (length ws) j j false (slice_get_within ws j w at) j_is
+      ∙ ap (λ (v : Wish). get_or opens j false && not (holds_seat s v.candidate v.programme)) (wish_in_is ws j w at)
+      ∙ ap (λ x. get_or opens j false && not (holds_seat s x w.programme)) (eqb-true w.candidate c parts.0)
+      ∙ ap (λ x. get_or opens j false && not (holds_seat s c x)) (eqb-true w.programme p parts.1))))
       ∙ ap (λ b. b && not (holds_seat s c p)) (claim_flagged s opens p c long marks)
 
   -- the line of a programme, as its claims and the flags tell it

@@ -1,5 +1,5 @@
 -- A candidate's claim in a programme, and their place in its line.
-use Rattle.std.proofs.Common.{ℕ, zero, suc, ◌+◌, ◌<◌, ◌≡◌, Bool, true, false, ◌&&◌, ◌||◌, List, [], ◌∷◌, map, length, take, get_or, inl, inr, refl, sym, ◌∙◌, ap, arith, nat_eq, nat_lt, nat_le, filter, Option, Some, unwrap_or, subst}
+use Rattle.std.proofs.Common.{ℕ, zero, suc, ◌+◌, ◌<◌, ◌≡◌, Bool, true, false, ◌&&◌, List, [], ◌∷◌, map, length, take, get_or, inl, inr, refl, sym, ◌∙◌, ap, arith, nat_eq, nat_lt, nat_le, filter, Option, Some, unwrap_or, subst}
 use Rattle.std.specs.Prelude.{slice_get, All, ◌==◌}
 use Rattle.std.specs.List.{list_any, enumerate_from, range_with_len, IsDistinct, AllByRecursion, before_first}
 use Rattle.std.proofs.lemmas.Bool.{cases_Bool, cases_lt, false≢true, eq-eqb, ne_eqb, eqb-false, lt-ltb, le-ltb, le-leb, lt-leb}

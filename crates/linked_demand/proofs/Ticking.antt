@@ -15,10 +15,10 @@ use Rattle.admit_core.specs.Proposals.{is_open, is_behind_bar}
 use Rattle.day_state.specs.Kept.{wish_in}
 use Rattle.linked_demand.specs.Line.{LineRow, is_reached, is_answer}
 use Rattle.linked_demand.specs.Opens.{flagged, is_flagged_in, wants_by, line_of, seat_row}
-use Rattle.linked_demand.specs.Links.{LinksRow, IsSeatPlace, claim_of, WaitsAt}
+use Rattle.linked_demand.specs.Links.{LinksRow, IsSeatPlace, claim_of}
 use Rattle.linked_demand.specs.Demand.{is_proposed_at}
 use Rattle.linked_demand.specs.Marks.{is_new, is_fresh, MarksSchools}
-use Rattle.linked_demand.proofs.Closing.{Closes, wish_of, line_right, row_is, row_kept, any_right, read_range, programme_within, places_below, length_entries}
+use Rattle.linked_demand.proofs.Closing.{Closes, wish_of, line_right, row_is, row_kept, any_right, read_range, programme_within, places_below}
 use Rattle.linked_demand.proofs.Counting.{count_claim, count_entries, count_nothing}
 use Rattle.linked_demand.proofs.Filling.{entry_is}
 use Rattle.linked_demand.proofs.Lining.{among_claim}

@@ -74,11 +74,7 @@ fn is_sure(is_live: bool, is_early: bool) -> bool
 }
 
 /// Whether each wish needs no seat, by place.
-fn sure_flags(
-    alloc: Global,
-    state: &DayState<'_>,
-    early: &[bool],
-) -> Result<Vec<bool>, OutOfMemory>
+fn sure_flags(alloc: Global, state: &DayState<'_>, early: &[bool]) -> Result<Vec<bool>, OutOfMemory>
     requires { length early.now ≡ length state.now.dossier.wishes }
     ensures { IfOk result (λ v. v.items ≡ map (sure_at state.now early.now) (range_with_len 0 (length state.now.dossier.wishes))) }
 {

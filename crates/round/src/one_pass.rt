@@ -12,7 +12,7 @@ use crate::bars::bars_of;
 use admit_core::{CallOrders, OutOfMemory, PassRecord, Sequence, Stamp, Steps};
 use bar_fixpoint::{Picker, greatest};
 use day_state::DayState;
-use linked_demand::{LinkedRound, Lineup};
+use linked_demand::{Lineup, LinkedRound};
 use std::alloc::Global;
 use std::marker::Brand;
 use std::sync::ledger::{Blank, Ledger};
@@ -50,7 +50,15 @@ pub fn pass(
 {
     let dossier = state.dossier();
     let _ = &dossier.wishes; // learns that the dossier is valid
-    let found = find::<Brand>(alloc, Blank::new(1), state, orders, lineup, ceilings, picker)?;
+    let found = find::<Brand>(
+        alloc,
+        Blank::new(1),
+        state,
+        orders,
+        lineup,
+        ceilings,
+        picker,
+    )?;
     state.offer_all(found.offers.as_slice(), stamp);
     Ok(found)
 }
