@@ -1,1 +1,2 @@
+pub mod OnDesks
 pub mod Writable

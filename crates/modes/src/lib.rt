@@ -3,6 +3,7 @@
 
 mod endings;
 mod exit;
+mod explained;
 mod job;
 mod order;
 mod replay;
