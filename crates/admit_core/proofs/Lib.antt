@@ -21,6 +21,7 @@ pub mod OneOrder
 pub mod OrderLaws
 pub mod OrderPermutes
 pub mod RatesKept
+pub mod Rebuilt
 pub mod Remaining
 pub mod Rows
 pub mod ScholarsFirst

@@ -1,15 +1,20 @@
 -- How many beds a school needs so that its bar stays at its ceiling.
 use Rattle.std.specs.Prelude.{◌≡◌, ℕ, ◌≤◌, List, map, ◌==◌, slice_index, if◌then◌else◌}
 use Rattle.std.specs.List.{enumerate_from}
+use Rattle.admit_core.specs.declared.dossier.School.{School}
 use Rattle.admit_core.specs.declared.ranking.CallOrder.{CallOrder}
 use Rattle.admit_core.specs.DossierRows.{DossierRows}
 use Rattle.admit_core.specs.State.{State}
 use Rattle.admit_core.specs.Falls.{IsGreatest}
 use Rattle.admit_core.specs.Boarding.{boarding}
 
+-- the schools, of which the one at a place has n beds
+abbrev pub schools_with : List School → ℕ → ℕ → List School
+schools_with schools h n = map (λ x. if x.0 == h then record x.1 { beds = n } else x.1) (enumerate_from 0 schools)
+
 -- the dossier in which the school at a place has n beds
 abbrev pub rebuilt : DossierRows → ℕ → ℕ → DossierRows
-rebuilt d h n = record d { schools = map (λ x. if x.0 == h then record x.1 { beds = n } else x.1) (enumerate_from 0 d.schools) }
+rebuilt d h n = record d { schools = schools_with d.schools h n }
 
 -- the state over that dossier, with the same marks
 abbrev pub with_beds : State → ℕ → ℕ → State

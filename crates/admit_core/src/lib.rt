@@ -20,6 +20,7 @@ mod slot;
 mod state;
 mod steps;
 mod tables;
+mod with_beds;
 mod worked;
 
 pub use bar_laws::laws_of_bars;
