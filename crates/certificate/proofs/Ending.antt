@@ -8,7 +8,7 @@ use Rattle.admit_core.specs.Chains.{ArePassChains, IsDayChain, closing_by, day_f
 use Rattle.admit_core.specs.ChainLaws.{NoFaultWhereValid}
 use Rattle.certificate.specs.Checked.{state_after}
 
-evening_is : (orders : List CallOrder) (ceilings : List ℕ) (day k : ℕ) (s : State) (passes : List PassChain) (evening : State) → ArePassChains orders ceilings day k s passes evening
+pub evening_is : (orders : List CallOrder) (ceilings : List ℕ) (day k : ℕ) (s : State) (passes : List PassChain) (evening : State) → ArePassChains orders ceilings day k s passes evening
     → evening ≡ state_after orders ceilings day k s passes
 evening_is orders ceilings day k s [] evening are = absurd are
 evening_is orders ceilings day k s (pass ∷ []) evening are = are.2

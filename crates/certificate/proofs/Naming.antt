@@ -124,7 +124,7 @@ module _ (s : State) (long : length s.marks ≡ length s.dossier.wishes) where
         )
 
 -- the first that passes, with its number
-find_numbered : {X : Type 0} (t : X → Bool) (n : ℕ) (xs : List X) → list_any t xs ≡ true
+pub find_numbered : {X : Type 0} (t : X → Bool) (n : ℕ) (xs : List X) → list_any t xs ≡ true
     → (j : ℕ) × (x : X) × (j < length xs) × (get_or xs j x ≡ x) × (t x ≡ true) × (find (λ (e : ℕ × X). t e.1) (enumerate_from n xs) ≡ Some (n + j, x))
 find_numbered {X} t n [] some = absurd (false≢true some)
 find_numbered {X} t n (x ∷ xs) some =

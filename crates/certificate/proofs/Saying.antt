@@ -37,7 +37,7 @@ said_first day pass row text [] h = absurd (omega arith)
 said_first day pass row text (next ∷ others) h = refl
 
 -- the same, where the line is known
-said_by : (day pass row : ℕ) (text after : List ℕ) (all : List (List ℕ)) (line : Option Line) → all ≡ text ∷ parts 10 after → line ≡ line_of row (parts 32 text)
+pub said_by : (day pass row : ℕ) (text after : List ℕ) (all : List (List ℕ)) (line : Option Line) → all ≡ text ∷ parts 10 after → line ≡ line_of row (parts 32 text)
     → said_from day pass row all
     ≡ cond (is_end line) (end_at row (parts 10 after)) (said_with row line (misplaced day pass line) (said_from (day_after day line) (pass_after pass line) (row + 1) (parts 10 after)))
 said_by day pass row text after all line first is =

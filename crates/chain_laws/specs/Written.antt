@@ -1,5 +1,5 @@
 -- The chain of the falls of days: their text, read.
-use Rattle.std.specs.Prelude.{◌≡◌, ℕ, ◌+◌, ◌≤◌, ◌<◌, ◌^◌, List, [], ◌∷◌, All, length, map, ⊤}
+use Rattle.std.specs.Prelude.{◌≡◌, ℕ, ◌+◌, ◌≤◌, ◌<◌, List, [], ◌∷◌, All, length, map, ⊤}
 use Rattle.admit_core.specs.DossierRows.{DossierRows}
 use Rattle.admit_core.specs.declared.chain.Chain.{Chain}
 use Rattle.admit_core.specs.declared.chain.DayChain.{DayChain}
@@ -54,9 +54,13 @@ pub record CanBeTold (fall : Fall) : Type 0 where
 abbrev pub PassCanBeTold : PassEnd → Type 0
 PassCanBeTold end = All CanBeTold end.pass.falls
 
+-- the passes of a day are numbered by 32 bits
+abbrev pub HasFewPasses : DayRecord → Type 0
+HasFewPasses day = length day.passes ≤ 4294967295
+
 pub record DayCanBeTold (day : DayRecord) : Type 0 where
   pub passes : All PassCanBeTold day.passes
-  pub few : length day.passes ≤ 4294967295
+  pub few : HasFewPasses day
 
 -- days are numbered from d on
 abbrev pub AreNumbered : ℕ → List DayRecord → Type 0

@@ -8,7 +8,7 @@ use Rattle.std.specs.Str.Parse.{AllDigits, digits_value}
 use Rattle.std.proofs.lemmas.Bool.{and_from, le-leb, lt-ltb}
 use Rattle.std.proofs.lemmas.Bool.Decides.{nat_tests}
 use Rattle.std.proofs.lemmas.Fmt.{decimal_is_IsNumeral, decimal_nonempty, length-decimal-le}
-use Rattle.std.proofs.lemmas.List.Elements.{All-append, All-cons, All-nil}
+use Rattle.std.proofs.lemmas.List.Elements.{All-append, All-cons, All-head, All-nil, All-tail}
 use Rattle.std.proofs.lemmas.List.Splits.{slice_split_at, slice_split_none}
 use Rattle.std.proofs.lemmas.Str.Parse.{digit_from_value}
 use Rattle.report.specs.Words.{further, line}
@@ -80,7 +80,7 @@ digits_pass [] are = refl
 digits_pass (b ∷ bs) are = and_from (is_ascii_digit b) (list_all is_ascii_digit bs) (digit_in b are.0).1 (digits_pass bs are.1)
 
 all_digits : (n : ℕ) → n ≤ 4294967295 → AllDigits 10 (decimal n)
-all_digits n few = ?
+all_digits n few = let big : n < 2 ^ 64 = omega arith in (decimal_is_IsNumeral n big).0.1
 
 pub number_word : (n : ℕ) → n ≤ 4294967295 → IsWord (decimal n)
 number_word n few = digits_word (decimal n) (all_digits n few)
@@ -101,10 +101,10 @@ number_read n few =
 
 pub numbers_words : (ns : List ℕ) → All (λ n. n ≤ 4294967295) ns → AreWords (map decimal ns)
 numbers_words [] few = tt
-numbers_words (n ∷ ns) few = (number_word n (few 0 n (omega arith)), numbers_words ns ?)
+numbers_words (n ∷ ns) few = (number_word n (All-head (λ (k : ℕ). k ≤ 4294967295) n ns few), numbers_words ns (All-tail (λ (k : ℕ). k ≤ 4294967295) n ns few))
 
 pub numbers_read : (ns : List ℕ) → All (λ n. n ≤ 4294967295) ns → numbers (map decimal ns) ≡ Some ns
 numbers_read [] few = refl
 numbers_read (n ∷ ns) few =
-    ap (λ (o : Option ℕ). in_front o (numbers (map decimal ns))) (number_read n ?)
-    ∙ ap (in_front (Some n)) (numbers_read ns ?)
+    ap (λ (o : Option ℕ). in_front o (numbers (map decimal ns))) (number_read n (All-head (λ (k : ℕ). k ≤ 4294967295) n ns few))
+    ∙ ap (in_front (Some n)) (numbers_read ns (All-tail (λ (k : ℕ). k ≤ 4294967295) n ns few))
