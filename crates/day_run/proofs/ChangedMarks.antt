@@ -1,8 +1,8 @@
 -- What the automatic answers after a pass changed can be told from the pass's opening.
-use Rattle.std.proofs.Common.{ℕ, ◌+◌, ◌≡◌, Bool, true, false, not, cond, ◌&&◌, List, [], ◌∷◌, map, inl, inr, refl, sym, ◌∙◌, ap, filter, zip, Option, Some, None, nat_lt, nat_eq}
+use Rattle.std.proofs.Common.{ℕ, ◌+◌, ◌≡◌, Bool, true, false, not, List, [], ◌∷◌, map, inl, inr, refl, ap, filter, zip, Option, Some, None, nat_lt}
 use Rattle.std.specs.Prelude.{◌==◌, if◌then◌else◌}
 use Rattle.std.specs.List.{enumerate_from}
-use Rattle.std.proofs.lemmas.Bool.{cases_Bool, eqb-true, eq-eqb}
+use Rattle.std.proofs.lemmas.Bool.{cases_Bool, eq-eqb}
 use Rattle.admit_core.specs.declared.ranking.CallOrder.{CallOrder}
 use Rattle.admit_core.specs.declared.dossier.Wish.{Wish}
 use Rattle.admit_core.specs.declared.state.Status.{Status}
@@ -10,7 +10,7 @@ use Rattle.admit_core.specs.declared.state.Status.TheVariants.{Waiting, Offered,
 use Rattle.admit_core.specs.declared.state.Mark.{Mark}
 use Rattle.admit_core.specs.declared.state.Stamp.{Stamp}
 use Rattle.admit_core.specs.declared.state.Change.{Change}
-use Rattle.admit_core.specs.State.{State, is_live, is_waiting, is_live_status, is_waiting_status, status_number, changed_to}
+use Rattle.admit_core.specs.State.{State, is_waiting, is_waiting_status, status_number, changed_to}
 use Rattle.admit_core.specs.Proposals.{is_proposed}
 use Rattle.admit_core.specs.AutoAnswer.{auto_mark, auto_status, best_live}
 use Rattle.admit_core.proofs.Statuses.{changed_status, status_of_auto}

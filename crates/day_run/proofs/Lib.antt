@@ -7,6 +7,7 @@ pub mod OnePass
 pub mod MarkPairs
 pub mod LatestCeilings
 pub mod LastBars
+pub mod PassEnds
 pub mod SameDays
 pub mod SameDossier
 pub mod DayPlaces

@@ -1,5 +1,5 @@
 -- How far a campaign has come, and what its next day makes of it.
-use Rattle.std.specs.Prelude.{◌≡◌, ℕ, ◌+◌, Bool, true, false, List, length, map, Option, Result, IfOk, IfErr, OnErr}
+use Rattle.std.specs.Prelude.{◌≡◌, ℕ, ◌+◌, Bool, true, false, List, length, map, Option, Result, IfOk, IfErr, OnErr, IsTrue}
 use Rattle.std.specs.Option.{ForSome}
 use Rattle.admit_core.specs.declared.ranking.CallOrder.{CallOrder}
 use Rattle.admit_core.specs.declared.records.DayRecord.{DayRecord}
@@ -9,7 +9,9 @@ use Rattle.admit_core.specs.DossierRows.{DossierRows}
 use Rattle.admit_core.specs.State.{State}
 use Rattle.admit_core.specs.Days.{ceilings_of, first_evening, unfit_on}
 use Rattle.admit_core.specs.EveningLaws.{last_bars}
+use Rattle.admit_core.specs.Explanations.{LastPass}
 use Rattle.day_run.specs.AnswersOn.{IsUnfitOf}
+use Rattle.day_run.specs.LastPasses.{IsLastPass, last_pass}
 use Rattle.day_run.specs.RunDay.{Moment, IsDayDone, TellsNoneUnfit}
 use Rattle.day_run.specs.declared.refusal.DayRefusal.{DayRefusal}
 
@@ -26,11 +28,16 @@ pub record Progress : Type 0 where
   pub bars : List ℕ
   pub ceilings : List ℕ
 
--- what every campaign keeps
+-- the last pass of a campaign
+abbrev pub pass_of : Progress → LastPass
+pass_of p = last_pass p.opening p.orders p.ceilings p.bars
+
+-- what every campaign keeps: after a day that came about, its last pass left the present state
 pub record IsProgress (p : Progress) : Type 0 where
   pub orders : AreCallOrders p.present.dossier.groups p.orders
   pub before : ForSome p.terms (λ t. length t.before ≡ length p.present.dossier.wishes)
   pub bars : length p.bars ≡ length p.present.dossier.schools
+  pub last : IsTrue p.has_day → IsLastPass (pass_of p) p.present
 
 -- the schools' own ceilings
 abbrev pub own_ceilings : DossierRows → List ℕ

@@ -6,4 +6,5 @@ pub mod Ceilings
 pub mod CampaignDays
 pub mod DayLaws
 pub mod DayPlaces
+pub mod LastPasses
 pub mod RunDay

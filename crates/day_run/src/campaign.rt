@@ -1,7 +1,8 @@
 //! A campaign: day after day, with a picker of its own.
-ghost use Rattle.std.specs.Prelude.{◌≡◌, ◌<◌, length, IfOk, IfErr, None, Some};
+ghost use Rattle.std.specs.Prelude.{◌≡◌, ◌<◌, length, IfOk, IfErr, IsTrue, None, Some};
 ghost use Rattle.admit_core.specs.CallOrder.{AreCallOrders};
-ghost use Rattle.day_run.specs.CampaignDays.{EndsNextDay, IsBegun};
+ghost use Rattle.day_run.specs.CampaignDays.{EndsNextDay, IsBegun, pass_of};
+ghost use Rattle.day_run.specs.LastPasses.{IsLastPass};
 
 use crate::course::Course;
 use crate::refusal::DayRefusal;
@@ -82,9 +83,10 @@ impl<'d> Campaign<'d> {
         self.course.day()
     }
 
-    /// Whether the last day that was tried came about.
+    /// Whether the last day that was tried came about; it then left its last pass.
     pub fn has_day(&self) -> bool
-        ensures { result ≡ self.now.course.has_day }
+        ensures has_day { result ≡ self.now.course.has_day }
+        ensures last { IsTrue result → IsLastPass (pass_of self.now.course) self.now.course.present }
     {
         self.course.has_day()
     }

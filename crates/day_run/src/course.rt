@@ -1,9 +1,10 @@
 //! How far a campaign has come.
-ghost use Rattle.std.specs.Prelude.{◌≡◌, ◌<◌, length, IfOk};
+ghost use Rattle.std.specs.Prelude.{◌≡◌, ◌<◌, length, IfOk, IsTrue};
 ghost use Rattle.std.specs.Option.{ForSome};
 ghost use Rattle.admit_core.specs.CallOrder.{AreCallOrders};
 ghost use Rattle.admit_core.specs.EveningLaws.{last_bars};
-ghost use Rattle.day_run.specs.CampaignDays.{EndsNextDay, IsBegun};
+ghost use Rattle.day_run.specs.CampaignDays.{EndsNextDay, IsBegun, pass_of};
+ghost use Rattle.day_run.specs.LastPasses.{IsLastPass};
 
 use crate::ceilings::{ceilings_on, own_ceilings};
 use crate::day::run_with;
@@ -101,9 +102,10 @@ impl<'d> Course<'d> {
         self.day
     }
 
-    /// Whether the last day that was tried came about.
+    /// Whether the last day that was tried came about; it then left its last pass.
     pub fn has_day(&self) -> bool
-        ensures { result ≡ self.now.has_day }
+        ensures has_day { result ≡ self.now.has_day }
+        ensures last { IsTrue result → IsLastPass (pass_of self.now) self.now.present }
     {
         self.has_day
     }

@@ -1,13 +1,13 @@
 -- What a run is to work on.
 use Rattle.std.specs.Prelude.{◌≡◌, ℕ, Bool, List, Option, Some, None, Result, Ok, Err, IfSome, IsTrue, MatchResult, if◌then◌else◌, ⊤}
 use Rattle.admit_core.specs.Lists.{is_among}
-use Rattle.admit_core.specs.Relations.{first_fault, school_ids, wish_ids}
+use Rattle.admit_core.specs.Relations.{first_fault}
 use Rattle.admit_core.specs.Standing.{dossier_of}
 use Rattle.admit_core.specs.declared.refusal.Refusal.{Refusal}
 use Rattle.admit_core.specs.declared.slot.Slot.{Slot}
 use Rattle.admit_core.specs.declared.tables.Tables.{Tables}
 use Rattle.dossier_check.specs.Dates.{dates_of}
-use Rattle.dossier_check.specs.Ids.{ids_of}
+use Rattle.dossier_check.specs.Ids.{Ids, ids_of}
 use Rattle.sample_gen.specs.Samples.{sample_tables}
 use Rattle.request.specs.Modes.{named_by, sample_of, slots_of}
 use Rattle.request.specs.Request.{request_of}
@@ -34,10 +34,14 @@ abbrev pub faultless : Files → Option Refusal → Result Files Stop
 faultless files None = Ok files
 faultless files (Some refusal) = Err (stops.Refused refusal)
 
+-- whether a wish or a school is among these
+abbrev pub has_name : Ids → Name → Bool
+has_name ids (Wish id) = is_among id ids.wishes
+has_name ids (School id) = is_among id ids.schools
+
 -- whether a wish or a school is in the tables
 abbrev pub is_there : Tables → Name → Bool
-is_there t (Wish id) = is_among id (wish_ids t)
-is_there t (School id) = is_among id (school_ids t)
+is_there t = has_name (ids_of t)
 
 -- files that have what is named
 abbrev pub having : Option Name → Files → Result Files Stop
@@ -70,11 +74,15 @@ pub record IsInputOf (job : Job) (input : Input) : Type 0 where
   pub dates : input.dates ≡ dates_of job.tables
   pub chain : input.chain ≡ job.chain
 
+-- what a mode names is among these
+abbrev pub NamesIn : Mode → Ids → Type 0
+NamesIn mode ids = IfSome (named_by mode) (λ name. IsTrue (has_name ids name))
+
 -- what holds of a job of a request, whatever a shelf tells
 pub record IsJobOf (asked_for : Request) (job : Job) : Type 0 where
   pub request : job.request ≡ asked_for
   pub faultless : first_fault job.tables ≡ None
-  pub named : IfSome (named_by asked_for.mode) (λ name. IsTrue (is_there job.tables name))
+  pub named : NamesIn asked_for.mode (ids_of job.tables)
   pub made : IfSome (sample_of asked_for.mode) (λ number. job.tables ≡ sample_tables number)
 
 -- what stops a run at its files, and not at a shelf

@@ -15,4 +15,6 @@ pub struct Input {
     /// The bytes of the chain slot; none where the mode does not read it.
     pub chain: Sequence<u8>,
     ghost one_each: { length dates ≡ length dossier.wishes },
+    ghost wishes_have_ids: { length index.wishes ≡ length dossier.wishes },
+    ghost schools_have_ids: { length index.schools ≡ length dossier.schools },
 }

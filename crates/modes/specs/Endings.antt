@@ -1,17 +1,21 @@
 -- How a run over a job ends, by its mode.
-use Rattle.std.specs.Prelude.{◌≡◌, ℕ, List, [], ◌++◌, Result, Ok, Err, length}
+use Rattle.std.specs.Prelude.{◌≡◌, ℕ, List, [], ◌++◌, All, IfSome, Result, Ok, Err, length}
 use Rattle.admit_core.specs.declared.refusal.Refusal.{Refusal}
 use Rattle.day_run.specs.DeskStates.{DeskStates}
-use Rattle.intake.specs.Input.{Job}
+use Rattle.intake.specs.Dated.{AreDatedFor, terms_in}
+use Rattle.intake.specs.Input.{Job, NamesIn}
+use Rattle.played.specs.LastDays.{IsDeskAfter}
 use Rattle.played.specs.Lent.{Lent}
 use Rattle.played.specs.PlayedDays.{IsPlayed, Played}
 use Rattle.report.specs.RefusalText.{refusal_line}
 use Rattle.report.specs.SampleText.{sample_text}
+use Rattle.request.specs.Request.{IsRequest}
 use Rattle.request.specs.declared.modes.Mode.{Mode}
-use Rattle.request.specs.declared.modes.Mode.TheVariants.{Order, Replay, Sample}
+use Rattle.request.specs.declared.modes.Mode.TheVariants.{Order, Replay, Explain, Sample}
+use Rattle.modes.specs.Explained.{IsExplained}
 use Rattle.modes.specs.Jobs.{Seen, days_of, dossier, seen_of, terms_of}
 use Rattle.modes.specs.Order.{orders_text}
-use Rattle.modes.specs.Replay.{days_text, replay_text}
+use Rattle.modes.specs.Replay.{CanBeDated, CanBeWritten, days_text, replay_text}
 use Rattle.modes.specs.declared.exit.Exit.{Exit}
 use Rattle.modes.specs.declared.exit.Exit.TheVariants.{Done, Refused}
 
@@ -23,6 +27,8 @@ IsDoneWith whole exit text = (exit ≡ Done) × (text ≡ whole)
 abbrev pub IsEndOf : Mode → Seen → Played → DeskStates → Exit → List ℕ → Type 0
 IsEndOf Order seen played desk = IsDoneWith (orders_text seen.dossier.groups played.orders)
 IsEndOf Replay seen played desk = IsDoneWith (replay_text seen.dossier seen.dated played.orders played.days desk.present)
+IsEndOf (Explain wish) seen played desk exit text =
+    (exit ≡ Done) × IsExplained seen.dossier seen.index played.orders played.days desk wish text
 IsEndOf (Sample number) seen played desk = IsDoneWith (sample_text number (length seen.dossier.wishes) played.days desk.present)
 
 -- what a mode writes before the refusal of an answer that does not fit
@@ -42,6 +48,23 @@ EndsWith (Err refusal) seen played = IsRefusedWith refusal (lines_before seen.re
 -- the days of a job, as many as are asked for, with these pickers
 abbrev pub AreDaysOf : Job → Lent → Played → Lent → Type 0
 AreDaysOf job = IsPlayed (dossier job) (terms_of job) (days_of job.request) job.request.picker
+
+-- what an ending rests on: the request is one that was read, its terms and what it names are those of the dossier, and
+-- the days are those that it asks for, with pickers that stood somehow before and after them
+pub record CanEnd (seen : Seen) (played : Played) : Type 0 where
+  pub request : IsRequest seen.request
+  pub dated : IfSome seen.dated (AreDatedFor seen.dossier)
+  pub named : NamesIn seen.request.mode seen.index
+  pub played : (before : Lent) × (after : Lent) × IsPlayed seen.dossier (terms_in seen.dated) (days_of seen.request) seen.request.picker before played after
+
+-- what all modes may use once the days have led to a desk
+pub record CanBeEnded (seen : Seen) (played : Played) (desk : DeskStates) : Type 0 where
+  pub request : IsRequest seen.request
+  pub named : NamesIn seen.request.mode seen.index
+  pub number : length played.days ≡ days_of seen.request
+  pub days : All (CanBeWritten seen.dossier seen.dated) played.days
+  pub offers : CanBeDated seen.dated desk.present
+  pub desk : IsDeskAfter seen.dossier played.orders played.days desk
 
 -- a job's days were played with these pickers, and the run ends by its mode
 pub record IsEnding (job : Job) (before after : Lent) (exit : Exit) (text : List ℕ) : Type 0 where

@@ -12,6 +12,7 @@ use Rattle.dossier_check.specs.Dates.{dates_of}
 use Rattle.dossier_check.specs.Ids.{Ids, ids_of}
 use Rattle.intake.specs.Dated.{dated_from, terms_in}
 use Rattle.intake.specs.Input.{Job}
+use Rattle.intake.specs.declared.input.Input.{Input}
 use Rattle.intake.specs.declared.terms.DatedTerms.{DatedTerms}
 use Rattle.request.specs.Modes.{runs_days, sample_of}
 use Rattle.request.specs.declared.request.Deadlines.{Deadlines}
@@ -42,6 +43,9 @@ pub record Seen : Type 0 where
   pub index : Ids
   pub chain : List ℕ
   pub dated : Option DatedTerms
+
+abbrev pub seen_by : Request → Input → Option DatedTerms → Seen
+seen_by request input dated = record { request = request; dossier = input.dossier; index = input.index; chain = input.chain; dated = dated }
 
 abbrev pub seen_of : Job → Seen
 seen_of job = record { request = job.request; dossier = dossier job; index = ids_of job.tables; chain = job.chain; dated = dated_of job }

@@ -1,5 +1,6 @@
 pub mod Endings
 pub mod Exits
+pub mod Explained
 pub mod Jobs
 pub mod Order
 pub mod Replay

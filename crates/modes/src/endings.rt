@@ -1,10 +1,11 @@
 //! How a run ends after its days, by its mode.
 ghost use Rattle.std.specs.Prelude.{◌≡◌, All, IfOk, option_copied};
-ghost use Rattle.std.specs.Result.{ForOk};
-ghost use Rattle.modes.specs.Endings.{EndsWith, IsEndOf, IsRefusedWith, lines_before};
-ghost use Rattle.modes.specs.Replay.{CanBeDated, CanBeWritten};
+ghost use Rattle.modes.specs.Endings.{CanBeEnded, CanEnd, EndsWith, IsEndOf, IsRefusedWith, lines_before};
+ghost use Rattle.modes.specs.Jobs.{seen_by};
+ghost use Rattle.modes.specs.Replay.{CanBeWritten};
 
 use crate::exit::Exit;
+use crate::explained::explained_text;
 use crate::order::orders_text;
 use crate::replay::{days_text, replay_text};
 use crate::reply::Reply;
@@ -36,10 +37,11 @@ fn ended(
     played: &Played<'_>,
     desk: &Desk<'_>,
 ) -> Result<Reply, OutOfMemory>
-    requires days { All (CanBeWritten input.now.dossier (option_copied dated)) played.now.days.items }
-    requires offers { CanBeDated (option_copied dated) desk.now.present }
+    requires { CanBeEnded
+        (seen_by request.now input.now (option_copied dated))
+        (record { orders = played.now.orders.orders; days = played.now.days.items; end = played.now.end }) desk.now }
     ensures { IfOk result (λ reply. IsEndOf request.now.mode
-        (record { request = request.now; dossier = input.now.dossier; index = input.now.index; chain = input.now.chain; dated = option_copied dated.entry })
+        (seen_by request.now input.now (option_copied dated.entry))
         (record { orders = played.now.orders.orders; days = played.now.days.items; end = played.now.end })
         desk.now reply.exit reply.text.items) }
 {
@@ -49,6 +51,10 @@ fn ended(
     match request.mode {
         Mode::Order => Ok(done(orders_text(alloc, dossier.groups.as_slice(), orders)?)),
         Mode::Replay => Ok(done(replay_text(alloc, dossier, dated, orders, days, desk.now())?)),
+        Mode::Explain { wish } => {
+            let text = explained_text(alloc, input, &played.orders, days, desk, wish)?;
+            Ok(done(text))
+        }
         Mode::Sample { number } => {
             let wishes = dossier.wishes.len() as u32;
             Ok(done(sample_text(alloc, number, wishes, days, desk.now())?))
@@ -66,7 +72,7 @@ fn lines_before(
 ) -> Result<Vec<u8>, OutOfMemory>
     requires { All (CanBeWritten input.now.dossier (option_copied dated)) played.now.days.items }
     ensures { IfOk result (λ text. text.items ≡ lines_before request.now.mode
-        (record { request = request.now; dossier = input.now.dossier; index = input.now.index; chain = input.now.chain; dated = option_copied dated.entry })
+        (seen_by request.now input.now (option_copied dated.entry))
         (record { orders = played.now.orders.orders; days = played.now.days.items; end = played.now.end })) }
 {
     let orders = played.orders.orders.as_slice();
@@ -96,10 +102,11 @@ pub fn ending(
     dated: Option<&DatedTerms>,
     played: &Played<'_>,
 ) -> Result<Reply, OutOfMemory>
-    requires days { All (CanBeWritten input.now.dossier (option_copied dated)) played.now.days.items }
-    requires offers { ForOk played.now.end (λ desk. CanBeDated (option_copied dated) desk.present) }
+    requires { CanEnd
+        (seen_by request.now input.now (option_copied dated))
+        (record { orders = played.now.orders.orders; days = played.now.days.items; end = played.now.end }) }
     ensures { IfOk result (λ reply. EndsWith played.now.end
-        (record { request = request.now; dossier = input.now.dossier; index = input.now.index; chain = input.now.chain; dated = option_copied dated.entry })
+        (seen_by request.now input.now (option_copied dated.entry))
         (record { orders = played.now.orders.orders; days = played.now.days.items; end = played.now.end })
         reply.exit reply.text.items) }
 {

@@ -4,6 +4,7 @@
 mod checked;
 mod endings;
 mod exit;
+mod explained;
 mod job;
 mod order;
 mod replay;

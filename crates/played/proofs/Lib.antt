@@ -1,3 +1,4 @@
-pub mod Naming
-mod NextDay
 mod DaysSoFar
+mod NextDay
+pub mod LastDay
+pub mod Naming

@@ -1,3 +1,4 @@
+pub mod LastDays
 pub mod Lent
 pub mod OneDay
 pub mod PlayedDays

@@ -1,7 +1,6 @@
 -- A job's days, and how the run ends after them.
 use Rattle.std.proofs.Common.{◌≡◌, ◌∙◌, ℕ, ◌+◌, ◌<◌, ◌≤◌, ◌⊎◌, List, [], ◌∷◌, Option, None, Some, Result, Ok, Err, All, IfOk, IfSome, IsSomeAnd, IsTrue, ap, arith, inl, inr, length, option_map, refl, subst, sym}
 use Rattle.std.specs.Prelude.{is_some, not}
-use Rattle.std.specs.Result.{ForOk}
 use Rattle.std.proofs.lemmas.Bool.{cases_Bool, false≢true}
 use Rattle.admit_core.specs.Days.{Days, first_evening, unfit_on}
 use Rattle.admit_core.specs.DossierRows.{DossierRows}
@@ -17,16 +16,14 @@ use Rattle.day_run.specs.DeskStates.{DeskStates}
 use Rattle.dossier_check.specs.Dates.{dates_of}
 use Rattle.dossier_check.specs.Ids.{Ids, ids_of}
 use Rattle.intake.specs.Dated.{AreDatedFor, dated_from, terms_in}
-use Rattle.intake.specs.Input.{IsInputOf, IsJobOf, Job}
+use Rattle.intake.specs.Input.{IsInputOf, IsJobOf, Job, NamesIn}
 use Rattle.intake.specs.declared.input.Input.{Input}
 use Rattle.intake.specs.declared.terms.DatedTerms.{DatedTerms}
-use Rattle.modes.specs.Endings.{AreDaysOf, EndsWith, IsEndOf, IsEnding}
-use Rattle.modes.specs.Jobs.{AreDays, FitsAnswers, Seen, dated_of, days_of, deadlines_of, dossier, seen_of, terms_of}
-use Rattle.modes.specs.Replay.{CanBeDated, CanBeWritten}
+use Rattle.modes.specs.Endings.{AreDaysOf, CanEnd, EndsWith, IsEndOf, IsEnding}
+use Rattle.modes.specs.Jobs.{AreDays, FitsAnswers, Seen, dated_of, days_of, deadlines_of, dossier, seen_by, seen_of, terms_of}
 use Rattle.modes.specs.declared.exit.Exit.{Exit}
 use Rattle.modes.specs.declared.exit.Exit.TheVariants as exits
 use Rattle.modes.specs.declared.reply.Reply.{Reply}
-use Rattle.modes.proofs.Writable.{played_written}
 use Rattle.played.specs.Lent.{Lent}
 use Rattle.played.specs.PlayedDays.{EndsAfter, IsPlayed, Lead, Plan, Played, lent_after}
 use Rattle.request.specs.Modes.{runs_days, sample_of}
@@ -37,9 +34,6 @@ use Rattle.request.specs.declared.request.Request.{Request}
 
 pub deadlines_known : (request : Request) → IsRequest request → IfSome (deadlines_of request) IsDeadlines
 deadlines_known request is = elim (cases_Bool (is_some (sample_of request.mode))) [ inl made ↦ rw made tt | inr none ↦ rw none is.deadlines ]
-
-pub few_days : (request : Request) → IsRequest request → days_of request ≤ 366
-few_days request is = elim (cases_Bool (runs_days request.mode)) [ inl runs ↦ rw runs is.days | inr none ↦ rw none (omega arith) ]
 
 pub no_days : (request : Request) → IsTrue (not (runs_days request.mode)) → days_of request ≡ 0
 no_days request none = elim (cases_Bool (runs_days request.mode)) [ inl runs ↦ absurd (false≢true (rw runs at none)) | inr is ↦ rw is refl ]
@@ -82,6 +76,7 @@ lead_days plan d old before (day ∷ days) new lead =
 done_of : (mode : Mode) (seen : Seen) (played : Played) (desk : DeskStates) (exit : Exit) (text : List ℕ) → IsEndOf mode seen played desk exit text → exit ≡ exits.Done
 done_of modes.Order seen played desk exit text ends = ends.0
 done_of modes.Replay seen played desk exit text ends = ends.0
+done_of (modes.Explain wish) seen played desk exit text ends = ends.0
 done_of (modes.Sample number) seen played desk exit text ends = ends.0
 
 exit_after : (end : Result DeskStates Refusal) (seen : Seen) (played : Played) (exit : Exit) (text : List ℕ) → EndsWith end seen played exit text → (exit ≡ exits.Done) ⊎ (exit ≡ exits.Refused)
@@ -116,13 +111,16 @@ module _ (request : Request) (known : IsRequest request) (input : Input) (dated 
       subst (λ (n : ℕ). IsPlayed input.dossier (terms_in dated) n request.picker before played after) number_is
       (subst (λ (t : Option Terms). IsPlayed input.dossier t number request.picker before played after) terms_are plays)
 
-  pub all_written : All (CanBeWritten input.dossier dated) played.days × ForOk played.end (λ desk. CanBeDated dated desk.present)
-  all_written =
-      played_written input.dossier dated (days_of request) request.picker before played after (few_days request known)
-      (subst (λ (x : Option DatedTerms). IfSome x (AreDatedFor input.dossier)) (sym same) is) asked_days
+  pub can_end : NamesIn request.mode input.index → CanEnd (seen_by request input dated) played
+  can_end named = record {
+    request = known;
+    dated = subst (λ (x : Option DatedTerms). IfSome x (AreDatedFor input.dossier)) (sym same) is;
+    named = named;
+    played = (before, after, asked_days);
+  }
 
   pub reply_ends : {E : Type 0} (result : Result Reply E) (job : Job) → given ≡ option_map (dated_from input.dates) (deadlines_of request) → IsJobOf request job → IsInputOf job input
-      → IfOk result (λ reply. EndsWith played.end (record { request = request; dossier = input.dossier; index = input.index; chain = input.chain; dated = dated }) played reply.exit reply.text.items)
+      → IfOk result (λ reply. EndsWith played.end (seen_by request input dated) played reply.exit reply.text.items)
       → IfOk result (λ reply. IsEnding job before after reply.exit reply.text.items)
   reply_ends (Err e) job given_is is_job is_input ends = tt
   reply_ends (Ok reply) job given_is is_job is_input ends =

@@ -1,7 +1,7 @@
 -- What the words ask for, taken in.
 use Rattle.std.proofs.Common.{◌≡◌, ℕ, ◌≤◌, List, Option, None, Some, Result, Ok, Err, IsErrAnd, arith, refl, subst, sym}
 use Rattle.admit_core.specs.declared.slot.Slot.{Slot}
-use Rattle.intake.specs.Input.{Job, TakesIn, job_of}
+use Rattle.intake.specs.Input.{IsInputFor, Job, NamesIn, TakesIn, job_of}
 use Rattle.intake.specs.Shelves.{OnShelf, TakesSlots}
 use Rattle.intake.specs.Stops.{◌>>=◌, Stopped, asked, words_stop}
 use Rattle.intake.specs.declared.input.Input.{Input}
@@ -95,3 +95,7 @@ module _ (words : List (List ℕ)) (request : Request) (before after : OnShelf) 
       cause = tt;
     });
   }
+
+-- what a mode names is in its input
+pub named_in : (request : Request) (before : OnShelf) (input : Input) → IsInputFor request before input → NamesIn request.mode input.index
+named_in request before input is = subst (NamesIn request.mode) (sym is.is_input.index) is.is_job.named

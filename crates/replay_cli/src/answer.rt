@@ -1,6 +1,6 @@
 //! What a run answers, before anything is written.
 ghost use Rattle.std.specs.Prelude.{◌≡◌, IfOk, map, string_bytes};
-ghost use Rattle.intake.specs.Input.{IsInputOf, IsJobOf, Job};
+ghost use Rattle.intake.specs.Input.{IsInputOf, IsJobOf, Job, NamesIn};
 ghost use Rattle.intake.specs.Shelves.{on_shelf};
 ghost use Rattle.modes.specs.Endings.{IsEnding};
 ghost use Rattle.modes.specs.Jobs as Jobs;
@@ -35,6 +35,7 @@ fn play_out(
     pickers: &mut Pickers,
 ) -> Result<Reply, OutOfMemory>
     requires request { IsRequest request.now }
+    requires named { NamesIn request.now.mode input.now.index }
     requires there { AreThere pickers.old }
 
     ensures there { AreThere pickers.new }

@@ -7,7 +7,7 @@ use Rattle.admit_core.specs.declared.slot.Slot.TheVariants.{Groups, Programmes, 
 use Rattle.clap.specs.Words.{Text}
 use Rattle.dossier_csv.specs.Columns.{choice}
 use Rattle.request.specs.declared.modes.Mode.{Mode}
-use Rattle.request.specs.declared.modes.Mode.TheVariants.{Order, Replay, Sample}
+use Rattle.request.specs.declared.modes.Mode.TheVariants.{Order, Replay, Explain, Sample}
 use Rattle.request.specs.declared.modes.Name.{Name}
 use Rattle.request.specs.declared.modes.Name.TheVariants.{Wish, School}
 use Rattle.request.specs.declared.modes.Numbers.{Numbers}
@@ -21,18 +21,24 @@ abbrev pub modes_by_word : Numbers → List (Text × Option Mode)
 modes_by_word numbers =
     (codes "order", Some Order) ∷
     (codes "replay", Some Replay) ∷
+    (codes "explain", option_map (λ wish. Explain wish) numbers.wish) ∷
     (codes "sample", option_map (λ number. Sample number) numbers.number) ∷ []
 
 -- the mode of a word, with what it needs
 abbrev pub mode_of : Numbers → Text → Option Mode
 mode_of numbers word = option_and_then (λ mode. mode) (choice (modes_by_word numbers) word)
 
--- the slots that a mode reads, in this order; a sample is made, and reads none
+-- the nine slots of a dossier, in their order
+abbrev pub nine_slots : List Slot
+nine_slots =
+    Groups ∷ Programmes ∷ Schools ∷ Rankings ∷ Boarding ∷ Wishes ∷ State ∷ Ceilings ∷ Answers ∷ []
+
+-- the slots that a mode reads, in this order: the nine, but for those who need less; a sample is
+-- made, and reads none
 abbrev pub slots_of : Mode → List Slot
 slots_of Order = Groups ∷ Rankings ∷ []
-slots_of Replay =
-    Groups ∷ Programmes ∷ Schools ∷ Rankings ∷ Boarding ∷ Wishes ∷ State ∷ Ceilings ∷ Answers ∷ []
 slots_of (Sample number) = []
+slots_of _ = nine_slots
 
 -- how many candidates the made-up dossier of a mode has
 abbrev pub sample_of : Mode → Option ℕ
@@ -42,14 +48,12 @@ sample_of _ = None
 -- the modes that run days, for which pickers are asked
 abbrev pub runs_days : Mode → Bool
 runs_days Order = false
-runs_days Replay = true
-runs_days (Sample number) = true
+runs_days _ = true
 
 -- what a mode names in the dossier
 abbrev pub named_by : Mode → Option Name
-named_by Order = None
-named_by Replay = None
-named_by (Sample number) = None
+named_by (Explain wish) = Some (Wish wish)
+named_by _ = None
 
 -- the words for it in a line
 abbrev pub name_text : Name → List ℕ

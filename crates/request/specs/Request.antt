@@ -134,6 +134,7 @@ pub record IsDeadlines (deadlines : Deadlines) : Type 0 where
 
 -- what is known of a request that was read
 pub record IsRequest (request : Request) : Type 0 where
+  pub some_day : 1 ≤ request.days
   pub days : request.days ≤ 366
   pub mode : IsMode request.mode
   pub deadlines : IfSome request.deadlines IsDeadlines

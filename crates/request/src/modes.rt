@@ -14,6 +14,8 @@ pub enum Mode {
     Order,
     /// Writes the call orders, the days that are run, and the final state.
     Replay,
+    /// Explains why a wish, named by its id, stands as it does after the days.
+    Explain { wish: u32 },
     /// Makes a dossier of so many candidates, from 1 to 1,000,000, and writes a summary of its
     /// days.
     Sample { number: u32 },
@@ -56,6 +58,7 @@ pub(crate) fn mode_of(word: &str, numbers: Numbers) -> Option<Mode>
     match word {
         "order" => Some(Mode::Order),
         "replay" => Some(Mode::Replay),
+        "explain" => numbers.wish.map(|wish| Mode::Explain { wish }),
         "sample" => numbers.number.map(|number| Mode::Sample { number }),
         _ => None,
     }
@@ -68,7 +71,8 @@ pub fn slots_of(mode: Mode) -> &'static [Slot]
 {
     match mode {
         Mode::Order => &[Slot::Groups, Slot::Rankings],
-        Mode::Replay => &[
+        Mode::Sample { .. } => &[],
+        _ => &[
             Slot::Groups,
             Slot::Programmes,
             Slot::Schools,
@@ -79,7 +83,6 @@ pub fn slots_of(mode: Mode) -> &'static [Slot]
             Slot::Ceilings,
             Slot::Answers,
         ],
-        Mode::Sample { .. } => &[],
     }
 }
 
@@ -101,8 +104,7 @@ pub fn runs_days(mode: Mode) -> bool
 {
     match mode {
         Mode::Order => false,
-        Mode::Replay => true,
-        Mode::Sample { .. } => true,
+        _ => true,
     }
 }
 
@@ -111,8 +113,7 @@ pub fn named_by(mode: Mode) -> Option<Name>
     ensures { result ≡ Modes.named_by mode }
 {
     match mode {
-        Mode::Order => None,
-        Mode::Replay => None,
-        Mode::Sample { .. } => None,
+        Mode::Explain { wish } => Some(Name::Wish(wish)),
+        _ => None,
     }
 }

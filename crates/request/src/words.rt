@@ -167,9 +167,10 @@ fn deadlines_option(matches: &ArgMatches<'_>) -> Result<Option<Deadlines>, BadWo
 
 /// How many days are run; 1 where it is not given.
 fn days_of(days: Option<u32>) -> u32
-    requires { IfSome days (λ n. n ≤ 366) }
+    requires { IfSome days (λ n. (1 ≤ n) × (n ≤ 366)) }
     ensures value { result ≡ unwrap_or days 1 }
-    ensures range { result ≤ 366 }
+    ensures least { 1 ≤ result }
+    ensures most { result ≤ 366 }
 {
     match days {
         Some(days) => days,

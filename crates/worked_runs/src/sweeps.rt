@@ -108,7 +108,7 @@ pub(crate) fn each_read_fails(
     comes_about(alloc, words, slots, outside, expected)
 }
 
-/// Whether a run is done or refused, with a line that says so.
+/// Whether a run is done, refused, or does not find what it names, with a line that says so.
 fn is_answered(ran: &Ran) -> bool {
     let text = ran.text.as_slice();
     let last = text
@@ -118,12 +118,14 @@ fn is_answered(ran: &Ran) -> bool {
         .unwrap_or(b"");
     if ran.status == Exit::Refused as u8 {
         last.starts_with(b"refused ")
+    } else if ran.status == Exit::NoSuchWish as u8 {
+        last.starts_with(b"no such ")
     } else {
         ran.status == Exit::Done as u8
     }
 }
 
-/// Whether the run is done or refused wherever one of these slots is cut off.
+/// Whether the run is answered so wherever one of these slots is cut off.
 pub(crate) fn each_cut_is_answered(
     alloc: Global,
     words: &str,

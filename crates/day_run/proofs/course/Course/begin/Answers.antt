@@ -1,4 +1,5 @@
 use Rattle.std.proofs.Common.{◌∙◌, ap, sym, ℕ, List, length}
+use Rattle.std.proofs.lemmas.Bool.{false≢true}
 use Rattle.std.proofs.lemmas.List.{length-map}
 use Rattle.admit_core.specs.declared.dossier.School.{School}
 use Rattle.admit_core.specs.State.{State}
@@ -12,4 +13,5 @@ invariant_of-result c = record {
       ap (λ (l : List ℕ). length l) c.in_ok-bars.ensures
       ∙ length-map c.args.dossier.now.schools (λ (s : School). s.ceiling)
       ∙ ap (λ (s : State). length s.dossier.schools) (sym c.in_ok-desk.ensures.present);
+  last = λ t. absurd (false≢true t);
 }

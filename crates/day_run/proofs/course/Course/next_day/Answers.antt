@@ -5,6 +5,7 @@ use Rattle.admit_core.specs.State.{State}
 use Rattle.admit_core.specs.EveningLaws.{last_bars}
 use Rattle.day_run.proofs.LastBars.{last_bars_long}
 use Rattle.day_run.proofs.DayEnds.{next_ran}
+use Rattle.day_run.proofs.PassEnds.{desk_ends_so}
 use Rattle.day_run.proofs.course.Course.next_day.Goals as goal
 
 pub run_with-requires-clause-ceilings : goal.run_with-requires-clause-ceilings
@@ -37,6 +38,9 @@ invariant_of-self-2 g c =
           ∙ last_bars_long _ _ _ _ _ _ c.in_ok-done.done.passes c.in_ok-done.ensures.done.is_day.passes
           ∙ schools
           ∙ ap (λ (d : DossierRows). length d.schools) (sym c.run_with.ensures.dossier);
+      last = λ _.
+          desk_ends_so _ _ _ _ _ _ _ _ _ c.self.invariant.orders schools c.in_ok-done.ensures.done
+          c.as_slice.ensures.value (c.keep_bars.ensures ∙ ap last_bars c.as_slice-2.ensures);
     }
 
 pub returns : goal.returns

@@ -1,0 +1,12 @@
+use Rattle.std.proofs.Common.{◌∙◌}
+use Rattle.day_state.proofs.Change.{own_within}
+use Rattle.demand.proofs.OwnOpen.{has_open_own}
+use Rattle.explain.proofs.ahead.has_open_wish.Goals as goal
+
+pub any_open-requires-clause-own : goal.any_open-requires-clause-own
+any_open-requires-clause-own c = rw c.own_wishes.ensures (own_within c.args.state.now.dossier c.args.candidate)
+
+pub returns : goal.returns
+returns c =
+    c.any_open.ensures
+    ∙ rw c.own_wishes.ensures (has_open_own c.args.state.now c.args.bars.now c.args.programme c.args.candidate (rw c.marks.ensures.marks at c.marks.ensures.one_each))

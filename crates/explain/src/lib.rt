@@ -1,0 +1,10 @@
+//! Why a wish stands as it does in the evening of a day.
+#![tactic(auto)]
+
+mod ahead;
+mod closing;
+mod explained;
+mod laws;
+
+pub use explained::{explain, explain_on_desk};
+pub use laws::laws_of_explanations;

@@ -1,0 +1,51 @@
+//! The mode `explain`: why a wish stands as it does after the days.
+ghost use Rattle.std.specs.Prelude.{◌≡◌, ◌<◌, IfOk, IsTrue, length};
+ghost use Rattle.admit_core.specs.EveningLaws.{last_bars};
+ghost use Rattle.admit_core.specs.Lists.{is_among};
+ghost use Rattle.modes.specs.Explained.{IsExplained};
+ghost use Rattle.played.specs.LastDays.{IsDeskAfter};
+
+use admit_core::{CallOrders, DayRecord, OutOfMemory, PassEnd};
+use day_run::{Desk, ceilings_on};
+use dossier_check::wish_place;
+use explain::explain_on_desk;
+use intake::Input;
+use report::explain_text;
+use std::alloc::Global;
+
+/// The bars of the last pass.
+fn last_bars(passes: &[PassEnd]) -> &[u32]
+    ensures { result.now ≡ last_bars passes.now }
+{
+    match passes.last() {
+        Some(last) => last.pass.bars.as_slice(),
+        None => &[],
+    }
+}
+
+/// The line that explains the wish of this id.
+pub(crate) fn explained_text(
+    alloc: Global,
+    input: &Input,
+    orders: &CallOrders,
+    days: &[DayRecord],
+    desk: &Desk<'_>,
+    wish: u32,
+) -> Result<Vec<u8>, OutOfMemory>
+    requires named { IsTrue (is_among wish input.now.index.wishes) }
+    requires some_day { 0 < length days.now }
+    requires desk { IsDeskAfter input.now.dossier orders.now.orders days.now desk.now }
+    ensures { IfOk result (λ text. IsExplained
+        input.now.dossier input.now.index orders.now.orders days.now desk.now wish text.items) }
+{
+    let Some(place) = wish_place(&input.index, wish) else {
+        unreachable!()
+    };
+    let Some(day) = days.last() else {
+        unreachable!()
+    };
+    let ceilings = ceilings_on(alloc, &input.dossier, day.day)?;
+    let bars = last_bars(day.passes.as_slice());
+    let why = explain_on_desk(desk, orders, &ceilings, bars, place);
+    explain_text(alloc, &input.dossier, place, why)
+}
