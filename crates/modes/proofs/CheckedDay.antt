@@ -119,3 +119,17 @@ proved_none terms orders d old (chain ∷ chains) new are =
     ap (λ (o : Option Unproved). option_or o (why_none terms orders (d + 1) (evening_by terms orders d old chain) chains)) (none_against terms orders d old chain evening are.1 are.2)
     ∙ ap (λ (s : State). why_none terms orders (d + 1) s chains) (sym leads_to)
     ∙ proved_none terms orders (d + 1) evening chains new are.3
+
+-- the test goes on after a day that is proved, and stops at one that is not
+module _ (terms : Option Terms) (orders : List CallOrder) (k : ℕ) (s next : State) (chain : DayChain) (rest : List DayChain) where
+  pub days_go_on : (whole : Option Unproved) → whole ≡ why_none terms orders k s (chain ∷ rest) → why_not terms orders k s chain ≡ None → next ≡ evening_by terms orders k s chain
+      → whole ≡ why_none terms orders (k + 1) next rest
+  days_go_on whole e none is =
+      why_goes_on (why_not terms orders k s chain) (why_none terms orders (k + 1) (evening_by terms orders k s chain) rest) whole e none
+      ∙ ap (λ (t : State). why_none terms orders (k + 1) t rest) (sym is)
+
+  pub evening_goes_on : (whole : State) → whole ≡ evening_after terms orders k s (chain ∷ rest) → next ≡ evening_by terms orders k s chain → whole ≡ evening_after terms orders (k + 1) next rest
+  evening_goes_on whole e is = e ∙ ap (λ (t : State). evening_after terms orders (k + 1) t rest) (sym is)
+
+  pub days_stop : (found : Unproved) (whole : Option Unproved) → whole ≡ why_none terms orders k s (chain ∷ rest) → StopsBy found (why_not terms orders k s chain) → StopsBy found whole
+  days_stop found whole e stops = why_stops found (why_not terms orders k s chain) (why_none terms orders (k + 1) (evening_by terms orders k s chain) rest) whole e stops

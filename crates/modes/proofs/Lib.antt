@@ -1,2 +1,3 @@
+pub mod CheckedDay
 pub mod Ending
 pub mod Writable

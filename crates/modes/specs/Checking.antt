@@ -24,7 +24,7 @@ use Rattle.report.specs.RefusalText.{refusal_line}
 use Rattle.report.specs.Words.{line}
 use Rattle.request.specs.declared.modes.Mode.{Mode}
 use Rattle.request.specs.declared.modes.Mode.TheVariants.{Check}
-use Rattle.modes.specs.Jobs.{dossier, terms_of}
+use Rattle.modes.specs.Jobs.{FitsAnswers, dossier, terms_of}
 use Rattle.modes.specs.Replay.{final_lines}
 use Rattle.modes.specs.declared.unproved.Unproved.{Unproved}
 use Rattle.modes.specs.declared.unproved.Unproved.TheVariants.{Unfit, Rejected, OutOfMemory}
@@ -83,3 +83,8 @@ HasProof job =
 abbrev pub HandsInProof : Mode → Job → Type 0
 HandsInProof Check job = HasProof job
 HandsInProof _ job = Unit {0}
+
+-- nothing that is handed in keeps a job from being done: each answer fits, and the chain proves its days
+pub record CanBeDone (job : Job) : Type 0 where
+  pub fits : FitsAnswers job
+  pub proves : HandsInProof job.request.mode job

@@ -1,5 +1,6 @@
 //! What a run answers, before anything is written.
 ghost use Rattle.std.specs.Prelude.{◌≡◌, IfOk, map, string_bytes};
+ghost use Rattle.certificate.specs.Checked.{ids_in};
 ghost use Rattle.intake.specs.Input.{IsInputOf, IsJobOf, Job, NamesIn};
 ghost use Rattle.intake.specs.Shelves.{on_shelf};
 ghost use Rattle.modes.specs.Endings.{IsEnding};
@@ -36,6 +37,7 @@ fn play_out(
 ) -> Result<Reply, OutOfMemory>
     requires request { IsRequest request.now }
     requires named { NamesIn request.now.mode input.now.index }
+    requires indexed { input.now.index ≡ ids_in input.now.dossier }
     requires there { AreThere pickers.old }
 
     ensures there { AreThere pickers.new }
