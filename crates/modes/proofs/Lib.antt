@@ -1,3 +1,3 @@
 pub mod CheckedDay
-pub mod Ending
+pub mod OnDesks
 pub mod Writable

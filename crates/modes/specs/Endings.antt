@@ -28,14 +28,17 @@ use Rattle.modes.specs.declared.exit.Exit.TheVariants.{Done, Refused}
 abbrev pub IsDoneWith : List ℕ → Exit → List ℕ → Type 0
 IsDoneWith whole exit text = (exit ≡ Done) × (text ≡ whole)
 
+-- a run is done with a text of which this holds
+abbrev pub IsDoneSaying : (List ℕ → Type 0) → Exit → List ℕ → Type 0
+IsDoneSaying IsText exit text = (exit ≡ Done) × IsText text
+
 -- how each mode ends once all its days have led to a desk
 abbrev pub IsEndOf : Mode → Seen → Played → DeskStates → Exit → List ℕ → Type 0
 IsEndOf Order seen played desk = IsDoneWith (orders_text seen.dossier.groups played.orders)
 IsEndOf Replay seen played desk = IsDoneWith (replay_text seen.dossier seen.dated played.orders played.days desk.present)
 IsEndOf Chain seen played desk = IsDoneWith (chain_text seen.dossier played.days)
 IsEndOf Check seen played desk = IsChecked seen.dossier seen.chain seen.dated played.orders
-IsEndOf (Explain wish) seen played desk exit text =
-    (exit ≡ Done) × IsExplained seen.dossier seen.index played.orders played.days desk wish text
+IsEndOf (Explain wish) seen played desk = IsDoneSaying (IsExplained seen.dossier seen.index played.orders played.days desk wish)
 IsEndOf (Sample number) seen played desk = IsDoneWith (sample_text number (length seen.dossier.wishes) played.days desk.present)
 
 -- what a mode writes before the refusal of an answer that does not fit
@@ -63,7 +66,7 @@ pub record CanEnd (seen : Seen) (played : Played) : Type 0 where
   pub dated : IfSome seen.dated (AreDatedFor seen.dossier)
   pub named : NamesIn seen.request.mode seen.index
   pub index : seen.index ≡ ids_in seen.dossier
-  pub played : (before : Lent) × (after : Lent) × IsPlayed seen.dossier (terms_in seen.dated) (days_of seen.request) seen.request.picker before played after
+  pub plays : (before : Lent) × (after : Lent) × IsPlayed seen.dossier (terms_in seen.dated) (days_of seen.request) seen.request.picker before played after
 
 -- what all modes may use once the days have led to a desk
 pub record CanBeEnded (seen : Seen) (played : Played) (desk : DeskStates) : Type 0 where
@@ -75,7 +78,7 @@ pub record CanBeEnded (seen : Seen) (played : Played) (desk : DeskStates) : Type
   pub number : length played.days ≡ days_of seen.request
   pub days : All (CanBeWritten seen.dossier seen.dated) played.days
   pub offers : CanBeDated seen.dated desk.present
-  pub desk : IsDeskAfter seen.dossier played.orders played.days desk
+  pub last : IsDeskAfter seen.dossier played.orders played.days desk
   pub idle : days_of seen.request ≡ 0 → desk.present ≡ first_evening seen.dossier
 
 -- a job's days were played with these pickers, and the run ends by its mode

@@ -1,5 +1,5 @@
 -- The desk after the days that were played.
-use Rattle.std.proofs.Common.{◌≡◌, ◌∙◌, ℕ, suc, ◌+◌, ◌-◌, List, [], ◌∷◌, Some, Result, Ok, Err, ap, arith, length, refl, subst, sym}
+use Rattle.std.proofs.Common.{◌≡◌, ◌∙◌, ℕ, suc, ◌+◌, ◌-◌, List, [], ◌∷◌, Some, Result, Ok, Err, ap, arith, length, refl, subst, sym, Option}
 use Rattle.std.specs.Prelude.{slice_get}
 use Rattle.std.specs.Result.{ForOk}
 use Rattle.admit_core.specs.CallOrder.{AreCallOrders}

@@ -170,7 +170,7 @@ module _ (request : Request) (known : IsRequest request) (input : Input) (dated 
     dated = subst (λ (x : Option DatedTerms). IfSome x (AreDatedFor input.dossier)) (sym same) is;
     named = named;
     index = indexed;
-    played = (before, after, asked_days);
+    plays = (before, after, asked_days);
   }
 
   pub reply_ends : {E : Type 0} (result : Result Reply E) (job : Job) → given ≡ option_map (dated_from input.dates) (deadlines_of request) → IsJobOf request job → IsInputOf job input

@@ -1,22 +1,25 @@
 -- What an ending rests on, and what it gives for a desk.
-use Rattle.std.proofs.Common.{◌≡◌, ◌∙◌, ◌<◌, ◌≤◌, ℕ, true, List, [], ◌∷◌, Option, Result, Ok, Err, All, arith, ap, inl, inr, length, refl, subst, sym}
-use Rattle.std.specs.Prelude.{IsTrue}
+use Rattle.std.proofs.Common.{◌≡◌, ◌∙◌, ◌≤◌, ℕ, List, [], ◌∷◌, Option, Result, Ok, Err, All, arith, ap, inl, inr, length, subst, sym}
 use Rattle.std.specs.Result.{ForOk}
 use Rattle.std.proofs.lemmas.Bool.{cases_Bool}
-use Rattle.admit_core.specs.Lists.{is_among}
+use Rattle.admit_core.specs.Days.{ceilings_of}
+use Rattle.admit_core.specs.DossierRows.{DossierRows}
+use Rattle.admit_core.specs.EveningLaws.{last_bars}
+use Rattle.admit_core.specs.declared.explanation.Explanation.{Explanation}
+use Rattle.admit_core.specs.declared.ranking.CallOrder.{CallOrder}
 use Rattle.admit_core.specs.declared.records.DayRecord.{DayRecord}
 use Rattle.admit_core.specs.declared.records.Terms.{Terms}
 use Rattle.admit_core.specs.declared.refusal.Refusal.{Refusal}
 use Rattle.day_run.specs.DeskStates.{DeskStates}
+use Rattle.day_run.specs.LastPasses.{last_pass}
+use Rattle.explain.specs.Sayings.{Explains}
 use Rattle.intake.specs.Dated.{terms_in}
-use Rattle.intake.specs.Input.{NamesIn}
 use Rattle.played.proofs.LastDay.{desk_played}
+use Rattle.played.specs.LastDays.{pass_on}
 use Rattle.played.specs.Lent.{Lent}
 use Rattle.played.specs.PlayedDays.{EndsAfter, Lead, Plan, Played, first_desk, plan_of}
 use Rattle.request.specs.Modes.{runs_days}
 use Rattle.request.specs.Request.{IsRequest}
-use Rattle.request.specs.declared.modes.Mode.{Mode}
-use Rattle.request.specs.declared.modes.Mode.TheVariants.{Explain}
 use Rattle.request.specs.declared.request.Request.{Request}
 use Rattle.modes.specs.Endings.{CanBeEnded, CanEnd}
 use Rattle.modes.specs.Jobs.{Seen, days_of}
@@ -29,7 +32,7 @@ few_days request is = elim (cases_Bool (runs_days request.mode)) [ inl runs ↦ 
 -- the days that came about can be written, and so can the evening after them
 pub written : (seen : Seen) (played : Played) → CanEnd seen played → All (CanBeWritten seen.dossier seen.dated) played.days × ForOk played.end (λ desk. CanBeDated seen.dated desk.present)
 written seen played can =
-    played_written seen.dossier seen.dated (days_of seen.request) seen.request.picker can.played.0 played can.played.1 (few_days seen.request can.request) can.dated can.played.2
+    played_written seen.dossier seen.dated (days_of seen.request) seen.request.picker can.plays.0 played can.plays.1 (few_days seen.request can.request) can.dated can.plays.2
 
 as_many : (terms : Option Terms) (number : ℕ) (days : List DayRecord) (last : DeskStates) (end : Result DeskStates Refusal) → EndsAfter terms number days last end → ForOk end (λ desk. length days ≡ number)
 as_many terms number days last (Ok desk) ends = λ x same. ends.0
@@ -51,7 +54,7 @@ desk_at_first terms number days last (Err refusal) first plan before lead ends d
 -- the days led to a desk
 pub ends_on : (seen : Seen) (played : Played) (desk : DeskStates) → CanEnd seen played → played.end ≡ Ok desk → CanBeEnded seen played desk
 ends_on seen played desk can same =
-    let plays = can.played.2 in
+    let plays = can.plays.2 in
     let all = written seen played can in
     record {
       request = can.request;
@@ -62,17 +65,13 @@ ends_on seen played desk can same =
       number = as_many (terms_in seen.dated) (days_of seen.request) played.days plays.last played.end plays.ends desk same;
       days = all.0;
       offers = all.1 desk same;
-      desk = desk_played seen.dossier (terms_in seen.dated) (days_of seen.request) seen.request.picker can.played.0 played can.played.1 plays desk same;
-      idle = desk_at_first (terms_in seen.dated) (days_of seen.request) played.days plays.last played.end (first_desk seen.dossier) (plan_of (terms_in seen.dated) seen.request.picker played) can.played.0 plays.days plays.ends desk same;
+      last = desk_played seen.dossier (terms_in seen.dated) (days_of seen.request) seen.request.picker can.plays.0 played can.plays.1 plays desk same;
+      idle = desk_at_first (terms_in seen.dated) (days_of seen.request) played.days plays.last played.end (first_desk seen.dossier) (plan_of (terms_in seen.dated) seen.request.picker played) can.plays.0 plays.days plays.ends desk same;
     }
 
--- what a wish is explained by
-module _ (seen : Seen) (played : Played) (desk : DeskStates) (can : CanBeEnded seen played desk) (wish : ℕ) (is : seen.request.mode ≡ Explain wish) where
-  pub named_wish : IsTrue (is_among wish seen.index.wishes)
-  named_wish = subst (λ (m : Mode). NamesIn m seen.index) is can.named
-
-  pub some_day : 0 < length played.days
-  some_day =
-      let runs : runs_days seen.request.mode ≡ true = ap runs_days is in
-      let number : days_of seen.request ≡ seen.request.days = rw runs refl in
-      omega (arith, can.number, number, can.request.some_day)
+-- an explanation under the ceilings of the last day and the bars of its last pass
+pub explains_on : (d : DossierRows) (orders : List CallOrder) (day : DayRecord) (desk : DeskStates) (place : ℕ) (x : Explanation) (ceilings bars : List ℕ) → ceilings ≡ ceilings_of d day.day
+    → bars ≡ last_bars day.passes → Explains (last_pass desk.opening orders ceilings bars) desk.present place x → Explains (pass_on d orders day desk) desk.present place x
+explains_on d orders day desk place x ceilings bars ceilings_are bars_are explains =
+    subst (λ (cs : List ℕ). Explains (last_pass desk.opening orders cs (last_bars day.passes)) desk.present place x) ceilings_are
+    (subst (λ (bs : List ℕ). Explains (last_pass desk.opening orders ceilings bs) desk.present place x) bars_are explains)
