@@ -1,0 +1,138 @@
+"""Runs for the hostile rounds: dossiers with the words that they are run with, and a run that is watched."""
+
+import os
+import resource
+import shutil
+import signal
+import subprocess
+import tempfile
+import time
+from collections.abc import Callable, Iterator
+from dataclasses import dataclass
+from pathlib import Path
+
+from dossier.program import program
+
+from .harness import EXAMPLES, TOP
+
+CASES = TOP / "crates/worked_runs/data"
+SLOTS = ("groups", "programmes", "schools", "rankings", "boarding", "wishes", "state", "ceilings", "answers", "chain")
+MARKS = {"{cr}": "\r", "{bom}": "\ufeff", "{cut}": ""}
+Files = dict[str, bytes]
+
+
+@dataclass(frozen=True)
+class Job:
+    """A dossier and the words that it is run with."""
+
+    title: str
+    files: Files
+    words: tuple[str, ...]
+
+    @property
+    def mode(self) -> str:
+        return self.words[0] if self.words else "none"
+
+
+def text_of(lines: list[str]) -> bytes:
+    """The text that stands behind bars in a file of cases."""
+    text = "".join(line if line.endswith("{cut}") else line + "\n" for line in lines)
+    for mark, stands_for in MARKS.items():
+        text = text.replace(mark, stands_for)
+    return text.encode()
+
+
+def sections(file: Path) -> Iterator[tuple[str, list[str]]]:
+    """The sections of a file of cases, each with the lines of its text."""
+    head, lines = "", []
+    for line in [*file.read_text().split("\n"), "end"]:
+        if line.startswith("| ") or line == "|":
+            lines.append(line[2:])
+        elif line and not line.startswith("#"):
+            if head:
+                yield head, lines
+            head, lines = line, []
+
+
+def jobs_of(file: Path) -> Iterator[Job]:
+    """The runs of a file of cases."""
+    blank = {path.stem: path.read_bytes() for path in (EXAMPLES / "blank").glob("*.csv")}
+    dossier, case, title = dict(blank), dict(blank), ""
+    is_dossier = True
+    for head, lines in sections(file):
+        kind, _, rest = head.partition(" ")
+        if kind == "dossier":
+            dossier, is_dossier, title = dict(blank), True, rest
+        elif kind == "case":
+            case, is_dossier, title = dict(dossier), False, rest
+        elif kind in SLOTS:
+            (dossier if is_dossier else case)[kind] = text_of(lines)
+        elif kind in ("words", "same"):
+            yield Job(title, {f"{slot}.csv": text for slot, text in case.items()}, tuple(rest.split()))
+
+
+def all_jobs(modes: list[str]) -> list[Job]:
+    """The worked runs of these modes, of all modes where none is named; large samples are left out."""
+    found = [job for file in sorted(CASES.glob("*.txt")) for job in jobs_of(file)]
+    return [job for job in found
+            if "--number" not in job.words and (job.mode in modes or (not modes and job.mode.isalpha()))]
+
+
+@dataclass(frozen=True)
+class Watched:
+    """How a run ended: its status (below 0 a signal), its text, the seconds and the bytes that it took."""
+
+    status: int
+    text: bytes
+    seconds: float
+    memory: int
+
+
+def put(files: Files, folder: Path) -> None:
+    """Makes the folder hold these files alone."""
+    shutil.rmtree(folder, ignore_errors=True)
+    folder.mkdir()
+    for name, text in files.items():
+        (folder / name).write_bytes(text)
+
+
+def watch(words: tuple[str, ...], folder: Path, longest: float, by: str | None = None,
+          environment: dict[str, str] | None = None) -> Watched:
+    """Runs the program, or another one, in the folder; a run that goes on for too long is stopped."""
+    def limit() -> None:
+        resource.setrlimit(resource.RLIMIT_CORE, (0, 0))
+    began = time.monotonic()
+    with tempfile.TemporaryFile() as output:
+        child = subprocess.Popen([by or program(), *words], cwd=folder, stdin=subprocess.DEVNULL, stdout=output,
+                                 stderr=subprocess.DEVNULL, env={**os.environ, **(environment or {})}, preexec_fn=limit)
+        usage = wait_for(child.pid, began + longest)
+        output.seek(0)
+        text = output.read()
+    child.returncode = os.waitstatus_to_exitcode(usage[0])
+    return Watched(child.returncode, text, time.monotonic() - began, usage[1].ru_maxrss * 1024)
+
+
+def wait_for(child: int, until: float) -> tuple[int, resource.struct_rusage]:
+    pause = 0.0005
+    while True:
+        ended, status, usage = os.wait4(child, os.WNOHANG)
+        if ended:
+            return status, usage
+        if time.monotonic() > until:
+            os.kill(child, signal.SIGKILL)
+            _, status, usage = os.wait4(child, 0)
+            return status, usage
+        time.sleep(pause)
+        pause = min(pause * 1.5, 0.05)
+
+
+def by_mode(jobs: list[Job]) -> dict[str, list[Job]]:
+    found: dict[str, list[Job]] = {}
+    for job in jobs:
+        found.setdefault(job.mode, []).append(job)
+    return found
+
+
+def with_each(jobs: list[Job], attempt: Callable[[str, list[Job]], None]) -> None:
+    for mode, those in by_mode(jobs).items():
+        attempt(mode, those)
