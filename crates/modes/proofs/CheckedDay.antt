@@ -6,7 +6,7 @@ use Rattle.std.specs.Option.{option_or}
 use Rattle.admit_core.proofs.ChainLaws.{chains_tell_the_day, no_fault_where_valid}
 use Rattle.admit_core.specs.ChainLaws.{passes_told}
 use Rattle.admit_core.specs.Chains.{IsDayChain, day_fault}
-use Rattle.admit_core.specs.Days.{IsDay, ceilings_of, lapsed_on, morning, unfit_on}
+use Rattle.admit_core.specs.Days.{IsDay, ceilings_of, first_evening, lapsed_on, morning, unfit_on}
 use Rattle.admit_core.specs.DossierRows.{DossierRows}
 use Rattle.admit_core.specs.State.{State, free_beds, seats_left}
 use Rattle.admit_core.specs.declared.chain.CheckReason.{CheckReason}
@@ -17,6 +17,7 @@ use Rattle.admit_core.specs.declared.records.Terms.{Terms}
 use Rattle.admit_core.specs.declared.state.Mark.{Mark}
 use Rattle.admit_core.specs.declared.state.Status.{Status}
 use Rattle.certificate.proofs.Ending.{evening_is}
+use Rattle.certificate.specs.ChainText.{IsDayOf}
 use Rattle.certificate.specs.Checked.{state_after}
 use Rattle.certificate.specs.ProvedDays.{AreProvedDays, evening_after, evening_by}
 use Rattle.day_run.proofs.SameDossier.{evening_dossier}
@@ -25,9 +26,14 @@ use Rattle.day_run.specs.AnswersOn.{unfit_refusal}
 use Rattle.day_run.specs.RunDay.{IsStampedBy, KeepsStamps}
 use Rattle.day_run.specs.declared.refusal.DayRefusal.{DayRefusal}
 use Rattle.day_run.specs.declared.refusal.DayRefusal.TheVariants as refusals
+use Rattle.intake.specs.Dated.{AreDatedFor}
+use Rattle.intake.specs.declared.terms.DatedTerms.{DatedTerms}
+use Rattle.modes.proofs.Writable.{finals_dated, first_known}
 use Rattle.modes.specs.CheckedDays.{StopsBy, TellsWhy, why_of}
-use Rattle.modes.specs.Checking.{EndsProof, IsUnproved, why_none, why_not}
+use Rattle.modes.specs.Checking.{EndsProof, IsReply, IsUnproved, why_none, why_not}
+use Rattle.modes.specs.Replay.{CanBeDated, CanBeWritten}
 use Rattle.modes.specs.declared.exit.Exit.{Exit}
+use Rattle.modes.specs.declared.exit.Exit.TheVariants as exits
 use Rattle.modes.specs.declared.unproved.Unproved.{Unproved}
 use Rattle.modes.specs.declared.unproved.Unproved.TheVariants.{Unfit, Rejected, OutOfMemory}
 
@@ -98,10 +104,10 @@ pub why_goes_on : (why rest all : Option Unproved) → all ≡ option_or why res
 why_goes_on why rest all is none = is ∙ ap (λ o. option_or o rest) none
 
 -- a stop of the test is that of the days
-pub stop_ends : (d : DossierRows) (found : Unproved) (told : Option Unproved) (whole : List ℕ) (exit : Exit) (text : List ℕ) → StopsBy found told → IsUnproved d found exit text → EndsProof d told whole exit text
-stop_ends d (Unfit refusal) told whole exit text stops is = subst (λ (o : Option Unproved). EndsProof d o whole exit text) (sym stops) is
-stop_ends d (Rejected row reason) told whole exit text stops is = subst (λ (o : Option Unproved). EndsProof d o whole exit text) (sym stops) is
-stop_ends d OutOfMemory told whole exit text stops is = absurd is
+pub stop_ends : (d : DossierRows) (found : Unproved) (why : Option Unproved) (whole : List ℕ) (exit : Exit) (text : List ℕ) → StopsBy found why → IsUnproved d found exit text → EndsProof d why whole exit text
+stop_ends d (Unfit refusal) why whole exit text stops is = subst (λ (o : Option Unproved). EndsProof d o whole exit text) (sym stops) is
+stop_ends d (Rejected row reason) why whole exit text stops is = subst (λ (o : Option Unproved). EndsProof d o whole exit text) (sym stops) is
+stop_ends d OutOfMemory why whole exit text stops is = absurd is
 
 -- days that are proved have nothing against them, and lead to their evening
 none_against : (terms : Option Terms) (orders : List CallOrder) (day : ℕ) (old : State) (chain : DayChain) (evening : State) → unfit_on terms day old ≡ None
@@ -133,3 +139,18 @@ module _ (terms : Option Terms) (orders : List CallOrder) (k : ℕ) (s next : St
 
   pub days_stop : (found : Unproved) (whole : Option Unproved) → whole ≡ why_none terms orders k s (chain ∷ rest) → StopsBy found (why_not terms orders k s chain) → StopsBy found whole
   days_stop found whole e stops = why_stops found (why_not terms orders k s chain) (why_none terms orders (k + 1) (evening_by terms orders k s chain) rest) whole e stops
+
+-- a run is done where nothing is against its days
+pub proof_ends : (d : DossierRows) (found : Option Unproved) (whole : List ℕ) (exit : Exit) (text : List ℕ) → found ≡ None → IsReply exits.Done whole exit text → EndsProof d found whole exit text
+proof_ends d found whole exit text none is = subst (λ (o : Option Unproved). EndsProof d o whole exit text) (sym none) is
+
+-- the evening after days from the first one on can be written with its dates
+pub evening_dated : (d : DossierRows) (dated : Option DatedTerms) (begun evening : State) → begun ≡ first_evening d → evening.dossier ≡ begun.dossier → (All (IsStampedBy 366) begun.marks → All (IsStampedBy 366) evening.marks)
+    → IfSome dated (AreDatedFor d) → CanBeDated dated evening
+evening_dated d dated begun evening first same keeps known =
+    finals_dated evening dated (subst (λ (e : DossierRows). IfSome dated (AreDatedFor e)) (sym (same ∙ ap (λ (s : State). s.dossier) first)) known)
+    (keeps (subst (λ (s : State). All (IsStampedBy 366) s.marks) (sym first) (first_known d dated).stamped))
+
+-- the places of days that can be written are those that their chain names
+pub chain_written : (d : DossierRows) (dated : Option DatedTerms) (days : List DayRecord) → All (CanBeWritten d dated) days → All (IsDayOf d) days
+chain_written d dated days can = λ k x lt n y within. ((can k x lt).passes n y within).falls
