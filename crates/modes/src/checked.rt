@@ -167,12 +167,19 @@ fn check_chain(
     ensures { IfOk result (λ reply. EndsProof input.now.dossier
         (why_none (terms_in (option_copied dated.entry)) orders.now.orders 1 (first_evening input.now.dossier) days.now)
         (proved_text (length days.now)
-            (evening_after (terms_in (option_copied dated.entry)) orders.now.orders 1 (first_evening input.now.dossier) days.now)
-            (option_copied dated.entry))
+        (evening_after (terms_in (option_copied dated.entry)) orders.now.orders 1 (first_evening input.now.dossier) days.now)
+        (option_copied dated.entry))
         reply.exit reply.text.items) }
 {
     let mut state = first.copy(alloc)?;
-    match check_days(alloc, &input.index, orders, terms_in(dated), &mut state, days) {
+    match check_days(
+        alloc,
+        &input.index,
+        orders,
+        terms_in(dated),
+        &mut state,
+        days,
+    ) {
         Ok(()) => Ok(reply(Exit::Done, proved_text(alloc, days.len(), &state, dated)?)),
         Err(why) => unproved(alloc, &input.dossier, why),
     }
