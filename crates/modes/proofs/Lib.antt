@@ -1,2 +1,3 @@
+pub mod CheckedDay
 pub mod OnDesks
 pub mod Writable
