@@ -7,17 +7,12 @@ use Rattle.admit_core.specs.Days.{Days, first_evening, unfit_on}
 use Rattle.admit_core.specs.DossierRows.{DossierRows}
 use Rattle.admit_core.specs.Standing.{dossier_of}
 use Rattle.admit_core.specs.State.{State}
-use Rattle.admit_core.specs.declared.chain.Chain.{Chain}
-use Rattle.admit_core.specs.declared.chain.ChainFault.{ChainFault}
-use Rattle.admit_core.specs.declared.ranking.CallOrder.{CallOrder}
 use Rattle.admit_core.specs.declared.records.DayRecord.{DayRecord}
 use Rattle.admit_core.specs.declared.records.Terms.{Terms}
 use Rattle.admit_core.specs.declared.refusal.Refusal.{Refusal}
 use Rattle.admit_core.specs.declared.state.Status.{Status}
 use Rattle.admit_core.specs.declared.tables.Since.{Since}
 use Rattle.certificate.specs.Checked.{ids_in}
-use Rattle.certificate.specs.Grammar.{read}
-use Rattle.certificate.specs.ProvedDays.{AreProvedDays, evening_after}
 use Rattle.day_run.specs.AnswersOn.{unfit_refusal}
 use Rattle.day_run.specs.DeskStates.{DeskStates}
 use Rattle.dossier_check.specs.Dates.{dates_of}
@@ -27,14 +22,12 @@ use Rattle.intake.specs.Input.{IsInputOf, IsJobOf, Job, NamesIn}
 use Rattle.intake.specs.declared.input.Input.{Input}
 use Rattle.intake.specs.declared.terms.DatedTerms.{DatedTerms}
 use Rattle.modes.specs.Endings.{AreDaysOf, CanEnd, EndsWith, IsEndOf, IsEnding}
-use Rattle.modes.proofs.CheckedDay.{proved_none}
-use Rattle.modes.specs.Checking.{CanBeDone, EndsCheck, EndsProof, HandsInProof, IsChecked, proved_text}
+use Rattle.modes.proofs.CheckedExits.{IsAfterDays, check_done, check_exit, is_after}
+use Rattle.modes.specs.Checking.{CanBeDone, HandsInProof}
 use Rattle.modes.specs.Jobs.{AreDays, Seen, dated_of, days_of, deadlines_of, dossier, seen_by, seen_of, terms_of}
 use Rattle.modes.specs.declared.exit.Exit.{Exit}
 use Rattle.modes.specs.declared.exit.Exit.TheVariants as exits
 use Rattle.modes.specs.declared.reply.Reply.{Reply}
-use Rattle.modes.specs.declared.unproved.Unproved.{Unproved}
-use Rattle.modes.specs.declared.unproved.Unproved.TheVariants as whys
 use Rattle.played.specs.Lent.{Lent}
 use Rattle.played.specs.PlayedDays.{EndsAfter, IsPlayed, Lead, Plan, Played, lent_after}
 use Rattle.request.specs.Modes.{runs_days, sample_of}
@@ -83,31 +76,11 @@ lead_days plan d old before [] new same = ap (λ (desk : DeskStates). desk.prese
 lead_days plan d old before (day ∷ days) new lead =
     (lead.0.present, lead.1.done.number, lead.1.done.is_day, lead_days plan (d + 1) lead.0 (lent_after plan.who day before) days new lead.2)
 
--- the exits after the days of a run
-abbrev pub IsAfterDays : Exit → Type 0
-IsAfterDays exits.Done = Unit {0}
-IsAfterDays exits.Refused = Unit {0}
-IsAfterDays exits.NotProved = Unit {0}
-IsAfterDays _ = ⊥
-
-is_after : (exit is : Exit) → exit ≡ is → IsAfterDays is → IsAfterDays exit
-is_after exit is e after = subst IsAfterDays (sym e) after
-
-proof_exit : (d : DossierRows) (why : Option Unproved) (whole : List ℕ) (exit : Exit) (text : List ℕ) → EndsProof d why whole exit text → IsAfterDays exit
-proof_exit d None whole exit text ends = is_after exit exits.Done ends.0 tt
-proof_exit d (Some (whys.Unfit refusal)) whole exit text ends = is_after exit exits.Refused ends.0 tt
-proof_exit d (Some (whys.Rejected row reason)) whole exit text ends = is_after exit exits.NotProved ends.0 tt
-proof_exit d (Some whys.OutOfMemory) whole exit text ends = absurd ends
-
-check_exit : (d : DossierRows) (dated : Option DatedTerms) (orders : List CallOrder) (chain : Result Chain ChainFault) (exit : Exit) (text : List ℕ) → EndsCheck d dated orders chain exit text → IsAfterDays exit
-check_exit d dated orders (Err fault) exit text ends = is_after exit exits.NotProved ends.0 tt
-check_exit d dated orders (Ok chain) exit text ends = proof_exit d _ _ exit text ends
-
 end_exit : (mode : Mode) (seen : Seen) (played : Played) (desk : DeskStates) (exit : Exit) (text : List ℕ) → IsEndOf mode seen played desk exit text → IsAfterDays exit
 end_exit modes.Order seen played desk exit text ends = is_after exit exits.Done ends.0 tt
 end_exit modes.Replay seen played desk exit text ends = is_after exit exits.Done ends.0 tt
 end_exit modes.Chain seen played desk exit text ends = is_after exit exits.Done ends.0 tt
-end_exit modes.Check seen played desk exit text ends = check_exit seen.dossier seen.dated played.orders (read seen.chain) exit text ends
+end_exit modes.Check seen played desk exit text ends = check_exit seen.dossier seen.chain seen.dated played.orders exit text ends
 end_exit (modes.Explain wish) seen played desk exit text ends = is_after exit exits.Done ends.0 tt
 end_exit (modes.Sample number) seen played desk exit text ends = is_after exit exits.Done ends.0 tt
 
@@ -118,16 +91,6 @@ exit_after (Err refusal) seen played exit text ends = is_after exit exits.Refuse
 -- a run over a job is done, or an answer does not fit, or a chain proves nothing
 pub ending_exit : (job : Job) (before after : Lent) (exit : Exit) (text : List ℕ) → IsEnding job before after exit text → IsAfterDays exit
 ending_exit job before after exit text ending = exit_after ending.played.end (seen_of job) ending.played exit text ending.ends
-
--- where a chain proves its days, nothing is against them
-check_done : (d : DossierRows) (dated : Option DatedTerms) (orders : List CallOrder) (bytes : List ℕ) (chain : Chain) (evening : State) (exit : Exit) (text : List ℕ) → read bytes ≡ Ok chain
-    → AreProvedDays (terms_in dated) orders 1 (first_evening d) chain.days evening → IsChecked d bytes dated orders exit text → exit ≡ exits.Done
-check_done d dated orders bytes chain evening exit text reads are ends =
-    let told : EndsCheck d dated orders (Ok chain) exit text = subst (λ (r : Result Chain ChainFault). EndsCheck d dated orders r exit text) reads ends in
-    let whole = proved_text (length chain.days) (evening_after (terms_in dated) orders 1 (first_evening d) chain.days) dated in
-    let none = proved_none (terms_in dated) orders 1 (first_evening d) chain.days evening are in
-    let done : EndsProof d None whole exit text = subst (λ (o : Option Unproved). EndsProof d o whole exit text) none told in
-    done.0
 
 -- every mode is done once all its days have led to a desk, and what is handed in proves its days
 done_of : (mode : Mode) (job : Job) (played : Played) (desk : DeskStates) (exit : Exit) (text : List ℕ) → IsEndOf mode (seen_of job) played desk exit text → AreCallOrders (dossier job).groups played.orders

@@ -11,6 +11,7 @@ use Rattle.intake.specs.declared.stop.Stop.{Stop}
 use Rattle.intake.specs.declared.stop.Stop.TheVariants as stops
 use Rattle.modes.specs.Endings.{IsEnding}
 use Rattle.modes.specs.Exits.{asks_nobody, exit_of, is_answer}
+use Rattle.modes.proofs.CheckedExits.{IsAfterDays}
 use Rattle.modes.specs.Checking.{CanBeDone}
 use Rattle.modes.specs.Jobs.{days_of}
 use Rattle.modes.specs.Stopping.{IsStoppedBy}
@@ -26,7 +27,7 @@ use Rattle.shelf_io.specs.Faults.{NoneFell, Rose}
 use Rattle.replay_cli.specs.Answering.{Replies, TakesAll, TakesAsked}
 use Rattle.replay_cli.specs.Outcome.{Ends, IsOutcome, NamesFault, RunsNoDay, slots_read}
 use Rattle.replay_cli.specs.Run.{KeepsOthers}
-use Rattle.replay_cli.proofs.Played.{IsAfterDays, ending_done, ending_exit, no_days}
+use Rattle.replay_cli.proofs.Played.{ending_done, ending_exit, no_days}
 
 no_none : (request : Request) → IsNone (Some request) → ⊥
 no_none request none = false≢true (sym none)
