@@ -14,6 +14,7 @@ use crate::refitted::refitted;
 use admit_core::{CallOrders, Dossier, OutOfMemory};
 use bar_fixpoint::Picker;
 use day_state::DayState;
+use linked_demand::Lineup;
 use round::pass;
 use std::alloc::Global;
 
@@ -40,7 +41,8 @@ fn bars_in(
     ensures early { TellsMore (told picker.old) (told picker.new) }
     ensures choice { choice picker.new ≡ choice picker.old }
 {
-    let found = pass(alloc, state, orders, ceilings, NO_STAMP, picker)?;
+    let lineup = Lineup::build(alloc, state, orders)?;
+    let found = pass(alloc, state, orders, &lineup, ceilings, NO_STAMP, picker)?;
     Ok(found.bars.into_vec())
 }
 

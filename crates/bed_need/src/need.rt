@@ -12,6 +12,7 @@ use crate::refitted::refitted;
 use admit_core::{CallOrders, Dossier, MAX_NUMBER, OutOfMemory, Stamp};
 use bar_fixpoint::Picker;
 use day_state::DayState;
+use linked_demand::Lineup;
 use round::pass;
 use std::alloc::Global;
 
@@ -47,7 +48,8 @@ fn need_in(
     let dossier = roomy.dossier();
     let _ = &dossier.wishes; // learns that the dossier is valid
     let before = roomy.live_in_school(school);
-    pass(alloc, roomy, orders, ceilings, NO_STAMP, picker)?;
+    let lineup = Lineup::build(alloc, roomy, orders)?;
+    pass(alloc, roomy, orders, &lineup, ceilings, NO_STAMP, picker)?;
     Ok(need_of(before, roomy.live_in_school(school)))
 }
 

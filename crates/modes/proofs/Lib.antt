@@ -1,3 +1,5 @@
+pub mod CheckedDay
+pub mod CheckedExits
 pub mod OnDesks
 mod Figuring
 mod Lending

@@ -1,5 +1,7 @@
 pub mod Asking
 pub mod Beds
+pub mod CheckedDays
+pub mod Checking
 pub mod Endings
 pub mod Exits
 pub mod Explained

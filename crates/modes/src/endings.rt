@@ -7,6 +7,7 @@ ghost use Rattle.played.specs.Lent.{AreThere, choice_in, standing, told_in};
 ghost use Rattle.request.specs.Modes.{picks_after};
 
 use crate::beds::school_text;
+use crate::checked::checked;
 use crate::exit::Exit;
 use crate::explained::explained_text;
 use crate::job::picker_after;
@@ -15,6 +16,7 @@ use crate::replay::{days_text, replay_text};
 use crate::reply::Reply;
 use admit_core::{OutOfMemory, Refusal};
 use bar_fixpoint::Picker;
+use certificate::write_chain;
 use day_run::Desk;
 use intake::{DatedTerms, Input};
 use played::{Pickers, Played};
@@ -57,6 +59,8 @@ fn ended(
     match request.mode {
         Mode::Order => Ok(done(orders_text(alloc, dossier.groups.as_slice(), orders)?)),
         Mode::Replay => Ok(done(replay_text(alloc, dossier, dated, orders, days, desk.now())?)),
+        Mode::Chain => Ok(done(write_chain(alloc, dossier, days)?)),
+        Mode::Check => checked(alloc, input, dated, &played.orders, desk.now()),
         Mode::Explain { wish } => {
             let text = explained_text(alloc, input, &played.orders, days, desk, wish)?;
             Ok(done(text))

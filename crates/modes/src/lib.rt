@@ -2,6 +2,7 @@
 #![tactic(auto)]
 
 mod beds;
+mod checked;
 mod endings;
 mod exit;
 mod explained;
@@ -9,8 +10,9 @@ mod job;
 mod order;
 mod replay;
 mod reply;
+mod unproved;
 
 pub use endings::ending;
 pub use exit::{Exit, exit_number};
-pub use job::{days_of, deadlines_of};
+pub use job::{days_of, deadlines_of, terms_in};
 pub use reply::{Reply, stopped};

@@ -14,6 +14,10 @@ pub enum Mode {
     Order,
     /// Writes the call orders, the days that are run, and the final state.
     Replay,
+    /// Writes the falls of the days that are run, as a text that can be checked.
+    Chain,
+    /// Checks such a text, that of the chain slot, day by day.
+    Check,
     /// Explains why a wish, named by its id, stands as it does after the days.
     Explain { wish: u32 },
     /// Says how many beds a school, named by its id, needs so that its bar stays at its ceiling in the
@@ -61,6 +65,8 @@ pub(crate) fn mode_of(word: &str, numbers: Numbers) -> Option<Mode>
     match word {
         "order" => Some(Mode::Order),
         "replay" => Some(Mode::Replay),
+        "chain" => Some(Mode::Chain),
+        "check" => Some(Mode::Check),
         "explain" => numbers.wish.map(|wish| Mode::Explain { wish }),
         "beds" => numbers.school.map(|school| Mode::Beds { school }),
         "sample" => numbers.number.map(|number| Mode::Sample { number }),
@@ -76,6 +82,18 @@ pub fn slots_of(mode: Mode) -> &'static [Slot]
     match mode {
         Mode::Order => &[Slot::Groups, Slot::Rankings],
         Mode::Sample { .. } => &[],
+        Mode::Check => &[
+            Slot::Groups,
+            Slot::Programmes,
+            Slot::Schools,
+            Slot::Rankings,
+            Slot::Boarding,
+            Slot::Wishes,
+            Slot::State,
+            Slot::Ceilings,
+            Slot::Answers,
+            Slot::Chain,
+        ],
         _ => &[
             Slot::Groups,
             Slot::Programmes,
@@ -108,6 +126,7 @@ pub fn runs_days(mode: Mode) -> bool
 {
     match mode {
         Mode::Order => false,
+        Mode::Check => false,
         _ => true,
     }
 }

@@ -10,7 +10,7 @@ returns-in_err-played-clause-idle g c = λ idle. c.in_err-played.ensures.idle (c
 pub ending-requires-clause-can : goal.ending-requires-clause-can
 ending-requires-clause-can g c =
     can_end c.args.request.now c.requires.request c.args.input.now _ _ _ _ _ _ _ c.as_ref-dated.ensures.value c.in_ok-dated.ensures.dates c.terms_in.ensures c.days_of-number.ensures
-    c.in_ok-played.ensures.played c.requires.named
+    c.in_ok-played.ensures.played c.requires.named c.requires.indexed
 
 pub returns-clause-back : goal.returns-clause-back
 returns-clause-back g c = back_again _ _ _ c.in_ok-played.ensures.back c.ending.ensures.ends.lends.back
