@@ -1,4 +1,5 @@
 use Rattle.std.proofs.Common.{◌≡◌, ◌∙◌, ◌+◌, ap, length, refl, subst}
+use Rattle.day_run.proofs.PassesSoFar.{tells_of_falls}
 use Rattle.admit_core.specs.Proposals.{demanded_ranks}
 use Rattle.admit_core.specs.State.{State, bed_holders}
 use Rattle.admit_core.specs.Validity.{IsValid}
@@ -19,3 +20,6 @@ returns-clause-need g c =
       greatest = c.in_ok-pass.ensures.pass.greatest;
       is = c.need_of.ensures ∙ rw (live, c.live_in_school-before.ensures) refl;
     }
+
+pub returns-in_err-pass-clause-early : goal.returns-in_err-pass-clause-early
+returns-in_err-pass-clause-early g c = tells_of_falls _ _ _ _ c.in_err-pass.ensures.early
