@@ -12,6 +12,7 @@ use crate::stop::Stop;
 use admit_core::{CallOrders, CheckReason, DayChain, OutOfMemory, laws_of_chains};
 use day_state::DayState;
 use dossier_check::Index;
+use linked_demand::Lineup;
 use std::alloc::Global;
 
 /// What a check of a day's chain says: proved, with the evening of the day; or the first fault.
@@ -49,8 +50,18 @@ pub fn check_day<'d>(
         (passes_told orders.now.orders ceilings.now day 1 morning.now chain.now.passes))) }
 {
     laws_of_chains();
+    let lineup = Lineup::build(alloc, morning, orders)?;
     let mut evening = morning.copy(alloc)?;
-    match check_passes(alloc, &mut evening, index, orders, ceilings, day, chain) {
+    match check_passes(
+        alloc,
+        &mut evening,
+        index,
+        orders,
+        &lineup,
+        ceilings,
+        day,
+        chain,
+    ) {
         Ok(()) => Ok(Verdict::Proved { evening }),
         Err(Stop::Rejected(row, reason)) => Ok(Verdict::Rejected { row, reason }),
         Err(Stop::OutOfMemory) => Err(OutOfMemory),

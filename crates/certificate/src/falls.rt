@@ -1,11 +1,11 @@
 //! The falls of a pass, tested line by line.
 ghost use Rattle.std.specs.Prelude.{◌≡◌, ◌<◌, ◌==◌, ◌&&◌, Some, IfOk, OnOk, length, option_map, slice_index};
 ghost use Rattle.admit_core.specs.Boarding.{boarding};
-ghost use Rattle.admit_core.specs.CallOrder.{AreCallOrders};
 ghost use Rattle.admit_core.specs.Chains.{bars_by, first_overfilled, line_fault, lines_fault, pass_fault, school_of_line};
 ghost use Rattle.admit_core.specs.Falls.{IsAtMost};
 ghost use Rattle.admit_core.specs.Proposals.{proposed};
 ghost use Rattle.certificate.specs.Checked.{Finds, ids_in};
+ghost use Rattle.linked_demand.specs.Lineups.{IsLineupOf};
 
 use crate::named::{ranks_up_to, show_ranks};
 use crate::stop::Stop;
@@ -13,7 +13,7 @@ use admit_core::{CallOrders, CheckReason, FallLine, PassChain, Steps};
 use bar_law::Falling;
 use day_state::DayState;
 use dossier_check::{Index, school_place};
-use linked_demand::LinkedRound;
+use linked_demand::{Lineup, LinkedRound};
 use std::alloc::Global;
 use std::marker::Brand;
 use std::sync::ledger::{Blank, Ledger};
@@ -105,16 +105,26 @@ pub(crate) fn offers_of(
     state: &DayState<'_>,
     index: &Index,
     orders: &CallOrders,
+    lineup: &Lineup,
     ceilings: &[u32],
     pass: &PassChain,
 ) -> Result<Vec<u32>, Stop>
     requires index { index.now ≡ ids_in state.now.dossier }
-    requires orders { AreCallOrders state.now.dossier.groups orders.now.orders }
+    requires lineup { IsLineupOf state.now.dossier orders.now.orders lineup.now }
     requires ceilings { length ceilings.now ≡ length state.now.dossier.schools }
     ensures found { Finds result (pass_fault state.now orders.now.orders ceilings.now pass.now) }
     ensures offers { IfOk result (λ v. v.items ≡ proposed state.now orders.now.orders (bars_by state.now ceilings.now pass.now.falls)) }
 {
-    counted_offers::<Brand>(alloc, Blank::new(1), state, index, orders, ceilings, pass)
+    counted_offers::<Brand>(
+        alloc,
+        Blank::new(1),
+        state,
+        index,
+        orders,
+        lineup,
+        ceilings,
+        pass,
+    )
 }
 
 /// The same with a counter that nobody reads.
@@ -124,6 +134,7 @@ fn counted_offers<L: Ledger>(
     state: &DayState<'_>,
     index: &Index,
     orders: &CallOrders,
+    lineup: &Lineup,
     ceilings: &[u32],
     pass: &PassChain,
 ) -> Result<Vec<u32>, Stop>
@@ -131,13 +142,13 @@ fn counted_offers<L: Ledger>(
     requires parts { blank.parts ≡ L.parts }
     requires shared { 0 < L.parts }
     requires index { index.now ≡ ids_in state.now.dossier }
-    requires orders { AreCallOrders state.now.dossier.groups orders.now.orders }
+    requires lineup { IsLineupOf state.now.dossier orders.now.orders lineup.now }
     requires ceilings { length ceilings.now ≡ length state.now.dossier.schools }
     ensures found { Finds result (pass_fault state.now orders.now.orders ceilings.now pass.now) }
     ensures offers { IfOk result (λ v. v.items ≡ proposed state.now orders.now.orders (bars_by state.now ceilings.now pass.now.falls)) }
 {
     let mut steps: Steps<L> = Steps::new(blank);
-    let mut round = LinkedRound::build(alloc, state, orders, ceilings)?;
+    let mut round = LinkedRound::build(alloc, state, orders, lineup, ceilings)?;
     check_lines(
         alloc,
         &mut round,

@@ -1,9 +1,9 @@
 //! The passes of a day, tested one after another.
 ghost use Rattle.std.specs.Prelude.{◌≡◌, ◌≤◌, ◌<◌, ◌^◌, [], IfOk, OnOk, drop, length};
-ghost use Rattle.admit_core.specs.CallOrder.{AreCallOrders};
 ghost use Rattle.admit_core.specs.Chains.{bars_by, closing_by, day_fault, extra_pass, pass_fault};
 ghost use Rattle.admit_core.specs.Days.{freed_after, frees_nothing};
 ghost use Rattle.certificate.specs.Checked.{Finds, ids_in, state_after};
+ghost use Rattle.linked_demand.specs.Lineups.{IsLineupOf};
 
 use crate::falls::offers_of;
 use crate::stop::Stop;
@@ -11,6 +11,7 @@ use admit_core::{CallOrders, CheckReason, DayChain, Freed, PassChain, Stamp};
 use auto_answer::auto_all;
 use day_state::DayState;
 use dossier_check::Index;
+use linked_demand::Lineup;
 use std::alloc::Global;
 
 /// Tests the falls of a pass, and makes its offers and the automatic answers.
@@ -19,19 +20,20 @@ fn check_pass(
     state: &mut DayState<'_>,
     index: &Index,
     orders: &CallOrders,
+    lineup: &Lineup,
     ceilings: &[u32],
     stamp: Stamp,
     pass: &PassChain,
 ) -> Result<Freed, Stop>
     requires index { index.now ≡ ids_in state.old.dossier }
-    requires orders { AreCallOrders state.old.dossier.groups orders.now.orders }
+    requires lineup { IsLineupOf state.old.dossier orders.now.orders lineup.now }
     requires ceilings { length ceilings.now ≡ length state.old.dossier.schools }
     ensures found { Finds result (pass_fault state.old orders.now.orders ceilings.now pass.now) }
     ensures state { OnOk result (state.new ≡ closing_by state.old orders.now.orders ceilings.now stamp pass.now) }
     ensures freed { IfOk result (λ freed. freed ≡ freed_after state.old orders.now.orders (bars_by state.old ceilings.now pass.now.falls) stamp) }
     ensures dossier { OnOk result (state.new.dossier ≡ state.old.dossier) }
 {
-    let offers = offers_of(alloc, state, index, orders, ceilings, pass)?;
+    let offers = offers_of(alloc, state, index, orders, lineup, ceilings, pass)?;
     state.offer_all(offers.as_slice(), stamp);
     Ok(auto_all(state, stamp))
 }
@@ -61,12 +63,13 @@ pub(crate) fn check_passes(
     state: &mut DayState<'_>,
     index: &Index,
     orders: &CallOrders,
+    lineup: &Lineup,
     ceilings: &[u32],
     day: u32,
     chain: &DayChain,
 ) -> Result<(), Stop>
     requires index { index.now ≡ ids_in state.old.dossier }
-    requires orders { AreCallOrders state.old.dossier.groups orders.now.orders }
+    requires lineup { IsLineupOf state.old.dossier orders.now.orders lineup.now }
     requires ceilings { length ceilings.now ≡ length state.old.dossier.schools }
     requires passes { length chain.now.passes < 2 ^ 32 }
     ensures found { Finds result (day_fault orders.now.orders ceilings.now day state.old chain.now) }
@@ -76,7 +79,7 @@ pub(crate) fn check_passes(
     for (place, pass) in passes.iter().enumerate() {
         let number = place as u32 + 1;
         let stamp = Stamp { day, pass: number };
-        let freed = check_pass(alloc, state, index, orders, ceilings, stamp, pass)?;
+        let freed = check_pass(alloc, state, index, orders, lineup, ceilings, stamp, pass)?;
         if frees_nothing(freed) {
             return check_end(passes, place + 1);
         }

@@ -16,6 +16,7 @@ use crate::refusal::DayRefusal;
 use admit_core::{CallOrders, DayRecord, Sequence, Terms};
 use bar_fixpoint::Picker;
 use day_state::DayState;
+use linked_demand::Lineup;
 use std::alloc::Global;
 
 /// Runs a day on the desk's present state: the answers, then passes until the automatic answers free
@@ -127,7 +128,10 @@ fn play<'d>(
     let _ = state.dossier().wishes.len(); // learns that the dossier is valid
     let lapsed = lapse_offers(alloc, state, terms, day)?;
     answer(state, day)?;
-    let passes = make_passes(alloc, opening, state, orders, ceilings, day, picker)?;
+    let lineup = Lineup::build(alloc, state, orders)?;
+    let passes = make_passes(
+        alloc, opening, state, orders, &lineup, ceilings, day, picker,
+    )?;
     let left = all_seats_left(alloc, state)?;
     let free = all_beds_left(alloc, state)?;
     Ok(DayRecord {

@@ -4,6 +4,7 @@ ghost use Rattle.admit_core.specs.CallOrder.{AreCallOrders};
 ghost use Rattle.admit_core.specs.Boarding.{boarding};
 ghost use Rattle.admit_core.specs.Days.{IsPassEnd, Passes, closing, frees_nothing};
 ghost use Rattle.bar_law.specs.Runs.{schools_of};
+ghost use Rattle.linked_demand.specs.Lineups.{IsLineupOf};
 ghost use Rattle.bar_fixpoint.specs.Chosen.{AreChosen};
 ghost use Rattle.day_run.specs.DayPasses.{AreChosenPasses, TellsMore, schools_of_passes, last_opening, open_wishes};
 
@@ -12,6 +13,7 @@ use admit_core::{CallOrders, Freed, OutOfMemory, PassEnd, Sequence, Stamp};
 use auto_answer::auto_all;
 use bar_fixpoint::Picker;
 use day_state::DayState;
+use linked_demand::Lineup;
 use round::pass;
 use std::alloc::Global;
 
@@ -24,12 +26,14 @@ pub(crate) fn make_passes<'d>(
     opening: &mut DayState<'d>,
     state: &mut DayState<'d>,
     orders: &CallOrders,
+    lineup: &Lineup,
     ceilings: &[u32],
     day: u32,
     picker: &mut dyn Picker,
 ) -> Result<Vec<PassEnd>, OutOfMemory>
     requires same { opening.old.dossier ≡ state.old.dossier }
     requires orders { AreCallOrders state.old.dossier.groups orders.now.orders }
+    requires lineup { IsLineupOf state.old.dossier orders.now.orders lineup.now }
     requires ceilings { length ceilings.now ≡ length state.old.dossier.schools }
 
     ensures passes { IfOk result (λ ends. Passes orders.now.orders ceilings.now day 1 state.old ends.items state.new) }
@@ -50,7 +54,9 @@ pub(crate) fn make_passes<'d>(
     let mut number = 1;
     'passes: loop {
         let stamp = Stamp { day, pass: number };
-        let end = make_pass(alloc, opening, state, orders, ceilings, stamp, picker)?;
+        let end = make_pass(
+            alloc, opening, state, orders, lineup, ceilings, stamp, picker,
+        )?;
         let freed = end.freed;
         ends.push(end)?;
         if frees_nothing(freed) {
@@ -73,12 +79,14 @@ fn make_pass<'d>(
     opening: &mut DayState<'d>,
     state: &mut DayState<'d>,
     orders: &CallOrders,
+    lineup: &Lineup,
     ceilings: &[u32],
     stamp: Stamp,
     picker: &mut dyn Picker,
 ) -> Result<PassEnd, OutOfMemory>
     requires same { opening.old.dossier ≡ state.old.dossier }
     requires orders { AreCallOrders state.old.dossier.groups orders.now.orders }
+    requires lineup { IsLineupOf state.old.dossier orders.now.orders lineup.now }
     requires ceilings { length ceilings.now ≡ length state.old.dossier.schools }
 
     ensures end { IfOk result (λ end. IsPassEnd state.old orders.now.orders ceilings.now stamp end) }
@@ -96,7 +104,7 @@ fn make_pass<'d>(
 {
     let _ = state.marks(); // one for each wish
     opening.set_from(state);
-    let pass = pass(alloc, state, orders, ceilings, stamp, picker)?;
+    let pass = pass(alloc, state, orders, lineup, ceilings, stamp, picker)?;
     let freed = auto_all(state, stamp);
     let autos = answered_changes(alloc, opening, state)?;
     Ok(PassEnd {

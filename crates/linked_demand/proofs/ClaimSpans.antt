@@ -1,27 +1,23 @@
--- The lists of the wishes that wait, by programme, and the claims in them.
-use Rattle.std.proofs.Common.{ℕ, ◌+◌, ◌≤◌, ◌<◌, ◌≡◌, Bool, true, false, not, ◌&&◌, List, [], ◌∷◌, map, length, get_or, inl, inr, refl, sym, ◌∙◌, ap, arith, nat_lt, filter, Some, None, unwrap_or, subst, Vec, ltb, leb}
-use Rattle.std.specs.Prelude.{◌==◌, ◌^◌, slice_get, All}
+-- The lists of the wishes by programme, and the claims in them.
+use Rattle.std.proofs.Common.{ℕ, ◌+◌, ◌≤◌, ◌<◌, ◌≡◌, Bool, true, false, not, ◌&&◌, List, [], ◌∷◌, map, length, get_or, inl, inr, refl, sym, ◌∙◌, ap, arith, nat_lt, nat_eq, filter, subst, Vec, ltb, leb}
+use Rattle.std.specs.Prelude.{◌==◌, ◌^◌}
 use Rattle.std.specs.declared.alloc.Global.{Global}
-use Rattle.std.specs.List.{range_with_len}
 use Rattle.std.specs.List.Sorted.{IsNonDecreasingBy, IsPartitionPoint}
 use Rattle.std.proofs.Math.ListN.{set}
-use Rattle.std.proofs.lemmas.Bool.{cases_lt, eqb-true, and_parts, lt-ltb, le-leb, lt-leb, ltb-true, ltb-false}
+use Rattle.std.proofs.lemmas.Bool.{cases_lt, le-leb, lt-leb, lt-ltb, ltb-true, ltb-false, ne_eqb, false≢true}
 use Rattle.std.proofs.lemmas.List.{get_or-map, get_or_default, length-map, length-set, map-id}
-use Rattle.std.proofs.lemmas.List.Elements.{All-filter, filter_passes}
+use Rattle.std.proofs.lemmas.List.Elements.{All-filter}
 use Rattle.std.proofs.lemmas.List.Filters.{length-filter_both}
 use Rattle.std.proofs.lemmas.List.Kept.{IsNonDecreasingBy-filter}
-use Rattle.std.proofs.lemmas.Option.{slice_get_within}
-use Rattle.admit_core.specs.DossierRows.{candidate_of}
-use Rattle.admit_core.specs.State.{State, is_waiting}
-use Rattle.day_state.specs.Kept.{mark_in, wish_in, candidate_in, IsIndex}
+use Rattle.admit_core.specs.DossierRows.{DossierRows}
+use Rattle.day_state.specs.Kept.{candidate_in, IsIndex}
 use Rattle.day_state.proofs.Ordering.{between}
-use Rattle.day_state.proofs.Places.{candidate_in as candidate_is}
 use Rattle.linked_demand.specs.declared.claims.Span.{Span}
-use Rattle.linked_demand.specs.Claims.{IsWithin, part_of, IsSpanOf, AreWaiting, AreWaitingFrom}
+use Rattle.linked_demand.specs.Claims.{IsWithin, part_of, IsSpanOf, AreWishesFor, AreWishesFrom}
 use Rattle.linked_demand.specs.Keyed.{AreRowsOf}
 use Rattle.linked_demand.specs.Links.{claim_of}
-use Rattle.linked_demand.specs.Seats.{waits_at}
-use Rattle.linked_demand.proofs.Lining.{filter_twice, claim_own, claim_within}
+use Rattle.linked_demand.specs.Seats.{applies_at}
+use Rattle.linked_demand.proofs.Lining.{filter_twice, claim_own}
 use Rattle.linked_demand.proofs.Opens.{filter_same}
 use Rattle.linked_demand.proofs.RoundFalls.{get_set_other}
 
@@ -31,14 +27,14 @@ turn_two true false = refl
 turn_two false true = refl
 turn_two false false = refl
 
--- those in an order by candidate that wait for a programme
-pub waiting_in : (s : State) (order : List ℕ) (p : ℕ) (wishes : List ℕ) → length s.marks ≡ length s.dossier.wishes → length s.dossier.wishes < 2 ^ 32 → IsIndex s.dossier.wishes order
-    → wishes ≡ filter (waits_at s p) order → AreWaiting s p wishes
-waiting_in s order p wishes long few index is =
-    let ws = s.dossier.wishes in
-    let q = waits_at s p in
+-- those in an order by candidate that are for a programme
+pub wishes_in : (s : DossierRows) (order : List ℕ) (p : ℕ) (wishes : List ℕ) → length s.wishes < 2 ^ 32 → IsIndex s.wishes order
+    → wishes ≡ filter (applies_at s p) order → AreWishesFor s p wishes
+wishes_in s order p wishes few index is =
+    let ws = s.wishes in
+    let q = applies_at s p in
     let own_of = λ (c k : ℕ). candidate_in ws k == c in
-    let right : AreWaiting s p (filter q order) = record {
+    let right : AreWishesFor s p (filter q order) = record {
       few = omega (arith, few, index.as_long, length-filter_both q (λ k. not (q k)) (λ k. refl) order);
       within = All-filter q (λ k. k < length ws) order index.within;
       rises = IsNonDecreasingBy-filter (candidate_in ws) q order index.rises;
@@ -47,22 +43,22 @@ waiting_in s order p wishes long few index is =
           ∙ filter_same (λ k. q k && own_of c k) (λ k. own_of c k && q k) (λ k. turn_two (q k) (own_of c k)) order
           ∙ sym (filter_twice q (own_of c) order)
           ∙ ap (filter q) (index.own c)
-          ∙ claim_own s p c long;
+          ∙ claim_own s p c;
     } in
-    let P = λ (ks : List ℕ). AreWaiting s p ks in
+    let P = λ (ks : List ℕ). AreWishesFor s p ks in
     subst P (sym is) right
 
 -- the rows by programme of an order by candidate
-pub waiting_from : (s : State) (order : List ℕ) (rows : List (Vec ℕ Global)) → length s.marks ≡ length s.dossier.wishes → length s.dossier.wishes < 2 ^ 32 → IsIndex s.dossier.wishes order
-    → AreRowsOf (λ k. k) (waits_at s) (length s.dossier.programmes) order rows → AreWaitingFrom s 0 rows
-waiting_from s order rows long few index are = record {
+pub wishes_from : (s : DossierRows) (order : List ℕ) (rows : List (Vec ℕ Global)) → length s.wishes < 2 ^ 32 → IsIndex s.wishes order
+    → AreRowsOf (λ k. k) (applies_at s) (length s.programmes) order rows → AreWishesFrom s 0 rows
+wishes_from s order rows few index are = record {
   one_each = are.one_each;
-  each = λ p row le at. waiting_in s order p row.items long few index (are.each p row at ∙ map-id (filter (waits_at s p) order));
+  each = λ p row le at. wishes_in s order p row.items few index (are.each p row at ∙ map-id (filter (applies_at s p) order));
 }
 
 -- once the list of a programme is taken out, the later ones are left
-pub waiting_later : (s : State) (n : ℕ) (rows : List (Vec ℕ Global)) (row : Vec ℕ Global) → AreWaitingFrom s n rows → AreWaitingFrom s (n + 1) (set rows n row)
-waiting_later s n rows row are = record {
+pub wishes_later : (s : DossierRows) (n : ℕ) (rows : List (Vec ℕ Global)) (row : Vec ℕ Global) → AreWishesFrom s n rows → AreWishesFrom s (n + 1) (set rows n row)
+wishes_later s n rows row are = record {
   one_each = length-set rows n row ∙ are.one_each;
   each = λ p other le at. are.each p other (omega arith) (get_set_other rows n p row other (λ e. omega (arith, le, e)) at);
 }
@@ -116,10 +112,10 @@ point_of_keys key xs P Q i le point = (
 )
 
 -- where a candidate stands in the list of candidates, there his claim stands in that of the wishes
-pub span_is_claim : (s : State) (p : ℕ) (wishes candidates : List ℕ) (c : ℕ) (span : Span) → AreWaiting s p wishes → candidates ≡ map (candidate_in s.dossier.wishes) wishes → IsSpanOf candidates c span
+pub span_is_claim : (s : DossierRows) (p : ℕ) (wishes candidates : List ℕ) (c : ℕ) (span : Span) → AreWishesFor s p wishes → candidates ≡ map (candidate_in s.wishes) wishes → IsSpanOf candidates c span
     → IsWithin (length wishes) span × (part_of wishes span ≡ claim_of s p c)
 span_is_claim s p wishes candidates c span waiting are is =
-    let key = candidate_in s.dossier.wishes in
+    let key = candidate_in s.wishes in
     let P = λ (ks : List ℕ). IsSpanOf ks c span in
     let here : IsSpanOf (map key wishes) c span = subst P are is in
     let begins : span.from ≤ length wishes = omega (arith, here.begins, length-map wishes key) in
@@ -130,54 +126,28 @@ span_is_claim s p wishes candidates c span waiting are is =
     (record { rises = found.0; within = ends }, found.1 ∙ waiting.own c)
 
 -- a candidate's claim, as it is read
-pub record IsClaimed (s : State) (p : ℕ) (wishes : List ℕ) (c : ℕ) (span : Span) (claim : List ℕ) : Type 0 where
+pub record IsClaimed (s : DossierRows) (p : ℕ) (wishes : List ℕ) (c : ℕ) (span : Span) (claim : List ℕ) : Type 0 where
   pub within : IsWithin (length wishes) span
   pub part : part_of wishes span ≡ claim_of s p c
   pub is : claim ≡ claim_of s p c
 
-pub claim_there : {s : State} {p : ℕ} {wishes : List ℕ} → AreWaiting s p wishes → (c : ℕ) (candidates : List ℕ) → candidates ≡ map (candidate_in s.dossier.wishes) wishes
+pub claim_there : {s : DossierRows} {p : ℕ} {wishes : List ℕ} → AreWishesFor s p wishes → (c : ℕ) (candidates : List ℕ) → candidates ≡ map (candidate_in s.wishes) wishes
     → (span : Span) → IsSpanOf candidates c span → (read claim : List ℕ) → read ≡ wishes → claim ≡ part_of read span → IsClaimed s p wishes c span claim
 claim_there {s} {p} {wishes} waiting c candidates are span is read claim same claim_is =
     let found = span_is_claim s p wishes candidates c span waiting are is in
     record { within = found.0; part = found.1; is = claim_is ∙ ap (λ (ks : List ℕ). part_of ks span) same ∙ found.1 }
 
--- where nobody waits nobody has a claim
-pub nobody_there : (s : State) (p : ℕ) (wishes : List ℕ) → AreWaiting s p wishes → length wishes ≡ 0 → (c : ℕ) → nat_lt 0 (length (claim_of s p c)) ≡ false
+-- where there is no wish nobody has a claim
+pub nobody_there : (s : DossierRows) (p : ℕ) (wishes : List ℕ) → AreWishesFor s p wishes → length wishes ≡ 0 → (c : ℕ) → nat_lt 0 (length (claim_of s p c)) ≡ false
 nobody_there s p [] waiting none c = ap (λ (ks : List ℕ). nat_lt 0 (length ks)) (sym (waiting.own c))
 nobody_there s p (k ∷ wishes) waiting none c = absurd (omega arith)
 
--- the first wish of a claim
-pub record IsFirst (s : State) (p c k : ℕ) : Type 0 where
-  pub within : k < length s.dossier.wishes
-  pub candidate : (wish_in s.dossier.wishes k).candidate ≡ c
-  pub programme : (wish_in s.dossier.wishes k).programme ≡ p
-  pub some : nat_lt 0 (length (claim_of s p c)) ≡ true
+-- a claim that is read has a wish, or has none
+pub claim_some : (read claim : List ℕ) → read ≡ claim → (empty : Bool) → empty ≡ nat_eq (length read) 0 → empty ≡ false → nat_lt 0 (length claim) ≡ true
+claim_some [] claim is empty empty_is t = absurd (false≢true (sym t ∙ empty_is))
+claim_some (x ∷ read) claim is empty empty_is t = ap (λ (ks : List ℕ). nat_lt 0 (length ks)) (sym is) ∙ lt-ltb 0 (length (x ∷ read)) (omega arith)
 
-first_at : (xs : List ℕ) (k : ℕ) → slice_get xs 0 ≡ Some k → get_or xs 0 0 ≡ k
-first_at [] k at = absurd (omega (arith, slice_get_within {A = ℕ} [] 0 k at))
-first_at (x ∷ xs) k at = ap (λ o. unwrap_or o x) at
-
-pub claim_first : (s : State) (p c k : ℕ) → length s.marks ≡ length s.dossier.wishes → slice_get (claim_of s p c) 0 ≡ Some k → IsFirst s p c k
-claim_first s p c k long at =
-    let ws = s.dossier.wishes in
-    let both = λ (j : ℕ). (candidate_of s.dossier j == c) && waits_at s p j in
-    let claim = claim_of s p c in
-    let some : 0 < length claim = slice_get_within claim 0 k at in
-    let is : claim ≡ filter both (range_with_len 0 (length ws)) = sym (claim_own s p c long) ∙ filter_twice (waits_at s p) (λ j. candidate_of s.dossier j == c) (range_with_len 0 (length ws)) in
-    let P = λ (ks : List ℕ). All (λ j. both j ≡ true) ks in
-    let all : All (λ j. both j ≡ true) claim = subst P (sym is) (filter_passes both (range_with_len 0 (length ws))) in
-    let first = first_at claim k at in
-    let Q = λ (j : ℕ). both j ≡ true in
-    let parts = and_parts (candidate_of s.dossier k == c) (waits_at s p k) (subst Q first (all 0 0 some)) in
-    let waits = and_parts (is_waiting (mark_in s.marks k)) ((wish_in ws k).programme == p) parts.1 in
-    record {
-      within = omega (arith, claim_within s p c (length ws) refl long 0 0 some, first);
-      candidate = sym (candidate_is ws k) ∙ eqb-true (candidate_of s.dossier k) c parts.0;
-      programme = eqb-true (wish_in ws k).programme p waits.1;
-      some = lt-ltb 0 (length claim) some;
-    }
-
--- a claim that has no first wish has none
-pub claim_none : (xs : List ℕ) → slice_get xs 0 ≡ None → nat_lt 0 (length xs) ≡ false
-claim_none [] at = refl
-claim_none (x ∷ xs) at = absurd (cc)
+pub claim_none : (read claim : List ℕ) → read ≡ claim → (empty : Bool) → empty ≡ nat_eq (length read) 0 → empty ≡ true → nat_lt 0 (length claim) ≡ false
+claim_none [] claim is empty empty_is t = ap (λ (ks : List ℕ). nat_lt 0 (length ks)) (sym is)
+claim_none (x ∷ read) claim is empty empty_is t =
+    absurd (false≢true (sym (ne_eqb (length (x ∷ read)) 0 (λ e. omega (arith, e))) ∙ sym empty_is ∙ t))

@@ -11,11 +11,11 @@ use Rattle.std.proofs.lemmas.Option.{slice_get_within}
 use Rattle.admit_core.specs.declared.dossier.Wish.{Wish}
 use Rattle.admit_core.specs.declared.state.Mark.{Mark}
 use Rattle.admit_core.specs.declared.ranking.CallOrder.{CallOrder}
-use Rattle.admit_core.specs.State.{State, entries, is_waiting, holds_seat, seats_left}
+use Rattle.admit_core.specs.State.{State, entries, holds_seat, seats_left}
 use Rattle.admit_core.specs.Proposals.{needs_no_seat}
 use Rattle.day_state.specs.Kept.{wish_in}
 use Rattle.linked_demand.specs.Line.{LineRow, is_reached}
-use Rattle.linked_demand.specs.Opens.{flagged, is_flagged_in, wants_by, ahead_by, is_proposed_by, waits_in, line_of, seat_row}
+use Rattle.linked_demand.specs.Opens.{flagged, is_flagged_in, wants_by, ahead_by, is_proposed_by, applies_in, line_of, seat_row}
 use Rattle.linked_demand.specs.Links.{LinksRow, IsSeatPlace, claim_of, WaitsAt, IsLinked}
 use Rattle.linked_demand.specs.Demand.{is_proposed_at}
 use Rattle.linked_demand.proofs.Opens.{row_own, row_other, map_at, any_same, reached_in_line}
@@ -40,24 +40,25 @@ pub read_range : {X : Type 0} (f : ℕ → X) (n p : ℕ) (xs : List X) (x : X) 
 read_range f n p xs x is lt read = read ∙ ap (λ ys. get_or ys p x) is ∙ get_or-map-range_with_len f 0 n p p x lt (omega arith)
 
 -- whether a wish of the claim is open
-pub any_of_claim : (t : Wish × Mark → Bool) (es : List (Wish × Mark)) (a : ℕ) (opens : List Bool) → a + length es ≤ length opens
-    → list_any (λ v. get_or opens v false) (map (λ x. x.0) (filter (λ x. t x.1) (enumerate_from a es))) ≡ list_any (λ (x : (Wish × Mark) × Bool). t x.0 && x.1) (zip es (drop a opens))
-any_of_claim t [] a opens le = refl
-any_of_claim t (e ∷ es) a opens le =
-    let rest = any_of_claim t es (a + 1) opens (omega arith) in
+pub any_of_claim : (t : Wish → Bool) (ws : List Wish) (ms : List Mark) (a : ℕ) (opens : List Bool) → length ms ≡ length ws → a + length ws ≤ length opens
+    → list_any (λ v. get_or opens v false) (map (λ x. x.0) (filter (λ x. t x.1) (enumerate_from a ws)))
+    ≡ list_any (λ (x : (Wish × Mark) × Bool). x.1 && t x.0.0) (zip (zip ws ms) (drop a opens))
+any_of_claim t [] ms a opens long le = refl
+any_of_claim t (w ∷ ws) [] a opens long le = absurd (omega arith)
+any_of_claim t (w ∷ ws) (m ∷ ms) a opens long le =
+    let rest = any_of_claim t ws ms (a + 1) opens (omega arith) (omega arith) in
     let front : drop a opens ≡ get_or opens a false ∷ drop (a + 1) opens = rw (add-one, drop-cons opens a false (omega arith)) refl in
-    rw front (elim (cases_Bool (t e)) [
-      | inl passes ↦ rw passes (ap (λ b. get_or opens a false || b) rest)
-      | inr fails ↦ rw fails rest
+    rw front (elim (cases_Bool (t w)) [
+      | inl passes ↦ rw (passes, and_end (get_or opens a false)) (ap (λ b. get_or opens a false || b) rest)
+      | inr fails ↦ rw (fails, and_none (get_or opens a false)) rest
     ])
 
-pub turn : (a b c d : Bool) → (((a && b) && c) && d) ≡ (((a && d) && b) && c)
-turn true b c true = and_end (b && c)
-turn true b c false = and_none (b && c)
-turn false b c d = refl
+pub turn : (a b c : Bool) → (a && (b && c)) ≡ ((a && b) && c)
+turn true b c = refl
+turn false b c = refl
 
 -- a claim's wishes are places of the list
-pub places_below : (t : ℕ × (Wish × Mark) → Bool) (es : List (Wish × Mark)) (a n : ℕ) → n ≡ a + length es
+pub places_below : {X : Type 0} (t : ℕ × X → Bool) (es : List X) (a n : ℕ) → n ≡ a + length es
     → AllByRecursion (λ v. v < n) (map (λ x. x.0) (filter t (enumerate_from a es)))
 places_below t [] a n is = tt
 places_below t (e ∷ es) a n is =
@@ -84,9 +85,13 @@ fewer q h (x ∷ xs) (y ∷ ys) (suc i) t =
       | inr later ↦ or_right (q (x, y)) (list_any q (zip xs ys)) (fewer q h xs ys i later)
     ]
 
-no_flag : (a b c : Bool) → (((a && false) && b) && c) ≡ false
-no_flag true b c = refl
-no_flag false b c = refl
+-- a wish of the claim is open where the flags say so
+pub claim_flagged : (s : State) (opens : List Bool) (p c : ℕ) → length opens ≡ length s.dossier.wishes → length s.marks ≡ length s.dossier.wishes
+    → list_any (λ v. get_or opens v false) (claim_of s.dossier p c) ≡ list_any (is_flagged_in p c) (flagged s opens)
+claim_flagged s opens p c long marks =
+    let t = λ (w : Wish). (nat_eq w.candidate c) && (nat_eq w.programme p) in
+    any_of_claim t s.dossier.wishes s.marks 0 opens marks (omega (arith, long))
+    ∙ any_same (λ (x : (Wish × Mark) × Bool). x.1 && t x.0.0) (is_flagged_in p c) (λ x. turn x.1 (nat_eq x.0.0.candidate c) (nat_eq x.0.0.programme p)) (zip (entries s) opens)
 
 -- what is known where a wish is closed
 pub record Closes (s : State) (orders : List CallOrder) (opens : List Bool) (lines : List LineRow) (claims : List (List (List ℕ))) (places : List ℕ) (sure : List Bool) (i : ℕ) (w : Wish) : Type 0 where
@@ -133,36 +138,32 @@ module _ {s : State} {orders : List CallOrder} {opens : List Bool} {lines : List
   pub programme_within : w.programme < length s.dossier.programmes
   programme_within = k.links.programmes_are i w (wish_of s.dossier.wishes s.marks i w k.mark k.at.here)
 
-  pub place_right : (x : ℕ) → x ≡ get_or places i x → IsSeatPlace s orders w x
+  pub place_right : (x : ℕ) → x ≡ get_or places i x → IsSeatPlace s.dossier orders w x
   place_right x read =
       let is : slice_index places i ≡ x = sym (get_or_read places i x (omega (arith, wish_within, k.links.places_each)) read 0) in
-      let P = λ (n : ℕ). IsSeatPlace s orders w n in
-      subst P is (k.links.places_are i w k.mark k.at)
+      let P = λ (n : ℕ). IsSeatPlace s.dossier orders w n in
+      subst P is (k.links.places_are i w (wish_of s.dossier.wishes s.marks i w k.mark k.at.here))
 
   -- the claim that is read is that of the wish
-  pub claim_right : (place : ℕ) → IsSeatPlace s orders w place → (row : List (List ℕ)) → row ≡ get_or claims w.programme row
-      → (claim : List ℕ) → claim ≡ get_or row place [] → claim ≡ claim_of s w.programme w.candidate
+  pub claim_right : (place : ℕ) → IsSeatPlace s.dossier orders w place → (row : List (List ℕ)) → row ≡ get_or claims w.programme row
+      → (claim : List ℕ) → claim ≡ get_or row place [] → claim ≡ claim_of s.dossier w.programme w.candidate
   claim_right place at row row_read claim claim_read =
-      let row_is : row ≡ map (claim_of s w.programme) (line_of s orders w.programme) =
-      read_range (λ p. map (claim_of s p) (line_of s orders p)) (length s.dossier.programmes) w.programme claims row k.links.claims_are programme_within row_read in
+      let row_is : row ≡ map (claim_of s.dossier w.programme) (line_of s.dossier orders w.programme) =
+      read_range (λ p. map (claim_of s.dossier p) (line_of s.dossier orders p)) (length s.dossier.programmes) w.programme claims row k.links.claims_are programme_within row_read in
       claim_read
       ∙ ap (λ (r : List (List ℕ)). get_or r place []) row_is
-      ∙ get_or-map (claim_of s w.programme) (line_of s orders w.programme) place 0 [] at.within
-      ∙ ap (claim_of s w.programme) at.here
+      ∙ get_or-map (claim_of s.dossier w.programme) (line_of s.dossier orders w.programme) place 0 [] at.within
+      ∙ ap (claim_of s.dossier w.programme) at.here
 
-  pub claim_below : All (λ v. v < length opens) (claim_of s w.programme w.candidate)
+  pub claim_below : All (λ v. v < length opens) (claim_of s.dossier w.programme w.candidate)
   claim_below =
-      All-from_recursion (λ v. v < length opens) (claim_of s w.programme w.candidate)
-      (places_below (λ x. is_waiting x.1.1 && (nat_eq x.1.0.candidate w.candidate) && (nat_eq x.1.0.programme w.programme)) (entries s) 0 (length opens)
-      (omega (arith, k.links.opens_each, length_entries s.dossier.wishes s.marks k.links.marks_each)))
+      All-from_recursion (λ v. v < length opens) (claim_of s.dossier w.programme w.candidate)
+      (places_below (λ (x : ℕ × Wish). (nat_eq x.1.candidate w.candidate) && (nat_eq x.1.programme w.programme)) s.dossier.wishes 0 (length opens)
+      (omega (arith, k.links.opens_each)))
 
-  pub any_right : list_any (λ v. get_or (set opens i false) v false) (claim_of s w.programme w.candidate)
+  pub any_right : list_any (λ v. get_or (set opens i false) v false) (claim_of s.dossier w.programme w.candidate)
       ≡ list_any (is_flagged_in w.programme w.candidate) (flagged s (set opens i false))
-  any_right =
-      let t = λ (e : Wish × Mark). is_waiting e.1 && (nat_eq e.0.candidate w.candidate) && (nat_eq e.0.programme w.programme) in
-      any_of_claim t (entries s) 0 (set opens i false) (omega (arith, length-set opens i false, k.links.opens_each, length_entries s.dossier.wishes s.marks k.links.marks_each))
-      ∙ any_same (λ (x : (Wish × Mark) × Bool). t x.0 && x.1) (is_flagged_in w.programme w.candidate)
-      (λ x. turn (is_waiting x.0.1) (nat_eq x.0.0.candidate w.candidate) (nat_eq x.0.0.programme w.programme) x.1) (zip (entries s) (set opens i false))
+  any_right = claim_flagged s (set opens i false) w.programme w.candidate (omega (arith, length-set opens i false, k.links.opens_each)) k.links.marks_each
 
   -- the line that is read is that of the programme
   pub line_right : (line : LineRow) → line ≡ get_or lines w.programme line → line ≡ seat_row s orders opens w.programme
@@ -198,7 +199,7 @@ module _ {s : State} {orders : List CallOrder} {opens : List Bool} {lines : List
       rw there (row_other s opens i w k.mark k.at.here orders j (ne_eqb w.programme j (λ e. omega (arith, e, eqb-false j w.programme ne))))) in
       rw (k.links.lines_are, is) (sym (rw here at changed))
 
-  pub row_is : (place : ℕ) → IsSeatPlace s orders w place
+  pub row_is : (place : ℕ) → IsSeatPlace s.dossier orders w place
       → seat_row s orders (set opens i false) w.programme
       ≡ record { flags = set (seat_row s orders opens w.programme).flags place (wants_by s (set opens i false) w.programme w.candidate); quota = seats_left s w.programme }
   row_is place at =
@@ -206,9 +207,9 @@ module _ {s : State} {orders : List CallOrder} {opens : List Bool} {lines : List
       (row_own s opens i w k.mark k.at.here orders place at)
 
   -- no other wish of the claim is open: its place is cleared
-  pub links_cleared : (place : ℕ) → IsSeatPlace s orders w place → (line new : LineRow) → line ≡ get_or lines w.programme line
+  pub links_cleared : (place : ℕ) → IsSeatPlace s.dossier orders w place → (line new : LineRow) → line ≡ get_or lines w.programme line
       → new ≡ record line { flags = set line.flags place false }
-      → list_any (λ v. get_or (set opens i false) v false) (claim_of s w.programme w.candidate) ≡ false
+      → list_any (λ v. get_or (set opens i false) v false) (claim_of s.dossier w.programme w.candidate) ≡ false
       → IsLinked s orders (set opens i false) (set lines w.programme new) claims places sure
   links_cleared place at line new read is none =
       let wants : wants_by s (set opens i false) w.programme w.candidate ≡ false =
@@ -218,25 +219,25 @@ module _ {s : State} {orders : List CallOrder} {opens : List Bool} {lines : List
       links_with (set lines w.programme new) (lines_set new (is ∙ rw (line_right line read) (sym row)))
 
   -- another wish of the claim is open: its line stays
-  pub row_kept : (place : ℕ) → IsSeatPlace s orders w place
-      → list_any (λ v. get_or (set opens i false) v false) (claim_of s w.programme w.candidate) ≡ true
+  pub row_kept : (place : ℕ) → IsSeatPlace s.dossier orders w place
+      → list_any (λ v. get_or (set opens i false) v false) (claim_of s.dossier w.programme w.candidate) ≡ true
       → seat_row s orders (set opens i false) w.programme ≡ seat_row s orders opens w.programme
   row_kept place at some =
       let p = w.programme in
       let c = w.candidate in
-      let line = line_of s orders p in
+      let line = line_of s.dossier orders p in
       let old = wants_by s opens p in
       let new = wants_by s (set opens i false) p in
       let found : list_any (is_flagged_in p c) (flagged s (set opens i false)) ≡ true = sym any_right ∙ some in
       let before : list_any (is_flagged_in p c) (flagged s opens) ≡ true =
-      fewer (is_flagged_in p c) (λ e. no_flag (is_waiting e.1) (nat_eq e.0.candidate c) (nat_eq e.0.programme p)) (entries s) opens i found in
+      fewer (is_flagged_in p c) (λ e. refl) (entries s) opens i found in
       let same : new c ≡ old c = rw (found, before) refl in
       let flag : get_or (map old line) place false ≡ old c = get_or-map old line place 0 false at.within ∙ ap old at.here in
       let flags : set (map old line) place (new c) ≡ map old line = rw (same, ← flag) (set-get_or (map old line) place false) in
       row_is place at ∙ ap (λ (fs : List Bool). let r : LineRow = record { flags = fs; quota = seats_left s p } in r) flags
 
-  pub links_kept : (place : ℕ) → IsSeatPlace s orders w place
-      → list_any (λ v. get_or (set opens i false) v false) (claim_of s w.programme w.candidate) ≡ true
+  pub links_kept : (place : ℕ) → IsSeatPlace s.dossier orders w place
+      → list_any (λ v. get_or (set opens i false) v false) (claim_of s.dossier w.programme w.candidate) ≡ true
       → IsLinked s orders (set opens i false) lines claims places sure
   links_kept place at some =
       let p = w.programme in
@@ -248,28 +249,28 @@ module _ {s : State} {orders : List CallOrder} {opens : List Bool} {lines : List
       links_with lines (sym kept ∙ lines_set (seat_row s orders opens p) (sym row))
 
   pub claims_each : length claims ≡ length s.dossier.programmes
-  claims_each = ap length k.links.claims_are ∙ length-map-range_with_len (λ p. map (claim_of s p) (line_of s orders p)) 0 (length s.dossier.programmes)
+  claims_each = ap length k.links.claims_are ∙ length-map-range_with_len (λ p. map (claim_of s.dossier p) (line_of s.dossier orders p)) 0 (length s.dossier.programmes)
 
   pub lines_each : length lines ≡ length s.dossier.programmes
   lines_each = ap length k.links.lines_are ∙ length-map-range_with_len (seat_row s orders opens) 0 (length s.dossier.programmes)
 
   -- the row that is read has the place
-  pub row_within : (place : ℕ) → IsSeatPlace s orders w place → (row : List (List ℕ)) → row ≡ get_or claims w.programme row → place < length row
+  pub row_within : (place : ℕ) → IsSeatPlace s.dossier orders w place → (row : List (List ℕ)) → row ≡ get_or claims w.programme row → place < length row
   row_within place at row read =
-      let row_is : row ≡ map (claim_of s w.programme) (line_of s orders w.programme) =
-      read_range (λ p. map (claim_of s p) (line_of s orders p)) (length s.dossier.programmes) w.programme claims row k.links.claims_are programme_within read in
-      omega (arith, at.within, ap length row_is, length-map (line_of s orders w.programme) (claim_of s w.programme))
+      let row_is : row ≡ map (claim_of s.dossier w.programme) (line_of s.dossier orders w.programme) =
+      read_range (λ p. map (claim_of s.dossier p) (line_of s.dossier orders p)) (length s.dossier.programmes) w.programme claims row k.links.claims_are programme_within read in
+      omega (arith, at.within, ap length row_is, length-map (line_of s.dossier orders w.programme) (claim_of s.dossier w.programme))
 
   -- the line that is read has the place
-  pub line_within : (place : ℕ) → IsSeatPlace s orders w place → (line : LineRow) → line ≡ get_or lines w.programme line → place < length line.flags
+  pub line_within : (place : ℕ) → IsSeatPlace s.dossier orders w place → (line : LineRow) → line ≡ get_or lines w.programme line → place < length line.flags
   line_within place at line read =
-      omega (arith, at.within, ap (λ (r : LineRow). length r.flags) (line_right line read), length-map (line_of s orders w.programme) (wants_by s opens w.programme))
+      omega (arith, at.within, ap (λ (r : LineRow). length r.flags) (line_right line read), length-map (line_of s.dossier orders w.programme) (wants_by s opens w.programme))
 
-  pub below_for : (claim : List ℕ) → claim ≡ claim_of s w.programme w.candidate → (n : ℕ) → n ≡ length opens → All (λ v. v < n) claim
+  pub below_for : (claim : List ℕ) → claim ≡ claim_of s.dossier w.programme w.candidate → (n : ℕ) → n ≡ length opens → All (λ v. v < n) claim
   below_for claim is n each = rw (is, each) claim_below
 
-  pub any_is : (claim : List ℕ) → claim ≡ claim_of s w.programme w.candidate → (flags : List Bool) → flags ≡ set opens i false → (found b : Bool)
-      → found ≡ list_any (λ v. get_or flags v false) claim → found ≡ b → list_any (λ v. get_or (set opens i false) v false) (claim_of s w.programme w.candidate) ≡ b
+  pub any_is : (claim : List ℕ) → claim ≡ claim_of s.dossier w.programme w.candidate → (flags : List Bool) → flags ≡ set opens i false → (found b : Bool)
+      → found ≡ list_any (λ v. get_or flags v false) claim → found ≡ b → list_any (λ v. get_or (set opens i false) v false) (claim_of s.dossier w.programme w.candidate) ≡ b
   any_is claim is flags set_is found b by at = rw (← is, ← set_is) (sym by ∙ at)
 
 pub any_at : {X : Type 0} (q : X → Bool) (xs : List X) (i : ℕ) (x : X) → slice_get xs i ≡ Some x → q x ≡ true → list_any q xs ≡ true
@@ -279,16 +280,16 @@ any_at q (y ∷ xs) (suc i) x at t = or_right (q y) (list_any q xs) (any_at q xs
 
 module _ {s : State} {orders : List CallOrder} {opens : List Bool} {lines : List LineRow} {claims : List (List (List ℕ))} {places : List ℕ} {sure : List Bool} {i : ℕ} {w : Wish}
     (k : Closes s orders opens lines claims places sure i w) where
-  pub waits_in_programme : waits_in s w.programme w.candidate ≡ true
-  waits_in_programme =
-      any_at (λ (e : Wish × Mark). is_waiting e.1 && (nat_eq e.0.candidate w.candidate) && (nat_eq e.0.programme w.programme)) (entries s) i (w, k.mark) k.at.here
-      (rw (k.at.waits, eq-eqb w.candidate w.candidate refl, eq-eqb w.programme w.programme refl) refl)
+  pub applies_in_programme : applies_in s.dossier w.programme w.candidate ≡ true
+  applies_in_programme =
+      any_at (λ (v : Wish). (nat_eq v.candidate w.candidate) && (nat_eq v.programme w.programme)) s.dossier.wishes i w (wish_of s.dossier.wishes s.marks i w k.mark k.at.here)
+      (rw (eq-eqb w.candidate w.candidate refl, eq-eqb w.programme w.programme refl) refl)
 
   pub sure_each : length sure ≡ length s.dossier.wishes
   sure_each = k.links.sure_each
 
   -- what is read says whether the wish is proposed
-  pub proposed_right : (place : ℕ) → IsSeatPlace s orders w place → (line : LineRow) → line ≡ get_or lines w.programme line
+  pub proposed_right : (place : ℕ) → IsSeatPlace s.dossier orders w place → (line : LineRow) → line ≡ get_or lines w.programme line
       → (flag sure_flag reached : Bool) → flag ≡ get_or opens i flag → sure_flag ≡ get_or sure i sure_flag → reached ≡ is_reached line place
       → (flag && (sure_flag || reached)) ≡ is_proposed_by s orders opens w k.mark (get_or opens i false)
   proposed_right place at line read flag sure_flag reached flag_read sure_read by =
@@ -296,10 +297,10 @@ module _ {s : State} {orders : List CallOrder} {opens : List Bool} {lines : List
       let lt = slice_get_within s.dossier.wishes i w wish in
       let flag_is : flag ≡ get_or opens i false = get_or_read opens i flag (omega (arith, lt, k.links.opens_each)) flag_read false in
       let sure_is : sure_flag ≡ needs_no_seat s orders w =
-      get_or_read sure i sure_flag (omega (arith, lt, k.links.sure_each)) sure_read false ∙ k.links.sure_are i w k.mark k.at in
+      get_or_read sure i sure_flag (omega (arith, lt, k.links.sure_each)) sure_read false ∙ k.links.sure_are i w wish in
       let line_is = line_right k line read in
       let reach_is : reached ≡ nat_lt (ahead_by s orders opens w) (seats_left s w.programme) =
-      by ∙ ap (λ (r : LineRow). is_reached r place) line_is ∙ reached_in_line s orders opens w place waits_in_programme at in
+      by ∙ ap (λ (r : LineRow). is_reached r place) line_is ∙ reached_in_line s orders opens w place applies_in_programme at in
       rw (flag_is, sure_is, reach_is, k.at.waits) refl
 
 -- the same, as the call says it

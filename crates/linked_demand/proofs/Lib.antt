@@ -9,6 +9,7 @@ pub mod Cutting
 pub mod Demanded
 pub mod Falling
 pub mod Filling
+pub mod Flagging
 pub mod Keeping
 pub mod Keyed
 pub mod Lining

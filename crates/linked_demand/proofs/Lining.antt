@@ -1,28 +1,31 @@
--- A candidate's claim in a programme, and his place in its line.
-use Rattle.std.proofs.Common.{ℕ, zero, suc, ◌+◌, ◌<◌, ◌≡◌, Bool, true, false, ◌&&◌, ◌||◌, List, [], ◌∷◌, map, length, take, get_or, inl, inr, refl, sym, ◌∙◌, ap, arith, nat_eq, nat_lt, nat_le, filter, Option, Some, unwrap_or, zip, subst}
+-- A candidate's claim in a programme, and their place in its line.
+use Rattle.std.proofs.Common.{ℕ, zero, suc, ◌+◌, ◌<◌, ◌≡◌, Bool, true, false, ◌&&◌, List, [], ◌∷◌, map, length, take, get_or, inl, inr, refl, sym, ◌∙◌, ap, arith, nat_eq, nat_lt, nat_le, filter, Option, Some, unwrap_or, subst}
 use Rattle.std.specs.Prelude.{slice_get, All, ◌==◌}
-use Rattle.std.specs.List.{list_any, enumerate_from, range_with_len, IsDistinct, AllByRecursion}
+use Rattle.std.specs.List.{list_any, enumerate_from, range_with_len, IsDistinct, AllByRecursion, before_first}
 use Rattle.std.proofs.lemmas.Bool.{cases_Bool, cases_lt, false≢true, eq-eqb, ne_eqb, eqb-false, lt-ltb, le-ltb, le-leb, lt-leb}
 use Rattle.std.proofs.lemmas.List.{length-take-le}
+use Rattle.std.proofs.lemmas.List.FromFn.{fill_by_all}
 use Rattle.std.proofs.lemmas.List.Elements.{All-from_recursion}
-use Rattle.std.proofs.lemmas.Option.{slice_get_within}
+use Rattle.std.proofs.lemmas.Option.{slice_get_within, unwrap_or-slice_get}
 use Rattle.admit_core.specs.declared.dossier.Wish.{Wish}
-use Rattle.admit_core.specs.declared.state.Mark.{Mark}
 use Rattle.admit_core.specs.declared.ranking.CallOrder.{CallOrder}
-use Rattle.admit_core.specs.DossierRows.{candidate_of, limit_of}
+use Rattle.admit_core.specs.DossierRows.{DossierRows, candidate_of, limit_of}
 use Rattle.admit_core.specs.Lists.{is_among}
 use Rattle.admit_core.specs.OwnWishes.{own_places}
-use Rattle.admit_core.specs.State.{State, entries, is_waiting, holds_seat}
-use Rattle.admit_core.specs.Proposals.{order_of, before, needs_no_seat}
+use Rattle.admit_core.specs.Proposals.{order_of}
 use Rattle.admit_core.proofs.OrderPermutes.{nat_eq_turn}
-use Rattle.day_state.specs.Kept.{mark_in, wish_in}
-use Rattle.day_state.proofs.Places.{candidate_in, entry_in, entries_by_place}
+use Rattle.day_state.specs.Kept.{wish_in}
+use Rattle.day_state.proofs.Places.{candidate_in}
 use Rattle.demand.proofs.Front.{front_same}
-use Rattle.linked_demand.specs.Links.{IsPlaceOf, claim_of, WaitsAt}
-use Rattle.linked_demand.specs.Opens.{flagged, is_flagged_in, waits_in}
-use Rattle.linked_demand.specs.Seats.{waits_at}
-use Rattle.linked_demand.proofs.Opens.{filter_same, any_same}
-use Rattle.linked_demand.proofs.Closing.{any_of_claim, turn, length_entries, places_below}
+use Rattle.linked_demand.specs.Links.{IsPlaceOf, claim_of}
+use Rattle.linked_demand.specs.Opens.{applies_in}
+use Rattle.linked_demand.specs.Seats.{applies_at, is_early}
+use Rattle.linked_demand.proofs.Opens.{filter_same}
+use Rattle.linked_demand.proofs.Closing.{places_below}
+
+-- the wishes by place
+pub wishes_by_place : (ws : List Wish) → ws ≡ map (wish_in ws) (range_with_len 0 (length ws))
+wishes_by_place ws = fill_by_all (wish_in ws) ws (length ws) (wish_in [] 0) refl (λ k lt. sym (unwrap_or-slice_get ws k (wish_in [] 0)))
 
 -- the places of those who pass, counted from the first place or taken from a range
 pub numbered : {X : Type 0} (t : X → Bool) (f : ℕ → X) (n a : ℕ)
@@ -44,23 +47,15 @@ filter_twice {X} p q (x ∷ xs) =
       | inr dropped ↦ rw dropped later
     ]
 
-turn_own : (own waits here : Bool) → (own && (waits && here)) ≡ ((waits && own) && here)
-turn_own true true here = refl
-turn_own true false here = refl
-turn_own false true here = refl
-turn_own false false here = refl
-
--- a candidate's claim is taken from his own wishes
-pub claim_own : (s : State) (p c : ℕ) → length s.marks ≡ length s.dossier.wishes → filter (waits_at s p) (own_places s.dossier c) ≡ claim_of s p c
-claim_own s p c long =
-    let d = s.dossier in
+-- a candidate's claim is taken from their own wishes
+pub claim_own : (d : DossierRows) (p c : ℕ) → filter (applies_at d p) (own_places d c) ≡ claim_of d p c
+claim_own d p c =
     let n = length d.wishes in
-    let t = λ (e : Wish × Mark). is_waiting e.1 && (nat_eq e.0.candidate c) && (nat_eq e.0.programme p) in
-    filter_twice (waits_at s p) (λ k. candidate_of d k == c) (range_with_len 0 n)
-    ∙ filter_same (λ k. (candidate_of d k == c) && waits_at s p k) (λ k. t (entry_in s k))
-    (λ k. rw (candidate_in d.wishes k) (turn_own ((wish_in d.wishes k).candidate == c) (is_waiting (mark_in s.marks k)) ((wish_in d.wishes k).programme == p))) (range_with_len 0 n)
-    ∙ sym (numbered t (entry_in s) n 0)
-    ∙ ap (λ (es : List (Wish × Mark)). map (λ (x : ℕ × (Wish × Mark)). x.0) (filter (λ (x : ℕ × (Wish × Mark)). t x.1) (enumerate_from 0 es))) (sym (entries_by_place s long))
+    let t = λ (w : Wish). (nat_eq w.candidate c) && (nat_eq w.programme p) in
+    filter_twice (applies_at d p) (λ k. candidate_of d k == c) (range_with_len 0 n)
+    ∙ filter_same (λ k. (candidate_of d k == c) && applies_at d p k) (λ k. t (wish_in d.wishes k)) (λ k. rw (candidate_in d.wishes k) refl) (range_with_len 0 n)
+    ∙ sym (numbered t (wish_in d.wishes) n 0)
+    ∙ ap (λ (ws : List Wish). map (λ (x : ℕ × Wish). x.0) (filter (λ (x : ℕ × Wish). t x.1) (enumerate_from 0 ws))) (sym (wishes_by_place d.wishes))
 
 none_below : {X : Type 0} (t : X → Bool) (es : List X) (a k : ℕ) → k < a
     → is_among k (map (λ (x : ℕ × X). x.0) (filter (λ (x : ℕ × X). t x.1) (enumerate_from a es))) ≡ false
@@ -89,11 +84,9 @@ among_numbered t (x ∷ es) a (suc i) k e at is =
       | inr fails ↦ rw fails later
     ]
 
--- a waiting wish is in the claim of its candidate in its programme, and in no other
-pub among_claim : (s : State) (p c i : ℕ) (w : Wish) (m : Mark) → WaitsAt s i w m → is_among i (claim_of s p c) ≡ (nat_eq w.candidate c && nat_eq w.programme p)
-among_claim s p c i w m at =
-    let t = λ (e : Wish × Mark). is_waiting e.1 && (nat_eq e.0.candidate c) && (nat_eq e.0.programme p) in
-    among_numbered t (entries s) 0 i i (w, m) at.here (omega arith) ∙ rw at.waits refl
+-- a wish is in the claim of its candidate in its programme, and in no other
+pub among_claim : (d : DossierRows) (p c i : ℕ) (w : Wish) → slice_get d.wishes i ≡ Some w → is_among i (claim_of d p c) ≡ (nat_eq w.candidate c && nat_eq w.programme p)
+among_claim d p c i w at = among_numbered (λ (v : Wish). (nat_eq v.candidate c) && (nat_eq v.programme p)) d.wishes 0 i i w at (omega arith)
 
 pub among_some : (k : ℕ) (ks : List ℕ) → is_among k ks ≡ true → nat_lt 0 (length ks) ≡ true
 among_some k [] t = absurd (false≢true t)
@@ -110,18 +103,9 @@ any_numbered t (e ∷ es) a =
       | inr fails ↦ rw fails later
     ]
 
--- a candidate waits for a programme where his claim has a wish
-pub waits_claim : (s : State) (p c : ℕ) → waits_in s p c ≡ nat_lt 0 (length (claim_of s p c))
-waits_claim s p c = any_numbered (λ (e : Wish × Mark). is_waiting e.1 && (nat_eq e.0.candidate c) && (nat_eq e.0.programme p)) (entries s) 0
-
--- a wish of the claim is open where the flags say so
-pub claim_opens : (s : State) (opens : List Bool) (p c : ℕ) → length opens ≡ length s.dossier.wishes → length s.marks ≡ length s.dossier.wishes
-    → list_any (λ v. get_or opens v false) (claim_of s p c) ≡ list_any (is_flagged_in p c) (flagged s opens)
-claim_opens s opens p c long marks =
-    let t = λ (e : Wish × Mark). is_waiting e.1 && (nat_eq e.0.candidate c) && (nat_eq e.0.programme p) in
-    any_of_claim t (entries s) 0 opens (omega (arith, long, length_entries s.dossier.wishes s.marks marks))
-    ∙ any_same (λ (x : (Wish × Mark) × Bool). t x.0 && x.1) (is_flagged_in p c)
-    (λ x. turn (is_waiting x.0.1) (nat_eq x.0.0.candidate c) (nat_eq x.0.0.programme p) x.1) (zip (entries s) opens)
+-- a candidate has a wish in a programme where their claim has one
+pub applies_claim : (d : DossierRows) (p c : ℕ) → applies_in d p c ≡ nat_lt 0 (length (claim_of d p c))
+applies_claim d p c = any_numbered (λ (w : Wish). (nat_eq w.candidate c) && (nat_eq w.programme p)) d.wishes 0
 
 pub all_get : (P : ℕ → Type 0) (ys : List ℕ) → AllByRecursion P ys → (j : ℕ) → j < length ys → P (get_or ys j 0)
 all_get P [] all j lt = absurd (omega arith)
@@ -186,19 +170,18 @@ le_next i limit =
       | inr le ↦ lt-leb (i + 1) limit (omega (arith, le)) ∙ sym (le-ltb i limit le)
     ]
 
--- whether the wish of one who stands at a place of the call order needs no seat
-pub need_at : (s : State) (orders : List CallOrder) (w : Wish) (order : List ℕ) (i : ℕ) → order ≡ order_of s.dossier orders w.programme
+-- whether one who stands at a place of the call order is called by the limit
+pub early_at : (d : DossierRows) (orders : List CallOrder) (w : Wish) (order : List ℕ) (i : ℕ) → order ≡ order_of d orders w.programme
     → IsDistinct nat_eq order → i < length order → get_or order i 0 ≡ w.candidate
-    → needs_no_seat s orders w ≡ (holds_seat s w.candidate w.programme || nat_lt i (limit_of s.dossier w.programme))
-need_at s orders w order i is apart lt at =
+    → is_early d orders w ≡ nat_lt i (limit_of d w.programme)
+early_at d orders w order i is apart lt at =
     let none : is_among w.candidate (take i order) ≡ false = ap (λ c. is_among c (take i order)) (sym at) ∙ fresh order i apart lt in
-    let front : before s orders w ≡ take i order = rw (← is) (front_same w.candidate order i lt at none) in
-    let long : length (before s orders w) ≡ i = ap length front ∙ length-take-le i order (omega (arith, lt)) in
-    ap (λ n. holds_seat s w.candidate w.programme || nat_le (n + 1) (limit_of s.dossier w.programme)) long
-    ∙ ap (λ b. holds_seat s w.candidate w.programme || b) (le_next i (limit_of s.dossier w.programme))
+    let front : before_first (nat_eq w.candidate) (order_of d orders w.programme) ≡ take i order = rw (← is) (front_same w.candidate order i lt at none) in
+    let long : length (before_first (nat_eq w.candidate) (order_of d orders w.programme)) ≡ i = ap length front ∙ length-take-le i order (omega (arith, lt)) in
+    ap (λ n. nat_le (n + 1) (limit_of d w.programme)) long ∙ le_next i (limit_of d w.programme)
 
 -- a claim's wishes are places of wishes
-pub claim_within : (s : State) (p c n : ℕ) → n ≡ length s.dossier.wishes → length s.marks ≡ length s.dossier.wishes → All (λ v. v < n) (claim_of s p c)
-claim_within s p c n n_is marks =
-    All-from_recursion (λ v. v < n) (claim_of s p c)
-    (places_below (λ x. is_waiting x.1.1 && (nat_eq x.1.0.candidate c) && (nat_eq x.1.0.programme p)) (entries s) 0 n (omega (arith, n_is, length_entries s.dossier.wishes s.marks marks)))
+pub claim_within : (d : DossierRows) (p c n : ℕ) → n ≡ length d.wishes → All (λ v. v < n) (claim_of d p c)
+claim_within d p c n n_is =
+    All-from_recursion (λ v. v < n) (claim_of d p c)
+    (places_below (λ (x : ℕ × Wish). (nat_eq x.1.candidate c) && (nat_eq x.1.programme p)) d.wishes 0 n (omega (arith, n_is)))

@@ -13,7 +13,7 @@ use Rattle.admit_core.specs.State.{State, entries, is_waiting, holds_seat, seats
 use Rattle.admit_core.specs.DossierRows.{limit_of}
 use Rattle.admit_core.specs.Proposals.{needs_no_seat, position_of}
 use Rattle.linked_demand.specs.Line.{LineRow, is_reached, is_answer}
-use Rattle.linked_demand.specs.Opens.{flagged, is_flagged_in, wants_by, ahead_by, is_proposed_by, waits_in, line_of, seat_row}
+use Rattle.linked_demand.specs.Opens.{flagged, is_flagged_in, wants_by, ahead_by, is_proposed_by, applies_in, line_of, seat_row}
 use Rattle.linked_demand.specs.Links.{LinksRow, IsSeatPlace, WaitsAt}
 use Rattle.linked_demand.specs.Demand.{is_proposed_at}
 use Rattle.linked_demand.proofs.Opens.{row_other, reached_in_line}
@@ -34,12 +34,12 @@ flag_found : (s : State) (opens : List Bool) (j : ℕ) (v : Wish) (n : Mark) →
 flag_found s opens j v n waits lt t =
     any_at (is_flagged_in v.programme v.candidate) (flagged s opens) j ((v, n), true)
     (at_zip (entries s) opens j (v, n) true waits.here (slice_get-get_or opens j false lt ∙ ap Some t))
-    (rw (waits.waits, eq-eqb v.candidate v.candidate refl, eq-eqb v.programme v.programme refl) refl)
+    (rw (eq-eqb v.candidate v.candidate refl, eq-eqb v.programme v.programme refl) refl)
 
-waits_here : (s : State) (j : ℕ) (v : Wish) (n : Mark) → WaitsAt s j v n → waits_in s v.programme v.candidate ≡ true
+waits_here : (s : State) (j : ℕ) (v : Wish) (n : Mark) → WaitsAt s j v n → applies_in s.dossier v.programme v.candidate ≡ true
 waits_here s j v n waits =
-    any_at (λ (e : Wish × Mark). is_waiting e.1 && (nat_eq e.0.candidate v.candidate) && (nat_eq e.0.programme v.programme)) (entries s) j (v, n) waits.here
-    (rw (waits.waits, eq-eqb v.candidate v.candidate refl, eq-eqb v.programme v.programme refl) refl)
+    any_at (λ (w : Wish). (nat_eq w.candidate v.candidate) && (nat_eq w.programme v.programme)) s.dossier.wishes j v (wish_of s.dossier.wishes s.marks j v n waits.here)
+    (rw (eq-eqb v.candidate v.candidate refl, eq-eqb v.programme v.programme refl) refl)
 
 and_one : (b : Bool) → b ≡ (b && true)
 and_one true = refl
@@ -50,7 +50,7 @@ no_left true b t = t
 no_left false b t = refl
 
 module _ {s : State} {orders : List CallOrder} {opens : List Bool} {lines : List LineRow} {claims : List (List (List ℕ))} {places : List ℕ} {sure : List Bool} {i : ℕ} {w : Wish}
-    (k : Closes s orders opens lines claims places sure i w) (j : ℕ) (v : Wish) (n : Mark) (waits : WaitsAt s j v n) (place : ℕ) (at : IsSeatPlace s orders v place)
+    (k : Closes s orders opens lines claims places sure i w) (j : ℕ) (v : Wish) (n : Mark) (waits : WaitsAt s j v n) (place : ℕ) (at : IsSeatPlace s.dossier orders v place)
     (lt : j < length opens) (other : nat_eq j i ≡ false) where
   flag_same : get_or (set opens i false) j false ≡ get_or opens j false
   flag_same = get_or-set_other opens i j false false (eqb-false j i other)
@@ -66,7 +66,7 @@ module _ {s : State} {orders : List CallOrder} {opens : List Bool} {lines : List
       flag_found s (set opens i false) j v n waits (omega (arith, lt, length-set opens i false)) (flag_same ∙ t) in
       let no_seat : holds_seat s v.candidate v.programme ≡ false = no_left (holds_seat s v.candidate v.programme) (nat_le (position_of s orders v) (limit_of s.dossier v.programme)) unsure in
       let wants : wants_by s (set opens i false) v.programme v.candidate ≡ true = rw (found, no_seat) refl in
-      get_or-map (wants_by s (set opens i false) v.programme) (line_of s orders v.programme) place 0 false at.within
+      get_or-map (wants_by s (set opens i false) v.programme) (line_of s.dossier orders v.programme) place 0 false at.within
       ∙ ap (wants_by s (set opens i false) v.programme) at.here ∙ wants
 
   -- in another programme nothing becomes proposed
@@ -109,14 +109,14 @@ and_not_same false = refl
 
 module _ {s : State} {orders : List CallOrder} {opens : List Bool} {lines : List LineRow} {claims : List (List (List ℕ))} {places : List ℕ} {sure : List Bool} {i : ℕ} {w : Wish}
     (k : Closes s orders opens lines claims places sure i w) (answer : Option ℕ)
-    (fresh : (place : ℕ) → place < length (line_of s orders w.programme) → get_or (seat_row s orders (set opens i false) w.programme).flags place false ≡ true
+    (fresh : (place : ℕ) → place < length (line_of s.dossier orders w.programme) → get_or (seat_row s orders (set opens i false) w.programme).flags place false ≡ true
     → (is_reached (seat_row s orders (set opens i false) w.programme) place && not (is_reached (seat_row s orders opens w.programme) place)) ≡ is_answer answer place) where
   -- a wish becomes proposed where it stands in the programme at the place that is the answer, is open, and needs a seat
   newly_at : (j : ℕ) (v : Wish) (n : Mark) → WaitsAt s j v n → nat_eq j i ≡ false
       → (is_proposed_by s orders (set opens i false) v n (get_or (set opens i false) j false) && not (is_proposed_by s orders opens v n (get_or opens j false)))
       ≡ (is_waiting n && ((nat_eq v.programme w.programme && is_answer answer (slice_index places j)) && (get_or opens j false && not (needs_no_seat s orders v))))
   newly_at j v n waits other =
-      let at = k.links.places_are j v n waits in
+      let at = k.links.places_are j v (wish_of s.dossier.wishes s.marks j v n waits.here) in
       let place = slice_index places j in
       let lt : j < length opens = omega (arith, k.links.opens_each, slice_get_within s.dossier.wishes j v (wish_of s.dossier.wishes s.marks j v n waits.here)) in
       elim (cases_Bool (nat_eq v.programme w.programme)) [
@@ -155,7 +155,7 @@ module _ {s : State} {orders : List CallOrder} {opens : List Bool} {lines : List
               (not (is_proposed_at l0 j)) (nat_eq v.programme w.programme && is_answer answer (slice_index places j)))
           | inr other ↦
               let flag : get_or (set opens i false) j false ≡ get_or opens j false = get_or-set_other opens i j false false (eqb-false j i other) in
-              let sure_is : get_or sure j false ≡ needs_no_seat s orders v = k.links.sure_are j v n (record { here = here; waits = waits }) in
+              let sure_is : get_or sure j false ≡ needs_no_seat s orders v = k.links.sure_are j v (wish_of s.dossier.wishes s.marks j v n here) in
               let moved = newly_at j v n (record { here = here; waits = waits }) other in
               rw (new_is, old_is, sure_is) (moved ∙ ap (λ b. is_waiting n && ((nat_eq v.programme w.programme && is_answer answer (slice_index places j)) && (b && not (needs_no_seat s orders v)))) (sym flag))
         ]
@@ -172,16 +172,16 @@ module _ {s : State} {orders : List CallOrder} {opens : List Bool} {lines : List
       newly_all j e.0 e.1 here ∙ rw none (none_bits (is_waiting e.1) (nat_eq e.0.programme w.programme) (get_or (set opens i false) j false && not (get_or sure j false)))
 
   -- else the wishes of the claim at that place that are open and need a seat
-  pub newly_some : (next : ℕ) → answer ≡ Some next → next < length (line_of s orders w.programme) → (j : ℕ) (e : Wish × Mark) → slice_get (entries s) j ≡ Some e
+  pub newly_some : (next : ℕ) → answer ≡ Some next → next < length (line_of s.dossier orders w.programme) → (j : ℕ) (e : Wish × Mark) → slice_get (entries s) j ≡ Some e
       → newly (j, e)
-      ≡ ((is_waiting e.1 && (nat_eq e.0.candidate (get_or (line_of s orders w.programme) next 0)) && (nat_eq e.0.programme w.programme))
+      ≡ ((is_waiting e.1 && (nat_eq e.0.candidate (get_or (line_of s.dossier orders w.programme) next 0)) && (nat_eq e.0.programme w.programme))
       && (get_or (set opens i false) j false && not (get_or sure j false)))
   newly_some next some lt j e here =
-      let c = get_or (line_of s orders w.programme) next 0 in
+      let c = get_or (line_of s.dossier orders w.programme) next 0 in
       newly_all j e.0 e.1 here
       ∙ rw some (turn_bits (is_waiting e.1) (nat_eq e.0.programme w.programme) (nat_eq next (slice_index places j)) (nat_eq e.0.candidate c)
       (get_or (set opens i false) j false && not (get_or sure j false)) (λ waits own.
-      let at = k.links.places_are j e.0 e.1 (record { here = here; waits = waits }) in
+      let at = k.links.places_are j e.0 (wish_of s.dossier.wishes s.marks j e.0 e.1 here) in
       let same : e.0.programme ≡ w.programme = eqb-true e.0.programme w.programme own in
       elim (cases_Bool (nat_eq next (slice_index places j))) [
         | inl it ↦ it ∙ sym (eq-eqb e.0.candidate c (sym at.here ∙ rw (same, eqb-true next (slice_index places j) it) refl))

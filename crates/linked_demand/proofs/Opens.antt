@@ -10,12 +10,12 @@ use Rattle.admit_core.specs.declared.dossier.Wish.{Wish}
 use Rattle.admit_core.specs.declared.state.Mark.{Mark}
 use Rattle.admit_core.specs.declared.ranking.CallOrder.{CallOrder}
 use Rattle.admit_core.specs.State.{State, entries, is_waiting, holds_seat, holds_bed, is_school, seats_left}
-use Rattle.admit_core.specs.Proposals.{is_behind_bar, is_open, is_open_in, wants_seat, ahead, before, order_of, is_proposed}
+use Rattle.admit_core.specs.Proposals.{is_behind_bar, is_open, wants_seat, ahead, before, order_of, is_proposed}
 use Rattle.admit_core.proofs.Tests.{Implies}
 use Rattle.demand.proofs.Front.{up_to, before_is}
 use Rattle.linked_demand.specs.Line.{LineRow, set_count, is_reached}
 use Rattle.linked_demand.specs.Links.{IsPlaceOf, IsSeatPlace}
-use Rattle.linked_demand.specs.Opens.{opens_of, flagged, is_flagged_in, wants_by, ahead_by, is_proposed_by, waits_in, line_of, seat_row, is_past}
+use Rattle.linked_demand.specs.Opens.{opens_of, flagged, is_flagged_in, wants_by, ahead_by, is_proposed_by, applies_in, line_of, seat_row, is_past}
 
 -- bits
 open_twice : (waits behind : Bool) → (waits && (waits && not (waits && behind))) ≡ (waits && not (waits && behind))
@@ -37,10 +37,7 @@ pub wants_by_bars : (s : State) (bars : List ℕ) (p c : ℕ) → wants_by s (op
 wants_by_bars s bars p c =
     let q = λ (e : Wish × Mark) (flag : Bool). is_flagged_in p c (e, flag) in
     let f = λ (e : Wish × Mark). is_open s bars e.0 e.1 in
-    ap (λ b. b && not (holds_seat s c p))
-    (any_zip_map q f (entries s)
-    ∙ any_same (λ (e : Wish × Mark). q e (f e)) (λ (e : Wish × Mark). is_open_in s bars p c e.0 e.1)
-    (λ e. ap (λ b. (b && (nat_eq e.0.candidate c)) && (nat_eq e.0.programme p)) (open_twice (is_waiting e.1) (is_behind_bar s bars e.0 e.0.school))) (entries s))
+    ap (λ b. b && not (holds_seat s c p)) (any_zip_map q f (entries s))
 
 pub filter_same : {X : Type 0} (p q : X → Bool) → ((x : X) → p x ≡ q x) → (xs : List X) → filter p xs ≡ filter q xs
 filter_same p q h [] = refl
@@ -58,11 +55,10 @@ pub proposed_by_bars : (s : State) (orders : List CallOrder) (bars : List ℕ) (
 proposed_by_bars s orders bars w m =
     rw (ahead_by_bars s orders bars w, open_twice (is_waiting m) (is_behind_bar s bars w w.school)) refl
 
--- who wants a seat by any flags waits for the programme
-and_drop : (a b c d : Bool) → (((a && b) && c) && d) ≡ true → ((a && c) && d) ≡ true
-and_drop true true c d t = t
-and_drop true false c d t = absurd (false≢true t)
-and_drop false b c d t = t
+-- who wants a seat by any flags has a wish for the programme
+and_drop : (b c d : Bool) → ((b && c) && d) ≡ true → (c && d) ≡ true
+and_drop true c d t = t
+and_drop false c d t = absurd (false≢true t)
 
 pub any_zip_first : {X Y : Type 0} (q : X × Y → Bool) (r : X → Bool) → ((x : X) (y : Y) → q (x, y) ≡ true → r x ≡ true)
     → (xs : List X) (ys : List Y) → list_any q (zip xs ys) ≡ true → list_any r xs ≡ true
@@ -74,11 +70,12 @@ any_zip_first q r h (x ∷ xs) (y ∷ ys) t =
       | inr later ↦ or_right (r x) (list_any r xs) (any_zip_first q r h xs ys later)
     ]
 
-pub wants_waits : (s : State) (opens : List Bool) (p c : ℕ) → wants_by s opens p c ≡ true → waits_in s p c ≡ true
-wants_waits s opens p c t =
-    any_zip_first (is_flagged_in p c) (λ (e : Wish × Mark). is_waiting e.1 && (nat_eq e.0.candidate c) && (nat_eq e.0.programme p))
-    (λ e flag. and_drop (is_waiting e.1) flag (nat_eq e.0.candidate c) (nat_eq e.0.programme p))
-    (entries s) opens (and_parts (list_any (is_flagged_in p c) (flagged s opens)) (not (holds_seat s c p)) t).0
+pub wants_applies : (s : State) (opens : List Bool) (p c : ℕ) → wants_by s opens p c ≡ true → applies_in s.dossier p c ≡ true
+wants_applies s opens p c t =
+    let r = λ (w : Wish). (nat_eq w.candidate c) && (nat_eq w.programme p) in
+    any_zip_first (λ (e : Wish × Mark). r e.0) r (λ w m u. u) s.dossier.wishes s.marks
+    (any_zip_first (is_flagged_in p c) (λ (e : Wish × Mark). r e.0) (λ e flag. and_drop flag (nat_eq e.0.candidate c) (nat_eq e.0.programme p))
+    (entries s) opens (and_parts (list_any (is_flagged_in p c) (flagged s opens)) (not (holds_seat s c p)) t).0)
 
 -- those who fail a test that the counted pass may be left out
 filter_up_to : (q f : ℕ → Bool) (c : ℕ) → Implies q f → f c ≡ true → (order : List ℕ)
@@ -122,15 +119,15 @@ front_count f (x ∷ xs) (suc k) =
 
 -- as many are set before the place as stand ahead of the wish
 pub ahead_in_line : (s : State) (orders : List CallOrder) (opens : List Bool) (w : Wish) (k : ℕ)
-    → waits_in s w.programme w.candidate ≡ true → IsSeatPlace s orders w k
+    → applies_in s.dossier w.programme w.candidate ≡ true → IsSeatPlace s.dossier orders w k
     → set_count (take k (seat_row s orders opens w.programme).flags) ≡ ahead_by s orders opens w
 ahead_in_line s orders opens w k waits at =
     let wants = wants_by s opens w.programme in
     let order = order_of s.dossier orders w.programme in
-    let line = line_of s orders w.programme in
+    let line = line_of s.dossier orders w.programme in
     let c = w.candidate in
     let whole : length (filter wants (up_to c order)) ≡ length (filter wants (up_to c line)) =
-    filter_up_to wants (waits_in s w.programme) c (wants_waits s opens w.programme) waits order in
+    filter_up_to wants (applies_in s.dossier w.programme) c (wants_applies s opens w.programme) waits order in
     let front : length (filter wants (up_to c line)) ≡ length (filter wants (take k line)) = ap (λ ys. length (filter wants ys)) (up_to_take c line k at) in
     let all : length (filter wants (before_first (nat_eq c) order)) ≡ length (filter wants (up_to c order)) = ap (λ ys. length (filter wants ys)) (before_is c order) in
     omega (
@@ -145,7 +142,7 @@ ahead_in_line s orders opens w k waits at =
 
 -- so a seat is left for the wish exactly where its place is reached
 pub reached_in_line : (s : State) (orders : List CallOrder) (opens : List Bool) (w : Wish) (k : ℕ)
-    → waits_in s w.programme w.candidate ≡ true → IsSeatPlace s orders w k
+    → applies_in s.dossier w.programme w.candidate ≡ true → IsSeatPlace s.dossier orders w k
     → is_reached (seat_row s orders opens w.programme) k ≡ nat_lt (ahead_by s orders opens w) (seats_left s w.programme)
 reached_in_line s orders opens w k waits at = ap (λ n. nat_lt n (seats_left s w.programme)) (ahead_in_line s orders opens w k waits at)
 
@@ -185,22 +182,22 @@ module _ (s : State) (opens : List Bool) (i : ℕ) (w : Wish) (m : Mark) (at : s
   wants_other p c t =
       ap (λ b. b && not (holds_seat s c p))
       (any_set_other (is_flagged_in p c) (entries s) opens i (w, m) false at
-      (λ z. and_middle (is_waiting m && z) (nat_eq w.candidate c) (nat_eq w.programme p) t))
+      (λ z. and_middle z (nat_eq w.candidate c) (nat_eq w.programme p) t))
 
   -- so the line of another programme stays
   pub row_other : (orders : List CallOrder) (p : ℕ) → nat_eq w.programme p ≡ false → seat_row s orders (set opens i false) p ≡ seat_row s orders opens p
   row_other orders p t =
       ap (λ (flags : List Bool). let r : LineRow = record { flags = flags; quota = seats_left s p } in r)
-      (map_same (wants_by s (set opens i false) p) (wants_by s opens p) (λ c. wants_other p c (and_right (nat_eq w.candidate c) (nat_eq w.programme p) t)) (line_of s orders p))
+      (map_same (wants_by s (set opens i false) p) (wants_by s opens p) (λ c. wants_other p c (and_right (nat_eq w.candidate c) (nat_eq w.programme p) t)) (line_of s.dossier orders p))
 
   -- and that of its own programme changes at most at the place of its candidate
-  pub row_own : (orders : List CallOrder) (k : ℕ) → IsSeatPlace s orders w k
+  pub row_own : (orders : List CallOrder) (k : ℕ) → IsSeatPlace s.dossier orders w k
       → (seat_row s orders (set opens i false) w.programme).flags
       ≡ set (seat_row s orders opens w.programme).flags k (wants_by s (set opens i false) w.programme w.candidate)
   row_own orders k place =
       let new = wants_by s (set opens i false) w.programme in
       let old = wants_by s opens w.programme in
-      let line = line_of s orders w.programme in
+      let line = line_of s.dossier orders w.programme in
       map_at old new line k place.within (λ j lt ne. wants_other w.programme (get_or line j 0) (and_left (nat_eq w.candidate (get_or line j 0)) (nat_eq w.programme w.programme) (place.once j lt ne)))
       ∙ ap (λ c. set (map old line) k (new c)) place.here
 

@@ -1,5 +1,5 @@
 -- Where wishes are closed one after another, what is open stays proposed, and what becomes proposed adds up.
-use Rattle.std.proofs.Common.{ℕ, ◌+◌, ◌≤◌, ◌≡◌, Bool, true, false, not, ◌&&◌, ◌||◌, List, [], ◌∷◌, length, inl, inr, refl, sym, ◌∙◌, ap, arith, nat_lt, nat_eq, suc, get_or, Option, Some, zip, cond, count_by, option_map, unwrap_or}
+use Rattle.std.proofs.Common.{ℕ, ◌+◌, ◌≤◌, ◌≡◌, Bool, true, false, not, ◌&&◌, ◌||◌, List, [], ◌∷◌, length, inl, inr, refl, sym, ◌∙◌, ap, arith, nat_lt, suc, get_or, Option, Some, zip, cond, count_by, option_map, unwrap_or}
 use Rattle.std.specs.Prelude.{slice_get}
 use Rattle.std.specs.List.{list_any, enumerate_from}
 use Rattle.std.proofs.lemmas.Bool.{false≢true, and_parts, and_from, or_cases, or_left, or_right, ltb-true, lt-ltb}
@@ -38,15 +38,11 @@ any_fewer q none (x ∷ xs) (false ∷ fewer) (m ∷ more) long each t =
       | inr later ↦ or_right (q (x, m)) (list_any q (zip xs more)) (any_fewer q none xs fewer more (omega arith) (λ i u. each (suc i) u) later)
     ]
 
-no_flag : (a b c : Bool) → (((a && false) && b) && c) ≡ false
-no_flag true b c = refl
-no_flag false b c = refl
-
 wants_fewer : (s : State) (fewer more : List Bool) → AreFewer fewer more → (p c : ℕ) → wants_by s fewer p c ≡ true → wants_by s more p c ≡ true
 wants_fewer s fewer more less p c t =
     let parts = and_parts (list_any (is_flagged_in p c) (flagged s fewer)) (not (holds_seat s c p)) t in
     and_from (list_any (is_flagged_in p c) (flagged s more)) (not (holds_seat s c p))
-    (any_fewer (is_flagged_in p c) (λ e. no_flag (is_waiting e.1) (nat_eq e.0.candidate c) (nat_eq e.0.programme p)) (entries s) fewer more less.as_long less.each parts.0) parts.1
+    (any_fewer (is_flagged_in p c) (λ e. refl) (entries s) fewer more less.as_long less.each parts.0) parts.1
 
 stays_bits : (flag sure old new : Bool) → (old ≡ true → new ≡ true) → (flag && (sure || old)) ≡ true → (flag && (sure || new)) ≡ true
 stays_bits true true old new h t = refl

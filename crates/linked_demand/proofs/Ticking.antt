@@ -11,15 +11,15 @@ use Rattle.admit_core.specs.declared.state.Mark.{Mark}
 use Rattle.admit_core.specs.declared.ranking.CallOrder.{CallOrder}
 use Rattle.admit_core.specs.Lists.{is_among}
 use Rattle.admit_core.specs.State.{State, entries, is_waiting, holds_seat, seats_left}
-use Rattle.admit_core.specs.Proposals.{is_open}
+use Rattle.admit_core.specs.Proposals.{is_open, is_behind_bar}
 use Rattle.day_state.specs.Kept.{wish_in}
 use Rattle.linked_demand.specs.Line.{LineRow, is_reached, is_answer}
 use Rattle.linked_demand.specs.Opens.{flagged, is_flagged_in, wants_by, line_of, seat_row}
-use Rattle.linked_demand.specs.Links.{LinksRow, IsSeatPlace, claim_of, WaitsAt}
+use Rattle.linked_demand.specs.Links.{LinksRow, IsSeatPlace, claim_of}
 use Rattle.linked_demand.specs.Demand.{is_proposed_at}
 use Rattle.linked_demand.specs.Marks.{is_new, is_fresh, MarksSchools}
-use Rattle.linked_demand.proofs.Closing.{Closes, line_right, row_is, row_kept, any_right, read_range, programme_within, places_below, length_entries}
-use Rattle.linked_demand.proofs.Counting.{count_claim, count_nothing}
+use Rattle.linked_demand.proofs.Closing.{Closes, wish_of, line_right, row_is, row_kept, any_right, read_range, programme_within, places_below}
+use Rattle.linked_demand.proofs.Counting.{count_claim, count_entries, count_nothing}
 use Rattle.linked_demand.proofs.Filling.{entry_is}
 use Rattle.linked_demand.proofs.Lining.{among_claim}
 use Rattle.linked_demand.proofs.Marking.{marks_nothing, marks_weaker}
@@ -33,8 +33,8 @@ abbrev newly : State → List CallOrder → List Bool → ℕ → ℕ → Bool
 newly s orders opens i j = is_proposed_at (before s orders (set opens i false)) j && not (is_proposed_at (before s orders opens) j)
 
 module _ {s : State} {orders : List CallOrder} {opens : List Bool} {lines : List LineRow} {claims : List (List (List ℕ))} {places : List ℕ} {sure : List Bool} {i : ℕ} {w : Wish}
-    (k : Closes s orders opens lines claims places sure i w) (place : ℕ) (at : IsSeatPlace s orders w place)
-    (none : list_any (λ v. get_or (set opens i false) v false) (claim_of s w.programme w.candidate) ≡ false)
+    (k : Closes s orders opens lines claims places sure i w) (place : ℕ) (at : IsSeatPlace s.dossier orders w place)
+    (none : list_any (λ v. get_or (set opens i false) v false) (claim_of s.dossier w.programme w.candidate) ≡ false)
     (line new : LineRow) (read : line ≡ get_or lines w.programme line) (is : new ≡ record line { flags = set line.flags place false }) where
   new_right : new ≡ seat_row s orders (set opens i false) w.programme
   new_right =
@@ -46,14 +46,14 @@ module _ {s : State} {orders : List CallOrder} {opens : List Bool} {lines : List
 
   fresh_right : (answer : Option ℕ)
       → ((j : ℕ) → j < length line.flags → get_or new.flags j false ≡ true → (is_reached new j && not (is_reached line j)) ≡ is_answer answer j)
-      → (j : ℕ) → j < length (line_of s orders w.programme) → get_or (seat_row s orders (set opens i false) w.programme).flags j false ≡ true
+      → (j : ℕ) → j < length (line_of s.dossier orders w.programme) → get_or (seat_row s orders (set opens i false) w.programme).flags j false ≡ true
       → (is_reached (seat_row s orders (set opens i false) w.programme) j && not (is_reached (seat_row s orders opens w.programme) j)) ≡ is_answer answer j
   fresh_right answer fresh =
       let old_is = line_right k line read in
       let P = λ (a : LineRow) (b : LineRow). (j : ℕ) → j < length a.flags → get_or b.flags j false ≡ true → (is_reached b j && not (is_reached a j)) ≡ is_answer answer j in
       let one = subst (λ (a : LineRow). P a new) old_is fresh in
       let two = subst (λ (b : LineRow). P (seat_row s orders opens w.programme) b) new_right one in
-      λ j lt t. two j (omega (arith, lt, length-map (line_of s orders w.programme) (wants_by s opens w.programme))) t
+      λ j lt t. two j (omega (arith, lt, length-map (line_of s.dossier orders w.programme) (wants_by s opens w.programme))) t
 
   pub new_none : (answer : Option ℕ) → answer ≡ None
       → ((j : ℕ) → j < length line.flags → get_or new.flags j false ≡ true → (is_reached new j && not (is_reached line j)) ≡ is_answer answer j)
@@ -63,41 +63,40 @@ module _ {s : State} {orders : List CallOrder} {opens : List Bool} {lines : List
   pub new_some : (answer : Option ℕ) (next : ℕ) → answer ≡ Some next → next < length line.flags
       → ((j : ℕ) → j < length line.flags → get_or new.flags j false ≡ true → (is_reached new j && not (is_reached line j)) ≡ is_answer answer j)
       → (j : ℕ) (e : Wish × Mark) → slice_get (entries s) j ≡ Some e → newly s orders opens i j
-      ≡ ((is_waiting e.1 && (nat_eq e.0.candidate (get_or (line_of s orders w.programme) next 0)) && (nat_eq e.0.programme w.programme))
+      ≡ ((is_waiting e.1 && (nat_eq e.0.candidate (get_or (line_of s.dossier orders w.programme) next 0)) && (nat_eq e.0.programme w.programme))
       && (get_or (set opens i false) j false && not (get_or sure j false)))
   new_some answer next is_some lt fresh =
       newly_some k answer (fresh_right answer fresh) next is_some
-      (omega (arith, lt, ap (λ (r : LineRow). length r.flags) (line_right k line read), length-map (line_of s orders w.programme) (wants_by s opens w.programme)))
+      (omega (arith, lt, ap (λ (r : LineRow). length r.flags) (line_right k line read), length-map (line_of s.dossier orders w.programme) (wants_by s opens w.programme)))
 
 module _ {s : State} {orders : List CallOrder} {opens : List Bool} {lines : List LineRow} {claims : List (List (List ℕ))} {places : List ℕ} {sure : List Bool} {i : ℕ} {w : Wish}
     (k : Closes s orders opens lines claims places sure i w) (next : ℕ) (line : LineRow) (read : line ≡ get_or lines w.programme line) (lt : next < length line.flags) where
-  next_in_line : next < length (line_of s orders w.programme)
-  next_in_line = omega (arith, lt, ap (λ (r : LineRow). length r.flags) (line_right k line read), length-map (line_of s orders w.programme) (wants_by s opens w.programme))
+  next_in_line : next < length (line_of s.dossier orders w.programme)
+  next_in_line = omega (arith, lt, ap (λ (r : LineRow). length r.flags) (line_right k line read), length-map (line_of s.dossier orders w.programme) (wants_by s opens w.programme))
 
-  row_read : (row : List (List ℕ)) → row ≡ get_or claims w.programme row → row ≡ map (claim_of s w.programme) (line_of s orders w.programme)
-  row_read row got = read_range (λ p. map (claim_of s p) (line_of s orders p)) (length s.dossier.programmes) w.programme claims row k.links.claims_are (programme_within k) got
+  row_read : (row : List (List ℕ)) → row ≡ get_or claims w.programme row → row ≡ map (claim_of s.dossier w.programme) (line_of s.dossier orders w.programme)
+  row_read row got = read_range (λ p. map (claim_of s.dossier p) (line_of s.dossier orders p)) (length s.dossier.programmes) w.programme claims row k.links.claims_are (programme_within k) got
 
   pub next_in_row : (row : List (List ℕ)) → row ≡ get_or claims w.programme row → next < length row
-  next_in_row row got = omega (arith, next_in_line, ap length (row_read row got), length-map (line_of s orders w.programme) (claim_of s w.programme))
+  next_in_row row got = omega (arith, next_in_line, ap length (row_read row got), length-map (line_of s.dossier orders w.programme) (claim_of s.dossier w.programme))
 
   pub next_claim : (row : List (List ℕ)) → row ≡ get_or claims w.programme row → (claim : List ℕ) → claim ≡ get_or row next []
-      → claim ≡ claim_of s w.programme (get_or (line_of s orders w.programme) next 0)
+      → claim ≡ claim_of s.dossier w.programme (get_or (line_of s.dossier orders w.programme) next 0)
   next_claim row got claim claim_got =
       claim_got
       ∙ ap (λ (r : List (List ℕ)). get_or r next []) (row_read row got)
-      ∙ get_or-map (claim_of s w.programme) (line_of s orders w.programme) next 0 [] next_in_line
+      ∙ get_or-map (claim_of s.dossier w.programme) (line_of s.dossier orders w.programme) next 0 [] next_in_line
 
 pub claim_fits : {s : State} {orders : List CallOrder} {opens : List Bool} {lines : List LineRow} {claims : List (List (List ℕ))} {places : List ℕ} {sure : List Bool} {i : ℕ} {w : Wish}
-    → Closes s orders opens lines claims places sure i w → (p c : ℕ) (claim : List ℕ) → claim ≡ claim_of s p c → (n : ℕ) → n ≡ length s.dossier.wishes → All (λ v. v < n) claim
+    → Closes s orders opens lines claims places sure i w → (p c : ℕ) (claim : List ℕ) → claim ≡ claim_of s.dossier p c → (n : ℕ) → n ≡ length s.dossier.wishes → All (λ v. v < n) claim
 claim_fits {s} k p c claim is n each =
-    rw is (All-from_recursion (λ v. v < n) (claim_of s p c)
-    (places_below (λ x. is_waiting x.1.1 && (nat_eq x.1.0.candidate c) && (nat_eq x.1.0.programme p)) (entries s) 0 n
-    (omega (arith, each, length_entries s.dossier.wishes s.marks k.links.marks_each))))
+    rw is (All-from_recursion (λ v. v < n) (claim_of s.dossier p c)
+    (places_below (λ (x : ℕ × Wish). (nat_eq x.1.candidate c) && (nat_eq x.1.programme p)) s.dossier.wishes 0 n (omega (arith, each))))
 
 -- where another wish of the claim is open, nothing becomes proposed
 pub new_kept : {s : State} {orders : List CallOrder} {opens : List Bool} {lines : List LineRow} {claims : List (List (List ℕ))} {places : List ℕ} {sure : List Bool} {i : ℕ} {w : Wish}
-    → (k : Closes s orders opens lines claims places sure i w) → (place : ℕ) → IsSeatPlace s orders w place
-    → list_any (λ v. get_or (set opens i false) v false) (claim_of s w.programme w.candidate) ≡ true
+    → (k : Closes s orders opens lines claims places sure i w) → (place : ℕ) → IsSeatPlace s.dossier orders w place
+    → list_any (λ v. get_or (set opens i false) v false) (claim_of s.dossier w.programme w.candidate) ≡ true
     → (j : ℕ) (e : Wish × Mark) → slice_get (entries s) j ≡ Some e → newly s orders opens i j ≡ false
 new_kept {s} {orders} {opens} {lines} {claims} {places} {sure} {i} {w} k place at some =
     let row : seat_row s orders (set opens i false) w.programme ≡ seat_row s orders opens w.programme = row_kept k place at some in
@@ -123,36 +122,39 @@ told_none s orders opens i seen is none bars count marked =
       marked = marks_nothing s (is_new s bars (before s orders opens) (before s orders (set opens i false))) marked quiet;
     })
 
-regroup : (a b c : Bool) → ((a && b) && c) ≡ (a && (b && c))
-regroup true b c = refl
-regroup false b c = refl
+fresh_bits : (waits cand own flags behind : Bool) → ((((waits && cand) && own) && flags) && (waits && not (waits && behind))) ≡ ((cand && own) && (flags && (waits && not (waits && behind))))
+fresh_bits true true true flags behind = refl
+fresh_bits true true false flags behind = refl
+fresh_bits true false own flags behind = refl
+fresh_bits false true true true behind = refl
+fresh_bits false true true false behind = refl
+fresh_bits false true false flags behind = refl
+fresh_bits false false own flags behind = refl
 
 -- the fresh wishes of the claim
 pub told_some : (s : State) (orders : List CallOrder) (opens sure : List Bool) (i p c : ℕ) (seen : LinksRow) → before s orders opens ≡ seen
     → ((j : ℕ) (e : Wish × Mark) → slice_get (entries s) j ≡ Some e → newly s orders opens i j
     ≡ ((is_waiting e.1 && (nat_eq e.0.candidate c) && (nat_eq e.0.programme p)) && (get_or (set opens i false) j false && not (get_or sure j false))))
-    → (bars claim : List ℕ) → claim ≡ claim_of s p c → (flags sures : List Bool) → flags ≡ set opens i false → sures ≡ sure → (count after : ℕ) (old now : List Bool)
+    → length s.marks ≡ length s.dossier.wishes → (bars claim : List ℕ) → claim ≡ claim_of s.dossier p c → (flags sures : List Bool) → flags ≡ set opens i false → sures ≡ sure → (count after : ℕ) (old now : List Bool)
     → after ≡ count + count_by (is_fresh s bars flags sures) claim → MarksSchools s (λ x. is_among x.0 claim && is_fresh s bars flags sures x.0) old now
     → Told seen (before s orders (set opens i false)) bars count after old now
-told_some s orders opens sure i p c seen is each bars claim claim_is flags sures flags_are sures_are count after old now sum marks =
+told_some s orders opens sure i p c seen is each marks_each bars claim claim_is flags sures flags_are sures_are count after old now sum marks =
     let P = λ (r : LinksRow). Told r (before s orders (set opens i false)) bars count after old now in
-    let t = λ (e : Wish × Mark). is_waiting e.1 && (nat_eq e.0.candidate c) && (nat_eq e.0.programme p) in
+    let t = λ (w : Wish). (nat_eq w.candidate c) && (nat_eq w.programme p) in
     let q = is_fresh s bars (set opens i false) sure in
     let new = is_new s bars (before s orders opens) (before s orders (set opens i false)) in
-    let here : (j : ℕ) (e : Wish × Mark) → slice_get (entries s) j ≡ Some e → new (j, e) ≡ (t e && q j) =
+    let here : (j : ℕ) (e : Wish × Mark) → slice_get (entries s) j ≡ Some e → new (j, e) ≡ (t e.0 && q j) =
     λ j e at.
     let entry = entry_is s.dossier.wishes s.marks j e.0 e.1 at in
     ap (λ b. b && is_open s bars e.0 e.1) (each j e at)
-    ∙ regroup (t e) (get_or (set opens i false) j false && not (get_or sure j false)) (is_open s bars e.0 e.1)
-    ∙ ap (λ b. t e && ((get_or (set opens i false) j false && not (get_or sure j false)) && b))
+    ∙ fresh_bits (is_waiting e.1) (nat_eq e.0.candidate c) (nat_eq e.0.programme p) (get_or (set opens i false) j false && not (get_or sure j false)) (is_behind_bar s bars e.0 e.0.school)
+    ∙ ap (λ b. t e.0 && ((get_or (set opens i false) j false && not (get_or sure j false)) && b))
     (ap (λ (v : Wish). is_open s bars v e.1) (sym entry.0) ∙ ap (λ (m : Mark). is_open s bars (wish_in s.dossier.wishes j) m) (sym entry.1)) in
-    let own_sum : after ≡ count + count_by q (claim_of s p c) = rw (← claim_is, ← flags_are, ← sures_are) sum in
-    let own_marks : MarksSchools s (λ x. is_among x.0 (claim_of s p c) && q x.0) old now = rw (← claim_is, ← flags_are, ← sures_are) marks in
+    let own_sum : after ≡ count + count_by q (claim_of s.dossier p c) = rw (← claim_is, ← flags_are, ← sures_are) sum in
+    let own_marks : MarksSchools s (λ x. is_among x.0 (claim_of s.dossier p c) && q x.0) old now = rw (← claim_is, ← flags_are, ← sures_are) marks in
     subst P is (record {
-      steps = omega (arith, own_sum, count_claim t q new (entries s) here);
-      marked = marks_weaker s (λ x. is_among x.0 (claim_of s p c) && q x.0) new old now (λ j e at passes.
-          let parts = and_parts (t e) (q j) (sym (here j e at) ∙ passes) in
-          let waits : WaitsAt s j e.0 e.1 = record { here = at; waits = (and_parts (is_waiting e.1) (nat_eq e.0.candidate c) (and_parts (is_waiting e.1 && (nat_eq e.0.candidate c)) (nat_eq e.0.programme p) parts.0).0).0 } in
-          let rest : (nat_eq e.0.candidate c && nat_eq e.0.programme p) ≡ true = rw waits.waits at parts.0 in
-          rw (among_claim s p c j e.0 e.1 waits, rest, parts.1) refl) own_marks;
+      steps = omega (arith, own_sum, count_claim t q (λ (x : ℕ × Wish). t x.1 && q x.0) s.dossier.wishes (λ j w at. refl), count_entries (λ j w. t w && q j) new s.dossier.wishes s.marks marks_each here);
+      marked = marks_weaker s (λ x. is_among x.0 (claim_of s.dossier p c) && q x.0) new old now (λ j e at passes.
+          let parts = and_parts (t e.0) (q j) (sym (here j e at) ∙ passes) in
+          rw (among_claim s.dossier p c j e.0 (wish_of s.dossier.wishes s.marks j e.0 e.1 at), parts.0, parts.1) refl) own_marks;
     })

@@ -1,8 +1,8 @@
--- The claims of a programme as spans of the list of the wishes that wait for it.
+-- The claims of a programme as spans of the list of the wishes for it.
 use Rattle.std.specs.Prelude.{◌≡◌, ℕ, ◌≤◌, ◌<◌, ◌^◌, true, false, ◌==◌, List, length, filter, nat_lt, nat_le, Some, slice_get, slice_range, All, Vec}
 use Rattle.std.specs.declared.alloc.Global.{Global}
 use Rattle.std.specs.List.Sorted.{IsNonDecreasingBy, IsPartitionPoint}
-use Rattle.admit_core.specs.State.{State}
+use Rattle.admit_core.specs.DossierRows.{DossierRows}
 use Rattle.day_state.specs.Kept.{candidate_in}
 use Rattle.linked_demand.specs.declared.claims.Span.{Span}
 use Rattle.linked_demand.specs.Links.{claim_of}
@@ -23,14 +23,14 @@ pub record IsSpanOf (xs : List ℕ) (c : ℕ) (span : Span) : Type 0 where
   pub lower : IsPartitionPoint (λ k. nat_lt k c ≡ true) (λ k. nat_lt k c ≡ false) xs span.from
   pub upper : IsPartitionPoint (λ k. nat_le k c ≡ true) (λ k. nat_le k c ≡ false) xs span.to
 
--- the wishes that wait for a programme, by candidate: each candidate's stand together, and are his claim
-pub record AreWaiting (s : State) (p : ℕ) (wishes : List ℕ) : Type 0 where
+-- the wishes for a programme, by candidate: each candidate's stand together, and are their claim
+pub record AreWishesFor (d : DossierRows) (p : ℕ) (wishes : List ℕ) : Type 0 where
   pub few : length wishes < 2 ^ 32
-  pub within : All (λ k. k < length s.dossier.wishes) wishes
-  pub rises : IsNonDecreasingBy (candidate_in s.dossier.wishes) wishes
-  pub own : (c : ℕ) → filter (λ k. candidate_in s.dossier.wishes k == c) wishes ≡ claim_of s p c
+  pub within : All (λ k. k < length d.wishes) wishes
+  pub rises : IsNonDecreasingBy (candidate_in d.wishes) wishes
+  pub own : (c : ℕ) → filter (λ k. candidate_in d.wishes k == c) wishes ≡ claim_of d p c
 
--- a list for each programme; from one on they are those that wait for it
-pub record AreWaitingFrom (s : State) (n : ℕ) (rows : List (Vec ℕ Global)) : Type 0 where
-  pub one_each : length rows ≡ length s.dossier.programmes
-  pub each : (p : ℕ) (row : Vec ℕ Global) → n ≤ p → slice_get rows p ≡ Some row → AreWaiting s p row.items
+-- a list for each programme; from one on they are the wishes for it
+pub record AreWishesFrom (d : DossierRows) (n : ℕ) (rows : List (Vec ℕ Global)) : Type 0 where
+  pub one_each : length rows ≡ length d.programmes
+  pub each : (p : ℕ) (row : Vec ℕ Global) → n ≤ p → slice_get rows p ≡ Some row → AreWishesFor d p row.items

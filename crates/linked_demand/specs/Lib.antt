@@ -3,6 +3,7 @@ pub mod Demand
 pub mod Filled
 pub mod Keyed
 pub mod Line
+pub mod Lineups
 pub mod Links
 pub mod Listed
 pub mod Marks

@@ -5,6 +5,7 @@ use Rattle.admit_core.specs.declared.dossier.Wish.{Wish}
 use Rattle.admit_core.specs.declared.state.Mark.{Mark}
 use Rattle.admit_core.specs.declared.ranking.CallOrder.{CallOrder}
 use Rattle.admit_core.specs.Lists.{places_where}
+use Rattle.admit_core.specs.DossierRows.{DossierRows}
 use Rattle.admit_core.specs.State.{State, entries, is_waiting}
 use Rattle.admit_core.specs.Proposals.{needs_no_seat}
 use Rattle.linked_demand.specs.Line.{LineRow}
@@ -23,13 +24,12 @@ pub record IsPlaceOf (c : ℕ) (xs : List ℕ) (k : ℕ) : Type 0 where
   pub once : (j : ℕ) → j < length xs → nat_eq j k ≡ false → nat_eq c (slice_index xs j) ≡ false
 
 -- a wish's place in the line of its programme
-abbrev pub IsSeatPlace : State → List CallOrder → Wish → ℕ → Type 0
-IsSeatPlace s orders w k = IsPlaceOf w.candidate (line_of s orders w.programme) k
+abbrev pub IsSeatPlace : DossierRows → List CallOrder → Wish → ℕ → Type 0
+IsSeatPlace d orders w k = IsPlaceOf w.candidate (line_of d orders w.programme) k
 
--- the candidate's waiting wishes in the programme, by place
-abbrev pub claim_of : State → ℕ → ℕ → List ℕ
-claim_of s p c =
-    places_where (λ x. is_waiting x.1 && (x.0.candidate == c) && (x.0.programme == p)) (entries s)
+-- the candidate's wishes in the programme, by place
+abbrev pub claim_of : DossierRows → ℕ → ℕ → List ℕ
+claim_of d p c = places_where (λ w. (w.candidate == c) && (w.programme == p)) d.wishes
 
 -- the wish at a place, where it waits
 pub record WaitsAt (s : State) (i : ℕ) (w : Wish) (m : Mark) : Type 0 where
@@ -42,7 +42,7 @@ pub record IsLinked (s : State) (orders : List CallOrder) (opens : List Bool) (l
   pub places_each : length places ≡ length s.dossier.wishes
   pub programmes_are : (i : ℕ) (w : Wish) → slice_get s.dossier.wishes i ≡ Some w → w.programme < length s.dossier.programmes
   pub lines_are : lines ≡ map (seat_row s orders opens) (range_with_len 0 (length s.dossier.programmes))
-  pub claims_are : claims ≡ map (λ p. map (claim_of s p) (line_of s orders p)) (range_with_len 0 (length s.dossier.programmes))
-  pub places_are : (i : ℕ) (w : Wish) (m : Mark) → WaitsAt s i w m → IsSeatPlace s orders w (slice_index places i)
+  pub claims_are : claims ≡ map (λ p. map (claim_of s.dossier p) (line_of s.dossier orders p)) (range_with_len 0 (length s.dossier.programmes))
+  pub places_are : (i : ℕ) (w : Wish) → slice_get s.dossier.wishes i ≡ Some w → IsSeatPlace s.dossier orders w (slice_index places i)
   pub sure_each : length sure ≡ length s.dossier.wishes
-  pub sure_are : (i : ℕ) (w : Wish) (m : Mark) → WaitsAt s i w m → slice_index_or sure i false ≡ needs_no_seat s orders w
+  pub sure_are : (i : ℕ) (w : Wish) → slice_get s.dossier.wishes i ≡ Some w → slice_index_or sure i false ≡ needs_no_seat s orders w

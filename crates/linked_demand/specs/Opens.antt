@@ -1,11 +1,13 @@
 -- Which wishes are open, as a list of flags, and what the rules say by it. A fall closes one wish after another; between two of them no bars belong to the flags.
-use Rattle.std.specs.Prelude.{ℕ, Bool, not, ◌&&◌, ◌||◌, List, map, nat_lt, ◌==◌, filter, zip, count_by}
+use Rattle.std.specs.Prelude.{ℕ, Bool, not, ◌&&◌, ◌||◌, List, map, nat_lt, ◌==◌, filter, zip, count_by, slice_index_or, false}
 use Rattle.std.specs.List.{list_any}
 use Rattle.admit_core.specs.declared.dossier.Wish.{Wish}
 use Rattle.admit_core.specs.declared.state.Mark.{Mark}
 use Rattle.admit_core.specs.declared.ranking.CallOrder.{CallOrder}
+use Rattle.admit_core.specs.DossierRows.{DossierRows}
 use Rattle.admit_core.specs.State.{State, entries, is_waiting, holds_seat, holds_bed, has_school, seats_left}
 use Rattle.admit_core.specs.Proposals.{is_open, order_of, before, needs_no_seat}
+use Rattle.day_state.specs.Kept.{has_seat_there}
 use Rattle.linked_demand.specs.Line.{LineRow}
 
 -- the open wishes under bars
@@ -18,11 +20,19 @@ flagged s opens = zip (entries s) opens
 
 -- an open wish of the candidate in the programme
 abbrev pub is_flagged_in : ℕ → ℕ → (Wish × Mark) × Bool → Bool
-is_flagged_in p c x = (is_waiting x.0.1 && x.1) && (x.0.0.candidate == c) && (x.0.0.programme == p)
+is_flagged_in p c x = x.1 && (x.0.0.candidate == c) && (x.0.0.programme == p)
 
 -- a candidate wants a seat
 abbrev pub wants_by : State → List Bool → ℕ → ℕ → Bool
 wants_by s opens p c = list_any (is_flagged_in p c) (flagged s opens) && not (holds_seat s c p)
+
+-- the wish at a place is open by its flag, and its candidate is not live in its programme
+abbrev pub wanting_at : State → List Bool → ℕ → Bool
+wanting_at s opens k = slice_index_or opens k false && not (has_seat_there s k)
+
+-- the candidate of the wish at a place is live in its programme, or is called by its limit, by a flag
+abbrev pub sure_at : State → List Bool → ℕ → Bool
+sure_at s early k = has_seat_there s k || slice_index_or early k false
 
 -- how many before the wish's candidate want a seat
 abbrev pub ahead_by : State → List CallOrder → List Bool → Wish → ℕ
@@ -33,17 +43,17 @@ abbrev pub is_proposed_by : State → List CallOrder → List Bool → Wish → 
 is_proposed_by s orders opens w m flag =
     (is_waiting m && flag) && (needs_no_seat s orders w || nat_lt (ahead_by s orders opens w) (seats_left s w.programme))
 
--- a candidate waits for a programme
-abbrev pub waits_in : State → ℕ → ℕ → Bool
-waits_in s p c = list_any (λ (w, m). is_waiting m && (w.candidate == c) && (w.programme == p)) (entries s)
+-- a candidate has a wish in a programme
+abbrev pub applies_in : DossierRows → ℕ → ℕ → Bool
+applies_in d p c = list_any (λ w. (w.candidate == c) && (w.programme == p)) d.wishes
 
--- those who wait for a programme, in call order
-abbrev pub line_of : State → List CallOrder → ℕ → List ℕ
-line_of s orders p = filter (waits_in s p) (order_of s.dossier orders p)
+-- those who have a wish in a programme, in call order
+abbrev pub line_of : DossierRows → List CallOrder → ℕ → List ℕ
+line_of d orders p = filter (applies_in d p) (order_of d orders p)
 
 -- of them those who want a seat are set, and the seats that are left are the quota
 abbrev pub seat_row : State → List CallOrder → List Bool → ℕ → LineRow
-seat_row s orders opens p = record { flags = map (wants_by s opens p) (line_of s orders p); quota = seats_left s p }
+seat_row s orders opens p = record { flags = map (wants_by s opens p) (line_of s.dossier orders p); quota = seats_left s p }
 
 -- a wish with the school whose candidate has no bed there ranks behind a number
 abbrev pub is_past : State → ℕ → ℕ → Wish → Bool

@@ -1,29 +1,34 @@
--- What is known of the waiting wishes while the programmes are gone through one after another.
-use Rattle.std.specs.Prelude.{◌≡◌, ℕ, ◌<◌, Bool, true, false, ◌&&◌, ◌||◌, ◌==◌, List, length, nat_eq, nat_lt, slice_index, slice_index_or, if◌then◌else◌}
-use Rattle.day_state.specs.Kept.{mark_in, wish_in}
+-- What is known of the wishes of a dossier while the programmes are gone through one after another.
+use Rattle.std.specs.Prelude.{◌≡◌, ℕ, ◌<◌, Bool, true, false, ◌&&◌, ◌||◌, ◌==◌, List, length, map, nat_eq, nat_lt, nat_le, ◌+◌, Some, slice_get, slice_index, slice_index_or, if◌then◌else◌}
+use Rattle.std.specs.List.{range_with_len, before_first}
+use Rattle.day_state.specs.Kept.{wish_in}
 use Rattle.admit_core.specs.declared.dossier.Wish.{Wish}
-use Rattle.admit_core.specs.declared.state.Mark.{Mark}
 use Rattle.admit_core.specs.declared.ranking.CallOrder.{CallOrder}
+use Rattle.admit_core.specs.DossierRows.{DossierRows, limit_of}
 use Rattle.admit_core.specs.Lists.{is_among}
-use Rattle.admit_core.specs.State.{State, is_waiting}
-use Rattle.admit_core.specs.Proposals.{needs_no_seat}
-use Rattle.linked_demand.specs.Links.{WaitsAt, IsSeatPlace}
+use Rattle.admit_core.specs.Proposals.{order_of}
+use Rattle.linked_demand.specs.Links.{IsSeatPlace, claim_of}
+use Rattle.linked_demand.specs.Opens.{line_of}
 
--- the wish at a place waits for the programme
-abbrev pub waits_at : State → ℕ → ℕ → Bool
-waits_at s p k = is_waiting (mark_in s.marks k) && ((wish_in s.dossier.wishes k).programme == p)
+-- the wish at a place is for the programme
+abbrev pub applies_at : DossierRows → ℕ → ℕ → Bool
+applies_at d p k = (wish_in d.wishes k).programme == p
 
 -- some places of a list hold a value, and the others what they held
 pub record PutAt (X : Type 0) (d : X) (ks : List ℕ) (x : X) (old new : List X) : Type 0 where
   pub as_long : length new ≡ length old
   pub each : (k : ℕ) → k < length old → slice_index_or new k d ≡ (if is_among k ks then x else slice_index_or old k d)
 
--- the waiting wishes of the programmes and candidates that are done have their place, and whether they need no seat
-pub record AreSeated (s : State) (orders : List CallOrder) (is_done : ℕ → ℕ → Bool) (places : List ℕ) (sure : List Bool) : Type 0 where
-  pub places_each : length places ≡ length s.dossier.wishes
-  pub sure_each : length sure ≡ length s.dossier.wishes
-  pub place : (i : ℕ) (w : Wish) (m : Mark) → WaitsAt s i w m → is_done w.programme w.candidate ≡ true → IsSeatPlace s orders w (slice_index places i)
-  pub need : (i : ℕ) (w : Wish) (m : Mark) → WaitsAt s i w m → is_done w.programme w.candidate ≡ true → slice_index_or sure i false ≡ needs_no_seat s orders w
+-- the wish's candidate is called by the limit of its programme, whatever seats are left
+abbrev pub is_early : DossierRows → List CallOrder → Wish → Bool
+is_early d orders w = nat_le (length (before_first (nat_eq w.candidate) (order_of d orders w.programme)) + 1) (limit_of d w.programme)
+
+-- the wishes of the programmes and candidates that are done have their place, and whether they are called by the limit
+pub record AreSeated (d : DossierRows) (orders : List CallOrder) (is_done : ℕ → ℕ → Bool) (places : List ℕ) (early : List Bool) : Type 0 where
+  pub places_each : length places ≡ length d.wishes
+  pub early_each : length early ≡ length d.wishes
+  pub place : (i : ℕ) (w : Wish) → slice_get d.wishes i ≡ Some w → is_done w.programme w.candidate ≡ true → IsSeatPlace d orders w (slice_index places i)
+  pub called : (i : ℕ) (w : Wish) → slice_get d.wishes i ≡ Some w → is_done w.programme w.candidate ≡ true → slice_index_or early i false ≡ is_early d orders w
 
 -- the programmes below one are done
 abbrev pub is_below : ℕ → ℕ → ℕ → Bool
@@ -32,3 +37,12 @@ is_below n p c = nat_lt p n
 -- and in this one those who stand in a part of its call order
 abbrev pub is_passed : ℕ → List ℕ → ℕ → ℕ → Bool
 is_passed n front p c = nat_lt p n || (nat_eq p n && is_among c front)
+
+-- for each programme the claims of those who wish for it, in call order; and where each wish stands in them
+pub record IsLineup (d : DossierRows) (orders : List CallOrder) (claims : List (List (List ℕ))) (places : List ℕ) (early : List Bool) : Type 0 where
+  pub programmes_are : (i : ℕ) (w : Wish) → slice_get d.wishes i ≡ Some w → w.programme < length d.programmes
+  pub claims_are : claims ≡ map (λ p. map (claim_of d p) (line_of d orders p)) (range_with_len 0 (length d.programmes))
+  pub places_each : length places ≡ length d.wishes
+  pub places_are : (i : ℕ) (w : Wish) → slice_get d.wishes i ≡ Some w → IsSeatPlace d orders w (slice_index places i)
+  pub early_each : length early ≡ length d.wishes
+  pub early_are : (i : ℕ) (w : Wish) → slice_get d.wishes i ≡ Some w → slice_index_or early i false ≡ is_early d orders w

@@ -1,4 +1,4 @@
-//! The claims of those who wait for a programme: each candidate's waiting wishes in it.
+//! The claims of those who wish for a programme: each candidate's wishes for it.
 ghost use Rattle.std.specs.Prelude.{◌≡◌, ◌<◌, ◌≤◌, ◌^◌, ◌&&◌, [], not, true, false, nat_lt, nat_le, length, map, All, IfOk, slice_index_or};
 ghost use Rattle.std.specs.List.{list_any};
 ghost use Rattle.std.specs.List.Sorted.{IsNonDecreasingBy, IsPartitionPoint};
@@ -81,14 +81,7 @@ pub fn any_open(claim: &[u32], opens: &[bool]) -> bool
     claim.iter().any(|wish| opens[*wish as usize])
 }
 
-/// Whether one who has an open wish in a programme or none, and is live there or not, wants a seat.
-pub fn wants_seat(has_open: bool, is_live: bool) -> bool
-    ensures { result ≡ (has_open && not is_live) }
-{
-    has_open && !is_live
-}
-
-/// The claims of those who stand in a line, by place: spans of the list of the wishes that wait.
+/// The claims of those who stand in a line, by place: spans of the list of the wishes.
 #[derive(Drop)]
 pub struct Claims {
     wishes: Vec<u32>,
@@ -113,6 +106,13 @@ impl Claims {
         ensures { result ≡ map (part_of wishes.items) spans.items }
     {
         Claims { wishes, spans }
+    }
+
+    /// How many claims there are.
+    pub fn count(&self) -> usize
+        ensures { result ≡ length self.now }
+    {
+        self.spans.len()
     }
 
     /// The wishes of the claim at a place.

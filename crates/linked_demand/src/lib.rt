@@ -9,6 +9,7 @@ mod fill;
 mod fresh;
 mod law;
 mod line;
+mod lineup;
 mod links;
 mod marks;
 mod over;
@@ -17,8 +18,9 @@ mod rising;
 mod round;
 mod rows;
 mod seats;
-mod waiting;
 mod wishes;
+mod wishing;
 
 pub use law::law_of_changes;
+pub use lineup::Lineup;
 pub use round::LinkedRound;

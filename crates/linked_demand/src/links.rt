@@ -3,16 +3,17 @@ ghost use Rattle.std.specs.Prelude.{◌≡◌, ℕ, ◌+◌, ◌<◌, ◌&&◌, 
 ghost use Rattle.std.specs.List.{enumerate_from};
 ghost use Rattle.admit_core.specs.State.{entries};
 ghost use Rattle.linked_demand.specs.Marks.{is_new, MarksSchools};
-ghost use Rattle.admit_core.specs.CallOrder.{AreCallOrders};
+ghost use Rattle.linked_demand.specs.Lineups.{IsLineupOf};
 ghost use Rattle.linked_demand.specs.Opens.{opens_of};
 ghost use Rattle.admit_core.specs.declared.dossier.Wish.{Wish};
 ghost use Rattle.admit_core.specs.declared.state.Mark.{Mark};
 ghost use Rattle.linked_demand.specs.Links.{LinksRow, WaitsAt};
 ghost use Rattle.linked_demand.specs.Demand.{is_proposed_at};
 
-use crate::claims::{Claims, any_open};
+use crate::claims::any_open;
 use crate::fresh::note_fresh;
 use crate::line::Line;
+use crate::lineup::Lineup;
 use crate::marks::Marks;
 use crate::seats::seats_of;
 use crate::wishes::wish_count;
@@ -51,9 +52,8 @@ pub struct SeatLinks<'a, 'd> {
     state: &'a DayState<'d>,
     orders: &'a CallOrders,
     opens: Vec<bool>,
+    lineup: &'a Lineup,
     lines: Vec<Line>,
-    claims: Vec<Claims>,
-    places: Vec<usize>,
     sure: Vec<bool>,
 }
 
@@ -64,7 +64,7 @@ impl<'a, 'd> Model for SeatLinks<'a, 'd> {
 
     ghost view = { λ l. record { state = l.state.now; orders = l.orders.now.orders; opens = l.opens.items } };
 
-    ghost invariant = { λ l. IsLinked l.state.now l.orders.now.orders l.opens.items l.lines.items l.claims.items l.places.items l.sure.items };
+    ghost invariant = { λ l. IsLinked l.state.now l.orders.now.orders l.opens.items l.lines.items l.lineup.now.claims.items l.lineup.now.places.items l.sure.items };
 }
 
 impl<'a, 'd> SeatLinks<'a, 'd> {
@@ -73,21 +73,21 @@ impl<'a, 'd> SeatLinks<'a, 'd> {
         alloc: Global,
         state: &'a DayState<'d>,
         orders: &'a CallOrders,
+        lineup: &'a Lineup,
         bars: &[u32],
     ) -> Result<SeatLinks<'a, 'd>, OutOfMemory>
-        requires orders { AreCallOrders state.now.dossier.groups orders.now.orders }
+        requires lineup { IsLineupOf state.now.dossier orders.now.orders lineup.now }
         requires bars { length bars.now ≡ length state.now.dossier.schools }
         ensures { IfOk result (λ l. l ≡ record { state = state.now; orders = orders.now.orders; opens = opens_of state.now bars.now }) }
     {
         let opens = open_flags(alloc, state, bars)?;
-        let seats = seats_of(alloc, state, orders, &opens)?;
+        let seats = seats_of(alloc, state, orders, lineup, &opens)?;
         Ok(SeatLinks {
             state,
             orders,
             opens,
+            lineup,
             lines: seats.lines,
-            claims: seats.claims,
-            places: seats.places,
             sure: seats.sure,
         })
     }
@@ -108,14 +108,15 @@ impl<'a, 'd> SeatLinks<'a, 'd> {
         ensures steps { steps.new ≡ steps.old + count_by (is_new self.old.state bars.now self.old self.new) (enumerate_from 0 (entries self.old.state)) }
         ensures marked { MarksSchools self.old.state (is_new self.old.state bars.now self.old self.new) marked.old marked.new }
     {
+        let lineup = self.lineup;
         let programme = wish_at(self.state, wish).programme as usize;
-        let place = self.places[wish as usize];
+        let place = lineup.places[wish as usize];
         self.opens[wish as usize] = false;
-        let claims = &self.claims[programme];
+        let claims = &lineup.claims[programme];
         let claim = claims.at(place);
         if !any_open(claim, &self.opens) {
             if let Some(next) = self.lines[programme].clear(place) {
-                let claims = &self.claims[programme];
+                let claims = &lineup.claims[programme];
                 let claim = claims.at(next);
                 note_fresh(
                     self.state,
@@ -150,8 +151,9 @@ impl<'a, 'd> SeatLinks<'a, 'd> {
         requires { (w : Wish) × (m : Mark) × WaitsAt self.now.state wish w m }
         ensures { result ≡ is_proposed_at self.now wish }
     {
+        let lineup = self.lineup;
         let programme = wish_at(self.state, wish).programme as usize;
-        let place = self.places[wish as usize];
+        let place = lineup.places[wish as usize];
         let open = self.opens[wish as usize];
         let sure = self.sure[wish as usize];
         let reached = self.lines[programme].is_reached(place);

@@ -1,7 +1,7 @@
 //! The boarding schools of a state, with the lines of its programmes.
 ghost use Rattle.std.specs.Prelude.{◌≡◌, ◌+◌, ◌<◌, length, slice_get, slice_index, slice_set, IfOk};
 ghost use Rattle.admit_core.specs.State.{free_beds};
-ghost use Rattle.admit_core.specs.CallOrder.{AreCallOrders};
+ghost use Rattle.linked_demand.specs.Lineups.{IsLineupOf};
 ghost use Rattle.admit_core.specs.Proposals.{demanded_ranks, proposed};
 ghost use Rattle.admit_core.specs.Boarding.{boarding};
 ghost use Rattle.linked_demand.specs.Rounds.{bar_each, is_proposed_in};
@@ -9,6 +9,7 @@ ghost use Rattle.linked_demand.specs.Ticks.{changes_between};
 
 use crate::cut::close_past;
 use crate::fill::{free_of, rows_of};
+use crate::lineup::Lineup;
 use crate::links::SeatLinks;
 use crate::marks::Marks;
 use crate::over::{ask_marked, demands_in};
@@ -57,15 +58,15 @@ impl<'a, 'd> Model for LinkedRound<'a, 'd> {
 impl<'a, 'd> LinkedRound<'a, 'd> {
     /// The schools of a state, with their bars at the ceilings.
     ///
-    /// It costs about the length of the call orders, each taken once for each of its programmes, and of
-    /// the wishes.
+    /// It costs about the number of wishes: the walk along the call orders is the lineup's.
     pub fn build(
         alloc: Global,
         state: &'a DayState<'d>,
         orders: &'a CallOrders,
+        lineup: &'a Lineup,
         ceilings: &[u32],
     ) -> Result<LinkedRound<'a, 'd>, OutOfMemory>
-        requires orders { AreCallOrders state.now.dossier.groups orders.now.orders }
+        requires lineup { IsLineupOf state.now.dossier orders.now.orders lineup.now }
         requires ceilings { length ceilings.now ≡ length state.now.dossier.schools }
         ensures round { IfOk result (λ r. r ≡ record { state = state.now; orders = orders.now.orders; ceilings = ceilings.now; bars = ceilings.now }) }
         ensures system { IfOk result (λ r. ⟦<LinkedRound<'a, 'd> as Falling>⟧.system r ≡ boarding state.now orders.now.orders ceilings.now) }
@@ -73,7 +74,7 @@ impl<'a, 'd> LinkedRound<'a, 'd> {
         ensures offers { IfOk result (λ r. ⟦<LinkedRound<'a, 'd> as Falling>⟧.offers r ≡ proposed state.now orders.now.orders) }
     {
         let _ = state.marks(); // one for each wish
-        let links = SeatLinks::build(alloc, state, orders, ceilings)?;
+        let links = SeatLinks::build(alloc, state, orders, lineup, ceilings)?;
         let free = free_of(alloc, state)?;
         let rows = rows_of(alloc, state, ceilings)?;
         let count = school_count(state);

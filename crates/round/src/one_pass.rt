@@ -5,13 +5,14 @@ ghost use Rattle.admit_core.specs.Boarding.{boarding};
 ghost use Rattle.admit_core.specs.Days.{IsPass, offered};
 ghost use Rattle.bar_law.specs.Runs.{schools_of};
 ghost use Rattle.bar_fixpoint.specs.Chosen.{AreChosen, TellsOfFalls};
+ghost use Rattle.linked_demand.specs.Lineups.{IsLineupOf};
 ghost use Rattle.round.specs.PassLaws.{KeepsPassLaws};
 
 use crate::bars::bars_of;
 use admit_core::{CallOrders, OutOfMemory, PassRecord, Sequence, Stamp, Steps};
 use bar_fixpoint::{Picker, greatest};
 use day_state::DayState;
-use linked_demand::LinkedRound;
+use linked_demand::{Lineup, LinkedRound};
 use std::alloc::Global;
 use std::marker::Brand;
 use std::sync::ledger::{Blank, Ledger};
@@ -24,11 +25,13 @@ pub fn pass(
     alloc: Global,
     state: &mut DayState<'_>,
     orders: &CallOrders,
+    lineup: &Lineup,
     ceilings: &[u32],
     stamp: Stamp,
     picker: &mut dyn Picker,
 ) -> Result<PassRecord, OutOfMemory>
     requires orders { AreCallOrders state.old.dossier.groups orders.now.orders }
+    requires lineup { IsLineupOf state.old.dossier orders.now.orders lineup.now }
     requires ceilings { length ceilings.now ≡ length state.old.dossier.schools }
 
     ensures pass { IfOk result (λ found. IsPass state.old orders.now.orders ceilings.now found) }
@@ -47,7 +50,15 @@ pub fn pass(
 {
     let dossier = state.dossier();
     let _ = &dossier.wishes; // learns that the dossier is valid
-    let found = find::<Brand>(alloc, Blank::new(1), state, orders, ceilings, picker)?;
+    let found = find::<Brand>(
+        alloc,
+        Blank::new(1),
+        state,
+        orders,
+        lineup,
+        ceilings,
+        picker,
+    )?;
     state.offer_all(found.offers.as_slice(), stamp);
     Ok(found)
 }
@@ -58,6 +69,7 @@ fn find<L: Ledger>(
     blank: Blank,
     state: &DayState<'_>,
     orders: &CallOrders,
+    lineup: &Lineup,
     ceilings: &[u32],
     picker: &mut dyn Picker,
 ) -> Result<PassRecord, OutOfMemory>
@@ -65,6 +77,7 @@ fn find<L: Ledger>(
     requires parts { blank.parts ≡ L.parts }
     requires shared { 0 < L.parts }
     requires orders { AreCallOrders state.now.dossier.groups orders.now.orders }
+    requires lineup { IsLineupOf state.now.dossier orders.now.orders lineup.now }
     requires ceilings { length ceilings.now ≡ length state.now.dossier.schools }
 
     ensures pass { IfOk result (λ found. IsPass state.now orders.now.orders ceilings.now found) }
@@ -75,7 +88,7 @@ fn find<L: Ledger>(
     ensures choice { choice picker.new ≡ choice picker.old }
 {
     let mut steps: Steps<L> = Steps::new(blank);
-    let mut round = LinkedRound::build(alloc, state, orders, ceilings)?;
+    let mut round = LinkedRound::build(alloc, state, orders, lineup, ceilings)?;
     let falls = greatest(alloc, &mut round, picker, &mut steps)?;
     let bars = bars_of(alloc, &round)?;
     let offers = round.proposed(alloc)?;

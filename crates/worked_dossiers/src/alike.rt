@@ -8,7 +8,7 @@ use admit_core::{CallOrders, Dossier, OutOfMemory, Steps};
 use bar_law::Falling;
 use day_state::DayState;
 use demand::{PlainRound, proposed};
-use linked_demand::LinkedRound;
+use linked_demand::{Lineup, LinkedRound};
 use round::bars_of;
 use std::alloc::Global;
 use std::marker::Brand;
@@ -127,7 +127,8 @@ fn seen_alike<L: Ledger>(
 {
     let mut steps: Steps<L> = Steps::new(blank);
     let mut plain = PlainRound::build(alloc, state, orders, ceilings)?;
-    let mut linked = LinkedRound::build(alloc, state, orders, ceilings)?;
+    let lineup = Lineup::build(alloc, state, orders)?;
+    let mut linked = LinkedRound::build(alloc, state, orders, &lineup, ceilings)?;
     let mut text = String::new(alloc);
     for falls in 0..MANY_FALLS {
         if !agree(alloc, &plain, &linked)? {

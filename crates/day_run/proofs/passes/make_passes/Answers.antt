@@ -1,4 +1,4 @@
-use Rattle.std.proofs.Common.{◌≡◌, ◌∙◌, ap, sym, List, length, refl, arith, not, ◌++◌}
+use Rattle.std.proofs.Common.{◌≡◌, ◌∙◌, ap, sym, List, length, refl, arith, not, ◌++◌, subst}
 use Rattle.std.specs.Prelude.{IsTrue}
 use Rattle.std.proofs.lemmas.Bool.{not_from_false}
 use Rattle.std.proofs.lemmas.List.{append-nil}
@@ -6,6 +6,7 @@ use Rattle.admit_core.specs.declared.state.Mark.{Mark}
 use Rattle.admit_core.specs.DossierRows.{DossierRows}
 use Rattle.admit_core.specs.Days.{frees_nothing}
 use Rattle.bar_fixpoint.proofs.OneFall.{on_err}
+use Rattle.linked_demand.specs.Lineups.{IsLineupOf}
 use Rattle.day_run.specs.DayPasses.{schools_of_passes}
 use Rattle.day_run.proofs.OnePass.{open_at_most}
 use Rattle.day_run.proofs.PassesSoFar.{so_far_none, so_far_more, so_far_end, chosen_none, chosen_more, told_more, tells_from}
@@ -75,3 +76,8 @@ returns-in_err-end-clause-early g c = on_err _ (tells_from _ _ _ _ c.passes.inva
 
 pub returns-in_err-push-clause-early : goal.returns-in_err-push-clause-early
 returns-in_err-push-clause-early g c = on_err _ (tells_from _ _ _ _ c.passes.invariant.told (_, c.in_ok-end.ensures.told))
+
+pub make_pass-requires-clause-lineup : goal.make_pass-requires-clause-lineup
+make_pass-requires-clause-lineup g c =
+    let P = λ (d : DossierRows). IsLineupOf d c.args.orders.now.orders c.args.lineup.now in
+    subst P (sym c.passes.invariant.so_far.dossier) c.requires.lineup

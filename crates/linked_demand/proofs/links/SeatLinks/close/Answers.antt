@@ -127,8 +127,8 @@ returns-in-Some g c =
     let fresh_claim = next_claim k c.in-Some.next c.index_mut-then-not-any_open.result.now c.index_mut-then-not-any_open.ensures.value lt c.index-claims-in-Some.result.now c.index-claims-in-Some.ensures c.at-claim-in-Some.result.now c.at-claim-in-Some.ensures in
     let p : ℕ = c.wish_at-programme.result.programme in
     let told =
-    told_some c.self.inside.state.now c.self.inside.orders.now.orders c.self.inside.opens.items c.self.inside.sure.items c.args.wish p (get_or (line_of c.self.inside.state.now c.self.inside.orders.now.orders p) c.in-Some.next 0) c.args.self.now c.self.view_is
-    (new_some k c.index-place.result.now at none c.index_mut-then-not-any_open.result.now c.clear.new.self c.index_mut-then-not-any_open.ensures.value c.clear.ensures.row c.clear.result c.in-Some.next c.in-Some.is lt c.clear.ensures.fresh) c.args.bars.now c.at-claim-in-Some.result.now fresh_claim
+    told_some c.self.inside.state.now c.self.inside.orders.now.orders c.self.inside.opens.items c.self.inside.sure.items c.args.wish p (get_or (line_of c.self.inside.state.now.dossier c.self.inside.orders.now.orders p) c.in-Some.next 0) c.args.self.now c.self.view_is
+    (new_some k c.index-place.result.now at none c.index_mut-then-not-any_open.result.now c.clear.new.self c.index_mut-then-not-any_open.ensures.value c.clear.ensures.row c.clear.result c.in-Some.next c.in-Some.is lt c.clear.ensures.fresh) c.self.invariant.marks_each c.args.bars.now c.at-claim-in-Some.result.now fresh_claim
     c.deref-in-Some.result.now c.deref-in-Some-2.result.now c.deref-in-Some.ensures.value c.deref-in-Some-2.ensures.value c.args.steps.now c.note_fresh.new.steps
     c.args.marked.now c.note_fresh.new.marked c.note_fresh.ensures.steps c.note_fresh.ensures.marked in
     record { value = search rules; steps = told.steps; marked = told.marked }

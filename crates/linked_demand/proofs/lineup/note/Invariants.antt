@@ -1,9 +1,9 @@
 use Rattle.std.proofs.Common.{ℕ, Bool, false, take}
 use Rattle.linked_demand.specs.Seats.{PutAt}
-use Rattle.linked_demand.proofs.seats.note.Given as goal
+use Rattle.linked_demand.proofs.lineup.note.Given as goal
 
 abbrev pub invariant-loop-wish : goal.invariant-loop-wish
 invariant-loop-wish l = record {
   places : PutAt ℕ 0 (take l.wish-index l.claim) l.place l.initial.places.items l.places.items;
-  sure : PutAt Bool false (take l.wish-index l.claim) l.is_sure l.initial.sure.items l.sure.items;
+  early : PutAt Bool false (take l.wish-index l.claim) l.is_early l.initial.early.items l.early.items;
 }

@@ -2,7 +2,7 @@ use Rattle.std.proofs.Common.{subst, ◌∙◌}
 use Rattle.admit_core.specs.DossierRows.{DossierRows}
 use Rattle.admit_core.specs.Validity.{IsValid}
 use Rattle.linked_demand.proofs.Seating.{called_once}
-use Rattle.linked_demand.proofs.seats.call_once.Goals as goal
+use Rattle.linked_demand.proofs.lineup.call_once.Goals as goal
 
 pub returns : goal.returns
 returns c =

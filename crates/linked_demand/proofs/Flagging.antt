@@ -1,0 +1,130 @@
+-- Who wants a seat and who needs none, read of flags by place.
+use Rattle.std.proofs.Common.{ℕ, suc, ◌+◌, ◌<◌, ◌≡◌, Bool, true, false, not, ◌&&◌, ◌||◌, List, [], ◌∷◌, ◌++◌, map, length, get_or, take, inl, inr, refl, sym, ◌∙◌, ap, arith, nat_eq, filter, Some, subst}
+use Rattle.std.specs.Prelude.{slice_get, All}
+use Rattle.std.specs.List.{list_any, enumerate_from, range_with_len, AllByRecursion}
+use Rattle.std.proofs.lemmas.Bool.{cases_Bool, and_parts, eqb-true}
+use Rattle.std.proofs.lemmas.List.{get_or-map, length-map, map-append, take_more}
+use Rattle.std.proofs.lemmas.Simd.{map-map}
+use Rattle.std.proofs.lemmas.List.FromFn.{map-range_with_len_more, get_or-map-range_with_len, length-map-range_with_len}
+use Rattle.std.proofs.lemmas.Option.{slice_get_within}
+use Rattle.admit_core.specs.declared.dossier.Wish.{Wish}
+use Rattle.admit_core.specs.declared.ranking.CallOrder.{CallOrder}
+use Rattle.admit_core.specs.DossierRows.{DossierRows}
+use Rattle.admit_core.specs.State.{State, holds_seat}
+use Rattle.linked_demand.specs.Line.{LineRow}
+use Rattle.linked_demand.specs.Links.{claim_of, IsLinked}
+use Rattle.linked_demand.specs.Opens.{wants_by, line_of, seat_row, wanting_at, sure_at}
+use Rattle.linked_demand.specs.Seats.{IsLineup}
+use Rattle.linked_demand.proofs.Closing.{claim_flagged, read_range}
+use Rattle.linked_demand.proofs.Lining.{claim_within}
+use Rattle.linked_demand.proofs.Opens.{map_same}
+use Rattle.linked_demand.proofs.Seating.{wish_in_is}
+
+-- one more value of a function of places
+pub more_of : {X : Type 0} (f : ℕ → X) (n : ℕ) (xs new : List X) (x : X) → new ≡ xs ++ x ∷ [] → xs ≡ map f (range_with_len 0 n) → x ≡ f n → new ≡ map f (range_with_len 0 (n + 1))
+more_of {X} f n xs new x pushed are is =
+    pushed
+    ∙ ap (λ (ys : List X). ys ++ x ∷ []) are
+    ∙ ap (λ (y : X). map f (range_with_len 0 n) ++ y ∷ []) is
+    ∙ sym (map-range_with_len_more f 0 n n (omega arith))
+
+-- one more of a list that a function is taken over
+pub map_take_more : {X Y : Type 0} (f : X → Y) (xs : List X) (i : ℕ) (d : X) → i < length xs → map f (take (i + 1) xs) ≡ map f (take i xs) ++ f (get_or xs i d) ∷ []
+map_take_more {X} f xs i d lt = ap (map f) (take_more xs i d lt) ∙ map-append f (take i xs) (get_or xs i d ∷ [])
+
+share : (a b c : Bool) → ((a && c) || (b && c)) ≡ ((a || b) && c)
+share true b true = refl
+share true true false = refl
+share true false false = refl
+share false b c = refl
+
+-- flags that are those of a list where a fact holds are found where it holds
+any_scaled : (f g : ℕ → Bool) (b : Bool) (ks : List ℕ) → AllByRecursion (λ k. f k ≡ (g k && b)) ks → list_any f ks ≡ (list_any g ks && b)
+any_scaled f g b [] all = refl
+any_scaled f g b (k ∷ ks) all = rw (all.0, any_scaled f g b ks all.1) (share (g k) (list_any g ks) b)
+
+all_placed : (P : ℕ → Type 0) (t : Wish → Bool) (ws : List Wish) (a : ℕ) → ((j : ℕ) (w : Wish) → slice_get ws j ≡ Some w → t w ≡ true → P (a + j))
+    → AllByRecursion P (map (λ x. x.0) (filter (λ x. t x.1) (enumerate_from a ws)))
+all_placed P t [] a h = tt
+all_placed P t (w ∷ ws) a h =
+    let rest = all_placed P t ws (a + 1) (λ j v at passes. subst P (let z : a + suc j ≡ a + 1 + j = omega arith in z) (h (suc j) v at passes)) in
+    elim (cases_Bool (t w)) [
+      | inl passes ↦ rw passes (subst P (let z : a + 0 ≡ a = omega arith in z) (h 0 w refl passes), rest)
+      | inr fails ↦ rw fails rest
+    ]
+
+module _ (s : State) (orders : List CallOrder) (opens : List Bool) (long : length opens ≡ length s.dossier.wishes) (marks : length s.marks ≡ length s.dossier.wishes) where
+  abbrev wanting : List Bool
+  wanting = map (wanting_at s opens) (range_with_len 0 (length s.dossier.wishes))
+
+  -- a candidate wants a seat where a wish of their claim is flagged
+  wants_claim : (p c : ℕ) → list_any (λ k. get_or wanting k false) (claim_of s.dossier p c) ≡ wants_by s opens p c
+  wants_claim p c =
+      let ws = s.dossier.wishes in
+      let t = λ (w : Wish). (nat_eq w.candidate c) && (nat_eq w.programme p) in
+      any_scaled (λ k. get_or wanting k false) (λ k. get_or opens k false) (not (holds_seat s c p)) (claim_of s.dossier p c)
+      (all_placed (λ k. get_or wanting k false ≡ (get_or opens k false && not (holds_seat s c p))) t ws 0 (λ j w at passes.
+      let parts = and_parts (nat_eq w.candidate c) (nat_eq w.programme p) passes in
+      let j_is : 0 + j ≡ j = omega arith in
+      let P = λ (k : ℕ). get_or wanting k false ≡ (get_or opens k false && not (holds_seat s c p)) in
+      subst P (sym j_is)
+      (get_or-map-range_with_len (wanting_at s opens) 0 (length ws) j j false (slice_get_within ws j w at) j_is
+      ∙ ap (λ (v : Wish). get_or opens j false && not (holds_seat s v.candidate v.programme)) (wish_in_is ws j w at)
+      ∙ ap (λ x. get_or opens j false && not (holds_seat s x w.programme)) (eqb-true w.candidate c parts.0)
+      ∙ ap (λ x. get_or opens j false && not (holds_seat s c x)) (eqb-true w.programme p parts.1))))
+      ∙ ap (λ b. b && not (holds_seat s c p)) (claim_flagged s opens p c long marks)
+
+  -- the line of a programme, as its claims and the flags tell it
+  pub line_right : (p : ℕ) (flags wants : List Bool) (row : List (List ℕ)) → flags ≡ wanting → row ≡ map (claim_of s.dossier p) (line_of s.dossier orders p)
+      → wants ≡ map (λ claim. list_any (λ k. get_or flags k false) claim) row → wants ≡ map (wants_by s opens p) (line_of s.dossier orders p)
+  line_right p flags wants row flags_are row_is are =
+      are
+      ∙ ap (λ (fs : List Bool). map (λ (claim : List ℕ). list_any (λ k. get_or fs k false) claim) row) flags_are
+      ∙ ap (map (λ (claim : List ℕ). list_any (λ k. get_or wanting k false) claim)) row_is
+      ∙ map-map (λ (claim : List ℕ). list_any (λ k. get_or wanting k false) claim) (claim_of s.dossier p) (line_of s.dossier orders p)
+      ∙ map_same (λ c. list_any (λ k. get_or wanting k false) (claim_of s.dossier p c)) (wants_by s opens p) (λ c. wants_claim p c) (line_of s.dossier orders p)
+
+pub wanting_each : (s : State) (opens : List Bool) → length (map (wanting_at s opens) (range_with_len 0 (length s.dossier.wishes))) ≡ length s.dossier.wishes
+wanting_each s opens = length-map-range_with_len (wanting_at s opens) 0 (length s.dossier.wishes)
+
+pub claims_each : {d : DossierRows} {orders : List CallOrder} {claims : List (List (List ℕ))} {places : List ℕ} {early : List Bool} → IsLineup d orders claims places early
+    → length claims ≡ length d.programmes
+claims_each {d} {orders} are = ap length are.claims_are ∙ length-map-range_with_len (λ q. map (claim_of d q) (line_of d orders q)) 0 (length d.programmes)
+
+-- the claims of a programme that are read
+pub row_right : {d : DossierRows} {orders : List CallOrder} {claims : List (List (List ℕ))} {places : List ℕ} {early : List Bool} → IsLineup d orders claims places early
+    → (p : ℕ) → p < length d.programmes → (row : List (List ℕ)) → row ≡ get_or claims p row → row ≡ map (claim_of d p) (line_of d orders p)
+row_right {d} {orders} {claims} are p lt row read =
+    read_range (λ q. map (claim_of d q) (line_of d orders q)) (length d.programmes) p claims row are.claims_are lt read
+
+pub row_within : (d : DossierRows) (orders : List CallOrder) (p n : ℕ) (row : List (List ℕ)) → row ≡ map (claim_of d p) (line_of d orders p) → n ≡ length d.wishes
+    → (j : ℕ) → j < length row → All (λ k. k < n) (get_or row j [])
+row_within d orders p n row is n_is j lt =
+    let line = line_of d orders p in
+    let in_line : j < length line = omega (arith, lt, ap length is, length-map line (claim_of d p)) in
+    let P = λ (ks : List ℕ). All (λ k. k < n) ks in
+    subst P (sym (ap (λ (r : List (List ℕ)). get_or r j []) is ∙ get_or-map (claim_of d p) line j 0 [] in_line)) (claim_within d p (get_or line j 0) n n_is)
+
+-- the links of a lineup with its lines and the flags of those who need no seat
+pub linked : (s : State) (orders : List CallOrder) (opens : List Bool) (lines : List LineRow) (claims : List (List (List ℕ))) (places : List ℕ) (early sure : List Bool) (n : ℕ)
+    → length s.marks ≡ length s.dossier.wishes → length opens ≡ length s.dossier.wishes → IsLineup s.dossier orders claims places early
+    → n ≡ length s.dossier.programmes → lines ≡ map (seat_row s orders opens) (range_with_len 0 n)
+    → sure ≡ map (sure_at s early) (range_with_len 0 (length s.dossier.wishes))
+    → IsLinked s orders opens lines claims places sure
+linked s orders opens lines claims places early sure n marks long lineup n_is lines_are sure_are =
+    let ws = s.dossier.wishes in
+    record {
+      marks_each = marks;
+      opens_each = long;
+      places_each = lineup.places_each;
+      programmes_are = lineup.programmes_are;
+      lines_are = lines_are ∙ ap (λ k. map (seat_row s orders opens) (range_with_len 0 k)) n_is;
+      claims_are = lineup.claims_are;
+      places_are = lineup.places_are;
+      sure_each = ap length sure_are ∙ length-map-range_with_len (sure_at s early) 0 (length ws);
+      sure_are = λ i w at.
+          ap (λ (fs : List Bool). get_or fs i false) sure_are
+          ∙ get_or-map-range_with_len (sure_at s early) 0 (length ws) i i false (slice_get_within ws i w at) (omega arith)
+          ∙ ap (λ (v : Wish). holds_seat s v.candidate v.programme || get_or early i false) (wish_in_is ws i w at)
+          ∙ ap (λ b. holds_seat s w.candidate w.programme || b) (lineup.early_are i w at);
+    }

@@ -1,0 +1,140 @@
+//! Those who wish for each programme, in call order: this follows from the dossier and its call orders
+//! alone, so that all passes of a day share it.
+ghost use Rattle.std.specs.Prelude.{◌≡◌, ℕ, ◌<◌, false, length, map, nat_eq, nat_lt, All, Bool, IfOk, OnOk};
+ghost use Rattle.std.specs.List.{IsDistinct};
+ghost use Rattle.admit_core.specs.CallOrder.{AreCallOrders};
+ghost use Rattle.admit_core.specs.Proposals.{order_of};
+ghost use Rattle.demand.specs.Called.{AreCalled};
+ghost use Rattle.linked_demand.specs.Claims.{AreWishesFor};
+ghost use Rattle.linked_demand.specs.Links.{claim_of};
+ghost use Rattle.linked_demand.specs.Opens.{line_of};
+ghost use Rattle.linked_demand.specs.Seats.{PutAt, AreSeated, IsLineup, is_below, is_passed};
+
+use crate::claims::{Claims, candidates_of, part, span_of};
+use crate::wishing::wishes_by_programme;
+use admit_core::{CallOrders, OutOfMemory};
+use day_state::DayState;
+use demand::{call_everyone, limit_of, order_of, programme_count};
+use std::alloc::Global;
+use std::mem;
+
+/// No candidate stands twice in a call order. The call does nothing.
+fn call_once(state: &DayState<'_>, orders: &CallOrders)
+    requires { AreCallOrders state.now.dossier.groups orders.now.orders }
+    ensures { (p : ℕ) → IsDistinct nat_eq (order_of state.now.dossier orders.now.orders p) }
+{
+    let dossier = state.dossier();
+    let _ = &dossier.wishes; // learns the invariant
+}
+
+/// Notes for the wishes of a claim their candidate's place in the line, and whether they are called
+/// by the programme's limit.
+fn note(places: &mut Vec<usize>, early: &mut Vec<bool>, claim: &[u32], place: usize, is_early: bool)
+    requires places { All (λ k. k < length places.old.items) claim.now }
+    requires early { length early.old.items ≡ length places.old.items }
+    ensures places { PutAt ℕ 0 claim.now place places.old.items places.new.items }
+    ensures early { PutAt Bool false claim.now is_early early.old.items early.new.items }
+{
+    for wish in claim {
+        places[*wish as usize] = place;
+        early[*wish as usize] = is_early;
+    }
+}
+
+/// Whether one who has so many before them is called by a limit.
+fn is_early(before: usize, limit: u32) -> bool
+    ensures { result ≡ nat_lt before limit }
+{
+    before < limit as usize
+}
+
+/// Goes along the call order of a programme, and notes what is known of the wishes for it. Where there
+/// is none, it goes nowhere.
+fn line_up(
+    alloc: Global,
+    state: &DayState<'_>,
+    orders: &CallOrders,
+    programme: u32,
+    wishes: Vec<u32>,
+    places: &mut Vec<usize>,
+    early: &mut Vec<bool>,
+) -> Result<Claims, OutOfMemory>
+    requires programme { programme < length state.now.dossier.programmes }
+    requires orders { AreCalled state.now.dossier orders.now.orders }
+    requires once { IsDistinct nat_eq (order_of state.now.dossier orders.now.orders programme) }
+    requires wishes { AreWishesFor state.now.dossier programme wishes.items }
+    requires seated { AreSeated state.now.dossier orders.now.orders (is_below programme) places.old.items early.old.items }
+    ensures claims { IfOk result (λ x. x ≡ map (claim_of state.now.dossier programme) (line_of state.now.dossier orders.now.orders programme)) }
+    ensures seated { OnOk result (AreSeated state.now.dossier orders.now.orders (is_passed programme (order_of state.now.dossier orders.now.orders programme)) places.new.items early.new.items) }
+{
+    let mut spans = Vec::new(alloc);
+    if wishes.is_empty() {
+        let claims = Claims::new(wishes, spans);
+        return Ok(claims);
+    }
+    let order = order_of(state, orders, programme);
+    let limit = limit_of(state, programme);
+    let candidates = candidates_of(alloc, state, &wishes)?;
+    for (before, candidate) in order.iter().enumerate() {
+        let span = span_of(&candidates, *candidate);
+        let claim = part(&wishes, span);
+        let is_claim = !claim.is_empty();
+        if is_claim {
+            let is_early = is_early(before, limit);
+            note(places, early, claim, spans.len(), is_early);
+            spans.push(span)?;
+        }
+    }
+    let claims = Claims::new(wishes, spans);
+    Ok(claims)
+}
+
+/// For each programme those who wish for it, in call order, with their claims; for each wish the place
+/// of its candidate among them, and whether they are called by the programme's limit.
+#[derive(Drop)]
+pub struct Lineup {
+    pub(crate) claims: Vec<Claims>,
+    pub(crate) places: Vec<usize>,
+    pub(crate) early: Vec<bool>,
+}
+
+impl Lineup {
+    ghost use Rattle.linked_demand.specs.Lineups.{IsLineupOf};
+
+    /// The lineup of a state's dossier, in one walk along each call order for each of its programmes.
+    pub fn build(
+        alloc: Global,
+        state: &DayState<'_>,
+        orders: &CallOrders,
+    ) -> Result<Lineup, OutOfMemory>
+        requires { AreCallOrders state.now.dossier.groups orders.now.orders }
+        ensures { IfOk result (IsLineupOf state.now.dossier orders.now.orders) }
+    {
+        call_everyone(state, orders);
+        call_once(state, orders);
+        let count = state.dossier().wishes.len();
+        let mut places = vec![in alloc; 0; count]?;
+        let mut early = vec![in alloc; false; count]?;
+        let mut claims = Vec::new(alloc);
+        let mut rows = wishes_by_programme(alloc, state)?;
+        let programmes = programme_count(state);
+        for programme in 0..programmes {
+            let wishes = mem::replace(&mut rows[programme as usize], Vec::new(alloc));
+            let own = line_up(
+                alloc,
+                state,
+                orders,
+                programme,
+                wishes,
+                &mut places,
+                &mut early,
+            )?;
+            claims.push(own)?;
+        }
+        Ok(Lineup {
+            claims,
+            places,
+            early,
+        })
+    }
+}
