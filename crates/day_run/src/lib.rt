@@ -11,6 +11,7 @@ mod desk;
 mod evening;
 mod lapses;
 mod laws;
+mod morning;
 mod passes;
 mod refusal;
 
@@ -20,4 +21,5 @@ pub use course::Course;
 pub use day::{run_dated_day, run_day};
 pub use desk::Desk;
 pub use laws::laws_of_days;
+pub use morning::make_morning;
 pub use refusal::DayRefusal;

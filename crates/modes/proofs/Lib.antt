@@ -1,2 +1,4 @@
+pub mod CheckedDay
+pub mod CheckedExits
 pub mod OnDesks
 pub mod Writable

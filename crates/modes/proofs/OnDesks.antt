@@ -1,5 +1,5 @@
 -- What an ending rests on, and what it gives for a desk.
-use Rattle.std.proofs.Common.{◌≡◌, ◌≤◌, ℕ, List, Option, Result, Ok, Err, All, arith, inl, inr, length, subst}
+use Rattle.std.proofs.Common.{◌≡◌, ◌∙◌, ◌≤◌, ℕ, List, [], ◌∷◌, Option, Result, Ok, Err, All, arith, ap, inl, inr, length, subst, sym}
 use Rattle.std.specs.Result.{ForOk}
 use Rattle.std.proofs.lemmas.Bool.{cases_Bool}
 use Rattle.admit_core.specs.Days.{ceilings_of}
@@ -16,7 +16,8 @@ use Rattle.explain.specs.Sayings.{Explains}
 use Rattle.intake.specs.Dated.{terms_in}
 use Rattle.played.proofs.LastDay.{desk_played}
 use Rattle.played.specs.LastDays.{pass_on}
-use Rattle.played.specs.PlayedDays.{EndsAfter, Played}
+use Rattle.played.specs.Lent.{Lent}
+use Rattle.played.specs.PlayedDays.{EndsAfter, Lead, Plan, Played, first_desk, plan_of}
 use Rattle.request.specs.Modes.{runs_days}
 use Rattle.request.specs.Request.{IsRequest}
 use Rattle.request.specs.declared.request.Request.{Request}
@@ -37,6 +38,19 @@ as_many : (terms : Option Terms) (number : ℕ) (days : List DayRecord) (last : 
 as_many terms number days last (Ok desk) ends = λ x same. ends.0
 as_many terms number days last (Err refusal) ends = λ x same. absurd (cc)
 
+-- where no day is asked for, the desk is the first one
+no_day : (plan : Plan) (first : DeskStates) (before : Lent) (days : List DayRecord) (last : DeskStates) → Lead plan 1 first before days last → length days ≡ 0 → first ≡ last
+no_day plan first before [] last lead none = lead
+no_day plan first before (day ∷ days) last lead none = absurd (omega arith)
+
+desk_at_first : (terms : Option Terms) (number : ℕ) (days : List DayRecord) (last : DeskStates) (end : Result DeskStates Refusal) (first : DeskStates) (plan : Plan) (before : Lent) → Lead plan 1 first before days last
+    → EndsAfter terms number days last end → (desk : DeskStates) → end ≡ Ok desk → number ≡ 0 → desk.present ≡ first.present
+desk_at_first terms number days last (Ok found) first plan before lead ends desk same none =
+    let begun : first ≡ last = no_day plan first before days last lead (ends.0 ∙ none) in
+    let here : found ≡ desk = cc in
+    ap (λ (x : DeskStates). x.present) (sym here ∙ ends.1 ∙ sym begun)
+desk_at_first terms number days last (Err refusal) first plan before lead ends desk same none = absurd (cc)
+
 -- the days led to a desk
 pub ends_on : (seen : Seen) (played : Played) (desk : DeskStates) → CanEnd seen played → played.end ≡ Ok desk → CanBeEnded seen played desk
 ends_on seen played desk can same =
@@ -45,10 +59,14 @@ ends_on seen played desk can same =
     record {
       request = can.request;
       named = can.named;
+      index = can.index;
+      dated = can.dated;
+      called = plays.called;
       number = as_many (terms_in seen.dated) (days_of seen.request) played.days plays.last played.end plays.ends desk same;
       days = all.0;
       offers = all.1 desk same;
       last = desk_played seen.dossier (terms_in seen.dated) (days_of seen.request) seen.request.picker can.plays.0 played can.plays.1 plays desk same;
+      idle = desk_at_first (terms_in seen.dated) (days_of seen.request) played.days plays.last played.end (first_desk seen.dossier) (plan_of (terms_in seen.dated) seen.request.picker played) can.plays.0 plays.days plays.ends desk same;
     }
 
 -- an explanation under the ceilings of the last day and the bars of its last pass

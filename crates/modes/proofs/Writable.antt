@@ -32,7 +32,7 @@ use Rattle.request.specs.declared.pickers.PickerChoice.{PickerChoice}
 use Rattle.modes.specs.Replay.{CanBeDated, CanBeWritten}
 
 -- a mark of a campaign: its day is one of the campaign, or 0
-abbrev IsStamped : Mark → Type 0
+abbrev pub IsStamped : Mark → Type 0
 IsStamped m = m.stamp.day ≤ 366
 
 mark_stamped : (s : State) (place : ℕ) → All IsStamped s.marks → IsStamped (mark_at s place)
@@ -106,7 +106,7 @@ lapses_where s (Some dated) day lapsed is stamped same =
     All-same (IsLapseOf s.dossier dated.start dated.terms.term) lapsed (lapses_of dated.terms day s) same (lapses_dated s dated day is stamped)
 
 -- the offers of a state
-finals_dated : (s : State) (dated : Option DatedTerms) → IfSome dated (AreDatedFor s.dossier) → All IsStamped s.marks → IfSome dated (λ x. HasDates s x.start x.terms.before)
+pub finals_dated : (s : State) (dated : Option DatedTerms) → IfSome dated (AreDatedFor s.dossier) → All IsStamped s.marks → IfSome dated (λ x. HasDates s x.start x.terms.before)
 finals_dated s None is stamped = tt
 finals_dated s (Some dated) is stamped =
     let low = is.start.after_first in
@@ -128,7 +128,7 @@ falls_of d end is = record {
 }
 
 -- what is known of a campaign before a day of it
-record IsBefore (d : DossierRows) (dated : Option DatedTerms) (evening : State) : Type 0 where
+pub record IsBefore (d : DossierRows) (dated : Option DatedTerms) (evening : State) : Type 0 where
   pub dossier : evening.dossier ≡ d
   pub stamped : All IsStamped evening.marks
 
@@ -155,7 +155,7 @@ days_written plan d dated k old before (day ∷ days) new terms is few known lea
     let later = days_written plan d dated (k + 1) lead.0 (lent_after plan.who day before) days new terms is (omega arith) first.1 lead.2 in
     (All-cons (CanBeWritten d dated) day days first.0 later.0, later.1)
 
-first_known : (d : DossierRows) (dated : Option DatedTerms) → IsBefore d dated (first_evening d)
+pub first_known : (d : DossierRows) (dated : Option DatedTerms) → IsBefore d dated (first_evening d)
 first_known d dated = record { dossier = refl; stamped = All-map IsStamped first_mark d.statuses (λ k x lt. omega arith) }
 
 within_year : (terms : Option Terms) (number : ℕ) (days : List DayRecord) (last : DeskStates) (end : Result DeskStates Refusal) → EndsAfter terms number days last end → number ≤ 366 → 1 + length days ≤ 367

@@ -1,6 +1,10 @@
 -- How a run over a job ends, by its mode.
 use Rattle.std.specs.Prelude.{◌≡◌, ℕ, List, [], ◌++◌, All, IfSome, Result, Ok, Err, length}
+use Rattle.admit_core.specs.CallOrder.{AreCallOrders}
+use Rattle.admit_core.specs.Days.{first_evening}
 use Rattle.admit_core.specs.declared.refusal.Refusal.{Refusal}
+use Rattle.certificate.specs.ChainText.{chain_text}
+use Rattle.certificate.specs.Checked.{ids_in}
 use Rattle.day_run.specs.DeskStates.{DeskStates}
 use Rattle.intake.specs.Dated.{AreDatedFor, terms_in}
 use Rattle.intake.specs.Input.{Job, NamesIn}
@@ -11,7 +15,8 @@ use Rattle.report.specs.RefusalText.{refusal_line}
 use Rattle.report.specs.SampleText.{sample_text}
 use Rattle.request.specs.Request.{IsRequest}
 use Rattle.request.specs.declared.modes.Mode.{Mode}
-use Rattle.request.specs.declared.modes.Mode.TheVariants.{Order, Replay, Explain, Sample}
+use Rattle.request.specs.declared.modes.Mode.TheVariants.{Order, Replay, Chain, Check, Explain, Sample}
+use Rattle.modes.specs.Checking.{IsChecked}
 use Rattle.modes.specs.Explained.{IsExplained}
 use Rattle.modes.specs.Jobs.{Seen, days_of, dossier, seen_of, terms_of}
 use Rattle.modes.specs.Order.{orders_text}
@@ -31,6 +36,8 @@ IsDoneSaying IsText exit text = (exit ≡ Done) × IsText text
 abbrev pub IsEndOf : Mode → Seen → Played → DeskStates → Exit → List ℕ → Type 0
 IsEndOf Order seen played desk = IsDoneWith (orders_text seen.dossier.groups played.orders)
 IsEndOf Replay seen played desk = IsDoneWith (replay_text seen.dossier seen.dated played.orders played.days desk.present)
+IsEndOf Chain seen played desk = IsDoneWith (chain_text seen.dossier played.days)
+IsEndOf Check seen played desk = IsChecked seen.dossier seen.chain seen.dated played.orders
 IsEndOf (Explain wish) seen played desk = IsDoneSaying (IsExplained seen.dossier seen.index played.orders played.days desk wish)
 IsEndOf (Sample number) seen played desk = IsDoneWith (sample_text number (length seen.dossier.wishes) played.days desk.present)
 
@@ -58,16 +65,21 @@ pub record CanEnd (seen : Seen) (played : Played) : Type 0 where
   pub request : IsRequest seen.request
   pub dated : IfSome seen.dated (AreDatedFor seen.dossier)
   pub named : NamesIn seen.request.mode seen.index
+  pub index : seen.index ≡ ids_in seen.dossier
   pub plays : (before : Lent) × (after : Lent) × IsPlayed seen.dossier (terms_in seen.dated) (days_of seen.request) seen.request.picker before played after
 
 -- what all modes may use once the days have led to a desk
 pub record CanBeEnded (seen : Seen) (played : Played) (desk : DeskStates) : Type 0 where
   pub request : IsRequest seen.request
   pub named : NamesIn seen.request.mode seen.index
+  pub index : seen.index ≡ ids_in seen.dossier
+  pub dated : IfSome seen.dated (AreDatedFor seen.dossier)
+  pub called : AreCallOrders seen.dossier.groups played.orders
   pub number : length played.days ≡ days_of seen.request
   pub days : All (CanBeWritten seen.dossier seen.dated) played.days
   pub offers : CanBeDated seen.dated desk.present
   pub last : IsDeskAfter seen.dossier played.orders played.days desk
+  pub idle : days_of seen.request ≡ 0 → desk.present ≡ first_evening seen.dossier
 
 -- a job's days were played with these pickers, and the run ends by its mode
 pub record IsEnding (job : Job) (before after : Lent) (exit : Exit) (text : List ℕ) : Type 0 where

@@ -1,3 +1,5 @@
+pub mod CheckedDays
+pub mod Checking
 pub mod Endings
 pub mod Exits
 pub mod Explained

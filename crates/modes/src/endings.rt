@@ -4,12 +4,14 @@ ghost use Rattle.modes.specs.Endings.{CanBeEnded, CanEnd, EndsWith, IsEndOf, IsR
 ghost use Rattle.modes.specs.Jobs.{seen_by};
 ghost use Rattle.modes.specs.Replay.{CanBeWritten};
 
+use crate::checked::checked;
 use crate::exit::Exit;
 use crate::explained::explained_text;
 use crate::order::orders_text;
 use crate::replay::{days_text, replay_text};
 use crate::reply::Reply;
 use admit_core::{OutOfMemory, Refusal};
+use certificate::write_chain;
 use day_run::Desk;
 use intake::{DatedTerms, Input};
 use played::Played;
@@ -51,6 +53,8 @@ fn ended(
     match request.mode {
         Mode::Order => Ok(done(orders_text(alloc, dossier.groups.as_slice(), orders)?)),
         Mode::Replay => Ok(done(replay_text(alloc, dossier, dated, orders, days, desk.now())?)),
+        Mode::Chain => Ok(done(write_chain(alloc, dossier, days)?)),
+        Mode::Check => checked(alloc, input, dated, &played.orders, desk.now()),
         Mode::Explain { wish } => {
             let text = explained_text(alloc, input, &played.orders, days, desk, wish)?;
             Ok(done(text))

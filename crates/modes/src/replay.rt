@@ -26,7 +26,7 @@ fn day_lines(
 }
 
 /// The lines of the final state, with the dates of offers where these have deadlines.
-fn final_lines(
+pub(crate) fn final_lines(
     alloc: Global,
     state: &DayState<'_>,
     dated: Option<&DatedTerms>,

@@ -2,6 +2,7 @@
 use Rattle.std.proofs.Common.{◌≡◌, ◌∙◌, ℕ, ◌+◌, ◌<◌, ◌≤◌, ◌⊎◌, List, [], ◌∷◌, Option, None, Some, Result, Ok, Err, All, IfOk, IfSome, IsSomeAnd, IsTrue, ap, arith, inl, inr, length, option_map, refl, subst, sym}
 use Rattle.std.specs.Prelude.{is_some, not}
 use Rattle.std.proofs.lemmas.Bool.{cases_Bool, false≢true}
+use Rattle.admit_core.specs.CallOrder.{AreCallOrders}
 use Rattle.admit_core.specs.Days.{Days, first_evening, unfit_on}
 use Rattle.admit_core.specs.DossierRows.{DossierRows}
 use Rattle.admit_core.specs.Standing.{dossier_of}
@@ -11,6 +12,7 @@ use Rattle.admit_core.specs.declared.records.Terms.{Terms}
 use Rattle.admit_core.specs.declared.refusal.Refusal.{Refusal}
 use Rattle.admit_core.specs.declared.state.Status.{Status}
 use Rattle.admit_core.specs.declared.tables.Since.{Since}
+use Rattle.certificate.specs.Checked.{ids_in}
 use Rattle.day_run.specs.AnswersOn.{unfit_refusal}
 use Rattle.day_run.specs.DeskStates.{DeskStates}
 use Rattle.dossier_check.specs.Dates.{dates_of}
@@ -20,7 +22,9 @@ use Rattle.intake.specs.Input.{IsInputOf, IsJobOf, Job, NamesIn}
 use Rattle.intake.specs.declared.input.Input.{Input}
 use Rattle.intake.specs.declared.terms.DatedTerms.{DatedTerms}
 use Rattle.modes.specs.Endings.{AreDaysOf, CanEnd, EndsWith, IsEndOf, IsEnding}
-use Rattle.modes.specs.Jobs.{AreDays, FitsAnswers, Seen, dated_of, days_of, deadlines_of, dossier, seen_by, seen_of, terms_of}
+use Rattle.modes.proofs.CheckedExits.{IsAfterDays, check_done, check_exit, is_after}
+use Rattle.modes.specs.Checking.{CanBeDone, HandsInProof}
+use Rattle.modes.specs.Jobs.{AreDays, Seen, dated_of, days_of, deadlines_of, dossier, seen_by, seen_of, terms_of}
 use Rattle.modes.specs.declared.exit.Exit.{Exit}
 use Rattle.modes.specs.declared.exit.Exit.TheVariants as exits
 use Rattle.modes.specs.declared.reply.Reply.{Reply}
@@ -72,36 +76,48 @@ lead_days plan d old before [] new same = ap (λ (desk : DeskStates). desk.prese
 lead_days plan d old before (day ∷ days) new lead =
     (lead.0.present, lead.1.done.number, lead.1.done.is_day, lead_days plan (d + 1) lead.0 (lent_after plan.who day before) days new lead.2)
 
--- every mode is done once all its days have led to a desk
-done_of : (mode : Mode) (seen : Seen) (played : Played) (desk : DeskStates) (exit : Exit) (text : List ℕ) → IsEndOf mode seen played desk exit text → exit ≡ exits.Done
-done_of modes.Order seen played desk exit text ends = ends.0
-done_of modes.Replay seen played desk exit text ends = ends.0
-done_of (modes.Explain wish) seen played desk exit text ends = ends.0
-done_of (modes.Sample number) seen played desk exit text ends = ends.0
+end_exit : (mode : Mode) (seen : Seen) (played : Played) (desk : DeskStates) (exit : Exit) (text : List ℕ) → IsEndOf mode seen played desk exit text → IsAfterDays exit
+end_exit modes.Order seen played desk exit text ends = is_after exit exits.Done ends.0 tt
+end_exit modes.Replay seen played desk exit text ends = is_after exit exits.Done ends.0 tt
+end_exit modes.Chain seen played desk exit text ends = is_after exit exits.Done ends.0 tt
+end_exit modes.Check seen played desk exit text ends = check_exit seen.dossier seen.chain seen.dated played.orders exit text ends
+end_exit (modes.Explain wish) seen played desk exit text ends = is_after exit exits.Done ends.0 tt
+end_exit (modes.Sample number) seen played desk exit text ends = is_after exit exits.Done ends.0 tt
 
-exit_after : (end : Result DeskStates Refusal) (seen : Seen) (played : Played) (exit : Exit) (text : List ℕ) → EndsWith end seen played exit text → (exit ≡ exits.Done) ⊎ (exit ≡ exits.Refused)
-exit_after (Ok desk) seen played exit text ends = inl (done_of seen.request.mode seen played desk exit text ends)
-exit_after (Err refusal) seen played exit text ends = inr ends.0
+exit_after : (end : Result DeskStates Refusal) (seen : Seen) (played : Played) (exit : Exit) (text : List ℕ) → EndsWith end seen played exit text → IsAfterDays exit
+exit_after (Ok desk) seen played exit text ends = end_exit seen.request.mode seen played desk exit text ends
+exit_after (Err refusal) seen played exit text ends = is_after exit exits.Refused ends.0 tt
 
--- a run over a job is done, or an answer does not fit
-pub ending_exit : (job : Job) (before after : Lent) (exit : Exit) (text : List ℕ) → IsEnding job before after exit text → (exit ≡ exits.Done) ⊎ (exit ≡ exits.Refused)
+-- a run over a job is done, or an answer does not fit, or a chain proves nothing
+pub ending_exit : (job : Job) (before after : Lent) (exit : Exit) (text : List ℕ) → IsEnding job before after exit text → IsAfterDays exit
 ending_exit job before after exit text ending = exit_after ending.played.end (seen_of job) ending.played exit text ending.ends
+
+-- every mode is done once all its days have led to a desk, and what is handed in proves its days
+done_of : (mode : Mode) (job : Job) (played : Played) (desk : DeskStates) (exit : Exit) (text : List ℕ) → IsEndOf mode (seen_of job) played desk exit text → AreCallOrders (dossier job).groups played.orders
+    → HandsInProof mode job → exit ≡ exits.Done
+done_of modes.Order job played desk exit text ends called hands = ends.0
+done_of modes.Replay job played desk exit text ends called hands = ends.0
+done_of modes.Chain job played desk exit text ends called hands = ends.0
+done_of modes.Check job played desk exit text ends called hands =
+    let proof = hands played.orders called in check_done (dossier job) (dated_of job) played.orders job.chain proof.0 proof.1 exit text proof.2 proof.3 ends
+done_of (modes.Explain wish) job played desk exit text ends called hands = ends.0
+done_of (modes.Sample number) job played desk exit text ends called hands = ends.0
 
 not_unfit : (unfit : Option (ℕ × Status)) (P : ℕ × Status → Type 0) → unfit ≡ None → IsSomeAnd unfit P → ⊥
 not_unfit None P none some = some
 not_unfit (Some x) P none some = absurd (cc)
 
 done_where_fit : (job : Job) (played : Played) (last : DeskStates) (end : Result DeskStates Refusal) (exit : Exit) (text : List ℕ) → AreDays job played.orders played.days last.present
-    → EndsAfter (terms_of job) (days_of job.request) played.days last end → EndsWith end (seen_of job) played exit text → FitsAnswers job → exit ≡ exits.Done
-done_where_fit job played last (Ok desk) exit text days after ends fit = done_of job.request.mode (seen_of job) played desk exit text ends
-done_where_fit job played last (Err refusal) exit text days after ends fit =
-    absurd (not_unfit _ _ (fit played.orders played.days last.present days after.fewer) after.unfit)
+    → EndsAfter (terms_of job) (days_of job.request) played.days last end → EndsWith end (seen_of job) played exit text → CanBeDone job → exit ≡ exits.Done
+done_where_fit job played last (Ok desk) exit text days after ends can = done_of job.request.mode job played desk exit text ends days.called can.proves
+done_where_fit job played last (Err refusal) exit text days after ends can =
+    absurd (not_unfit _ _ (can.fits played.orders played.days last.present days after.fewer) after.unfit)
 
--- where each answer fits the run is done
-pub ending_done : (job : Job) (before after : Lent) (exit : Exit) (text : List ℕ) → IsEnding job before after exit text → FitsAnswers job → exit ≡ exits.Done
-ending_done job before after exit text ending fit =
+-- where each answer fits, and a chain proves its days, the run is done
+pub ending_done : (job : Job) (before after : Lent) (exit : Exit) (text : List ℕ) → IsEnding job before after exit text → CanBeDone job → exit ≡ exits.Done
+ending_done job before after exit text ending can =
     done_where_fit job ending.played ending.days.last ending.played.end exit text
-    (record { called = ending.days.called; run = lead_days _ 1 _ before ending.played.days ending.days.last ending.days.days }) ending.days.ends ending.ends fit
+    (record { called = ending.days.called; run = lead_days _ 1 _ before ending.played.days ending.days.last ending.days.days }) ending.days.ends ending.ends can
 
 -- the days of a request, as they were played over its input
 module _ (request : Request) (known : IsRequest request) (input : Input) (dated given : Option DatedTerms) (terms : Option Terms) (number : ℕ) (before after : Lent) (played : Played) (same : dated ≡ given)
@@ -111,11 +127,12 @@ module _ (request : Request) (known : IsRequest request) (input : Input) (dated 
       subst (λ (n : ℕ). IsPlayed input.dossier (terms_in dated) n request.picker before played after) number_is
       (subst (λ (t : Option Terms). IsPlayed input.dossier t number request.picker before played after) terms_are plays)
 
-  pub can_end : NamesIn request.mode input.index → CanEnd (seen_by request input dated) played
-  can_end named = record {
+  pub can_end : NamesIn request.mode input.index → input.index ≡ ids_in input.dossier → CanEnd (seen_by request input dated) played
+  can_end named indexed = record {
     request = known;
     dated = subst (λ (x : Option DatedTerms). IfSome x (AreDatedFor input.dossier)) (sym same) is;
     named = named;
+    index = indexed;
     plays = (before, after, asked_days);
   }
 

@@ -11,7 +11,9 @@ use Rattle.intake.specs.declared.stop.Stop.{Stop}
 use Rattle.intake.specs.declared.stop.Stop.TheVariants as stops
 use Rattle.modes.specs.Endings.{IsEnding}
 use Rattle.modes.specs.Exits.{asks_nobody, exit_of, is_answer}
-use Rattle.modes.specs.Jobs.{FitsAnswers, days_of}
+use Rattle.modes.proofs.CheckedExits.{IsAfterDays}
+use Rattle.modes.specs.Checking.{CanBeDone}
+use Rattle.modes.specs.Jobs.{days_of}
 use Rattle.modes.specs.Stopping.{IsStoppedBy}
 use Rattle.modes.specs.declared.exit.Exit.{Exit}
 use Rattle.modes.specs.declared.exit.Exit.TheVariants as exits
@@ -43,14 +45,28 @@ stop_outcome words slots stop before exit text is by =
     subst (λ (a : Result Job Stop). Ends a before before exit text) (sym is) (record { is_exit = by.is_exit; is_line = by.is_line; untold = λ name. refl })
 
 -- of an exit after the days
-answers_after : (exit : Exit) → (exit ≡ exits.Done) ⊎ (exit ≡ exits.Refused) → IsTrue (is_answer exit)
-answers_after exit ends = elim ends [ inl done ↦ rw done refl | inr refused ↦ rw refused refl ]
+answers_after : (exit : Exit) → IsAfterDays exit → IsTrue (is_answer exit)
+answers_after exits.Done after = refl
+answers_after exits.Refused after = refl
+answers_after exits.NotProved after = refl
+answers_after exits.BadWords after = absurd after
+answers_after exits.ReadFault after = absurd after
+answers_after exits.WriteFault after = absurd after
+answers_after exits.NoMemory after = absurd after
+answers_after exits.NoSuchWish after = absurd after
 
-asks_after : (exit : Exit) → (exit ≡ exits.Done) ⊎ (exit ≡ exits.Refused) → IsTrue (asks_nobody exit) → ⊥
-asks_after exit ends asks = elim ends [ inl done ↦ false≢true (rw done at asks) | inr refused ↦ false≢true (rw refused at asks) ]
+asks_after : (exit : Exit) → IsAfterDays exit → IsTrue (asks_nobody exit) → ⊥
+asks_after exits.Done after asks = false≢true asks
+asks_after exits.Refused after asks = false≢true asks
+asks_after exits.NotProved after asks = false≢true asks
+asks_after exits.BadWords after asks = after
+asks_after exits.ReadFault after asks = after
+asks_after exits.WriteFault after asks = after
+asks_after exits.NoMemory after asks = after
+asks_after exits.NoSuchWish after asks = after
 
-words_after : (exit : Exit) → (exit ≡ exits.Done) ⊎ (exit ≡ exits.Refused) → exit ≡ exits.BadWords → ⊥
-words_after exit ends bad = elim ends [ inl done ↦ (cc (done, bad)) | inr refused ↦ (cc (refused, bad)) ]
+words_after : (exit : Exit) → IsAfterDays exit → exit ≡ exits.BadWords → ⊥
+words_after exit after bad = subst IsAfterDays bad after
 
 -- what becomes of the shelf
 module _ {A : Type 0} (before after : OnShelf) (r : Result A Stop) where
@@ -105,7 +121,7 @@ module _ (words : List (List ℕ)) (shelf shelf' : OnShelf) (before after : Lent
         back = back;
         no_day = idle_day;
         complete = λ slots tells fits none.
-            ending_done takes.input.job before after reply.exit reply.text.items ending (subst (λ (a : Result Job Stop). IsOkAnd a FitsAnswers) (accepted_is slots tells) fits);
+            ending_done takes.input.job before after reply.exit reply.text.items ending (subst (λ (a : Result Job Stop). IsOkAnd a CanBeDone) (accepted_is slots tells) fits);
       }
   replies_played (Err e) ends = record {
     outcome = tt;
@@ -168,12 +184,12 @@ module _ (words : List (List ℕ)) (shelf shelf' : OnShelf) (before : Lent) wher
   stop_answers slots (stops.ReadFault slot) exit text is by answers = absurd (false≢true (rw by.is_exit at answers))
   stop_answers slots stops.OutOfMemory exit text is by answers = absurd (by.not_memory refl)
 
-  no_job : (slots : Slot → List ℕ) (stop : Stop) → accepted words slots ≡ Err stop → IsOkAnd (accepted words slots) FitsAnswers → ⊥
-  no_job slots stop is fits = subst (λ (a : Result Job Stop). IsOkAnd a FitsAnswers) is fits
+  no_job : (slots : Slot → List ℕ) (stop : Stop) → accepted words slots ≡ Err stop → IsOkAnd (accepted words slots) CanBeDone → ⊥
+  no_job slots stop is fits = subst (λ (a : Result Job Stop). IsOkAnd a CanBeDone) is fits
 
   -- a stop, though the job is accepted and no read failed
   no_stop : (request : Option Request) (slots : Slot → List ℕ) (stop : Stop) (exit : Exit) (text : List ℕ) → Slots request stop → Stopped stop (accepted words slots) → IsStoppedBy stop exit text
-      → IsOkAnd (accepted words slots) FitsAnswers → ((slot : Slot) → ¬ Rose (shelf.faults slot) (shelf'.faults slot)) → ⊥
+      → IsOkAnd (accepted words slots) CanBeDone → ((slot : Slot) → ¬ Rose (shelf.faults slot) (shelf'.faults slot)) → ⊥
   no_stop request slots stops.BadWords exit text takes is by fits none = no_job slots stops.BadWords is fits
   no_stop request slots (stops.Refused refusal) exit text takes is by fits none = no_job slots (stops.Refused refusal) is fits
   no_stop request slots (stops.NoSuch name) exit text takes is by fits none = no_job slots (stops.NoSuch name) is fits

@@ -8,7 +8,7 @@ use Rattle.intake.specs.declared.input.Input.{Input}
 use Rattle.intake.specs.declared.stop.Stop.{Stop}
 use Rattle.intake.specs.declared.stop.Stop.TheVariants as stops
 use Rattle.modes.specs.Exits.{asks_nobody, is_answer}
-use Rattle.modes.specs.Jobs.{FitsAnswers}
+use Rattle.modes.specs.Checking.{CanBeDone}
 use Rattle.modes.specs.declared.exit.Exit.{Exit}
 use Rattle.modes.specs.declared.exit.Exit.TheVariants.{BadWords, Done, ReadFault}
 use Rattle.modes.specs.declared.reply.Reply.{Reply}
@@ -54,5 +54,5 @@ pub record Replies {E : Type 0} (words : List (List ℕ)) (shelf shelf' : OnShel
   pub counts : NoneFell shelf.faults shelf'.faults
   pub back : AreBack before after
   pub no_day : RunsNoDay (request_of words) → Untold before after
-  pub complete : (slots : Slot → List ℕ) → Tells shelf.left slots → IsOkAnd (accepted words slots) FitsAnswers
+  pub complete : (slots : Slot → List ℕ) → Tells shelf.left slots → IsOkAnd (accepted words slots) CanBeDone
       → ((slot : Slot) → ¬ Rose (shelf.faults slot) (shelf'.faults slot)) → IfOk result (λ reply. reply.exit ≡ Done)

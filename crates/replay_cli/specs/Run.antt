@@ -5,7 +5,7 @@ use Rattle.admit_core.specs.declared.slot.Slot.{Slot}
 use Rattle.intake.specs.Input.{accepted}
 use Rattle.intake.specs.Shelves.{OnShelf, Tells}
 use Rattle.modes.specs.Exits.{asks_nobody, is_answer}
-use Rattle.modes.specs.Jobs.{FitsAnswers}
+use Rattle.modes.specs.Checking.{CanBeDone}
 use Rattle.modes.specs.declared.exit.Exit.{Exit}
 use Rattle.modes.specs.declared.exit.Exit.TheVariants.{BadWords, Done, NoMemory, ReadFault, WriteFault}
 use Rattle.played.specs.Lent.{AreBack, Lent, Untold, lent}
@@ -65,8 +65,8 @@ pub record Answers (words : List (List ℕ)) (slots : Slot → List ℕ) (before
   -- a run that is cut off has written a prefix of its text; where memory runs out it may be that nobody knows of which
   pub cut_off : exit ≡ WriteFault → WritesPart before after (IsWhole words slots before after)
   pub no_memory : exit ≡ NoMemory → Appends before.sink.held after.sink.held [] ⊎ WritesPart before after (IsWhole words slots before after)
-  -- where the job is accepted, each answer fits, and no call fails, the run is done, or memory ran out
-  pub complete : IsOkAnd (accepted words slots) FitsAnswers → NoneFails before after → (exit ≡ Done) ⊎ (exit ≡ NoMemory)
+  -- where the job is accepted, each answer fits, a chain that is handed in proves its days, and no call fails, the run is done, or memory ran out
+  pub complete : IsOkAnd (accepted words slots) CanBeDone → NoneFails before after → (exit ≡ Done) ⊎ (exit ≡ NoMemory)
 
 -- with bad words no slot is touched
 pub record IsRefusal (before after : Around) (exit : Exit) : Type 0 where

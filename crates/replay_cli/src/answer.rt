@@ -1,6 +1,6 @@
 //! What a run answers, before anything is written.
-ghost use Rattle.std.specs.Prelude.{◌≡◌, IfOk, map, option_copied, option_map, string_bytes};
-ghost use Rattle.intake.specs.Dated.{terms_in};
+ghost use Rattle.std.specs.Prelude.{◌≡◌, IfOk, map, string_bytes};
+ghost use Rattle.certificate.specs.Checked.{ids_in};
 ghost use Rattle.intake.specs.Input.{IsInputOf, IsJobOf, Job, NamesIn};
 ghost use Rattle.intake.specs.Shelves.{on_shelf};
 ghost use Rattle.modes.specs.Endings.{IsEnding};
@@ -10,9 +10,9 @@ ghost use Rattle.replay_cli.specs.Answering.{Replies, TakesAll};
 ghost use Rattle.replay_cli.specs.Run.{standing};
 ghost use Rattle.request.specs.Request.{IsRequest};
 
-use admit_core::{OutOfMemory, Terms};
-use intake::{DatedTerms, Input, Stop, dated_terms, take_in};
-use modes::{Reply, days_of, deadlines_of, ending, stopped};
+use admit_core::OutOfMemory;
+use intake::{Input, Stop, dated_terms, take_in};
+use modes::{Reply, days_of, deadlines_of, ending, stopped, terms_in};
 use played::{Pickers, play};
 use request::{Request, read_request};
 use shelf_io::Shelf;
@@ -28,16 +28,6 @@ fn take<S: Shelf>(alloc: Global, words: &[String], shelf: &mut S) -> Result<(Req
     Ok((request, input))
 }
 
-/// The terms alone.
-fn terms_in<'a>(dated: Option<&'a DatedTerms>) -> Option<&'a Terms>
-    ensures { option_copied result ≡ terms_in (option_copied dated.entry) }
-{
-    match dated {
-        None => None,
-        Some(dated) => Some(&dated.terms),
-    }
-}
-
 /// Runs the days that are asked for, and ends by the mode.
 fn play_out(
     alloc: Global,
@@ -47,6 +37,7 @@ fn play_out(
 ) -> Result<Reply, OutOfMemory>
     requires request { IsRequest request.now }
     requires named { NamesIn request.now.mode input.now.index }
+    requires indexed { input.now.index ≡ ids_in input.now.dossier }
     requires there { AreThere pickers.old }
 
     ensures there { AreThere pickers.new }

@@ -22,8 +22,8 @@ fn push_fall(text: &mut String, dossier: &Dossier, fall: &Fall) -> Result<(), Al
     Ok(())
 }
 
-/// Adds the lines of falls.
-fn push_falls(text: &mut String, dossier: &Dossier, falls: &[Fall]) -> Result<(), AllocError>
+/// Adds the lines of falls, each with the ids of its school and wishes.
+pub fn push_falls(text: &mut String, dossier: &Dossier, falls: &[Fall]) -> Result<(), AllocError>
     requires { All (IsFallOf dossier.now) falls.now }
     ensures { OnOk result (string_bytes text.new ≡ string_bytes text.old ++ flat_map (fall_line dossier.now) falls.now) }
 {

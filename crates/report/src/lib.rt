@@ -13,7 +13,7 @@ mod sample;
 mod words;
 mod worked;
 
-pub use day::{dated_day_text, day_text};
+pub use day::{dated_day_text, day_text, push_falls};
 pub use explanation::explain_text;
 pub use final_state::{final_dated_text, final_text};
 pub use order::order_text;

@@ -3,11 +3,11 @@ use Rattle.std.specs.Prelude.{ℕ, ◌≤◌, Bool, true, false, List, [], ◌�
 use Rattle.std.specs.Fmt.{decimal}
 use Rattle.std.specs.Option.{option_and_then}
 use Rattle.admit_core.specs.declared.slot.Slot.{Slot}
-use Rattle.admit_core.specs.declared.slot.Slot.TheVariants.{Groups, Programmes, Schools, Rankings, Boarding, Wishes, State, Ceilings, Answers}
+use Rattle.admit_core.specs.declared.slot.Slot.TheVariants.{Groups, Programmes, Schools, Rankings, Boarding, Wishes, State, Ceilings, Answers, Chain as ChainSlot}
 use Rattle.clap.specs.Words.{Text}
 use Rattle.dossier_csv.specs.Columns.{choice}
 use Rattle.request.specs.declared.modes.Mode.{Mode}
-use Rattle.request.specs.declared.modes.Mode.TheVariants.{Order, Replay, Explain, Sample}
+use Rattle.request.specs.declared.modes.Mode.TheVariants.{Order, Replay, Chain, Check, Explain, Sample}
 use Rattle.request.specs.declared.modes.Name.{Name}
 use Rattle.request.specs.declared.modes.Name.TheVariants.{Wish, School}
 use Rattle.request.specs.declared.modes.Numbers.{Numbers}
@@ -21,6 +21,8 @@ abbrev pub modes_by_word : Numbers → List (Text × Option Mode)
 modes_by_word numbers =
     (codes "order", Some Order) ∷
     (codes "replay", Some Replay) ∷
+    (codes "chain", Some Chain) ∷
+    (codes "check", Some Check) ∷
     (codes "explain", option_map (λ wish. Explain wish) numbers.wish) ∷
     (codes "sample", option_map (λ number. Sample number) numbers.number) ∷ []
 
@@ -33,11 +35,12 @@ abbrev pub nine_slots : List Slot
 nine_slots =
     Groups ∷ Programmes ∷ Schools ∷ Rankings ∷ Boarding ∷ Wishes ∷ State ∷ Ceilings ∷ Answers ∷ []
 
--- the slots that a mode reads, in this order: the nine, but for those who need less; a sample is
--- made, and reads none
+-- the slots that a mode reads, in this order: the nine, but for those who need less, and then the chain where it is
+-- checked; a sample is made, and reads none
 abbrev pub slots_of : Mode → List Slot
 slots_of Order = Groups ∷ Rankings ∷ []
 slots_of (Sample number) = []
+slots_of Check = nine_slots ++ ChainSlot ∷ []
 slots_of _ = nine_slots
 
 -- how many candidates the made-up dossier of a mode has
@@ -48,6 +51,7 @@ sample_of _ = None
 -- the modes that run days, for which pickers are asked
 abbrev pub runs_days : Mode → Bool
 runs_days Order = false
+runs_days Check = false
 runs_days _ = true
 
 -- what a mode names in the dossier

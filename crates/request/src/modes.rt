@@ -14,6 +14,10 @@ pub enum Mode {
     Order,
     /// Writes the call orders, the days that are run, and the final state.
     Replay,
+    /// Writes the falls of the days that are run, as a text that can be checked.
+    Chain,
+    /// Checks such a text, that of the chain slot, day by day.
+    Check,
     /// Explains why a wish, named by its id, stands as it does after the days.
     Explain { wish: u32 },
     /// Makes a dossier of so many candidates, from 1 to 1,000,000, and writes a summary of its
@@ -58,6 +62,8 @@ pub(crate) fn mode_of(word: &str, numbers: Numbers) -> Option<Mode>
     match word {
         "order" => Some(Mode::Order),
         "replay" => Some(Mode::Replay),
+        "chain" => Some(Mode::Chain),
+        "check" => Some(Mode::Check),
         "explain" => numbers.wish.map(|wish| Mode::Explain { wish }),
         "sample" => numbers.number.map(|number| Mode::Sample { number }),
         _ => None,
@@ -72,6 +78,18 @@ pub fn slots_of(mode: Mode) -> &'static [Slot]
     match mode {
         Mode::Order => &[Slot::Groups, Slot::Rankings],
         Mode::Sample { .. } => &[],
+        Mode::Check => &[
+            Slot::Groups,
+            Slot::Programmes,
+            Slot::Schools,
+            Slot::Rankings,
+            Slot::Boarding,
+            Slot::Wishes,
+            Slot::State,
+            Slot::Ceilings,
+            Slot::Answers,
+            Slot::Chain,
+        ],
         _ => &[
             Slot::Groups,
             Slot::Programmes,
@@ -104,6 +122,7 @@ pub fn runs_days(mode: Mode) -> bool
 {
     match mode {
         Mode::Order => false,
+        Mode::Check => false,
         _ => true,
     }
 }

@@ -108,7 +108,8 @@ pub(crate) fn each_read_fails(
     comes_about(alloc, words, slots, outside, expected)
 }
 
-/// Whether a run is done, refused, or does not find what it names, with a line that says so.
+/// Whether a run is done, refused, proves nothing, or does not find what it names, with a line that says
+/// so.
 fn is_answered(ran: &Ran) -> bool {
     let text = ran.text.as_slice();
     let last = text
@@ -118,6 +119,8 @@ fn is_answered(ran: &Ran) -> bool {
         .unwrap_or(b"");
     if ran.status == Exit::Refused as u8 {
         last.starts_with(b"refused ")
+    } else if ran.status == Exit::NotProved as u8 {
+        last.starts_with(b"not a chain ") || last.starts_with(b"not proved ")
     } else if ran.status == Exit::NoSuchWish as u8 {
         last.starts_with(b"no such ")
     } else {

@@ -1,9 +1,12 @@
 use Rattle.replay_cli.proofs.Replying.{replies_played, replies_stopped}
-use Rattle.replay_cli.proofs.Taking.{named_in}
+use Rattle.replay_cli.proofs.Taking.{indexed_in, named_in}
 use Rattle.replay_cli.proofs.answer.answer.Goals as goal
 
 pub play_out-requires-clause-named : goal.play_out-requires-clause-named
 play_out-requires-clause-named g c = named_in c.in-Ok.request _ c.in-Ok.input c.in-Ok.ensures.input
+
+pub play_out-requires-clause-indexed : goal.play_out-requires-clause-indexed
+play_out-requires-clause-indexed g c = indexed_in c.in-Ok.request _ c.in-Ok.input c.in-Ok.ensures.input
 
 pub returns-in-Ok-clause-replies : goal.returns-in-Ok-clause-replies
 returns-in-Ok-clause-replies g c =

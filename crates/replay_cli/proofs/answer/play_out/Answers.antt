@@ -9,7 +9,7 @@ returns-in_err-played-clause-idle g c = λ none. c.in_err-played.ensures.idle (c
 pub ending-requires : goal.ending-requires
 ending-requires g c =
     can_end c.args.request.now c.requires.request c.args.input.now _ _ _ _ _ _ _ c.as_ref-dated.ensures.value c.in_ok-dated.ensures.dates c.terms_in.ensures c.days_of-number.ensures
-    c.in_ok-played.ensures.played c.requires.named
+    c.in_ok-played.ensures.played c.requires.named c.requires.indexed
 
 pub returns-clause-idle : goal.returns-clause-idle
 returns-clause-idle g c = λ none. c.in_ok-played.ensures.idle (c.days_of-number.ensures ∙ none)

@@ -1,0 +1,10 @@
+pub mod Cutting
+pub mod Numbering
+pub mod Saying
+pub mod WorkedCases
+pub mod Naming
+pub mod Testing
+pub mod Lowering
+pub mod Ending
+pub mod Counting
+pub mod Schools

@@ -1,0 +1,31 @@
+-- What a verdict tells.
+use Rattle.std.specs.Prelude.{ℕ, ◌<◌, Option, Some, None}
+use Rattle.admit_core.specs.declared.chain.CheckReason.{CheckReason}
+use Rattle.admit_core.specs.declared.chain.CheckReason.TheVariants.{NotOver, WrongWishes, WrongBar, StillOver, PassMissing, PassExtra}
+use Rattle.admit_core.specs.State.{State}
+use Rattle.certificate.specs.declared.check.Verdict.{Verdict}
+use Rattle.certificate.specs.declared.check.Verdict.TheVariants.{Proved, Rejected}
+
+-- the fault that a verdict tells, if it tells one
+abbrev pub fault_told : Verdict → Option (ℕ × CheckReason)
+fault_told (Proved evening) = None
+fault_told (Rejected row reason) = Some (row, reason)
+
+-- where a day is proved, its evening is one of these
+abbrev pub IfProved : Verdict → (State → Type 0) → Type 0
+IfProved (Proved evening) P = P evening
+IfProved (Rejected row reason) P = Unit {0}
+
+-- a school that a reason keeps is the place of one of so many
+abbrev pub KeepsSchool : ℕ → CheckReason → Type 0
+KeepsSchool schools NotOver = Unit {0}
+KeepsSchool schools WrongWishes = Unit {0}
+KeepsSchool schools WrongBar = Unit {0}
+KeepsSchool schools (StillOver school) = school < schools
+KeepsSchool schools PassMissing = Unit {0}
+KeepsSchool schools PassExtra = Unit {0}
+
+-- where a day is rejected, its reason is one of these
+abbrev pub IfRejected : Verdict → (CheckReason → Type 0) → Type 0
+IfRejected (Proved evening) P = Unit {0}
+IfRejected (Rejected row reason) P = P reason

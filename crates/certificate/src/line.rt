@@ -1,0 +1,126 @@
+//! A line of a chain.
+ghost use Rattle.std.specs.Prelude.{◌≡◌, IfOk, Some, option_map};
+ghost use Rattle.certificate.specs.Grammar.{fall_at, is_end, line_of, line_with, number, numbers, only, parts, is_word};
+
+use crate::cut::cut;
+use admit_core::{FallLine, OutOfMemory, Sequence};
+use std::alloc::Global;
+
+/// What a line says. A fall keeps its row.
+#[derive(Debug, Drop)]
+pub(crate) enum Line {
+    Day(u32),
+    Pass(u32),
+    Fall(FallLine),
+    End,
+}
+
+/// Whether a line is the last one.
+pub(crate) fn is_end(line: &Line) -> bool
+    ensures { result ≡ is_end (Some line.now) }
+{
+    match line {
+        Line::End => true,
+        _ => false,
+    }
+}
+
+/// The number of a word.
+fn number_of(word: &[u8]) -> Option<u32>
+    ensures { result ≡ number word.now }
+{
+    let value = dossier_csv::number_of(word)?;
+    if value <= u64::from(u32::MAX) {
+        Some(value as u32)
+    } else {
+        None
+    }
+}
+
+/// The numbers that the words of a text write; none where a word is no number.
+fn numbers_of(alloc: Global, text: &[u8]) -> Result<Option<Vec<u32>>, OutOfMemory>
+    ensures { IfOk result (λ found. option_map (λ v. v.items) found ≡ numbers (parts 32 text.now)) }
+{
+    let mut found = Vec::new(alloc);
+    let mut rest = text;
+    'words: while let Some((word, after)) = cut(rest, b' ') {
+        let Some(value) = number_of(word) else {
+            return Ok(None);
+        };
+        found.push(value)?;
+        rest = after;
+    }
+    let Some(value) = number_of(rest) else {
+        return Ok(None);
+    };
+    found.push(value)?;
+    Ok(Some(found))
+}
+
+/// The only number of some.
+fn only(numbers: &[u32]) -> Option<u32>
+    ensures { result ≡ only numbers.now }
+{
+    match numbers {
+        [value] => Some(*value),
+        _ => None,
+    }
+}
+
+/// The fall of some numbers: the school, the bar before and after it, and at least one wish.
+fn fall_at(alloc: Global, row: u64, numbers: &[u32]) -> Result<Option<FallLine>, OutOfMemory>
+    ensures { IfOk result (λ found. found ≡ fall_at row numbers.now) }
+{
+    if numbers.len() < 4 {
+        return Ok(None);
+    }
+    let wishes = numbers[3..].to_vec(alloc)?;
+    Ok(Some(FallLine {
+        row,
+        school: numbers[0],
+        from: numbers[1],
+        to: numbers[2],
+        wishes: Sequence::from_vec(wishes),
+    }))
+}
+
+/// Whether a word is this one.
+fn is_word(word: &[u8], other: &str) -> bool
+    ensures { result ≡ is_word word.now other.now }
+{
+    word == other.as_bytes()
+}
+
+/// The line of a word and numbers.
+fn line_with(
+    alloc: Global,
+    row: u64,
+    word: &[u8],
+    numbers: &[u32],
+) -> Result<Option<Line>, OutOfMemory>
+    ensures { IfOk result (λ found. found ≡ line_with row word.now numbers.now) }
+{
+    if is_word(word, "day") {
+        Ok(only(numbers).map(Line::Day))
+    } else if is_word(word, "pass") {
+        Ok(only(numbers).map(Line::Pass))
+    } else if is_word(word, "fall") {
+        Ok(fall_at(alloc, row, numbers)?.map(Line::Fall))
+    } else {
+        Ok(None)
+    }
+}
+
+/// The line that stands at a row, without its line feed; none where the text is no line.
+pub(crate) fn line_of(alloc: Global, row: u64, text: &[u8]) -> Result<Option<Line>, OutOfMemory>
+    ensures { IfOk result (λ found. found ≡ line_of row (parts 32 text.now)) }
+{
+    let Some((word, after)) = cut(text, b' ') else {
+        let is_end = is_word(text, "end");
+        return Ok(if is_end { Some(Line::End) } else { None });
+    };
+    match numbers_of(alloc, after)? {
+        None => Ok(None),
+        Some(numbers) => line_with(alloc, row, word, &numbers),
+    }
+}

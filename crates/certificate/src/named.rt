@@ -1,0 +1,122 @@
+//! The wishes that a fall names.
+ghost use Rattle.std.specs.Prelude.{◌≡◌, ◌<◌, ◌≤◌, All, IfOk, length, filter, map, nat_le, zip};
+ghost use Rattle.std.specs.List.{list_all};
+ghost use Rattle.admit_core.specs.Chains.{shows_rank, shows_ranks};
+ghost use Rattle.admit_core.specs.Proposals.{demanded_ranks, demands_bed};
+ghost use Rattle.day_state.specs.Kept.{mark_in, wish_in};
+ghost use Rattle.certificate.specs.Checked.{ids_in};
+
+use admit_core::OutOfMemory;
+use bar_law::Falling;
+use day_state::DayState;
+use demand::wish_at;
+use dossier_check::{Index, wish_place};
+use linked_demand::LinkedRound;
+use std::alloc::Global;
+
+/// The boarding ranks of wishes.
+fn ranks_of(alloc: Global, state: &DayState<'_>, places: &[u32]) -> Result<Vec<u32>, OutOfMemory>
+    requires { All (λ k. k < length state.now.dossier.wishes) places.now }
+    ensures { IfOk result (λ v. v.items ≡ map (λ k. (wish_in state.now.dossier.wishes k).board_rank) places.now) }
+{
+    let mut ranks = Vec::with_capacity(alloc, places.len())?;
+    for place in places {
+        ranks.push(wish_at(state, *place).board_rank)?;
+    }
+    Ok(ranks)
+}
+
+/// The demanded ranks of a school up to one of them.
+pub(crate) fn ranks_up_to(
+    alloc: Global,
+    round: &LinkedRound<'_, '_>,
+    state: &DayState<'_>,
+    school: u32,
+    most: u32,
+) -> Result<Vec<u32>, OutOfMemory>
+    requires same { round.now.state ≡ state.now }
+    requires ceilings { length round.now.ceilings ≡ length state.now.dossier.schools }
+    requires bars { length round.now.bars ≡ length round.now.ceilings }
+    requires school { school < length round.now.ceilings }
+    ensures { IfOk result (λ v. v.items ≡ filter (λ rank. nat_le rank most) (demanded_ranks state.now round.now.orders round.now.bars school)) }
+{
+    let _ = state.marks(); // one for each wish
+    let names = round.names(alloc, school, most)?;
+    ranks_of(alloc, state, &names)
+}
+
+/// Whether the wish at a place demands a bed of a school at the present bars.
+fn demands_bed(round: &LinkedRound<'_, '_>, state: &DayState<'_>, school: u32, place: u32) -> bool
+    requires same { round.now.state ≡ state.now }
+    requires place { place < length state.now.dossier.wishes }
+    ensures { result ≡ demands_bed state.now round.now.orders round.now.bars school (wish_in state.now.dossier.wishes place) (mark_in state.now.marks place) }
+{
+    let wish = wish_at(state, place);
+    let Some(own) = wish.school else {
+        return false;
+    };
+    if own != school || wish.board_rank == 0 {
+        return false;
+    }
+    if state.is_live_in_its_school(place) {
+        return false;
+    }
+    round.is_proposed(place)
+}
+
+/// Whether a wish shows a rank of a school: it demands a bed there at this rank.
+fn shows_rank(
+    round: &LinkedRound<'_, '_>,
+    state: &DayState<'_>,
+    index: &Index,
+    school: u32,
+    rank: u32,
+    id: u32,
+) -> bool
+    requires same { round.now.state ≡ state.now }
+    requires index { index.now ≡ ids_in state.now.dossier }
+    ensures { result ≡ shows_rank state.now round.now.orders round.now.bars school rank id }
+{
+    let _ = state.marks(); // one for each wish
+    let dossier = state.dossier();
+    let _ = &dossier.wishes; // learns that the dossier is valid
+    match wish_place(index, id) {
+        None => false,
+        Some(place) => {
+            let demands = demands_bed(round, state, school, place);
+            demands && rank == wish_at(state, place).board_rank
+        }
+    }
+}
+
+/// Whether each of the wishes shows the rank beside it.
+fn each_shows(
+    round: &LinkedRound<'_, '_>,
+    state: &DayState<'_>,
+    index: &Index,
+    school: u32,
+    ranks: &[u32],
+    ids: &[u32],
+) -> bool
+    requires same { round.now.state ≡ state.now }
+    requires index { index.now ≡ ids_in state.now.dossier }
+    ensures { result ≡ list_all (λ x. shows_rank state.now round.now.orders round.now.bars school x.0 x.1) (zip ranks.now ids.now) }
+{
+    ranks.iter().zip(ids).all(|(rank, id)| shows_rank(round, state, index, school, *rank, *id))
+}
+
+/// Whether the wishes show the ranks, each its own.
+pub(crate) fn show_ranks(
+    round: &LinkedRound<'_, '_>,
+    state: &DayState<'_>,
+    index: &Index,
+    school: u32,
+    ranks: &[u32],
+    ids: &[u32],
+) -> bool
+    requires same { round.now.state ≡ state.now }
+    requires index { index.now ≡ ids_in state.now.dossier }
+    ensures { result ≡ shows_ranks state.now round.now.orders round.now.bars school ranks.now ids.now }
+{
+    ids.len() == ranks.len() && each_shows(round, state, index, school, ranks, ids)
+}

@@ -1,0 +1,39 @@
+//! The lines that tell why a chain is refused.
+ghost use Rattle.std.specs.Prelude.{◌≡◌, ◌++◌, ◌∷◌, [], IfOk, length};
+ghost use Rattle.admit_core.specs.ChainLines.{chain_fault_text};
+ghost use Rattle.certificate.specs.VerdictText.{verdict_text};
+ghost use Rattle.certificate.specs.Verdicts.{KeepsSchool};
+
+use admit_core::{ChainFault, CheckReason, Dossier, OutOfMemory};
+use std::alloc::Global;
+
+/// The line of a text that is no chain.
+pub fn chain_fault_text(alloc: Global, fault: ChainFault) -> Result<Vec<u8>, OutOfMemory>
+    ensures { IfOk result (λ text. text.items ≡ chain_fault_text fault ++ 10 ∷ []) }
+{
+    let mut text = String::new(alloc);
+    writeln!(text, "{fault}")?;
+    Ok(text.into_bytes())
+}
+
+/// The line of a day's chain that is not valid. A school that is still overfilled is told by its id.
+pub fn verdict_text(
+    alloc: Global,
+    dossier: &Dossier,
+    row: u64,
+    reason: CheckReason,
+) -> Result<Vec<u8>, OutOfMemory>
+    requires { KeepsSchool (length dossier.now.schools) reason }
+    ensures { IfOk result (λ text. text.items ≡ verdict_text dossier.now row reason) }
+{
+    let mut text = String::new(alloc);
+    let number = reason.number();
+    match reason {
+        CheckReason::StillOver { school } => {
+            let id = dossier.schools.as_slice()[school as usize].id;
+            writeln!(text, "not proved row {row} reason {number} {reason} {id}")?;
+        }
+        _ => writeln!(text, "not proved row {row} reason {number} {reason}")?,
+    }
+    Ok(text.into_bytes())
+}

@@ -1,0 +1,4 @@
+pub mod WordLines
+pub mod ReadBack
+pub mod ValidLines
+pub mod ValidDays

@@ -1,0 +1,156 @@
+-- A day whose chain is tested.
+use Rattle.std.proofs.Common.{◌≡◌, ◌∙◌, ℕ, ◌+◌, ◌≤◌, List, [], ◌∷◌, Option, Some, None, Result, Ok, Err, IsSomeAnd, OnOk, IfSome, All, ap, arith, drop, length, map, refl, subst, sym}
+use Rattle.std.specs.Prelude.{option_map}
+use Rattle.std.specs.List.{range_with_len}
+use Rattle.std.specs.Option.{option_or}
+use Rattle.admit_core.proofs.ChainLaws.{chains_tell_the_day, no_fault_where_valid}
+use Rattle.admit_core.specs.ChainLaws.{passes_told}
+use Rattle.admit_core.specs.Chains.{IsDayChain, day_fault}
+use Rattle.admit_core.specs.Days.{IsDay, ceilings_of, first_evening, lapsed_on, morning, unfit_on}
+use Rattle.admit_core.specs.DossierRows.{DossierRows}
+use Rattle.admit_core.specs.State.{State, free_beds, seats_left}
+use Rattle.admit_core.specs.declared.chain.CheckReason.{CheckReason}
+use Rattle.admit_core.specs.declared.chain.DayChain.{DayChain}
+use Rattle.admit_core.specs.declared.ranking.CallOrder.{CallOrder}
+use Rattle.admit_core.specs.declared.records.DayRecord.{DayRecord}
+use Rattle.admit_core.specs.declared.records.Terms.{Terms}
+use Rattle.admit_core.specs.declared.state.Mark.{Mark}
+use Rattle.admit_core.specs.declared.state.Status.{Status}
+use Rattle.certificate.proofs.Ending.{evening_is}
+use Rattle.certificate.specs.ChainText.{IsDayOf}
+use Rattle.certificate.specs.Checked.{state_after}
+use Rattle.certificate.specs.ProvedDays.{AreProvedDays, evening_after, evening_by}
+use Rattle.day_run.proofs.SameDossier.{evening_dossier}
+use Rattle.day_run.proofs.Stamps.{stamps_kept}
+use Rattle.day_run.specs.AnswersOn.{unfit_refusal}
+use Rattle.day_run.specs.RunDay.{IsStampedBy, KeepsStamps}
+use Rattle.day_run.specs.declared.refusal.DayRefusal.{DayRefusal}
+use Rattle.day_run.specs.declared.refusal.DayRefusal.TheVariants as refusals
+use Rattle.intake.specs.Dated.{AreDatedFor}
+use Rattle.intake.specs.declared.terms.DatedTerms.{DatedTerms}
+use Rattle.modes.proofs.Writable.{finals_dated, first_known}
+use Rattle.modes.specs.CheckedDays.{StopsBy, TellsWhy, why_of}
+use Rattle.modes.specs.Checking.{EndsProof, IsReply, IsUnproved, why_none, why_not}
+use Rattle.modes.specs.Replay.{CanBeDated, CanBeWritten}
+use Rattle.modes.specs.declared.exit.Exit.{Exit}
+use Rattle.modes.specs.declared.exit.Exit.TheVariants as exits
+use Rattle.modes.specs.declared.unproved.Unproved.{Unproved}
+use Rattle.modes.specs.declared.unproved.Unproved.TheVariants.{Unfit, Rejected, OutOfMemory}
+
+-- an answer that does not fit
+pub unfit_stops : (d : DossierRows) (day : ℕ) (unfit : Option (ℕ × Status)) (fault : Option Unproved) (refusal : DayRefusal) (why : Unproved) → why ≡ why_of refusal
+    → IsSomeAnd unfit (λ x. refusal ≡ refusals.Unfit (unfit_refusal d day x)) → StopsBy why (option_or (option_map (λ x. Unfit (unfit_refusal d day x)) unfit) fault)
+unfit_stops d day None fault refusal why is some = absurd some
+unfit_stops d day (Some x) fault refusal why is some =
+    subst (λ (y : Unproved). StopsBy y (Some (Unfit (unfit_refusal d day x)))) (sym (is ∙ ap why_of some)) refl
+
+-- where all answers fit, the chain's first fault tells why
+module _ (terms : Option Terms) (orders : List CallOrder) (day : ℕ) (old dawn : State) (ceilings : List ℕ) (chain : DayChain) (fits : unfit_on terms day old ≡ None) (begins : dawn ≡ morning terms day old)
+    (under : ceilings ≡ ceilings_of old.dossier day) where
+  fault_same : day_fault orders ceilings day dawn chain ≡ day_fault orders (ceilings_of old.dossier day) day (morning terms day old) chain
+  fault_same = ap (λ (cs : List ℕ). day_fault orders cs day dawn chain) under ∙ ap (λ (s : State). day_fault orders (ceilings_of old.dossier day) day s chain) begins
+
+  pub chain_tells : {X : Type 0} (result : Result X Unproved) → TellsWhy result (option_map (λ (x : ℕ × CheckReason). Rejected x.0 x.1) (day_fault orders ceilings day dawn chain)) → TellsWhy result (why_not terms orders day old chain)
+  chain_tells result tells =
+      subst (TellsWhy result)
+      (ap (option_map (λ (x : ℕ × CheckReason). Rejected x.0 x.1)) fault_same
+      ∙ ap (λ (u : Option (ℕ × Status)). option_or (option_map (λ x. Unfit (unfit_refusal old.dossier day x)) u)
+      (option_map (λ (x : ℕ × CheckReason). Rejected x.0 x.1) (day_fault orders (ceilings_of old.dossier day) day (morning terms day old) chain))) (sym fits))
+      tells
+
+  module _ (evening : State) (valid : IsDayChain orders ceilings day dawn chain evening) where
+    valid_here : IsDayChain orders (ceilings_of old.dossier day) day (morning terms day old) chain evening
+    valid_here =
+        subst (λ (s : State). IsDayChain orders (ceilings_of old.dossier day) day s chain evening) begins
+        (subst (λ (cs : List ℕ). IsDayChain orders cs day dawn chain evening) under valid)
+
+    pub leads : evening ≡ evening_by terms orders day old chain
+    leads = evening_is orders (ceilings_of old.dossier day) day 1 (morning terms day old) chain.passes evening valid_here
+
+    -- a valid chain tells a day of the rules
+    told : DayRecord
+    told = record {
+      day = day;
+      passes = passes_told orders (ceilings_of old.dossier day) day 1 (morning terms day old) chain.passes;
+      left = map (seats_left evening) (range_with_len 0 (length evening.dossier.programmes));
+      free = map (free_beds evening) (range_with_len 0 (length evening.dossier.schools));
+      lapsed = lapsed_on terms day old;
+    }
+
+    is_day : IsDay terms orders (ceilings_of old.dossier day) old told evening
+    unfolding told
+    is_day = record {
+      lapsed = refl;
+      fits = fits;
+      passes = chains_tell_the_day orders (ceilings_of old.dossier day) day (morning terms day old) chain evening valid_here;
+      left = refl;
+      free = refl;
+    }
+
+    pub keeps_dossier : evening.dossier ≡ old.dossier
+    keeps_dossier = evening_dossier terms orders (ceilings_of old.dossier day) old told evening is_day
+
+    pub keeps_stamps : KeepsStamps day old evening
+    unfolding told
+    keeps_stamps = stamps_kept terms orders (ceilings_of old.dossier day) old told evening is_day
+
+-- the days from a place on
+pub why_stops : (found : Unproved) (why rest all : Option Unproved) → all ≡ option_or why rest → StopsBy found why → StopsBy found all
+why_stops (Unfit refusal) why rest all is stops = is ∙ ap (λ o. option_or o rest) stops
+why_stops (Rejected row reason) why rest all is stops = is ∙ ap (λ o. option_or o rest) stops
+why_stops OutOfMemory why rest all is stops = tt
+
+pub why_goes_on : (why rest all : Option Unproved) → all ≡ option_or why rest → why ≡ None → all ≡ rest
+why_goes_on why rest all is none = is ∙ ap (λ o. option_or o rest) none
+
+-- a stop of the test is that of the days
+pub stop_ends : (d : DossierRows) (found : Unproved) (why : Option Unproved) (whole : List ℕ) (exit : Exit) (text : List ℕ) → StopsBy found why → IsUnproved d found exit text → EndsProof d why whole exit text
+stop_ends d (Unfit refusal) why whole exit text stops is = subst (λ (o : Option Unproved). EndsProof d o whole exit text) (sym stops) is
+stop_ends d (Rejected row reason) why whole exit text stops is = subst (λ (o : Option Unproved). EndsProof d o whole exit text) (sym stops) is
+stop_ends d OutOfMemory why whole exit text stops is = absurd is
+
+-- days that are proved have nothing against them, and lead to their evening
+none_against : (terms : Option Terms) (orders : List CallOrder) (day : ℕ) (old : State) (chain : DayChain) (evening : State) → unfit_on terms day old ≡ None
+    → IsDayChain orders (ceilings_of old.dossier day) day (morning terms day old) chain evening → why_not terms orders day old chain ≡ None
+none_against terms orders day old chain evening fits valid =
+    ap (λ (u : Option (ℕ × Status)). option_or (option_map (λ x. Unfit (unfit_refusal old.dossier day x)) u)
+    (option_map (λ (x : ℕ × CheckReason). Rejected x.0 x.1) (day_fault orders (ceilings_of old.dossier day) day (morning terms day old) chain))) fits
+    ∙ ap (option_map (λ (x : ℕ × CheckReason). Rejected x.0 x.1)) ((no_fault_where_valid orders (ceilings_of old.dossier day) day (morning terms day old) chain).1 (evening, valid))
+
+pub proved_none : (terms : Option Terms) (orders : List CallOrder) (d : ℕ) (old : State) (chains : List DayChain) (new : State) → AreProvedDays terms orders d old chains new → why_none terms orders d old chains ≡ None
+proved_none terms orders d old [] new are = refl
+proved_none terms orders d old (chain ∷ chains) new are =
+    let evening = are.0 in
+    let leads_to = evening_is orders (ceilings_of old.dossier d) d 1 (morning terms d old) chain.passes evening are.2 in
+    ap (λ (o : Option Unproved). option_or o (why_none terms orders (d + 1) (evening_by terms orders d old chain) chains)) (none_against terms orders d old chain evening are.1 are.2)
+    ∙ ap (λ (s : State). why_none terms orders (d + 1) s chains) (sym leads_to)
+    ∙ proved_none terms orders (d + 1) evening chains new are.3
+
+-- the test goes on after a day that is proved, and stops at one that is not
+module _ (terms : Option Terms) (orders : List CallOrder) (k : ℕ) (s next : State) (chain : DayChain) (rest : List DayChain) where
+  pub days_go_on : (whole : Option Unproved) → whole ≡ why_none terms orders k s (chain ∷ rest) → why_not terms orders k s chain ≡ None → next ≡ evening_by terms orders k s chain
+      → whole ≡ why_none terms orders (k + 1) next rest
+  days_go_on whole e none is =
+      why_goes_on (why_not terms orders k s chain) (why_none terms orders (k + 1) (evening_by terms orders k s chain) rest) whole e none
+      ∙ ap (λ (t : State). why_none terms orders (k + 1) t rest) (sym is)
+
+  pub evening_goes_on : (whole : State) → whole ≡ evening_after terms orders k s (chain ∷ rest) → next ≡ evening_by terms orders k s chain → whole ≡ evening_after terms orders (k + 1) next rest
+  evening_goes_on whole e is = e ∙ ap (λ (t : State). evening_after terms orders (k + 1) t rest) (sym is)
+
+  pub days_stop : (found : Unproved) (whole : Option Unproved) → whole ≡ why_none terms orders k s (chain ∷ rest) → StopsBy found (why_not terms orders k s chain) → StopsBy found whole
+  days_stop found whole e stops = why_stops found (why_not terms orders k s chain) (why_none terms orders (k + 1) (evening_by terms orders k s chain) rest) whole e stops
+
+-- a run is done where nothing is against its days
+pub proof_ends : (d : DossierRows) (found : Option Unproved) (whole : List ℕ) (exit : Exit) (text : List ℕ) → found ≡ None → IsReply exits.Done whole exit text → EndsProof d found whole exit text
+proof_ends d found whole exit text none is = subst (λ (o : Option Unproved). EndsProof d o whole exit text) (sym none) is
+
+-- the evening after days from the first one on can be written with its dates
+pub evening_dated : (d : DossierRows) (dated : Option DatedTerms) (begun evening : State) → begun ≡ first_evening d → evening.dossier ≡ begun.dossier → (All (IsStampedBy 366) begun.marks → All (IsStampedBy 366) evening.marks)
+    → IfSome dated (AreDatedFor d) → CanBeDated dated evening
+evening_dated d dated begun evening first same keeps known =
+    finals_dated evening dated (subst (λ (e : DossierRows). IfSome dated (AreDatedFor e)) (sym (same ∙ ap (λ (s : State). s.dossier) first)) known)
+    (keeps (subst (λ (s : State). All (IsStampedBy 366) s.marks) (sym first) (first_known d dated).stamped))
+
+-- the places of days that can be written are those that their chain names
+pub chain_written : (d : DossierRows) (dated : Option DatedTerms) (days : List DayRecord) → All (CanBeWritten d dated) days → All (IsDayOf d) days
+chain_written d dated days can = λ k x lt n y within. ((can k x lt).passes n y within).falls

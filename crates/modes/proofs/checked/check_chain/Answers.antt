@@ -1,0 +1,30 @@
+use Rattle.std.proofs.Common.{◌≡◌, ◌∙◌, None, Option, ap, length, sym}
+use Rattle.std.specs.Option.{option_copied}
+use Rattle.admit_core.specs.Days.{first_evening}
+use Rattle.admit_core.specs.State.{State}
+use Rattle.admit_core.specs.declared.records.Terms.{Terms}
+use Rattle.certificate.specs.ProvedDays.{evening_after}
+use Rattle.intake.specs.Dated.{terms_in}
+use Rattle.modes.specs.Checking.{proved_text, why_none}
+use Rattle.modes.proofs.CheckedDay.{evening_dated, proof_ends}
+use Rattle.modes.proofs.checked.check_chain.Goals as goal
+
+pub proved_text-requires : goal.proved_text-requires
+proved_text-requires c =
+    evening_dated c.args.input.now.dossier (option_copied c.args.dated) c.in_ok-state.state c.check_days.new.state (c.in_ok-state.ensures ∙ c.requires.first) c.in-Ok.ensures.dossier c.in-Ok.ensures.stamps
+    c.requires.dated
+
+pub returns-in-Ok : goal.returns-in-Ok
+returns-in-Ok c =
+    let d = c.args.input.now.dossier in
+    let dated = option_copied c.args.dated in
+    let orders = c.args.orders.now.orders in
+    let days = c.args.days.now in
+    let told = option_copied c.terms_in.result in
+    let begun : c.in_ok-state.state ≡ first_evening d = c.in_ok-state.ensures ∙ c.requires.first in
+    let none : why_none (terms_in dated) orders 1 (first_evening d) days ≡ None =
+    ap (λ (t : Option Terms). why_none t orders 1 (first_evening d) days) (sym c.terms_in.ensures) ∙ ap (λ (s : State). why_none told orders 1 s days) (sym begun) ∙ c.in-Ok.ensures.found in
+    let evening : c.check_days.new.state ≡ evening_after (terms_in dated) orders 1 (first_evening d) days =
+    c.in-Ok.ensures.evening ∙ ap (λ (s : State). evening_after told orders 1 s days) begun ∙ ap (λ (t : Option Terms). evening_after t orders 1 (first_evening d) days) c.terms_in.ensures in
+    proof_ends d _ (proved_text (length days) (evening_after (terms_in dated) orders 1 (first_evening d) days) dated) _ _ none
+    (c.reply.ensures.0, c.reply.ensures.1 ∙ c.in_ok-proved_text-in-Ok.ensures ∙ ap (λ (s : State). proved_text (length days) s dated) evening)

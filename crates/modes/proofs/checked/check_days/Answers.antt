@@ -1,0 +1,28 @@
+use Rattle.std.proofs.Common.{◌≡◌, ◌∙◌, ◌+◌, ◌≤◌, ap, arith, drop}
+use Rattle.std.specs.Option.{option_copied}
+use Rattle.certificate.proofs.Lowering.{drop_item}
+use Rattle.certificate.specs.ProvedDays.{evening_after}
+use Rattle.modes.specs.Checking.{why_none}
+use Rattle.modes.proofs.CheckedDay.{days_go_on, evening_goes_on}
+use Rattle.modes.proofs.checked.check_days.Goals as goal
+
+pub loop-place-preserved : goal.loop-place-preserved
+loop-place-preserved c =
+    let terms = option_copied c.args.terms in
+    let orders = c.args.orders.now.orders in
+    let days = c.args.days.now in
+    let i = c.loop-place.place in
+    let s = c.loop-place.state in
+    let next = c.check_next.new.state in
+    let chain = c.index-days-place.result in
+    let rest = drop (i + 1) days in
+    let inv = c.loop-place.invariant in
+    let here = drop_item days i chain (omega arith) c.index-days-place.is in
+    let after = c.in_ok-check_next.ensures in
+    let within : i + 1 ≤ 366 = omega (arith, c.requires.days) in
+    record {
+      why = days_go_on terms orders (i + 1) s next chain rest _ (inv.why ∙ ap (why_none terms orders (i + 1) s) here) after.found after.evening;
+      evening = evening_goes_on terms orders (i + 1) s next chain rest _ (inv.evening ∙ ap (evening_after terms orders (i + 1) s) here) after.evening;
+      dossier = after.dossier ∙ inv.dossier;
+      stamped = λ all. after.stamps 366 within (inv.stamped all);
+    }

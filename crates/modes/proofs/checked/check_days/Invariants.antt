@@ -1,0 +1,18 @@
+use Rattle.std.proofs.Common.{◌≡◌, ◌+◌, All, drop}
+use Rattle.std.specs.Option.{option_copied}
+use Rattle.certificate.specs.ProvedDays.{evening_after}
+use Rattle.day_run.specs.RunDay.{IsStampedBy}
+use Rattle.modes.specs.Checking.{why_none}
+use Rattle.modes.proofs.checked.check_days.Given as goal
+
+abbrev pub invariant-loop-place : goal.invariant-loop-place
+invariant-loop-place l =
+    let terms = option_copied l.terms in
+    let orders = l.orders.orders in
+    let rest = drop l.place l.days in
+    record {
+      why : why_none terms orders 1 l.fn.state l.days ≡ why_none terms orders (l.place + 1) l.state rest;
+      evening : evening_after terms orders 1 l.fn.state l.days ≡ evening_after terms orders (l.place + 1) l.state rest;
+      dossier : l.state.dossier ≡ l.fn.state.dossier;
+      stamped : All (IsStampedBy 366) l.fn.state.marks → All (IsStampedBy 366) l.state.marks;
+    }

@@ -1,0 +1,28 @@
+-- What a test of days tells.
+use Rattle.std.specs.Prelude.{◌≡◌, ℕ, Option, Some, None, Result, Ok, Err, ⊤}
+use Rattle.certificate.specs.Verdicts.{KeepsSchool}
+use Rattle.day_run.specs.declared.refusal.DayRefusal.{DayRefusal}
+use Rattle.day_run.specs.declared.refusal.DayRefusal.TheVariants as refusals
+use Rattle.modes.specs.declared.unproved.Unproved.{Unproved}
+use Rattle.modes.specs.declared.unproved.Unproved.TheVariants.{Unfit, Rejected, OutOfMemory}
+
+abbrev pub why_of : DayRefusal → Unproved
+why_of (refusals.Unfit refusal) = Unfit refusal
+why_of refusals.OutOfMemory = OutOfMemory
+
+-- a test that stopped tells why, unless memory ran out
+abbrev pub StopsBy : Unproved → Option Unproved → Type 0
+StopsBy (Unfit refusal) why = why ≡ Some (Unfit refusal)
+StopsBy (Rejected row reason) why = why ≡ Some (Rejected row reason)
+StopsBy OutOfMemory why = ⊤
+
+-- one that went through found nothing
+abbrev pub TellsWhy : {X : Type 0} → Result X Unproved → Option Unproved → Type 0
+TellsWhy (Ok x) why = why ≡ None
+TellsWhy (Err e) why = StopsBy e why
+
+-- a school that a rejection keeps is one of so many
+abbrev pub KeepsIn : ℕ → Unproved → Type 0
+KeepsIn schools (Rejected row reason) = KeepsSchool schools reason
+KeepsIn schools (Unfit refusal) = ⊤
+KeepsIn schools OutOfMemory = ⊤

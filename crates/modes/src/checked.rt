@@ -1,0 +1,213 @@
+//! The mode `check`: the days of a chain, tested one after another.
+ghost use Rattle.std.specs.Prelude.{◌≡◌, ◌≤◌, ◌<◌, ◌^◌, All, IfErr, IfOk, IfSome, OnOk, length, option_copied, option_map};
+ghost use Rattle.admit_core.specs.CallOrder.{AreCallOrders};
+ghost use Rattle.admit_core.specs.Chains.{IsDayChain, day_fault};
+ghost use Rattle.admit_core.specs.Days.{first_evening};
+ghost use Rattle.admit_core.specs.Ranges.{IsDay as IsDayNumber};
+ghost use Rattle.certificate.specs.Checked.{ids_in};
+ghost use Rattle.certificate.specs.ProvedDays.{evening_after, evening_by};
+ghost use Rattle.day_run.specs.RunDay.{IsStampedBy, KeepsStamps};
+ghost use Rattle.intake.specs.Dated.{AreDatedFor, terms_in};
+ghost use Rattle.modes.specs.CheckedDays.{KeepsIn, TellsWhy};
+ghost use Rattle.modes.specs.Checking.{EndsProof, IsChecked, IsReply, IsUnproved, proved_text, why_none, why_not};
+ghost use Rattle.modes.specs.Replay.{CanBeDated};
+ghost use Rattle.modes.specs.declared.unproved.Unproved.TheVariants as whys;
+
+use crate::exit::Exit;
+use crate::job::terms_in;
+use crate::replay::final_lines;
+use crate::reply::Reply;
+use crate::unproved::Unproved;
+use admit_core::{CallOrders, DayChain, Dossier, OutOfMemory, Terms};
+use certificate::{ChainRefusal, Verdict, chain_fault_text, check_day, read_chain, verdict_text};
+use day_run::{ceilings_on, make_morning};
+use day_state::DayState;
+use dossier_check::Index;
+use intake::{DatedTerms, Input};
+use report::refusal_text;
+use std::alloc::Global;
+
+/// Tests the chain of a day in its morning, and leaves the evening of the day.
+fn check_morning<'d>(
+    alloc: Global,
+    index: &Index,
+    orders: &CallOrders,
+    ceilings: &[u32],
+    state: &mut DayState<'d>,
+    day: u32,
+    chain: &DayChain,
+) -> Result<(), Unproved>
+    requires index { index.now ≡ ids_in state.old.dossier }
+    requires orders { AreCallOrders state.old.dossier.groups orders.now.orders }
+    requires ceilings { length ceilings.now ≡ length state.old.dossier.schools }
+    requires passes { length chain.now.passes < 2 ^ 32 }
+
+    ensures found { TellsWhy result (option_map (λ x. whys.Rejected x.0 x.1)
+        (day_fault orders.now.orders ceilings.now day state.old chain.now)) }
+    ensures valid { OnOk result (IsDayChain orders.now.orders ceilings.now day state.old chain.now state.new) }
+    ensures school { IfErr result (KeepsIn (length state.old.dossier.schools)) }
+{
+    match check_day(alloc, index, orders, state, ceilings, day, chain)? {
+        Verdict::Proved { evening } => {
+            *state = evening;
+            Ok(())
+        }
+        Verdict::Rejected { row, reason } => Err(Unproved::Rejected(row, reason)),
+    }
+}
+
+/// Tests the chain of a day from the evening before, and leaves the evening of the day.
+fn check_next(
+    alloc: Global,
+    index: &Index,
+    orders: &CallOrders,
+    terms: Option<&Terms>,
+    state: &mut DayState<'_>,
+    day: u32,
+    chain: &DayChain,
+) -> Result<(), Unproved>
+    requires index { index.now ≡ ids_in state.old.dossier }
+    requires orders { AreCallOrders state.old.dossier.groups orders.now.orders }
+    requires terms { IfSome (option_copied terms) (λ t. length t.before ≡ length state.old.dossier.wishes) }
+    requires passes { length chain.now.passes < 2 ^ 32 }
+
+    ensures found { TellsWhy result (why_not (option_copied terms.entry) orders.now.orders day state.old chain.now) }
+    ensures evening { OnOk result (state.new ≡ evening_by (option_copied terms.entry) orders.now.orders day state.old chain.now) }
+    ensures dossier { OnOk result (state.new.dossier ≡ state.old.dossier) }
+    ensures stamps { OnOk result (KeepsStamps day state.old state.new) }
+    ensures school { IfErr result (KeepsIn (length state.old.dossier.schools)) }
+{
+    let ceilings = ceilings_on(alloc, state.dossier(), day)?;
+    make_morning(state, terms, day)?;
+    check_morning(alloc, index, orders, &ceilings, state, day, chain)
+}
+
+/// Tests the days of a chain from day 1 on, and leaves the evening of the last.
+fn check_days(
+    alloc: Global,
+    index: &Index,
+    orders: &CallOrders,
+    terms: Option<&Terms>,
+    state: &mut DayState<'_>,
+    days: &[DayChain],
+) -> Result<(), Unproved>
+    requires index { index.now ≡ ids_in state.old.dossier }
+    requires orders { AreCallOrders state.old.dossier.groups orders.now.orders }
+    requires terms { IfSome (option_copied terms) (λ t. length t.before ≡ length state.old.dossier.wishes) }
+    requires days { length days.now ≤ 366 }
+    requires passes { All (λ day. length day.passes < 2 ^ 32) days.now }
+
+    ensures found { TellsWhy result (why_none (option_copied terms.entry) orders.now.orders 1 state.old days.now) }
+    ensures evening { OnOk result (state.new ≡ evening_after (option_copied terms.entry) orders.now.orders 1 state.old days.now) }
+    ensures dossier { OnOk result (state.new.dossier ≡ state.old.dossier) }
+    ensures stamps { OnOk result (All (IsStampedBy 366) state.old.marks → All (IsStampedBy 366) state.new.marks) }
+    ensures school { IfErr result (KeepsIn (length state.old.dossier.schools)) }
+{
+    for (place, chain) in days.iter().enumerate() {
+        check_next(alloc, index, orders, terms, state, place as u32 + 1, chain)?;
+    }
+    Ok(())
+}
+
+/// The text where so many days are proved, and lead to this evening.
+fn proved_text(
+    alloc: Global,
+    number: usize,
+    evening: &DayState<'_>,
+    dated: Option<&DatedTerms>,
+) -> Result<Vec<u8>, OutOfMemory>
+    requires { CanBeDated (option_copied dated) evening.now }
+    ensures { IfOk result (λ text. text.items ≡ proved_text number evening.now (option_copied dated.entry)) }
+{
+    let mut line = String::new(alloc);
+    writeln!(line, "proved {number}")?;
+    let mut text = line.into_bytes();
+    text.extend_from_slice(&final_lines(alloc, evening, dated)?)?;
+    Ok(text)
+}
+
+/// A reply.
+fn reply(exit: Exit, text: Vec<u8>) -> Reply
+    ensures { IsReply exit text.items result.exit result.text.items }
+{
+    Reply { exit, text }
+}
+
+/// The line of days that are not all proved.
+fn unproved(alloc: Global, dossier: &Dossier, why: Unproved) -> Result<Reply, OutOfMemory>
+    requires { KeepsIn (length dossier.now.schools) why }
+    ensures { IfOk result (λ reply. IsUnproved dossier.now why reply.exit reply.text.items) }
+{
+    match why {
+        Unproved::Unfit(refusal) => Ok(reply(Exit::Refused, refusal_text(alloc, refusal)?)),
+        Unproved::Rejected(row, reason) => Ok(reply(
+            Exit::NotProved,
+            verdict_text(alloc, dossier, row, reason)?,
+        )),
+        Unproved::OutOfMemory => Err(OutOfMemory),
+    }
+}
+
+/// Tests these days of a chain from the first evening on, and replies.
+fn check_chain(
+    alloc: Global,
+    input: &Input,
+    dated: Option<&DatedTerms>,
+    orders: &CallOrders,
+    first: &DayState<'_>,
+    days: &[DayChain],
+) -> Result<Reply, OutOfMemory>
+    requires index { input.now.index ≡ ids_in input.now.dossier }
+    requires dated { IfSome (option_copied dated) (AreDatedFor input.now.dossier) }
+    requires orders { AreCallOrders input.now.dossier.groups orders.now.orders }
+    requires first { first.now ≡ first_evening input.now.dossier }
+    requires days { length days.now ≤ 366 }
+    requires passes { All (λ day. length day.passes < 2 ^ 32) days.now }
+
+    ensures { IfOk result (λ reply. EndsProof input.now.dossier
+        (why_none (terms_in (option_copied dated.entry)) orders.now.orders 1 (first_evening input.now.dossier) days.now)
+        (proved_text (length days.now)
+        (evening_after (terms_in (option_copied dated.entry)) orders.now.orders 1 (first_evening input.now.dossier) days.now)
+        (option_copied dated.entry))
+        reply.exit reply.text.items) }
+{
+    let mut state = first.copy(alloc)?;
+    match check_days(
+        alloc,
+        &input.index,
+        orders,
+        terms_in(dated),
+        &mut state,
+        days,
+    ) {
+        Ok(()) => Ok(reply(Exit::Done, proved_text(alloc, days.len(), &state, dated)?)),
+        Err(why) => unproved(alloc, &input.dossier, why),
+    }
+}
+
+/// Reads the chain that is handed in, tests its days from the first evening on, and replies. No picker
+/// is asked.
+pub(crate) fn checked(
+    alloc: Global,
+    input: &Input,
+    dated: Option<&DatedTerms>,
+    orders: &CallOrders,
+    first: &DayState<'_>,
+) -> Result<Reply, OutOfMemory>
+    requires index { input.now.index ≡ ids_in input.now.dossier }
+    requires dated { IfSome (option_copied dated) (AreDatedFor input.now.dossier) }
+    requires orders { AreCallOrders input.now.dossier.groups orders.now.orders }
+    requires first { first.now ≡ first_evening input.now.dossier }
+
+    ensures { IfOk result (λ reply. IsChecked
+        input.now.dossier input.now.chain (option_copied dated.entry) orders.now.orders reply.exit reply.text.items) }
+{
+    match read_chain(alloc, input.chain.as_slice()) {
+        Ok(chain) => check_chain(alloc, input, dated, orders, first, chain.days.as_slice()),
+        Err(ChainRefusal::Fault(fault)) => {
+            let line = chain_fault_text(alloc, fault)?;
+            Ok(reply(Exit::NotProved, line))
+        }
+        Err(ChainRefusal::OutOfMemory) => Err(OutOfMemory),
+    }
+}
