@@ -1,5 +1,5 @@
 -- Rows of the state that accept a wish.
-use Rattle.std.proofs.Common.{◌≡◌, ℕ, Bool, true, false, ◌&&◌, nat_eq, List, [], ◌∷◌, if◌then◌else◌, option_map, Option, Some, None, refl, sym, ap, ◌∙◌}
+use Rattle.std.proofs.Common.{◌≡◌, ℕ, Bool, true, false, ◌&&◌, nat_eq, List, [], ◌∷◌, if◌then◌else◌, option_map, Option, Some, None, refl, ap}
 use Rattle.std.specs.List.{list_any}
 use Rattle.admit_core.specs.declared.refusal.Reason.TheVariants.{TwoAccepted}
 use Rattle.admit_core.specs.declared.tables.StateRow.{StateRow}

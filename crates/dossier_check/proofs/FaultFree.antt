@@ -7,7 +7,7 @@ use Rattle.std.specs.List.{list_any}
 use Rattle.std.specs.Option.{option_or}
 use Rattle.admit_core.specs.declared.slot.Slot.{Slot}
 use Rattle.admit_core.specs.declared.refusal.Reason.{Reason}
-use Rattle.admit_core.specs.Faults.{Test, first_row, first_reason, first_after, first_in, names_unknown}
+use Rattle.admit_core.specs.Faults.{Test, first_row, first_reason, first_after, first_in}
 use Rattle.dossier_check.proofs.Firsts.{position-some}
 
 pub none_or : {X : Type 0} (a b : Option X) → option_or a b ≡ None → (a ≡ None) × (b ≡ None)

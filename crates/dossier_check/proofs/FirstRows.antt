@@ -7,7 +7,6 @@ use Rattle.std.specs.List.{list_any, position_or_len, enumerate_from}
 use Rattle.std.specs.Option.{option_or}
 use Rattle.admit_core.specs.declared.tables.WishRow.{WishRow}
 use Rattle.admit_core.specs.Faults.{row_number, first_row}
-use Rattle.admit_core.specs.Relations.{first_wish_of}
 use Rattle.dossier_check.specs.Pairs.{pair_eq}
 use Rattle.dossier_check.specs.Seen.{noted_wish, has_preference, AreFirstWishes}
 use Rattle.dossier_check.specs.declared.noted.FirstWish.{FirstWish}

@@ -1,5 +1,5 @@
 -- What a check of several slots answers.
-use Rattle.std.proofs.Common.{◌≡◌, Option, Some, None, Result, Ok, Err, IsErr, IsErrAnd, refl}
+use Rattle.std.proofs.Common.{◌≡◌, Option, None, Result, Ok, Err, IsErr, IsErrAnd, refl}
 use Rattle.std.specs.Option.{option_or}
 use Rattle.std.proofs.lemmas.Bool.{false≢true}
 use Rattle.admit_core.specs.declared.refusal.Refusal.{Refusal}

@@ -1,5 +1,5 @@
 -- Each wish of the dossier is valid.
-use Rattle.std.proofs.Common.{◌≡◌, ℕ, ◌<◌, Bool, true, false, ◌&&◌, nat_eq, List, [], ◌∷◌, length, map, filter, find, get_or, slice_get, option_map, unwrap_or, Option, Some, None, refl, sym, ap, ◌∙◌, arith, All}
+use Rattle.std.proofs.Common.{◌≡◌, ℕ, ◌<◌, Bool, true, false, ◌&&◌, nat_eq, List, [], ◌∷◌, length, map, find, get_or, slice_get, option_map, unwrap_or, Option, Some, None, refl, sym, ap, ◌∙◌, All}
 use Rattle.std.specs.List.{list_any, position_or_len}
 use Rattle.std.specs.Option.{option_map_or, ForSome}
 use Rattle.std.proofs.lemmas.List.{get_or-map}
@@ -9,7 +9,6 @@ use Rattle.std.proofs.lemmas.Option.{slice_get-map, slice_get-get_or, same_Some}
 use Rattle.admit_core.specs.declared.tables.GroupRow.{GroupRow}
 use Rattle.admit_core.specs.declared.tables.ProgrammeRow.{ProgrammeRow}
 use Rattle.admit_core.specs.declared.tables.RankRow.{RankRow}
-use Rattle.admit_core.specs.declared.tables.BoardRow.{BoardRow}
 use Rattle.admit_core.specs.declared.tables.WishRow.{WishRow}
 use Rattle.admit_core.specs.declared.tables.Tables.{Tables}
 use Rattle.admit_core.specs.declared.ranking.Ranked.{Ranked}

@@ -1,5 +1,5 @@
 -- Two wishes of the dossier are apart.
-use Rattle.std.proofs.Common.{◌≡◌, ◌↔◌, ℕ, ◌+◌, ◌<◌, Bool, true, false, not, ◌&&◌, ◌||◌, nat_eq, nat_lt, List, [], ◌∷◌, ◌++◌, if◌then◌else◌, length, map, find, get_or, take, drop, option_map, unwrap_or, Option, Some, None, IsSome, refl, sym, ap, ◌∙◌, subst, arith, true≢false, AllPairs, drop-cons}
+use Rattle.std.proofs.Common.{◌≡◌, ◌↔◌, ℕ, ◌+◌, ◌<◌, Bool, true, false, not, ◌&&◌, ◌||◌, nat_eq, nat_lt, List, [], ◌∷◌, if◌then◌else◌, length, find, get_or, take, drop, option_map, Option, Some, None, IsSome, refl, sym, ap, ◌∙◌, arith, true≢false, AllPairs, drop-cons}
 use Rattle.std.specs.List.{list_any, enumerate_from}
 use Rattle.std.specs.Option.{option_map_or, option_or}
 use Rattle.std.proofs.lemmas.Bool.Decides.{nat_tests}
@@ -10,10 +10,9 @@ use Rattle.std.proofs.lemmas.Option.{same_Some}
 use Rattle.admit_core.specs.declared.tables.BoardRow.{BoardRow}
 use Rattle.admit_core.specs.declared.tables.WishRow.{WishRow}
 use Rattle.admit_core.specs.declared.tables.Tables.{Tables}
-use Rattle.admit_core.specs.declared.refusal.Reason.{Reason}
 use Rattle.admit_core.specs.declared.refusal.Reason.TheVariants.{PreferenceMixed}
 use Rattle.admit_core.specs.Lists.{is_among}
-use Rattle.admit_core.specs.Relations.{programme_ids, school_ids, same_school, same_wish, is_boarded, are_mixed, mixed_with, first_wish_of, preference_mixed}
+use Rattle.admit_core.specs.Relations.{programme_ids, school_ids, same_school, is_boarded, are_mixed, mixed_with, first_wish_of, preference_mixed}
 use Rattle.admit_core.specs.Standing.{place_of, board_rank_of, wish_of_row, dossier_of}
 use Rattle.admit_core.specs.Validity.{IsApart}
 use Rattle.dossier_check.proofs.FaultFree.{Passes, first_passes, rest_pass, none_map}

@@ -13,13 +13,14 @@ use crate::row_tests::{NoTest, RowTest, Then};
 use crate::scan::scan;
 use admit_core::{AnswerKind, AnswerRow, InFault, OutOfMemory, Reason, Slot, Tables};
 use indexmap::{IndexMap, IndexSet};
+use keyed_hash::Keyed;
 
 /// The target isn't a wish, or for `Quit` a candidate who has one.
 #[derive(Drop)]
 pub(crate) struct TargetUnknown<'a> {
     pub(crate) tables: &'a Tables,
-    pub(crate) wishes: &'a IndexSet<u32>,
-    pub(crate) candidates: &'a IndexMap<u32, FirstWish>,
+    pub(crate) wishes: &'a IndexSet<u32, Keyed>,
+    pub(crate) candidates: &'a IndexMap<u32, FirstWish, Keyed>,
 }
 
 impl<'a> TargetUnknown<'a> {
@@ -62,8 +63,8 @@ impl<'a> RowTest<AnswerRow> for TargetUnknown<'a> {
 /// Checks the answers.
 pub(crate) fn check_answers<'a>(
     tables: &'a Tables,
-    wishes: &'a IndexSet<u32>,
-    candidates: &'a IndexMap<u32, FirstWish>,
+    wishes: &'a IndexSet<u32, Keyed>,
+    candidates: &'a IndexMap<u32, FirstWish, Keyed>,
 ) -> Result<(), InFault>
     requires wishes { wishes.now.keys ≡ wish_ids tables.now }
     requires candidates { AreFirstWishes (get nat_eq candidates.now) tables.now.wishes }

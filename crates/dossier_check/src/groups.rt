@@ -6,6 +6,7 @@ ghost use Rattle.admit_core.specs.Relations.{group_ids};
 
 use admit_core::{OutOfMemory, RankGroup, RankRow, Ranked, Sequence, Tables};
 use indexmap::IndexSet;
+use keyed_hash::Keyed;
 use std::alloc::Global;
 
 /// Puts candidates in order by rank.
@@ -33,7 +34,7 @@ pub(crate) fn add(
 /// An empty list for each group.
 pub(crate) fn empty_lists(
     alloc: Global,
-    groups: &IndexSet<u32>,
+    groups: &IndexSet<u32, Keyed>,
 ) -> Result<Vec<Vec<Ranked>>, OutOfMemory>
     ensures { IfOk result (λ lists. map (λ l. l.items) lists.items ≡ map (ranked_in []) groups.now.keys) }
 {
@@ -47,7 +48,7 @@ pub(crate) fn empty_lists(
 /// Adds a candidate to the list of his group.
 pub(crate) fn lay_row(
     lists: &mut Vec<Vec<Ranked>>,
-    groups: &IndexSet<u32>,
+    groups: &IndexSet<u32, Keyed>,
     row: &RankRow,
 ) -> Result<(), OutOfMemory>
     requires { length lists.old.items ≡ length groups.now.keys }
@@ -75,7 +76,7 @@ pub(crate) fn lay_row(
 pub(crate) fn ranked_lists(
     alloc: Global,
     rankings: &[RankRow],
-    groups: &IndexSet<u32>,
+    groups: &IndexSet<u32, Keyed>,
 ) -> Result<Vec<Vec<Ranked>>, OutOfMemory>
     ensures { IfOk result (λ lists. map (λ l. l.items) lists.items ≡ map (ranked_in rankings.now) groups.now.keys) }
 {
@@ -90,7 +91,7 @@ pub(crate) fn ranked_lists(
 pub(crate) fn rank_groups(
     alloc: Global,
     tables: &Tables,
-    groups: &IndexSet<u32>,
+    groups: &IndexSet<u32, Keyed>,
 ) -> Result<Vec<RankGroup>, OutOfMemory>
     requires { groups.now.keys ≡ group_ids tables.now }
     ensures { IfOk result (λ gs. gs.items ≡ map (group_of_row tables.now) tables.now.groups) }

@@ -2,13 +2,14 @@
 ghost use Rattle.std.specs.Prelude.{◌≡◌, position, nat_eq};
 
 use indexmap::IndexSet;
+use keyed_hash::Keyed;
 use std::marker::Model;
 
 /// The ids of the wishes and of the schools. A contract sees them as two lists, by place.
 #[derive(Drop)]
 pub struct Index {
-    pub(crate) wishes: IndexSet<u32>,
-    pub(crate) schools: IndexSet<u32>,
+    pub(crate) wishes: IndexSet<u32, Keyed>,
+    pub(crate) schools: IndexSet<u32, Keyed>,
 }
 
 impl Model for Index {

@@ -12,21 +12,22 @@ use admit_core::{
     Tables, Wish, WishRow,
 };
 use indexmap::IndexSet;
+use keyed_hash::Keyed;
 use std::alloc::Global;
 
 /// What the rows of the slots are found by, by place.
 #[derive(Drop)]
 pub(crate) struct Keys {
-    pub(crate) groups: IndexSet<u32>,
-    pub(crate) programmes: IndexSet<u32>,
-    pub(crate) schools: IndexSet<u32>,
-    pub(crate) boarding: IndexSet<(u32, u32)>,
-    pub(crate) wishes: IndexSet<u32>,
-    pub(crate) state: IndexSet<u32>,
+    pub(crate) groups: IndexSet<u32, Keyed>,
+    pub(crate) programmes: IndexSet<u32, Keyed>,
+    pub(crate) schools: IndexSet<u32, Keyed>,
+    pub(crate) boarding: IndexSet<(u32, u32), Keyed>,
+    pub(crate) wishes: IndexSet<u32, Keyed>,
+    pub(crate) state: IndexSet<u32, Keyed>,
 }
 
 /// The place of an id among ids, and their number where it is none of them.
-fn place_in(ids: &IndexSet<u32>, id: u32) -> u32
+fn place_in(ids: &IndexSet<u32, Keyed>, id: u32) -> u32
     requires { length ids.now.keys < 2 ^ 32 }
     ensures { result ≡ place_of ids.now.keys id }
 {
@@ -34,7 +35,7 @@ fn place_in(ids: &IndexSet<u32>, id: u32) -> u32
 }
 
 /// The same of an id that may be missing.
-fn place_in_any(ids: &IndexSet<u32>, id: Option<u32>) -> Option<u32>
+fn place_in_any(ids: &IndexSet<u32, Keyed>, id: Option<u32>) -> Option<u32>
     requires { length ids.now.keys < 2 ^ 32 }
     ensures { result ≡ option_map (place_of ids.now.keys) id }
 {

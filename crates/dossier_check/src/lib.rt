@@ -5,6 +5,7 @@
 mod answers;
 mod day_falls;
 mod groups;
+mod hashing;
 mod index;
 mod items;
 mod noted;

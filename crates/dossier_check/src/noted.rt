@@ -5,6 +5,7 @@ ghost use Rattle.admit_core.specs.Faults.{first_row};
 
 use admit_core::OutOfMemory;
 use indexmap::{IndexMap, IndexSet};
+use keyed_hash::Keyed;
 use std::hash::Hash;
 
 /// What two rows must not share.
@@ -17,7 +18,7 @@ pub(crate) trait Key<R, K> {
 
 /// Notes the key of the next row, and answers the number of the row of the same key where there is one.
 pub(crate) fn note<R, K: Hash + Eq + Copy + Drop, Q: Key<R, K>>(
-    keys: &mut IndexSet<K>,
+    keys: &mut IndexSet<K, Keyed>,
     rule: &Q,
     row: &R,
 ) -> Result<Option<u64>, OutOfMemory>
@@ -36,7 +37,7 @@ pub(crate) fn note<R, K: Hash + Eq + Copy + Drop, Q: Key<R, K>>(
 
 /// The row of a key, where the keys are those of the rows by place.
 pub(crate) fn row_with<R: Copy, K: Hash + Eq + Copy + Drop>(
-    keys: &IndexSet<K>,
+    keys: &IndexSet<K, Keyed>,
     rows: &[R],
     key: K,
 ) -> Option<R>
@@ -57,7 +58,7 @@ pub(crate) struct FirstWish {
 
 /// Notes a value of a key, unless one was noted before; answers the one noted before.
 pub(crate) fn note_first<K: Hash + Eq + Copy + Drop, V: Copy + Drop>(
-    firsts: &mut IndexMap<K, V>,
+    firsts: &mut IndexMap<K, V, Keyed>,
     key: K,
     value: V,
 ) -> Result<Option<V>, OutOfMemory>

@@ -12,6 +12,7 @@ ghost use Rattle.dossier_check.specs.Seen.{ranked_pairs, boarded_pairs};
 
 use crate::answers::check_answers;
 use crate::groups::rank_groups;
+use crate::hashing::hashing_of;
 use crate::index::Index;
 use crate::items::{
     Keys, answers_of, ceilings_of, programmes_of, schools_of, statuses_of, wishes_of,
@@ -23,6 +24,7 @@ use crate::state::check_state;
 use crate::wishes::check_wishes;
 use admit_core::{Dossier, InFault, OutOfMemory, Sequence, Since, Tables};
 use indexmap::IndexSet;
+use keyed_hash::Keyed;
 use std::alloc::Global;
 
 /// The dossier that tables stand for, the places of its ids, and since when each wish has its status,
@@ -37,12 +39,13 @@ pub struct Checked {
 /// Tests the slots from the wishes on, and answers what the wishes and the statuses are found by.
 fn check_wishes_on<'a>(
     alloc: Global,
+    keyed: Keyed,
     tables: &'a Tables,
-    programmes: &'a IndexSet<u32>,
-    schools: &'a IndexSet<u32>,
-    ranked: &'a IndexSet<(u32, u32)>,
-    boarding: &'a IndexSet<(u32, u32)>,
-) -> Result<(IndexSet<u32>, IndexSet<u32>), InFault>
+    programmes: &'a IndexSet<u32, Keyed>,
+    schools: &'a IndexSet<u32, Keyed>,
+    ranked: &'a IndexSet<(u32, u32), Keyed>,
+    boarding: &'a IndexSet<(u32, u32), Keyed>,
+) -> Result<(IndexSet<u32, Keyed>, IndexSet<u32, Keyed>), InFault>
     requires programmes { programmes.now.keys ≡ programme_ids tables.now }
     requires schools { schools.now.keys ≡ school_ids tables.now }
     requires ranked { ranked.now.keys ≡ ranked_pairs tables.now }
@@ -52,9 +55,9 @@ fn check_wishes_on<'a>(
     ensures wishes { IfOk result (λ keys. keys.0.keys ≡ wish_ids tables.now) }
     ensures state { IfOk result (λ keys. keys.1.keys ≡ map (λ s. s.wish) tables.now.state) }
 {
-    let wishes = check_wishes(alloc, tables, programmes, schools, ranked, boarding)?;
-    let state = check_state(alloc, tables, &wishes.ids)?;
-    check_ceilings(alloc, tables, schools)?;
+    let wishes = check_wishes(alloc, keyed, tables, programmes, schools, ranked, boarding)?;
+    let state = check_state(alloc, keyed, tables, &wishes.ids)?;
+    check_ceilings(alloc, keyed, tables, schools)?;
     check_answers(tables, &wishes.ids, &wishes.firsts)?;
     Ok((wishes.ids, state))
 }
@@ -65,13 +68,15 @@ fn check_slots(alloc: Global, tables: &Tables) -> Result<Keys, InFault>
     ensures fault { AnswersFault result (first_fault tables.now) }
     ensures keys { IfOk result (AreKeysOf tables.now) }
 {
-    let groups = check_groups(alloc, tables)?;
-    let programmes = check_programmes(alloc, tables, &groups)?;
-    let schools = check_schools(alloc, tables)?;
-    let ranked = check_ranks(alloc, tables, &groups)?;
-    let boarding = check_boarding(alloc, tables, &schools)?;
+    let keyed = hashing_of(tables);
+    let groups = check_groups(alloc, keyed, tables)?;
+    let programmes = check_programmes(alloc, keyed, tables, &groups)?;
+    let schools = check_schools(alloc, keyed, tables)?;
+    let ranked = check_ranks(alloc, keyed, tables, &groups)?;
+    let boarding = check_boarding(alloc, keyed, tables, &schools)?;
     let (wishes, state) = check_wishes_on(
         alloc,
+        keyed,
         tables,
         &programmes,
         &schools,

@@ -9,6 +9,7 @@ use crate::noted::{Key, note};
 use crate::scan::RowChecks;
 use admit_core::{OutOfMemory, Reason};
 use indexmap::IndexSet;
+use keyed_hash::Keyed;
 use std::hash::Hash;
 
 /// One test, with what it needs to know of the rows before.
@@ -63,7 +64,7 @@ impl<R, A: RowTest<R>, B: RowChecks<R>> RowChecks<R> for Then<A, B> {
 /// An earlier row has the same key.
 #[derive(Drop)]
 pub(crate) struct Repeats<K: Eq + Hash, Q> {
-    pub(crate) keys: IndexSet<K>,
+    pub(crate) keys: IndexSet<K, Keyed>,
     pub(crate) rule: Q,
 }
 
@@ -83,7 +84,7 @@ impl<R, K: Hash + Eq + Copy + Drop, Q: Key<R, K>> RowTest<R> for Repeats<K, Q> {
 /// An earlier row has the same rank in the same list: the key.
 #[derive(Drop)]
 pub(crate) struct TakesRank<K: Eq + Hash, Q> {
-    pub(crate) keys: IndexSet<K>,
+    pub(crate) keys: IndexSet<K, Keyed>,
     pub(crate) rule: Q,
 }
 
@@ -112,7 +113,7 @@ pub(crate) trait Names<R> {
 #[derive(Drop)]
 pub(crate) struct NamesUnknown<'a, Q> {
     pub(crate) field: u32,
-    pub(crate) ids: &'a IndexSet<u32>,
+    pub(crate) ids: &'a IndexSet<u32, Keyed>,
     pub(crate) rule: Q,
 }
 

@@ -14,17 +14,22 @@ use crate::rules::{
 use crate::scan::scan;
 use admit_core::{InFault, Slot, Tables};
 use indexmap::IndexSet;
+use keyed_hash::Keyed;
 use std::alloc::Global;
 
 /// Checks the groups, and answers their ids by place.
-pub(crate) fn check_groups(alloc: Global, tables: &Tables) -> Result<IndexSet<u32>, InFault>
+pub(crate) fn check_groups(
+    alloc: Global,
+    keyed: Keyed,
+    tables: &Tables,
+) -> Result<IndexSet<u32, Keyed>, InFault>
     requires { length tables.now.groups < 2 ^ 32 }
     ensures fault { AnswersFault result (first_in slots.Groups group_tests tables.now.groups) }
     ensures ids { IfOk result (λ ids. ids.keys ≡ group_ids tables.now) }
 {
     let mut checks = Then {
         first: Repeats {
-            keys: IndexSet::new(alloc),
+            keys: IndexSet::with_hasher(alloc, keyed),
             rule: OwnId,
         },
         rest: NoTest,
@@ -36,9 +41,10 @@ pub(crate) fn check_groups(alloc: Global, tables: &Tables) -> Result<IndexSet<u3
 /// Checks the programmes, and answers their ids by place.
 pub(crate) fn check_programmes(
     alloc: Global,
+    keyed: Keyed,
     tables: &Tables,
-    groups: &IndexSet<u32>,
-) -> Result<IndexSet<u32>, InFault>
+    groups: &IndexSet<u32, Keyed>,
+) -> Result<IndexSet<u32, Keyed>, InFault>
     requires groups { groups.now.keys ≡ group_ids tables.now }
     requires small { length tables.now.programmes < 2 ^ 32 }
     ensures fault { AnswersFault result (first_in slots.Programmes (programme_tests tables.now) tables.now.programmes) }
@@ -46,7 +52,7 @@ pub(crate) fn check_programmes(
 {
     let mut checks = Then {
         first: Repeats {
-            keys: IndexSet::new(alloc),
+            keys: IndexSet::with_hasher(alloc, keyed),
             rule: OwnId,
         },
         rest: Then {
@@ -63,14 +69,18 @@ pub(crate) fn check_programmes(
 }
 
 /// Checks the schools, and answers their ids by place.
-pub(crate) fn check_schools(alloc: Global, tables: &Tables) -> Result<IndexSet<u32>, InFault>
+pub(crate) fn check_schools(
+    alloc: Global,
+    keyed: Keyed,
+    tables: &Tables,
+) -> Result<IndexSet<u32, Keyed>, InFault>
     requires { length tables.now.schools < 2 ^ 32 }
     ensures fault { AnswersFault result (first_in slots.Schools school_tests tables.now.schools) }
     ensures ids { IfOk result (λ ids. ids.keys ≡ school_ids tables.now) }
 {
     let mut checks = Then {
         first: Repeats {
-            keys: IndexSet::new(alloc),
+            keys: IndexSet::with_hasher(alloc, keyed),
             rule: OwnId,
         },
         rest: NoTest,
@@ -82,9 +92,10 @@ pub(crate) fn check_schools(alloc: Global, tables: &Tables) -> Result<IndexSet<u
 /// Checks the rankings, and answers the pairs of group and candidate by place.
 pub(crate) fn check_ranks(
     alloc: Global,
+    keyed: Keyed,
     tables: &Tables,
-    groups: &IndexSet<u32>,
-) -> Result<IndexSet<(u32, u32)>, InFault>
+    groups: &IndexSet<u32, Keyed>,
+) -> Result<IndexSet<(u32, u32), Keyed>, InFault>
     requires groups { groups.now.keys ≡ group_ids tables.now }
     requires small { length tables.now.rankings < 2 ^ 32 }
     ensures fault { AnswersFault result (first_in slots.Rankings (ranking_tests tables.now) tables.now.rankings) }
@@ -92,7 +103,7 @@ pub(crate) fn check_ranks(
 {
     let mut checks = Then {
         first: Repeats {
-            keys: IndexSet::new(alloc),
+            keys: IndexSet::with_hasher(alloc, keyed),
             rule: GroupAndCandidate,
         },
         rest: Then {
@@ -103,7 +114,7 @@ pub(crate) fn check_ranks(
             },
             rest: Then {
                 first: TakesRank {
-                    keys: IndexSet::new(alloc),
+                    keys: IndexSet::with_hasher(alloc, keyed),
                     rule: GroupAndRank,
                 },
                 rest: NoTest,
@@ -117,9 +128,10 @@ pub(crate) fn check_ranks(
 /// Checks the boarding ranks, and answers the pairs of school and candidate by place.
 pub(crate) fn check_boarding(
     alloc: Global,
+    keyed: Keyed,
     tables: &Tables,
-    schools: &IndexSet<u32>,
-) -> Result<IndexSet<(u32, u32)>, InFault>
+    schools: &IndexSet<u32, Keyed>,
+) -> Result<IndexSet<(u32, u32), Keyed>, InFault>
     requires schools { schools.now.keys ≡ school_ids tables.now }
     requires small { length tables.now.boarding < 2 ^ 32 }
     ensures fault { AnswersFault result (first_in slots.Boarding (boarding_tests tables.now) tables.now.boarding) }
@@ -127,7 +139,7 @@ pub(crate) fn check_boarding(
 {
     let mut checks = Then {
         first: Repeats {
-            keys: IndexSet::new(alloc),
+            keys: IndexSet::with_hasher(alloc, keyed),
             rule: SchoolAndCandidate,
         },
         rest: Then {
@@ -138,7 +150,7 @@ pub(crate) fn check_boarding(
             },
             rest: Then {
                 first: TakesRank {
-                    keys: IndexSet::new(alloc),
+                    keys: IndexSet::with_hasher(alloc, keyed),
                     rule: SchoolAndRank,
                 },
                 rest: NoTest,
@@ -152,8 +164,9 @@ pub(crate) fn check_boarding(
 /// Checks the ceilings.
 pub(crate) fn check_ceilings(
     alloc: Global,
+    keyed: Keyed,
     tables: &Tables,
-    schools: &IndexSet<u32>,
+    schools: &IndexSet<u32, Keyed>,
 ) -> Result<(), InFault>
     requires schools { schools.now.keys ≡ school_ids tables.now }
     requires small { length tables.now.ceilings < 2 ^ 32 }
@@ -161,7 +174,7 @@ pub(crate) fn check_ceilings(
 {
     let mut checks = Then {
         first: Repeats {
-            keys: IndexSet::new(alloc),
+            keys: IndexSet::with_hasher(alloc, keyed),
             rule: DayAndSchool,
         },
         rest: Then {

@@ -11,14 +11,15 @@ use crate::rules::ItsWish;
 use crate::scan::scan;
 use admit_core::{InFault, OutOfMemory, Reason, Slot, StateRow, Status, Tables};
 use indexmap::{IndexMap, IndexSet};
+use keyed_hash::Keyed;
 use std::alloc::Global;
 
 /// An earlier row accepts another wish of the candidate.
 #[derive(Drop)]
 pub(crate) struct TwoAccepted<'a> {
     pub(crate) tables: &'a Tables,
-    pub(crate) wishes: &'a IndexSet<u32>,
-    pub(crate) rows: IndexMap<u32, u64>,
+    pub(crate) wishes: &'a IndexSet<u32, Keyed>,
+    pub(crate) rows: IndexMap<u32, u64, Keyed>,
 }
 
 impl<'a> TwoAccepted<'a> {
@@ -62,9 +63,10 @@ impl<'a> RowTest<StateRow> for TwoAccepted<'a> {
 /// Checks the statuses, and answers the wishes that they are of, by place.
 pub(crate) fn check_state<'a>(
     alloc: Global,
+    keyed: Keyed,
     tables: &'a Tables,
-    wishes: &'a IndexSet<u32>,
-) -> Result<IndexSet<u32>, InFault>
+    wishes: &'a IndexSet<u32, Keyed>,
+) -> Result<IndexSet<u32, Keyed>, InFault>
     requires wishes { wishes.now.keys ≡ wish_ids tables.now }
     requires small { length tables.now.state < 2 ^ 32 }
     ensures fault { AnswersFault result (first_in slots.State (state_tests tables.now) tables.now.state) }
@@ -72,7 +74,7 @@ pub(crate) fn check_state<'a>(
 {
     let mut checks = Then {
         first: Repeats {
-            keys: IndexSet::new(alloc),
+            keys: IndexSet::with_hasher(alloc, keyed),
             rule: ItsWish,
         },
         rest: Then {
@@ -85,7 +87,7 @@ pub(crate) fn check_state<'a>(
                 first: TwoAccepted {
                     tables,
                     wishes,
-                    rows: IndexMap::new(alloc),
+                    rows: IndexMap::with_hasher(alloc, keyed),
                 },
                 rest: NoTest,
             },

@@ -13,14 +13,15 @@ use crate::rules::{ItsProgramme, ItsSchool, OwnId, WhatIsWished};
 use crate::scan::scan;
 use admit_core::{InFault, OutOfMemory, Reason, Slot, Tables, WishRow};
 use indexmap::{IndexMap, IndexSet};
+use keyed_hash::Keyed;
 use std::alloc::Global;
 
 /// The candidate isn't ranked in the group of the programme.
 #[derive(Drop)]
 pub(crate) struct Unranked<'a> {
     pub(crate) tables: &'a Tables,
-    pub(crate) programmes: &'a IndexSet<u32>,
-    pub(crate) ranked: &'a IndexSet<(u32, u32)>,
+    pub(crate) programmes: &'a IndexSet<u32, Keyed>,
+    pub(crate) ranked: &'a IndexSet<(u32, u32), Keyed>,
 }
 
 impl<'a> RowTest<WishRow> for Unranked<'a> {
@@ -46,7 +47,7 @@ impl<'a> RowTest<WishRow> for Unranked<'a> {
 #[derive(Drop)]
 pub(crate) struct NoBoardingRank<'a> {
     pub(crate) tables: &'a Tables,
-    pub(crate) boarded: &'a IndexSet<(u32, u32)>,
+    pub(crate) boarded: &'a IndexSet<(u32, u32), Keyed>,
 }
 
 impl<'a> RowTest<WishRow> for NoBoardingRank<'a> {
@@ -70,7 +71,7 @@ impl<'a> RowTest<WishRow> for NoBoardingRank<'a> {
 /// Of this wish and the candidate's first one, one has a preference and the other has none.
 #[derive(Drop)]
 pub(crate) struct PreferenceMixed {
-    pub(crate) firsts: IndexMap<u32, FirstWish>,
+    pub(crate) firsts: IndexMap<u32, FirstWish, Keyed>,
 }
 
 impl RowTest<WishRow> for PreferenceMixed {
@@ -100,7 +101,7 @@ impl RowTest<WishRow> for PreferenceMixed {
 /// An earlier wish of the candidate has the same positive preference.
 #[derive(Drop)]
 pub(crate) struct PreferenceTaken {
-    pub(crate) rows: IndexMap<(u32, u32), u64>,
+    pub(crate) rows: IndexMap<(u32, u32), u64, Keyed>,
 }
 
 impl RowTest<WishRow> for PreferenceTaken {
@@ -127,18 +128,19 @@ impl RowTest<WishRow> for PreferenceTaken {
 /// The ids of the wishes by place, and each candidate's first wish.
 #[derive(Drop)]
 pub(crate) struct WishKeys {
-    pub(crate) ids: IndexSet<u32>,
-    pub(crate) firsts: IndexMap<u32, FirstWish>,
+    pub(crate) ids: IndexSet<u32, Keyed>,
+    pub(crate) firsts: IndexMap<u32, FirstWish, Keyed>,
 }
 
 /// Checks the wishes.
 pub(crate) fn check_wishes<'a>(
     alloc: Global,
+    keyed: Keyed,
     tables: &'a Tables,
-    programmes: &'a IndexSet<u32>,
-    schools: &IndexSet<u32>,
-    ranked: &'a IndexSet<(u32, u32)>,
-    boarded: &'a IndexSet<(u32, u32)>,
+    programmes: &'a IndexSet<u32, Keyed>,
+    schools: &IndexSet<u32, Keyed>,
+    ranked: &'a IndexSet<(u32, u32), Keyed>,
+    boarded: &'a IndexSet<(u32, u32), Keyed>,
 ) -> Result<WishKeys, InFault>
     requires programmes { programmes.now.keys ≡ programme_ids tables.now }
     requires schools { schools.now.keys ≡ school_ids tables.now }
@@ -151,11 +153,11 @@ pub(crate) fn check_wishes<'a>(
 {
     let preferences = Then {
         first: PreferenceMixed {
-            firsts: IndexMap::new(alloc),
+            firsts: IndexMap::with_hasher(alloc, keyed),
         },
         rest: Then {
             first: PreferenceTaken {
-                rows: IndexMap::new(alloc),
+                rows: IndexMap::with_hasher(alloc, keyed),
             },
             rest: NoTest,
         },
@@ -188,12 +190,12 @@ pub(crate) fn check_wishes<'a>(
     };
     let mut checks = Then {
         first: Repeats {
-            keys: IndexSet::new(alloc),
+            keys: IndexSet::with_hasher(alloc, keyed),
             rule: OwnId,
         },
         rest: Then {
             first: Repeats {
-                keys: IndexSet::new(alloc),
+                keys: IndexSet::with_hasher(alloc, keyed),
                 rule: WhatIsWished,
             },
             rest: names,

@@ -1,4 +1,4 @@
-use Rattle.std.proofs.Common.{◌≡◌, nat_eq, position, unwrap_or, ap, ◌∙◌}
+use Rattle.std.proofs.Common.{nat_eq, position, unwrap_or, ap, ◌∙◌}
 use Rattle.dossier_check.proofs.Places.{unwrap_or-position}
 use Rattle.dossier_check.proofs.items.place_in.Goals as goal
 

@@ -1,9 +1,8 @@
-use Rattle.std.proofs.Common.{rules, ◌≡◌, Option, None}
-use Rattle.std.specs.Option.{option_or}
+use Rattle.std.proofs.Common.{Option}
 use Rattle.admit_core.specs.declared.refusal.Refusal.{Refusal}
 use Rattle.admit_core.specs.declared.slot.Slot.TheVariants as slots
 use Rattle.admit_core.specs.Faults.{first_in}
-use Rattle.admit_core.specs.Relations.{group_tests, programme_tests, school_tests, ranking_tests, boarding_tests, wish_tests, state_tests, ceiling_tests, answer_tests}
+use Rattle.admit_core.specs.Relations.{group_tests, programme_tests, school_tests, ranking_tests, boarding_tests}
 use Rattle.dossier_check.specs.Outcome.{AnswersFault, first_from_wishes}
 use Rattle.dossier_check.proofs.KeyPlaces.{are_places}
 use Rattle.dossier_check.proofs.Outcomes.{after_none, first_here, handed_on, none_then}

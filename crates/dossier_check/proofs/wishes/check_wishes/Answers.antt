@@ -1,4 +1,4 @@
-use Rattle.std.proofs.Common.{rules, ◌≡◌, None, sym, subst}
+use Rattle.std.proofs.Common.{rules, ◌≡◌, None, subst}
 use Rattle.admit_core.specs.declared.slot.Slot.TheVariants as slots
 use Rattle.admit_core.specs.Faults.{first_in}
 use Rattle.admit_core.specs.Relations.{wish_tests}

@@ -1,4 +1,4 @@
-use Rattle.std.proofs.Common.{◌≡◌, nat_eq, ap, ◌∙◌, sym}
+use Rattle.std.proofs.Common.{nat_eq, ap, ◌∙◌, sym}
 use Rattle.indexmap.specs.IndexMap.{get}
 use Rattle.admit_core.specs.Relations.{is_target}
 use Rattle.dossier_check.proofs.FirstRows.{kept_candidates}

@@ -1,4 +1,4 @@
-use Rattle.std.proofs.Common.{◌≡◌, ℕ, nat_eq, option_map, Option, Some, None, refl, sym, ap, ◌∙◌}
+use Rattle.std.proofs.Common.{◌≡◌, nat_eq, option_map, Some, None, refl, sym, ap, ◌∙◌}
 use Rattle.indexmap.specs.IndexMap.{get}
 use Rattle.admit_core.specs.declared.refusal.Reason.TheVariants.{TwoAccepted}
 use Rattle.admit_core.specs.Faults.{first_row}

@@ -1,4 +1,4 @@
-use Rattle.std.proofs.Common.{◌≡◌, nat_eq, is_some, sym, ap, ◌∙◌}
+use Rattle.std.proofs.Common.{nat_eq, is_some, sym, ap, ◌∙◌}
 use Rattle.indexmap.specs.IndexMap.{get}
 use Rattle.dossier_check.proofs.FirstRows.{first_noted, first_noted-push, firsts-kept, firsts-noted}
 use Rattle.dossier_check.proofs.Places.{nat_eq_sound, nat_eq_sym}

@@ -1,4 +1,4 @@
-use Rattle.std.proofs.Common.{◌≡◌, true, false, nat_eq, map, find, Some, None, refl, sym, ap, ◌∙◌}
+use Rattle.std.proofs.Common.{◌≡◌, true, false, nat_eq, map, find, Some, refl, sym, ap, ◌∙◌}
 use Rattle.std.specs.List.{list_any}
 use Rattle.admit_core.specs.Relations.{is_in_group}
 use Rattle.dossier_check.specs.Pairs.{pair_eq}

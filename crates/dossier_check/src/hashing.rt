@@ -1,0 +1,54 @@
+//! How the rows' keys are hashed.
+
+use admit_core::{BoardRow, CeilingRow, RankRow, Tables, WishRow};
+use keyed_hash::{KeyMaker, Keyed};
+
+fn mix_ranks(key: &mut KeyMaker, rows: &[RankRow]) {
+    for row in rows {
+        key.mix(row.group, row.candidate);
+        key.mix(row.rank, 0);
+    }
+}
+
+fn mix_boarding(key: &mut KeyMaker, rows: &[BoardRow]) {
+    for row in rows {
+        key.mix(row.school, row.candidate);
+        key.mix(row.rank, 0);
+    }
+}
+
+fn mix_wishes(key: &mut KeyMaker, rows: &[WishRow]) {
+    for row in rows {
+        key.mix(row.id, row.candidate);
+        key.mix(row.programme, row.school.unwrap_or(0));
+        key.mix(row.preference, 0);
+    }
+}
+
+fn mix_ceilings(key: &mut KeyMaker, rows: &[CeilingRow]) {
+    for row in rows {
+        key.mix(row.day, row.school);
+    }
+}
+
+/// Hashing by a key of all numbers that rows are found by.
+pub(crate) fn hashing_of(tables: &Tables) -> Keyed {
+    let mut key = KeyMaker::new();
+    for row in tables.groups.as_slice() {
+        key.mix(row.id, 0);
+    }
+    for row in tables.programmes.as_slice() {
+        key.mix(row.id, 0);
+    }
+    for row in tables.schools.as_slice() {
+        key.mix(row.id, 0);
+    }
+    mix_ranks(&mut key, tables.rankings.as_slice());
+    mix_boarding(&mut key, tables.boarding.as_slice());
+    mix_wishes(&mut key, tables.wishes.as_slice());
+    for row in tables.state.as_slice() {
+        key.mix(row.wish, 0);
+    }
+    mix_ceilings(&mut key, tables.ceilings.as_slice());
+    key.done()
+}

@@ -1,0 +1,49 @@
+//! Hashing by a key that is made of what is hashed, so that no chosen ids can crowd a table: whoever
+//! picks ids against a key changes it by picking them.
+#![tactic(auto)]
+
+use std::hash::{BuildHasher, DefaultHasher, FoldHasher, Hasher};
+
+/// Mixes the numbers of rows into a key, one after another.
+#[derive(Drop)]
+pub struct KeyMaker {
+    mixed: DefaultHasher,
+}
+
+impl KeyMaker {
+    /// No number is mixed in yet.
+    pub fn new() -> KeyMaker {
+        KeyMaker {
+            mixed: DefaultHasher::new(),
+        }
+    }
+
+    /// Mixes two numbers in.
+    pub fn mix(&mut self, one: u32, other: u32) {
+        self.mixed
+            .write_u64(u64::from(one) << 32 | u64::from(other));
+    }
+
+    /// The hashing by the key of all that was mixed in.
+    pub fn done(&self) -> Keyed {
+        let mut begun = FoldHasher::default();
+        begun.write_u64(self.mixed.finish());
+        Keyed { begun }
+    }
+}
+
+/// Begins each hash with a key.
+#[derive(Clone, Copy)]
+pub struct Keyed {
+    begun: FoldHasher,
+}
+
+impl BuildHasher for Keyed {
+    type Hasher = FoldHasher;
+
+    ghost build_hasher = { λ k. k.begun };
+
+    fn build_hasher(&self) -> FoldHasher {
+        self.begun
+    }
+}
