@@ -31,7 +31,7 @@ use Rattle.admit_core.specs.Validity.{IsValid}
 use Rattle.admit_core.proofs.Evenings.{after_offers, answer, entry_wish, offer, seats_are_filled}
 use Rattle.admit_core.proofs.Holders.{entries_marked, marked_by}
 use Rattle.day_state.proofs.Along.{length-with_marks}
-use Rattle.envy.specs.AutomaticDays.{AreTermsFor, DaysEndFair, HoldsBetter, IsAutomatic, IsFair, IsFairEvening, IsFirstEvening, IsLaterEvening, IsRankedPlainly, IsSettled, NobodyBehind, PassesKeepFair, QuietDaysEndFair, WaitingIsFair, is_given_up}
+use Rattle.envy.specs.AutomaticDays.{AreTermsFor, DaysEndFair, FirstEveningsBlockNone, LaterEveningsBlockNone, HoldsBetter, IsAutomatic, IsFair, IsFairEvening, IsFirstEvening, IsLaterEvening, IsRankedPlainly, IsSettled, NobodyBehind, PassesKeepFair, QuietDaysEndFair, WaitingIsFair, is_given_up}
 use Rattle.envy.proofs.OnePass.{closing_fair}
 
 pub passes_keep_fair : PassesKeepFair
@@ -278,14 +278,14 @@ module _ (d : DossierRows) (valid : IsValid d) (orders : List CallOrder) (waitin
   first_long : length (first_evening d).marks ≡ length d.wishes
   first_long = length-map d.statuses first_mark ∙ valid.one_status_each
 
-pub first_evening_blocks_none : (orders : List CallOrder) (evening : State) → IsValid evening.dossier → AreCallOrders evening.dossier.groups orders → IsFirstEvening orders evening → blocking evening orders ≡ []
+pub first_evening_blocks_none : FirstEveningsBlockNone
 first_evening_blocks_none orders evening valid called is =
     let d = evening.dossier in
     let automatic = is.automatic in
     (quiet_days_end_fair is.terms orders is.ceilings (first_evening d) is.day evening valid called automatic.terms_fit automatic.plain (first_long d valid orders automatic.waiting)
     (ap (answers_of d) is.first ∙ is.quiet) (first_fair d valid orders automatic.waiting) is.is_day).none_blocks
 
-pub later_evening_blocks_none : (orders : List CallOrder) (evening : State) → IsValid evening.dossier → AreCallOrders evening.dossier.groups orders → IsLaterEvening orders evening → blocking evening orders ≡ []
+pub later_evening_blocks_none : LaterEveningsBlockNone
 later_evening_blocks_none orders evening valid called is =
     let d = evening.dossier in
     let automatic = is.automatic in

@@ -120,3 +120,20 @@ pub record IsLaterEvening (orders : List CallOrder) (evening : State) : Type 0 w
   pub some : 0 < length days
   pub quiet : (day : ℕ) → day ≤ length days → answers_of evening.dossier day ≡ []
   pub are_days : Days terms orders 1 (first_evening evening.dossier) days evening
+
+-- nobody has a blocking wish in either of them
+abbrev pub FirstEveningsBlockNone : Type 0
+FirstEveningsBlockNone =
+    (orders : List CallOrder) (evening : State)
+    → IsValid evening.dossier
+    → AreCallOrders evening.dossier.groups orders
+    → IsFirstEvening orders evening
+    → blocking evening orders ≡ []
+
+abbrev pub LaterEveningsBlockNone : Type 0
+LaterEveningsBlockNone =
+    (orders : List CallOrder) (evening : State)
+    → IsValid evening.dossier
+    → AreCallOrders evening.dossier.groups orders
+    → IsLaterEvening orders evening
+    → blocking evening orders ≡ []
