@@ -1,7 +1,7 @@
 -- After a day that is answered automatically alone nobody has a blocking wish.
-use Rattle.std.proofs.Common.{ℕ, zero, suc, ◌+◌, ◌≤◌, ◌<◌, ◌≡◌, Bool, true, false, cond, not, ◌&&◌, ◌||◌, List, [], ◌∷◌, map, length, inl, inr, refl, sym, ◌∙◌, ap, subst, arith, nat_eq, nat_lt, get_or, filter, Option, Some, None, All, IfSome}
+use Rattle.std.proofs.Common.{ℕ, ◌+◌, ◌<◌, ◌≡◌, Bool, true, false, not, ◌&&◌, ◌||◌, List, [], ◌∷◌, map, length, inl, inr, refl, sym, ◌∙◌, ap, subst, arith, nat_eq, nat_lt, get_or, filter, Option, Some, None, All}
 use Rattle.std.specs.Prelude.{ℤ, zip, if◌then◌else◌, is_some}
-use Rattle.std.specs.List.{enumerate_from, list_any}
+use Rattle.std.specs.List.{enumerate_from}
 use Rattle.std.proofs.lemmas.Bool.{and_parts, cases_Bool, false_from_ne_true, false≢true, ltb-true}
 use Rattle.std.proofs.lemmas.List.{get_or_default, length-map}
 use Rattle.std.proofs.lemmas.List.Elements.{All-head, All-map, All-tail}
@@ -18,20 +18,18 @@ use Rattle.admit_core.specs.declared.state.Stamp.{Stamp}
 use Rattle.admit_core.specs.declared.state.Status.{Status}
 use Rattle.admit_core.specs.declared.state.Status.TheVariants.{Waiting, Offered, Accepted, Refused, Withdrawn, Quit, AutoRefused, AutoWithdrawn, Lapsed}
 use Rattle.admit_core.specs.Answers.{after_all}
-use Rattle.admit_core.specs.Blocking.{behind, blocking, envied, has_better, has_envy, is_blocking, is_missed, lacks_school, last_envied, last_of, wants_more}
+use Rattle.admit_core.specs.Blocking.{behind, blocking, has_better, has_envy, is_blocking, is_missed, lacks_school, last_of, wants_more}
 use Rattle.admit_core.specs.CallOrder.{AreCallOrders}
 use Rattle.admit_core.specs.Days.{Days, IsDay, Passes, after_lapse, answers_of, ceilings_of, closing, first_evening, first_mark, morning}
 use Rattle.admit_core.specs.DossierRows.{DossierRows}
 use Rattle.admit_core.specs.EveningLaws.{IsFilled, last_bars}
-use Rattle.admit_core.specs.Lapses.{is_offered, lapse, lapses}
-use Rattle.admit_core.specs.Lists.{placed_where, places_where}
+use Rattle.admit_core.specs.Lapses.{is_offered, lapses}
 use Rattle.admit_core.specs.Proposals.{is_barred, is_behind_bar}
 use Rattle.admit_core.specs.State.{State, changed_to, entries, holds_seat, is_live, is_live_status, is_waiting, is_waiting_status, seats_left}
 use Rattle.admit_core.specs.Validity.{IsValid}
 use Rattle.admit_core.proofs.Evenings.{after_offers, answer, entry_wish, offer, seats_are_filled}
-use Rattle.admit_core.proofs.Holders.{entries_marked, marked_by}
 use Rattle.day_state.proofs.Along.{length-with_marks}
-use Rattle.envy.specs.AutomaticDays.{AreTermsFor, DaysEndFair, FirstEveningsBlockNone, LaterEveningsBlockNone, HoldsBetter, IsAutomatic, IsFair, IsFairEvening, IsFirstEvening, IsLaterEvening, IsRankedPlainly, IsSettled, NobodyBehind, PassesKeepFair, QuietDaysEndFair, WaitingIsFair, is_given_up}
+use Rattle.envy.specs.AutomaticDays.{AreTermsFor, DaysEndFair, FirstEveningsBlockNone, LaterEveningsBlockNone, HoldsBetter, IsFair, IsFairEvening, IsRankedPlainly, IsSettled, NobodyBehind, PassesKeepFair, QuietDaysEndFair, WaitingIsFair, is_given_up}
 use Rattle.envy.proofs.OnePass.{closing_fair}
 
 pub passes_keep_fair : PassesKeepFair

@@ -1,8 +1,8 @@
 -- A pass with its automatic answers leaves a fair state fair.
-use Rattle.std.proofs.Common.{ℕ, ◌+◌, ◌≤◌, ◌<◌, ◌≡◌, ◌⊎◌, Bool, true, false, cond, not, ◌&&◌, ◌||◌, List, [], ◌∷◌, map, length, take, drop, inl, inr, refl, sym, ◌∙◌, ap, subst, arith, nat_eq, nat_lt, get_or, count_by, filter, Option, Some, None, All}
+use Rattle.std.proofs.Common.{ℕ, ◌+◌, ◌≤◌, ◌<◌, ◌≡◌, ◌⊎◌, Bool, true, false, not, ◌&&◌, ◌||◌, List, map, length, take, drop, inl, inr, refl, sym, ◌∙◌, ap, subst, arith, nat_eq, nat_lt, get_or, count_by, Option, Some, None, All}
 use Rattle.std.specs.Prelude.{◌==◌, nat_le}
-use Rattle.std.specs.List.{IsDistinct, position_or_len, before_first}
-use Rattle.std.proofs.lemmas.Bool.{and_cases, and_from, and_parts, cases_Bool, cases_order, eq-eqb, eqb-true, false_from_ne_true, false≢true, leb-false, leb-true, lt-ltb, ltb-false, ltb-true, not_from_false, or_cases, or_parts}
+use Rattle.std.specs.List.{position_or_len, before_first}
+use Rattle.std.proofs.lemmas.Bool.{and_cases, and_from, and_parts, cases_order, eq-eqb, eqb-true, false_from_ne_true, false≢true, leb-false, leb-true, lt-ltb, ltb-false, ltb-true, not_from_false, or_cases, or_parts}
 use Rattle.std.proofs.lemmas.List.{get_or-map, get_or_default, length-map, length-take-le}
 use Rattle.std.proofs.lemmas.List.Elements.{All-map, All-same}
 use Rattle.std.proofs.lemmas.List.Folds.{Any-from_list_any, list_any_at}
@@ -14,9 +14,9 @@ use Rattle.admit_core.specs.declared.state.Stamp.{Stamp}
 use Rattle.admit_core.specs.declared.state.Status.{Status}
 use Rattle.admit_core.specs.declared.state.Status.TheVariants.{Waiting, Offered, Accepted, Refused, Withdrawn, Quit, AutoRefused, AutoWithdrawn, Lapsed}
 use Rattle.admit_core.specs.AutoAnswer.{auto_mark, auto_status, best_live}
-use Rattle.admit_core.specs.Blocking.{behind, has_better}
+use Rattle.admit_core.specs.Blocking.{has_better}
 use Rattle.admit_core.specs.CallOrder.{AreCallOrders}
-use Rattle.admit_core.specs.Days.{closing, offered}
+use Rattle.admit_core.specs.Days.{closing}
 use Rattle.admit_core.specs.DossierRows.{limit_of}
 use Rattle.admit_core.specs.Lapses.{is_offered}
 use Rattle.admit_core.specs.Proposals.{ahead, is_barred, is_behind_bar, is_open, is_proposed, needs_no_seat, order_of, position_of, wants_seat}
