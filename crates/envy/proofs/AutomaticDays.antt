@@ -151,39 +151,17 @@ days_end_fair orders ceilings day k opening passes evening valid called plain lo
       none_blocks = none_blocks orders evening (last_bars passes) (subst IsRankedPlainly (sym after.dossier) plain) after.fair (seats_are_filled orders ceilings day k opening passes evening valid called are);
     }
 
--- where every wish waits, nobody is live and nothing was given up
-waits_live_not : (st : Status) → is_waiting_status st ≡ true → is_live_status st ≡ false
-waits_live_not Waiting waits = refl
-waits_live_not Offered waits = absurd (cc)
-waits_live_not Accepted waits = absurd (cc)
-waits_live_not Refused waits = absurd (cc)
-waits_live_not Withdrawn waits = absurd (cc)
-waits_live_not Quit waits = absurd (cc)
-waits_live_not AutoRefused waits = absurd (cc)
-waits_live_not AutoWithdrawn waits = absurd (cc)
-waits_live_not Lapsed waits = absurd (cc)
-
-waits_given_not : (st : Status) → is_waiting_status st ≡ true → is_given_up st ≡ false
-waits_given_not Waiting waits = refl
-waits_given_not Offered waits = absurd (cc)
-waits_given_not Accepted waits = absurd (cc)
-waits_given_not Refused waits = absurd (cc)
-waits_given_not Withdrawn waits = absurd (cc)
-waits_given_not Quit waits = absurd (cc)
-waits_given_not AutoRefused waits = absurd (cc)
-waits_given_not AutoWithdrawn waits = absurd (cc)
-waits_given_not Lapsed waits = absurd (cc)
-
-waits_offered_not : (st : Status) → is_waiting_status st ≡ true → is_offered st ≡ false
-waits_offered_not Waiting waits = refl
-waits_offered_not Offered waits = absurd (cc)
-waits_offered_not Accepted waits = absurd (cc)
-waits_offered_not Refused waits = absurd (cc)
-waits_offered_not Withdrawn waits = absurd (cc)
-waits_offered_not Quit waits = absurd (cc)
-waits_offered_not AutoRefused waits = absurd (cc)
-waits_offered_not AutoWithdrawn waits = absurd (cc)
-waits_offered_not Lapsed waits = absurd (cc)
+-- a wish that waits has the one status of those that wait
+waits_is : (st : Status) → is_waiting_status st ≡ true → st ≡ Waiting
+waits_is Waiting waits = refl
+waits_is Offered waits = absurd (cc)
+waits_is Accepted waits = absurd (cc)
+waits_is Refused waits = absurd (cc)
+waits_is Withdrawn waits = absurd (cc)
+waits_is Quit waits = absurd (cc)
+waits_is AutoRefused waits = absurd (cc)
+waits_is AutoWithdrawn waits = absurd (cc)
+waits_is Lapsed waits = absurd (cc)
 
 -- the mark of an entry
 entry_mark : (s : State) (k : ℕ) (x : Wish × Mark) → k < length (entries s) → get_or (entries s) k x ≡ x → (k < length s.marks) × (x.1 ≡ get_or s.marks k x.1)
@@ -206,7 +184,7 @@ module _ (orders : List CallOrder) (s : State) (waiting : All (λ m. is_waiting 
       false_from_ne_true (holds_seat s c p) (λ held.
       let (j, e, lt, at, lives) = Any-from_list_any (λ (e : Wish × Mark). is_live e.1 && nat_eq e.0.candidate c && nat_eq e.0.programme p) (entries s) held in
       let outer = and_parts (is_live e.1 && nat_eq e.0.candidate c) (nat_eq e.0.programme p) lives in
-      false≢true (sym (waits_live_not e.1.status (waits_at j e lt at)) ∙ (and_parts (is_live e.1) (nat_eq e.0.candidate c) outer.0).0))
+      false≢true (sym (ap is_live_status (waits_is e.1.status (waits_at j e lt at))) ∙ (and_parts (is_live e.1) (nat_eq e.0.candidate c) outer.0).0))
 
   at_entry : (P : Wish × Mark → Type 0) → ((k : ℕ) (x : Wish × Mark) → k < length (entries s) → get_or (entries s) k x ≡ x → P x) → All P (entries s)
   at_entry P holds_at k d lt = holds_at k (get_or (entries s) k d) lt (get_or_default (entries s) k (get_or (entries s) k d) d lt)
@@ -214,8 +192,8 @@ module _ (orders : List CallOrder) (s : State) (waiting : All (λ m. is_waiting 
   pub waiting_fair : IsFair orders s
   waiting_fair = record {
     behind = at_entry (NobodyBehind orders s) (λ k x lt at waits j d j_lt. nobody_live (get_or (behind s orders x.0) j d) x.0.programme);
-    better = at_entry (HoldsBetter s) (λ k x lt at given. absurd (false≢true (sym (waits_given_not x.1.status (waits_at k x lt at)) ∙ given)));
-    settled = λ k d lt. waits_offered_not (get_or s.marks k d).status (waiting k d lt);
+    better = at_entry (HoldsBetter s) (λ k x lt at given. absurd (false≢true (sym (ap is_given_up (waits_is x.1.status (waits_at k x lt at))) ∙ given)));
+    settled = λ k d lt. ap is_offered (waits_is (get_or s.marks k d).status (waiting k d lt));
   }
 
 pub waiting_is_fair : WaitingIsFair
