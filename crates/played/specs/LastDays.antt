@@ -1,5 +1,5 @@
 -- The last of the days that were played, and the desk after it.
-use Rattle.std.specs.Prelude.{◌≡◌, ◌-◌, List, Some, length, slice_get}
+use Rattle.std.specs.Prelude.{◌≡◌, ◌-◌, ℕ, List, Some, length, slice_get}
 use Rattle.admit_core.specs.Days.{ceilings_of}
 use Rattle.admit_core.specs.DossierRows.{DossierRows}
 use Rattle.admit_core.specs.EveningLaws.{last_bars}
