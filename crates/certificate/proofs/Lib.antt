@@ -8,3 +8,5 @@ pub mod Lowering
 pub mod Ending
 pub mod Counting
 pub mod Schools
+pub mod WordLines
+pub mod ReadBack

@@ -2,6 +2,7 @@ pub mod Grammar
 pub mod Open
 pub mod WorkedTexts
 pub mod ChainText
+pub mod Written
 pub mod ProvedDays
 pub mod Checked
 pub mod Counted

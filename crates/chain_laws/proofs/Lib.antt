@@ -1,4 +1,2 @@
-pub mod WordLines
-pub mod ReadBack
 pub mod ValidLines
 pub mod ValidDays

@@ -30,9 +30,9 @@ use Rattle.day_run.proofs.SameDossier.{evening_dossier, morning_dossier}
 use Rattle.certificate.specs.ChainText.{chain_text}
 use Rattle.certificate.specs.Grammar.{read}
 use Rattle.certificate.specs.ProvedDays.{AreProvedDays}
-use Rattle.chain_laws.specs.Written.{AreNumbered, CanBeTold, DayCanBeTold, HasFewPasses, PassCanBeTold, chain_of_days, day_at, days_from, falls_from, pass_at, passes_from, row_after, row_after_pass}
+use Rattle.certificate.specs.Written.{AreNumbered, CanBeTold, DayCanBeTold, HasFewPasses, PassCanBeTold, chain_of_days, day_at, days_from, falls_from, pass_at, passes_from, row_after, row_after_pass}
 use Rattle.chain_laws.specs.WrittenLaws.{OwnChainsAreProved}
-use Rattle.chain_laws.proofs.ReadBack.{reads_back}
+use Rattle.certificate.proofs.ReadBack.{reads_back}
 use Rattle.chain_laws.proofs.ValidLines.{valid_lines}
 
 -- the ceilings of a day have 32 bits

@@ -27,7 +27,7 @@ use Rattle.admit_core.proofs.FallsLaw.{over_in}
 use Rattle.dossier_check.proofs.Places.{nat_eq_sym}
 use Rattle.report.specs.Ids.{school_id, wish_id}
 use Rattle.certificate.proofs.Naming.{find_numbered}
-use Rattle.chain_laws.specs.Written.{fall_at, falls_from}
+use Rattle.certificate.specs.Written.{fall_at, falls_from}
 
 -- the place of an id that stands at a place
 id_place : (ids : List ℕ) (h : ℕ) → IsDistinct nat_eq ids → h < length ids → place_of ids (get_or ids h 0) ≡ h
@@ -70,8 +70,8 @@ module _ (s : State) (orders : List CallOrder) (bars : List ℕ) (h : ℕ) where
 
   all_among : All (λ r. is_among r (demanded_ranks s orders bars h) ≡ true) (demanded_ranks s orders bars h)
   all_among = λ k d lt.
-  let ranks = demanded_ranks s orders bars h in
-  list_any_at (nat_eq (get_or ranks k d)) ranks k d lt (eq-eqb (get_or ranks k d) (get_or ranks k d) refl)
+      let ranks = demanded_ranks s orders bars h in
+      list_any_at (nat_eq (get_or ranks k d)) ranks k d lt (eq-eqb (get_or ranks k d) (get_or ranks k d) refl)
 
   -- the wishes of a fall show its ranks
   named_show : (n : ℕ) → let ranks = take n (demanded_ranks s orders bars h) in shows_ranks s orders bars h ranks (map (wish_id s.dossier) (map (name_of s orders bars h) ranks)) ≡ true
@@ -104,9 +104,9 @@ module _ (s : State) (orders : List CallOrder) (ceilings : List ℕ) (distinct :
       let h = f.school in (
         over,
         ap (λ (ws : List ℕ). shows_ranks s orders bars h (first_over sys bars h) (map (wish_id s.dossier) ws)) (ap (λ (g : Fall). g.wishes) is)
-        ∙ named_show s orders bars h (slice_index sys.free h + 1),
+            ∙ named_show s orders bars h (slice_index sys.free h + 1),
         and_from (f.from == (fall_of sys bars h).from) (f.to == (fall_of sys bars h).to) (eq-eqb f.from (fall_of sys bars h).from (ap (λ (g : Fall). g.from) is))
-        (eq-eqb f.to (fall_of sys bars h).to (ap (λ (g : Fall). g.to) is)),
+            (eq-eqb f.to (fall_of sys bars h).to (ap (λ (g : Fall). g.to) is)),
       )
 
   valid_line : (bars : List ℕ) (row : ℕ) (f : Fall) → is_overfilled (boarding s orders ceilings) bars f.school ≡ true → f ≡ fall_of (boarding s orders ceilings) bars f.school

@@ -10,7 +10,7 @@ use Rattle.admit_core.specs.declared.records.Terms.{Terms}
 use Rattle.certificate.specs.ChainText.{chain_text}
 use Rattle.certificate.specs.Grammar.{read}
 use Rattle.certificate.specs.ProvedDays.{AreProvedDays}
-use Rattle.chain_laws.specs.Written.{AreNumbered, DayCanBeTold, HasFewPasses, chain_of_days}
+use Rattle.certificate.specs.Written.{AreNumbered, DayCanBeTold, HasFewPasses, chain_of_days}
 
 -- the text of days, whose numbers have 32 bits and whose falls each name a wish, is read as their chain
 abbrev pub ReadsBack : Type 0

@@ -1,4 +1,4 @@
-use Rattle.chain_laws.proofs.ReadBack.{reads_back}
+use Rattle.certificate.proofs.ReadBack.{reads_back}
 use Rattle.chain_laws.proofs.ValidDays.{own_chains_are_proved}
 use Rattle.chain_laws.proofs.laws.laws_of_written_chains.Goals as goal
 

@@ -1,5 +1,5 @@
 -- The text of days is read as their chain.
-use Rattle.std.proofs.Common.{◌≡◌, ℕ, suc, ◌+◌, ◌-◌, ◌<◌, ◌≤◌, Bool, true, false, cond, ◌&&◌, List, [], ◌∷◌, ◌++◌, length, map, flat_map, get_or, All, Option, Some, None, Result, Ok, Err, refl, sym, ap, ◌∙◌, subst, arith, append_assoc, append-nil, inl, inr, nat_le, nat_eq}
+use Rattle.std.proofs.Common.{◌≡◌, ℕ, suc, ◌+◌, ◌-◌, ◌<◌, ◌≤◌, Bool, true, false, cond, ◌&&◌, List, [], ◌∷◌, ◌++◌, length, map, flat_map, get_or, All, Option, Some, None, Result, Ok, Err, refl, sym, ap, ◌∙◌, subst, arith, append_assoc, append-nil, inl, inr, nat_le, nat_eq, rules}
 use Rattle.std.specs.Prelude.{codes, option_and_then, option_map, slice_index}
 use Rattle.std.specs.Fmt.{decimal}
 use Rattle.std.specs.List.{enumerate_from}
@@ -27,9 +27,9 @@ use Rattle.certificate.specs.declared.line.Line.{Line}
 use Rattle.certificate.specs.declared.line.Line.TheVariants.{Day, Pass, Fall as FallOf, End}
 use Rattle.certificate.specs.ChainText.{chain_text, day_lines, pass_lines, passes_lines}
 use Rattle.certificate.specs.Grammar.{chain_of, day_after, end_at, is_end, line_of, line_with, misplaced, nothing, numbers, pass_after, parts, read, Said, said_from, said_with, with_line}
-use Rattle.chain_laws.specs.Written.{AreNumbered, CanBeTold, DayCanBeTold, PassCanBeTold, chain_of_days, day_at, days_from, fall_at, falls_from, pass_at, passes_from, row_after, row_after_pass}
+use Rattle.certificate.specs.Written.{AreNumbered, CanBeTold, DayCanBeTold, PassCanBeTold, chain_of_days, day_at, days_from, fall_at, falls_from, pass_at, passes_from, row_after, row_after_pass}
 use Rattle.certificate.proofs.Saying.{said_by}
-use Rattle.chain_laws.proofs.WordLines.{AreWords, IsWord, body_of, line_cut, number_read, number_word, numbers_read, numbers_words, words_cut}
+use Rattle.certificate.proofs.WordLines.{AreWords, IsWord, body_of, line_cut, number_read, number_word, numbers_read, numbers_words, words_cut}
 
 -- what a line of words says, with what follows it
 read_line : (day pass row : ℕ) (w : List ℕ) (ws : List (List ℕ)) (line : Line) (rest : List ℕ) → AreWords (w ∷ ws) → line_of row (w ∷ ws) ≡ Some line
@@ -79,8 +79,8 @@ module _ (d : DossierRows) (valid : IsValid d) where
 
   numbers_small : (fall : Fall) → CanBeTold fall → All IsSmall (fall_numbers fall)
   numbers_small fall can =
-      All-cons IsSmall (school_id d fall.school) _ (school_small fall.school)
-      (All-cons IsSmall fall.from _ can.from (All-cons IsSmall fall.to _ can.to (All-map IsSmall (wish_id d) fall.wishes (λ k x lt. wish_small (get_or fall.wishes k x)))))
+      All-cons IsSmall (school_id d fall.school) (fall.from ∷ fall.to ∷ map (wish_id d) fall.wishes) (school_small fall.school)
+      (All-cons IsSmall fall.from (fall.to ∷ map (wish_id d) fall.wishes) can.from (All-cons IsSmall fall.to (map (wish_id d) fall.wishes) can.to (All-map IsSmall (wish_id d) fall.wishes (λ k x lt. wish_small (get_or fall.wishes k x)))))
 
   words_of_wishes : (wishes : List ℕ) → map (λ w. decimal (wish_id d w)) wishes ≡ map decimal (map (wish_id d) wishes)
   words_of_wishes [] = refl
@@ -152,7 +152,7 @@ module _ (d : DossierRows) (valid : IsValid d) where
       let fallen_so : said_from day (k + 1) (row + 1) (parts 10 all) ≡ Ok told =
       fallen ∙ ap (λ (fs : List FallLine). Ok (record (passes_said end_row ends days) { falls = fs })) (append-nil (falls_from d (row + 1) end.pass.falls)) in
       ap (λ (bs : List ℕ). said_from day k row (parts 10 bs)) (append_assoc (number ++ falls) passes rest ∙ append_assoc number falls (passes ++ rest))
-      ∙ read_line day k row (codes "pass") (decimal (k + 1) ∷ []) (Pass (k + 1)) all (word_pass, number_word (k + 1) fits, tt) (pass_line_is row (k + 1) fits)
+      ∙ read_line day k row (codes "pass") (decimal (k + 1) ∷ []) (Pass (k + 1)) all (word_pass, (number_word (k + 1) fits, tt)) (pass_line_is row (k + 1) fits)
       ∙ ap (λ b. said_with row (Some (Pass (k + 1))) (cond b (Some NotLine) (cond (nat_eq (k + 1) (k + 1)) None (Some WrongNumber))) (said_from day (k + 1) (row + 1) (parts 10 all))) open_day
       ∙ ap (λ b. said_with row (Some (Pass (k + 1))) (cond b None (Some WrongNumber)) (said_from day (k + 1) (row + 1) (parts 10 all))) (same_number (k + 1))
       ∙ ap (said_with row (Some (Pass (k + 1))) None) fallen_so
@@ -179,14 +179,15 @@ module _ (d : DossierRows) (valid : IsValid d) where
       let fits : n ≤ 4294967295 = omega arith in
       let year : n ≤ 366 = omega arith in
       let some : nat_eq n 0 ≡ false = subst (λ k. nat_eq k 0 ≡ false) (sym is) (some_pass day) in
+      let few_passes : 0 + length this.passes ≤ 4294967295 = omega (arith, first.few) in
       let end_row = row_after (row + 1) this.passes in
       let later : (p : ℕ) → said_from n p end_row (parts 10 rest) ≡ Ok (ends_day end_row (days_from d end_row days)) =
       λ p. subst (λ k. said_from k p end_row (parts 10 rest) ≡ Ok (ends_day end_row (days_from d end_row days))) (sym is) (read_days (day + 1) p end_row days numbered.1 within others) in
-      let passed = read_passes n 0 (row + 1) this.passes rest (days_from d end_row days) some first.passes first.few later in
+      let passed = read_passes n 0 (row + 1) this.passes rest (days_from d end_row days) some first.passes few_passes later in
       let all = passes ++ rest in
       let follows : (nat_eq n (day + 1) && nat_le n 366) ≡ true = and_from (nat_eq n (day + 1)) (nat_le n 366) (eq-eqb n (day + 1) is) (le-leb n 366 year) in
       ap (λ (bs : List ℕ). said_from day pass row (parts 10 bs)) (append_assoc (number ++ passes) more last ∙ append_assoc number passes rest)
-      ∙ read_line day pass row (codes "day") (decimal n ∷ []) (Day n) all (word_day, number_word n fits, tt) (day_line_is row n fits)
+      ∙ read_line day pass row (codes "day") (decimal n ∷ []) (Day n) all (word_day, (number_word n fits, tt)) (day_line_is row n fits)
       ∙ ap (λ b. said_with row (Some (Day n)) (cond b None (Some WrongNumber)) (said_from n 0 (row + 1) (parts 10 all))) follows
       ∙ ap (said_with row (Some (Day n)) None) passed
 
