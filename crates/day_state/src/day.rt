@@ -22,6 +22,7 @@ use crate::mark::{OwnChange, changed_to, first_mark, is_live_status, is_waiting_
 use admit_core::{Answer, AnswerKind, Dossier, Freed, Mark, OutOfMemory, Stamp, Status, Terms};
 use std::alloc::Global;
 use std::marker::Model;
+use std::rc::Rc;
 
 /// An answer that does not fit; the status is the one that was found.
 #[derive(Clone, Copy, Debug, PartialEq, Eq)]
@@ -39,7 +40,7 @@ pub struct UnfitAt {
 /// The marks of a dossier's wishes. At most one wish of each candidate is accepted.
 #[derive(Drop)]
 pub struct DayState<'d> {
-    index: CandidateIndex<'d>,
+    index: Rc<CandidateIndex<'d>>,
     live: CountedMarks<'d>,
 }
 
@@ -51,7 +52,7 @@ impl<'d> Model for DayState<'d> {
 
     ghost view = { λ s. s.live };
 
-    ghost invariant = { λ s. IsDayState s.index s.live };
+    ghost invariant = { λ s. IsDayState s.index.value s.live };
 }
 
 impl<'d> DayState<'d> {
@@ -64,7 +65,11 @@ impl<'d> DayState<'d> {
         for (place, status) in dossier.statuses.as_slice().iter().enumerate() {
             live.set_mark(place as u32, first_mark(*status));
         }
-        Ok(DayState { index, live })
+        let shared = Rc::new(alloc, index)?;
+        Ok(DayState {
+            index: shared,
+            live,
+        })
     }
 
     /// An equal state.
@@ -72,7 +77,7 @@ impl<'d> DayState<'d> {
         ensures { IfOk result (λ s. s ≡ self.now) }
     {
         Ok(DayState {
-            index: self.index.copy(alloc)?,
+            index: self.index.clone()?,
             live: self.live.copy(alloc)?,
         })
     }

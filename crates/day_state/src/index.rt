@@ -10,6 +10,7 @@ ghost use Rattle.day_state.specs.Kept.{candidate_in, AreFound, IsIndex, IsSpan, 
 
 use admit_core::{Dossier, OutOfMemory, Wish};
 use indexmap::IndexMap;
+use keyed_hash::{KeyMaker, Keyed};
 use std::alloc::{AllocError, AllocFailed, Global};
 use std::marker::Model;
 
@@ -27,7 +28,7 @@ pub struct CandidateIndex<'d> {
     dossier: &'d Dossier,
     order: Vec<u32>,
     spans: Vec<Span>,
-    found: IndexMap<u32, u32>,
+    found: IndexMap<u32, u32, Keyed>,
 }
 
 impl<'d> Model for CandidateIndex<'d> {
@@ -57,19 +58,6 @@ impl<'d> CandidateIndex<'d> {
             order,
             spans,
             found,
-        })
-    }
-
-    /// The same index again.
-    pub fn copy(&self, alloc: Global) -> Result<CandidateIndex<'d>, OutOfMemory>
-        ensures { IfOk result (λ s. s ≡ self.now) }
-    {
-        let dossier = self.dossier;
-        Ok(CandidateIndex {
-            dossier,
-            order: self.order.as_slice().to_vec(alloc)?,
-            spans: self.spans.as_slice().to_vec(alloc)?,
-            found: found_of(alloc, dossier.wishes.as_slice())?,
         })
     }
 
@@ -203,12 +191,21 @@ fn spans_of(alloc: Global, wishes: &[Wish], order: &[u32]) -> Result<Vec<Span>, 
     Ok(spans)
 }
 
+/// Hashing by a key of the wishes' candidates.
+fn hashing_of(wishes: &[Wish]) -> Keyed {
+    let mut key = KeyMaker::new();
+    for wish in wishes {
+        key.mix(wish.candidate, wish.id);
+    }
+    key.done()
+}
+
 /// For each candidate the place of one of his wishes.
-fn found_of(alloc: Global, wishes: &[Wish]) -> Result<IndexMap<u32, u32>, OutOfMemory>
+fn found_of(alloc: Global, wishes: &[Wish]) -> Result<IndexMap<u32, u32, Keyed>, OutOfMemory>
     requires { length wishes.now < 2 ^ 32 }
     ensures { IfOk result (λ found. AreFound wishes.now (length wishes.now) (get nat_eq found)) }
 {
-    let mut found = IndexMap::new(alloc);
+    let mut found = IndexMap::with_hasher(alloc, hashing_of(wishes));
     for (place, wish) in wishes.iter().enumerate() {
         found.insert(wish.candidate, place as u32)?;
     }

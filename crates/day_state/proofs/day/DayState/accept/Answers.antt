@@ -17,7 +17,7 @@ invariant_of-self c =
     let s = c.self.inside.live in
     let candidate : c.candidate_at-candidate.result ≡ candidate_at s c.args.wish =
     c.candidate_at-candidate.ensures ∙ ap (λ ws. candidate_in ws c.args.wish) (c.as_slice.ensures ∙ ap (λ (d : DossierRows). d.wishes) (c.dossier.view_is ∙ c.dossier-dossier.ensures)) in
-    rw (c.set_mark.ensures.state, (c.change_own.ensures.state ∙ refuse_live_is c.self.inside.live c.candidate_at-candidate.result c.args.stamp), c.changed_to-mark.ensures, c.mark.ensures, candidate) (whole_accept c.self.inside.index s c.args.wish c.args.stamp c.self.invariant lt)
+    rw (c.set_mark.ensures.state, (c.change_own.ensures.state ∙ refuse_live_is c.self.inside.live c.candidate_at-candidate.result c.args.stamp), c.changed_to-mark.ensures, c.mark.ensures, candidate) (whole_accept c.self.inside.index.value s c.args.wish c.args.stamp c.self.invariant lt)
 
 pub returns : goal.returns
 returns c =

@@ -9,7 +9,7 @@ invariant_of-self c =
     let s = c.self.inside.live in
     let valid : IsValid s.dossier = subst IsValid (c.dossier.view_is ∙ c.dossier-dossier.ensures) c.dossier.invariant in
     rw (c.change_own.ensures.state ∙ auto_best s c.args.candidate c.in-Some.best c.args.stamp c.in-Some.ensures)
-    (whole_taken c.self.inside.index s c.args.candidate c.in-Some.best c.args.stamp valid c.in-Some.ensures c.self.invariant)
+    (whole_taken c.self.inside.index.value s c.args.candidate c.in-Some.best c.args.stamp valid c.in-Some.ensures c.self.invariant)
 
 pub returns-in-None-clause-state : goal.returns-in-None-clause-state
 returns-in-None-clause-state c =

@@ -1,0 +1,4 @@
+pub mod Leasts
+pub mod Orders
+pub mod OnePass
+pub mod AutomaticDays
