@@ -1,9 +1,10 @@
 //! The boarding schools of a state, with the lines of its programmes.
-ghost use Rattle.std.specs.Prelude.{◌≡◌, ◌+◌, ◌<◌, length, slice_get, slice_index, slice_set, IfOk};
+ghost use Rattle.std.specs.Prelude.{◌≡◌, ◌+◌, ◌<◌, length, slice_get, slice_index, slice_set, IfOk, IsOk};
 ghost use Rattle.admit_core.specs.State.{free_beds};
 ghost use Rattle.linked_demand.specs.Lineups.{IsLineupOf};
 ghost use Rattle.admit_core.specs.Proposals.{demanded_ranks, proposed};
 ghost use Rattle.admit_core.specs.Boarding.{boarding};
+ghost use Rattle.bar_law.specs.Overfilled.{rank_over};
 ghost use Rattle.linked_demand.specs.Rounds.{bar_each, is_proposed_in};
 ghost use Rattle.linked_demand.specs.Ticks.{changes_between};
 
@@ -153,7 +154,13 @@ impl Falling for LinkedRound<'_, '_> {
         self.bars[i as usize]
     }
 
-    fn over(&self, _alloc: Global, i: u32) -> Result<Option<u32>, OutOfMemory> {
+    fn over(&self, _alloc: Global, i: u32) -> Result<Option<u32>, OutOfMemory>
+        requires { i < length self.now.ceilings }
+        ensures over { IfOk result (λ over. over ≡ rank_over
+            (boarding self.now.state self.now.orders self.now.ceilings)
+            (bar_each self.now.ceilings self.now.bars) i) }
+        ensures always { IsOk result }
+    {
         let _ = &self.bars; // learns the invariant
         Ok(self.first_over(i))
     }

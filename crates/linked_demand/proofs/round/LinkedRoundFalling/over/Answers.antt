@@ -6,7 +6,7 @@ first_over-requires c =
     let r = c.self.inside in
     seen_within_bars r.links r.ceilings.items r.bars.items r.free.items r.rows.items r.overs r.marked c.args.self.now c.self.invariant c.self.view_is c.args.i c.requires
 
-pub returns : goal.returns
-returns c =
+pub returns-clause-over : goal.returns-clause-over
+returns-clause-over c =
     let r = c.self.inside in
     over_seen r.links r.ceilings.items r.bars.items r.free.items r.rows.items r.overs r.marked c.args.self.now c.self.invariant c.self.view_is c.args.i c.first_over.result c.requires c.first_over.ensures
