@@ -1,1 +1,3 @@
+pub mod Beds
+pub mod PassedOver
 pub mod Shown

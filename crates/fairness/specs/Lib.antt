@@ -1,1 +1,2 @@
 pub mod NotPromised
+pub mod PassPromises
