@@ -1,3 +1,4 @@
 pub mod Beds
+pub mod ByRank
 pub mod PassedOver
 pub mod Shown

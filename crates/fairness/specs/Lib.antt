@@ -1,2 +1,3 @@
 pub mod NotPromised
+pub mod OrderPromises
 pub mod PassPromises
