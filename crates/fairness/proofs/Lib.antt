@@ -1,4 +1,6 @@
 pub mod Beds
+pub mod Better
 pub mod ByRank
+pub mod NextCalled
 pub mod PassedOver
 pub mod Shown

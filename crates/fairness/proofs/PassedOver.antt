@@ -1,7 +1,7 @@
 -- Where an open wish is not proposed, whoever becomes live in its programme comes before its candidate.
 use Rattle.std.proofs.Common.{ℕ, ◌+◌, ◌≤◌, ◌<◌, ◌≡◌, Bool, true, false, not, ◌||◌, List, length, take, inl, inr, sym, ◌∙◌, subst, arith, nat_eq, nat_lt, count_by}
 use Rattle.std.specs.Prelude.{nat_le}
-use Rattle.std.specs.List.{before_first, position_or_len}
+use Rattle.std.specs.List.{before_first}
 use Rattle.std.proofs.lemmas.Bool.{and_cases, and_parts, both_ways, cases_lt, eqb-true, false≢true, leb-false, leb-true, ltb-false, ltb-true, not-true, or_cases, or_parts}
 use Rattle.std.proofs.lemmas.List.{get_or-take, length-take-le}
 use Rattle.std.proofs.lemmas.List.Folds.{list_any_at}
@@ -17,21 +17,16 @@ use Rattle.admit_core.specs.State.{State, holds_seat, seat_holders, seats_left}
 use Rattle.admit_core.proofs.Counting.{count_front}
 use Rattle.round.proofs.Members.{among_filtered}
 use Rattle.round.proofs.NewHolders.{becomes_live}
+use Rattle.fairness.specs.OrderPromises.{place_in}
 use Rattle.fairness.specs.PassPromises.{NobodyIsPassedOver}
-
--- the place of a candidate in a call order
-abbrev pub place_in : List ℕ → ℕ → ℕ
-place_in xs c = position_or_len (nat_eq c) xs
 
 pub place_at_most : (xs : List ℕ) (c : ℕ) → place_in xs c ≤ length xs
 place_at_most xs c = prefix_len-le-length (λ x. not (nat_eq c x)) xs
 
--- who has an earlier place comes before
-among_earlier : (xs : List ℕ) (c d : ℕ) → place_in xs c < place_in xs d → is_among c (before_first (nat_eq d) xs) ≡ true
-among_earlier xs c d earlier =
+-- who has an earlier place stands in the front
+pub among_taken : (xs : List ℕ) (c n : ℕ) → place_in xs c < n → n ≤ length xs → is_among c (take n xs) ≡ true
+among_taken xs c n earlier le =
     let k = place_in xs c in
-    let n = place_in xs d in
-    let le = place_at_most xs d in
     let there = passes_at_first (nat_eq c) xs 0 (omega (arith, earlier, le)) in
     let within : k < length (take n xs) = omega (arith, earlier, length-take-le n xs le) in
     list_any_at (nat_eq c) (take n xs) k 0 within (rw (get_or-take n xs k 0 earlier) there)
@@ -109,6 +104,6 @@ nobody_is_passed_over s orders bars stamp w m c opens not_proposed new =
     let same_c : x.candidate ≡ c = eqb-true x.candidate c makes.own in
     let seat_of_c : seat_for orders s bars p c ≡ true = subst (λ (q : ℕ). seat_for orders s bars q c ≡ true) same_p (subst (λ (d : ℕ). seat_for orders s bars x.programme d ≡ true) same_c seat) in
     elim (cases_lt (place_in xs c) (place_in xs w.candidate)) [
-      | inl earlier ↦ among_earlier xs c w.candidate earlier
+      | inl earlier ↦ among_taken xs c (place_in xs w.candidate) earlier (place_at_most xs w.candidate)
       | inr later ↦ absurd (refused_later s orders bars w c (refused_by s orders bars w m opens not_proposed) later not_live seat_of_c)
     ]
