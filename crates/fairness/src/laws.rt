@@ -1,5 +1,6 @@
 //! What the rules promise, as theorems over the definitions.
 ghost use Rattle.admit_core.specs.CallOrderLaws.{OfCallOrders};
+ghost use Rattle.fairness.specs.Exchanges.{BetterPositionCostsNoOffer};
 ghost use Rattle.fairness.specs.OrderPromises.{BetterIsNeverLater, CallsEachKindByRank, CallsResidentScholarsByRank};
 ghost use Rattle.fairness.specs.PassPromises.{NoBedGoesToWorseRank, NobodyIsPassedOver};
 
@@ -16,4 +17,10 @@ pub fn laws_of_places()
 pub fn laws_of_offers()
     ensures passed_over { NobodyIsPassedOver }
     ensures beds { NoBedGoesToWorseRank }
+{}
+
+/// What a candidate keeps who changes places with the one just before them: a better position in a
+/// call order costs no offer there.
+pub fn laws_of_exchanges()
+    ensures position { BetterPositionCostsNoOffer }
 {}

@@ -7,4 +7,4 @@ mod cases;
 mod laws;
 
 pub use cases::not_promised;
-pub use laws::{laws_of_offers, laws_of_places};
+pub use laws::{laws_of_exchanges, laws_of_offers, laws_of_places};
