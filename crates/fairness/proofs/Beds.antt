@@ -1,6 +1,6 @@
 -- Where a wish is barred below the ceiling, the free beds of its school go to better ranks.
 use Rattle.std.proofs.Common.{ℕ, ◌<◌, ◌≡◌, true, not, List, inl, inr, refl, sym, ◌∙◌, ap, arith, nat_lt, get_or, Option, Some, None}
-use Rattle.std.specs.Prelude.{Contains, IsSome, slice_index}
+use Rattle.std.specs.Prelude.{◌↔◌, Contains, IsSome, slice_index}
 use Rattle.std.proofs.lemmas.Bool.{and_parts, cases_order, eqb-true, false≢true, ltb-true, not-true}
 use Rattle.std.proofs.lemmas.List.{get_or_default}
 use Rattle.admit_core.specs.declared.dossier.Wish.{Wish}
@@ -21,10 +21,10 @@ same_school None b h is also = absurd (false≢true is)
 same_school (Some g) None h is also = absurd (false≢true also)
 same_school (Some g) (Some f) h is also = (refl, ap (λ (n : ℕ). Some n) (eqb-true g h is ∙ sym (eqb-true f h also)))
 
--- in a school a candidate has one rank
-pub one_rank : (d : DossierRows) (h : ℕ) (v w : Wish) → IsValid d → Contains d.wishes v → Contains d.wishes w → is_school v.school h ≡ true → is_school w.school h ≡ true
-    → v.candidate ≡ w.candidate → v.board_rank ≡ w.board_rank
-one_rank d h v w valid has also v_has w_has same =
+-- in a school a rank tells its candidate, and a candidate their rank
+pub ranks_tell : (d : DossierRows) (h : ℕ) (v w : Wish) → IsValid d → Contains d.wishes v → Contains d.wishes w → is_school v.school h ≡ true → is_school w.school h ≡ true
+    → (v.board_rank ≡ w.board_rank) ↔ (v.candidate ≡ w.candidate)
+ranks_tell d h v w valid has also v_has w_has =
     let ws = d.wishes in
     let (k, k_lt, at_k) = has in
     let (j, j_lt, at_j) = also in
@@ -33,16 +33,17 @@ one_rank d h v w valid has also v_has w_has same =
     elim (cases_order k j) [
       | inl equal ↦
           let one : v ≡ w = sym at_k ∙ ap (λ (i : ℕ). get_or ws i v) equal ∙ there in
-          ap (λ (x : Wish). x.board_rank) one
+          (λ _. ap (λ (x : Wish). x.candidate) one, λ _. ap (λ (x : Wish). x.board_rank) one)
       | inr differ ↦ elim differ [
         | inl below ↦
             let apart = rw (at_k, there) at (valid.wishes_apart k j v below j_lt) in
             let school = same_school v.school w.school h v_has w_has in
-            (apart.ranks school.0 school.1).1 same
+            apart.ranks school.0 school.1
         | inr above ↦
             let apart = rw (at_j, here) at (valid.wishes_apart j k w above k_lt) in
             let school = same_school w.school v.school h w_has v_has in
-            sym ((apart.ranks school.0 school.1).1 (sym same))
+            let both = apart.ranks school.0 school.1 in
+            (λ e. sym (both.0 (sym e)), λ e. sym (both.1 (sym e)))
       ]
     ]
 
@@ -69,6 +70,6 @@ no_bed_goes_to_worse_rank s orders ceilings bars stamp w m h valid greatest has 
           let no_bed : not (holds_bed s x.candidate h) ≡ true = rw same_c outer.1 in
           let at_most = not_over s bars x x.school h makes.passes no_bed (not_barred_step (is_waiting makes.entry.1) (is_behind_bar s bars x x.school) opens) in
           let place = entry_wish s makes.place makes.entry makes.within makes.here in
-          let rank = one_rank s.dossier h v x valid listed (makes.place, place.0, place.1) boards makes.passes (own ∙ sym same_c) in
+          let rank = (ranks_tell s.dossier h v x valid listed (makes.place, place.0, place.1) boards makes.passes).1 (own ∙ sym same_c) in
           omega (arith, at_most, over, rank);
     }

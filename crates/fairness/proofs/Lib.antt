@@ -1,6 +1,8 @@
 pub mod Beds
 pub mod Better
+pub mod BoardingRanks
 pub mod ByRank
+pub mod Exchanging
 pub mod MovedUp
 pub mod NextCalled
 pub mod PassedOver

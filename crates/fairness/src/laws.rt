@@ -1,6 +1,6 @@
 //! What the rules promise, as theorems over the definitions.
 ghost use Rattle.admit_core.specs.CallOrderLaws.{OfCallOrders};
-ghost use Rattle.fairness.specs.Exchanges.{BetterPositionCostsNoOffer};
+ghost use Rattle.fairness.specs.Exchanges.{BetterBoardingRankCostsNoOffer, BetterPositionCostsNoOffer};
 ghost use Rattle.fairness.specs.OrderPromises.{BetterIsNeverLater, CallsEachKindByRank, CallsResidentScholarsByRank};
 ghost use Rattle.fairness.specs.PassPromises.{NoBedGoesToWorseRank, NobodyIsPassedOver};
 
@@ -20,7 +20,8 @@ pub fn laws_of_offers()
 {}
 
 /// What a candidate keeps who changes places with the one just before them: a better position in a
-/// call order costs no offer there.
+/// call order costs no offer there, and a better boarding rank no offer with that school.
 pub fn laws_of_exchanges()
     ensures position { BetterPositionCostsNoOffer }
+    ensures boarding_rank { BetterBoardingRankCostsNoOffer }
 {}
