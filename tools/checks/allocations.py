@@ -68,7 +68,9 @@ void *aligned_alloc(size_t step, size_t size) {
 
 
 def slots(folder: str) -> Files:
-    return {path.name: path.read_bytes() for path in sorted((EXAMPLES / folder).glob("*.csv"))}
+    """The slots of an example, its chain among them."""
+    here = EXAMPLES / folder
+    return {path.name: path.read_bytes() for path in sorted([*here.glob("*.csv"), *here.glob("chain.txt")])}
 
 
 def jobs() -> list[Job]:

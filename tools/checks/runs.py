@@ -34,6 +34,10 @@ class Job:
         return self.words[0] if self.words else "none"
 
 
+def file_of(slot: str) -> str:
+    return "chain.txt" if slot == "chain" else f"{slot}.csv"
+
+
 def text_of(lines: list[str]) -> bytes:
     """The text that stands behind bars in a file of cases."""
     text = "".join(line if line.endswith("{cut}") else line + "\n" for line in lines)
@@ -56,7 +60,7 @@ def sections(file: Path) -> Iterator[tuple[str, list[str]]]:
 
 def jobs_of(file: Path) -> Iterator[Job]:
     """The runs of a file of cases."""
-    blank = {path.stem: path.read_bytes() for path in (EXAMPLES / "blank").glob("*.csv")}
+    blank = {"chain": b"", **{path.stem: path.read_bytes() for path in (EXAMPLES / "blank").glob("*.csv")}}
     dossier, case, title = dict(blank), dict(blank), ""
     is_dossier = True
     for head, lines in sections(file):
@@ -68,7 +72,7 @@ def jobs_of(file: Path) -> Iterator[Job]:
         elif kind in SLOTS:
             (dossier if is_dossier else case)[kind] = text_of(lines)
         elif kind in ("words", "same"):
-            yield Job(title, {f"{slot}.csv": text for slot, text in case.items()}, tuple(rest.split()))
+            yield Job(title, {file_of(slot): text for slot, text in case.items()}, tuple(rest.split()))
 
 
 def all_jobs(modes: list[str]) -> list[Job]:
