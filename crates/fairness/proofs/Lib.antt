@@ -1,0 +1,10 @@
+pub mod Beds
+pub mod Better
+pub mod BoardingRanks
+pub mod ByRank
+pub mod Exchanging
+pub mod MovedUp
+pub mod NextCalled
+pub mod PassedOver
+pub mod Seams
+pub mod Shown

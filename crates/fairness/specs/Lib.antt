@@ -1,0 +1,4 @@
+pub mod Exchanges
+pub mod NotPromised
+pub mod OrderPromises
+pub mod PassPromises
