@@ -1,7 +1,9 @@
 pub mod AcceptedRows
 pub mod Buckets
 pub mod BuiltGroups
+pub mod DealtRows
 pub mod FaultFree
+pub mod Faultless
 pub mod FirstRows
 pub mod Firsts
 pub mod Found
@@ -13,6 +15,7 @@ pub mod OneAccepted
 pub mod Outcomes
 pub mod Pairs
 pub mod Places
+pub mod Rising
 pub mod RowFacts
 pub mod Scans
 pub mod SortedBy
@@ -23,4 +26,5 @@ pub mod ValidItems
 pub mod ValidRankings
 pub mod ValidSizes
 pub mod ValidWishes
+pub mod WhoIsRanked
 pub mod WishesApart

@@ -60,7 +60,7 @@ distinct_in rankings group key differ =
     both_same group (get_or rankings i d).group (get_or rankings j d).group (key (get_or rankings i d)) (key (get_or rankings j d)) eg eh (differ i j d lt within))
 
 -- the candidates of a group in file order, by their rows
-map-ranked_in : (rankings : List RankRow) (group : ℕ) (key : Ranked → ℕ) → map (λ r. key (ranked_row r)) (filter (λ r. nat_eq group r.group) rankings) ≡ map key (ranked_in rankings group)
+pub map-ranked_in : (rankings : List RankRow) (group : ℕ) (key : Ranked → ℕ) → map (λ r. key (ranked_row r)) (filter (λ r. nat_eq group r.group) rankings) ≡ map key (ranked_in rankings group)
 map-ranked_in rankings group key = sym (map_map key ranked_row (filter (λ r. nat_eq group r.group) rankings))
 
 length-ranked_in-le : (rankings : List RankRow) (group : ℕ) → length (ranked_in rankings group) ≤ length rankings

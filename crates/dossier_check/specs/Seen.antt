@@ -8,10 +8,7 @@ use Rattle.admit_core.specs.Faults.{first_row}
 use Rattle.admit_core.specs.Relations.{first_wish_of, last_row, is_accepted, same_candidate, candidate_with}
 use Rattle.dossier_check.specs.declared.noted.FirstWish.{FirstWish}
 
--- the pairs that boarding and ranking rows are found by
-abbrev pub ranked_pairs : Tables → List (ℕ × ℕ)
-ranked_pairs t = map (λ r. (r.group, r.candidate)) t.rankings
-
+-- the pairs that boarding rows are found by
 abbrev pub boarded_pairs : Tables → List (ℕ × ℕ)
 boarded_pairs t = map (λ b. (b.school, b.candidate)) t.boarding
 

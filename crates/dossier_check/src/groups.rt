@@ -87,16 +87,15 @@ pub(crate) fn ranked_lists(
     Ok(lists)
 }
 
-/// The groups with their rankings sorted by rank.
+/// The groups with their candidates, who are given in file order, sorted by rank.
 pub(crate) fn rank_groups(
     alloc: Global,
     tables: &Tables,
-    groups: &IndexSet<u32, Keyed>,
+    lists: Vec<Vec<Ranked>>,
 ) -> Result<Vec<RankGroup>, OutOfMemory>
-    requires { groups.now.keys ≡ group_ids tables.now }
+    requires { map (λ l. l.items) lists.items ≡ map (ranked_in tables.now.rankings) (group_ids tables.now) }
     ensures { IfOk result (λ gs. gs.items ≡ map (group_of_row tables.now) tables.now.groups) }
 {
-    let lists = ranked_lists(alloc, tables.rankings.as_slice(), groups)?;
     let mut done = Vec::new(alloc);
     for (row, mut list) in tables.groups.as_slice().iter().zip(lists) {
         sort_by_rank(&mut list)?;

@@ -9,6 +9,7 @@ mod hashing;
 mod index;
 mod items;
 mod noted;
+mod ranks;
 mod relations;
 mod row_tests;
 mod rules;

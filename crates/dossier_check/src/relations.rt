@@ -1,14 +1,15 @@
 //! The relations between the rows of tables, as a whole.
 ghost use Rattle.std.specs.Prelude.{◌≡◌, All, IfOk, map};
 ghost use Rattle.admit_core.specs.Ranges.{AreTables};
-ghost use Rattle.admit_core.specs.Relations.{group_tests, ranking_tests, first_fault, programme_ids, school_ids, wish_ids};
-ghost use Rattle.admit_core.specs.Standing.{dossier_of};
+ghost use Rattle.admit_core.specs.Relations.{group_tests, ranking_tests, first_fault, group_ids, programme_ids, school_ids, wish_ids};
+ghost use Rattle.admit_core.specs.Standing.{dossier_of, ranked_in};
 ghost use Rattle.admit_core.specs.Validity.{IsValid};
 ghost use Rattle.dossier_check.specs.Dates.{dates_of};
+ghost use Rattle.dossier_check.specs.Dealt.{SaysWhoIsRanked};
 ghost use Rattle.dossier_check.specs.Ids.{ids_of};
 ghost use Rattle.dossier_check.specs.Keys.{AreKeysOf};
 ghost use Rattle.dossier_check.specs.Outcome.{AnswersFault, first_from_wishes};
-ghost use Rattle.dossier_check.specs.Seen.{ranked_pairs, boarded_pairs};
+ghost use Rattle.dossier_check.specs.Seen.{boarded_pairs};
 
 use crate::answers::check_answers;
 use crate::groups::rank_groups;
@@ -17,12 +18,11 @@ use crate::index::Index;
 use crate::items::{
     Keys, answers_of, ceilings_of, programmes_of, schools_of, statuses_of, wishes_of,
 };
-use crate::slots::{
-    check_boarding, check_ceilings, check_groups, check_programmes, check_ranks, check_schools,
-};
+use crate::ranks::{Dealt, WhoIsRanked, check_ranks};
+use crate::slots::{check_boarding, check_ceilings, check_groups, check_programmes, check_schools};
 use crate::state::check_state;
 use crate::wishes::check_wishes;
-use admit_core::{Dossier, InFault, OutOfMemory, Sequence, Since, Tables};
+use admit_core::{Dossier, InFault, OutOfMemory, Ranked, Sequence, Since, Tables};
 use indexmap::IndexSet;
 use keyed_hash::Keyed;
 use std::alloc::Global;
@@ -43,12 +43,12 @@ fn check_wishes_on<'a>(
     tables: &'a Tables,
     programmes: &'a IndexSet<u32, Keyed>,
     schools: &'a IndexSet<u32, Keyed>,
-    ranked: &'a IndexSet<(u32, u32), Keyed>,
+    ranked: WhoIsRanked<'a>,
     boarding: &'a IndexSet<(u32, u32), Keyed>,
 ) -> Result<(IndexSet<u32, Keyed>, IndexSet<u32, Keyed>), InFault>
     requires programmes { programmes.now.keys ≡ programme_ids tables.now }
     requires schools { schools.now.keys ≡ school_ids tables.now }
-    requires ranked { ranked.now.keys ≡ ranked_pairs tables.now }
+    requires ranked { SaysWhoIsRanked tables.now ranked }
     requires boarding { boarding.now.keys ≡ boarded_pairs tables.now }
     requires ranges { AreTables tables.now }
     ensures fault { AnswersFault result (first_from_wishes tables.now) }
@@ -63,34 +63,40 @@ fn check_wishes_on<'a>(
 }
 
 /// Tests the rows of all slots in their order, and answers what they are found by.
-fn check_slots(alloc: Global, tables: &Tables) -> Result<Keys, InFault>
+fn check_slots(alloc: Global, tables: &Tables) -> Result<(Keys, Vec<Vec<Ranked>>), InFault>
     requires { AreTables tables.now }
     ensures fault { AnswersFault result (first_fault tables.now) }
-    ensures keys { IfOk result (AreKeysOf tables.now) }
+    ensures keys { IfOk result (λ found. AreKeysOf tables.now found.0) }
+    ensures lists { IfOk result (λ found. map (λ l. l.items) found.1.items ≡ map (ranked_in tables.now.rankings) (group_ids tables.now)) }
 {
     let keyed = hashing_of(tables);
     let groups = check_groups(alloc, keyed, tables)?;
     let programmes = check_programmes(alloc, keyed, tables, &groups)?;
     let schools = check_schools(alloc, keyed, tables)?;
-    let ranked = check_ranks(alloc, keyed, tables, &groups)?;
+    let Dealt { lists, candidates } = check_ranks(alloc, keyed, tables, &groups)?;
     let boarding = check_boarding(alloc, keyed, tables, &schools)?;
+    let ranked = WhoIsRanked {
+        groups: &groups,
+        candidates: candidates.as_slice(),
+    };
     let (wishes, state) = check_wishes_on(
         alloc,
         keyed,
         tables,
         &programmes,
         &schools,
-        &ranked,
+        ranked,
         &boarding,
     )?;
-    Ok(Keys {
+    let keys = Keys {
         groups,
         programmes,
         schools,
         boarding,
         wishes,
         state,
-    })
+    };
+    Ok((keys, lists))
 }
 
 /// Makes the dossier that fault-free tables stand for, and the dates of its statuses.
@@ -98,13 +104,15 @@ fn make_dossier(
     alloc: Global,
     tables: &Tables,
     keys: &Keys,
+    lists: Vec<Vec<Ranked>>,
 ) -> Result<(Dossier, Vec<Option<Since>>), OutOfMemory>
     requires keys { AreKeysOf tables.now keys.now }
+    requires lists { map (λ l. l.items) lists.items ≡ map (ranked_in tables.now.rankings) (group_ids tables.now) }
     requires valid { IsValid (dossier_of tables.now) }
     ensures dossier { IfOk result (λ made. made.0 ≡ dossier_of tables.now) }
     ensures dates { IfOk result (λ made. made.1.items ≡ dates_of tables.now) }
 {
-    let groups = rank_groups(alloc, tables, &keys.groups)?;
+    let groups = rank_groups(alloc, tables, lists)?;
     let programmes = programmes_of(alloc, tables, keys)?;
     let schools = schools_of(alloc, tables)?;
     let wishes = wishes_of(alloc, tables, keys)?;
@@ -133,8 +141,8 @@ pub fn check(alloc: Global, tables: &Tables) -> Result<Checked, InFault>
     ensures index { IfOk result (λ checked. checked.index ≡ ids_of tables.now) }
     ensures dates { IfOk result (λ checked. checked.dates ≡ dates_of tables.now) }
 {
-    let keys = check_slots(alloc, tables)?;
-    let (dossier, dates) = make_dossier(alloc, tables, &keys)?;
+    let (keys, lists) = check_slots(alloc, tables)?;
+    let (dossier, dates) = make_dossier(alloc, tables, &keys, lists)?;
     let index = Index {
         wishes: keys.wishes,
         schools: keys.schools,

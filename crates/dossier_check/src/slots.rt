@@ -89,17 +89,16 @@ pub(crate) fn check_schools(
     Ok(checks.first.keys)
 }
 
-/// Checks the rankings, and answers the pairs of group and candidate by place.
-pub(crate) fn check_ranks(
+/// Tests the rankings row by row, and answers the first fault.
+pub(crate) fn find_rank_fault(
     alloc: Global,
     keyed: Keyed,
     tables: &Tables,
     groups: &IndexSet<u32, Keyed>,
-) -> Result<IndexSet<(u32, u32), Keyed>, InFault>
+) -> Result<(), InFault>
     requires groups { groups.now.keys ≡ group_ids tables.now }
     requires small { length tables.now.rankings < 2 ^ 32 }
-    ensures fault { AnswersFault result (first_in slots.Rankings (ranking_tests tables.now) tables.now.rankings) }
-    ensures pairs { IfOk result (λ pairs. pairs.keys ≡ map (λ r. (r.group, r.candidate)) tables.now.rankings) }
+    ensures { AnswersFault result (first_in slots.Rankings (ranking_tests tables.now) tables.now.rankings) }
 {
     let mut checks = Then {
         first: Repeats {
@@ -121,8 +120,7 @@ pub(crate) fn check_ranks(
             },
         },
     };
-    scan(Slot::Rankings, &mut checks, tables.rankings.as_slice())?;
-    Ok(checks.first.keys)
+    scan(Slot::Rankings, &mut checks, tables.rankings.as_slice())
 }
 
 /// Checks the boarding ranks, and answers the pairs of school and candidate by place.

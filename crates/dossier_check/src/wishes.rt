@@ -4,10 +4,12 @@ ghost use Rattle.indexmap.specs.IndexMap.{get};
 ghost use Rattle.admit_core.specs.declared.slot.Slot.TheVariants as slots;
 ghost use Rattle.admit_core.specs.Faults.{first_in};
 ghost use Rattle.admit_core.specs.Relations.{wish_tests, programme_ids, school_ids, wish_ids};
+ghost use Rattle.dossier_check.specs.Dealt.{SaysWhoIsRanked};
 ghost use Rattle.dossier_check.specs.Outcome.{AnswersFault};
-ghost use Rattle.dossier_check.specs.Seen.{ranked_pairs, boarded_pairs, AreFirstWishes};
+ghost use Rattle.dossier_check.specs.Seen.{boarded_pairs, AreFirstWishes};
 
 use crate::noted::{FirstWish, note_first, row_with};
+use crate::ranks::WhoIsRanked;
 use crate::row_tests::{NamesUnknown, NoTest, Repeats, RowTest, Then};
 use crate::rules::{ItsProgramme, ItsSchool, OwnId, WhatIsWished};
 use crate::scan::scan;
@@ -21,21 +23,21 @@ use std::alloc::Global;
 pub(crate) struct Unranked<'a> {
     pub(crate) tables: &'a Tables,
     pub(crate) programmes: &'a IndexSet<u32, Keyed>,
-    pub(crate) ranked: &'a IndexSet<(u32, u32), Keyed>,
+    pub(crate) ranked: WhoIsRanked<'a>,
 }
 
 impl<'a> RowTest<WishRow> for Unranked<'a> {
     ghost use Rattle.admit_core.specs.Relations.{unranked, programme_ids};
-    ghost use Rattle.dossier_check.specs.Seen.{ranked_pairs};
+    ghost use Rattle.dossier_check.specs.Dealt.{SaysWhoIsRanked};
 
     ghost test = { λ c. unranked c.tables.now };
 
-    ghost has_seen = { λ c before. (c.programmes.now.keys ≡ programme_ids c.tables.now) × (c.ranked.now.keys ≡ ranked_pairs c.tables.now) };
+    ghost has_seen = { λ c before. (c.programmes.now.keys ≡ programme_ids c.tables.now) × SaysWhoIsRanked c.tables.now c.ranked };
 
     fn stands(&mut self, row: &WishRow, _number: u64) -> Result<Option<Reason>, OutOfMemory> {
         let programmes = self.tables.programmes.as_slice();
         if let Some(programme) = row_with(self.programmes, programmes, row.programme) {
-            if self.ranked.contains(&(programme.group, row.candidate)) {
+            if self.ranked.has(programme.group, row.candidate) {
                 return Ok(None);
             }
         }
@@ -139,12 +141,12 @@ pub(crate) fn check_wishes<'a>(
     tables: &'a Tables,
     programmes: &'a IndexSet<u32, Keyed>,
     schools: &IndexSet<u32, Keyed>,
-    ranked: &'a IndexSet<(u32, u32), Keyed>,
+    ranked: WhoIsRanked<'a>,
     boarded: &'a IndexSet<(u32, u32), Keyed>,
 ) -> Result<WishKeys, InFault>
     requires programmes { programmes.now.keys ≡ programme_ids tables.now }
     requires schools { schools.now.keys ≡ school_ids tables.now }
-    requires ranked { ranked.now.keys ≡ ranked_pairs tables.now }
+    requires ranked { SaysWhoIsRanked tables.now ranked }
     requires boarded { boarded.now.keys ≡ boarded_pairs tables.now }
     requires small { length tables.now.wishes < 2 ^ 32 }
     ensures fault { AnswersFault result (first_in slots.Wishes (wish_tests tables.now) tables.now.wishes) }

@@ -1,0 +1,21 @@
+-- Numbers of which each is greater than the one before it.
+use Rattle.std.proofs.Common.{◌≡◌, ℕ, ◌+◌, ◌<◌, Bool, true, false, nat_eq, nat_lt, List, Less, get_or, refl, sym, arith}
+use Rattle.std.specs.List.{IsDistinct, IsAllAdjacentAnswer}
+use Rattle.std.specs.List.Sorted.{IsStrictlySortedBy}
+use Rattle.std.specs.Ordering.{nat_cmp}
+use Rattle.std.proofs.lemmas.Bool.{false≢true}
+use Rattle.std.proofs.lemmas.Bool.Decides.{nat_tests}
+use Rattle.std.proofs.lemmas.Cmp.{nat_cmp_total}
+use Rattle.std.proofs.lemmas.Map.Keys.{IsDistinct-from_apart, sorted_from_all_adjacent, below_from_sorted}
+
+less : (m n : ℕ) → true ≡ nat_lt m n → nat_cmp m n ≡ Less
+less m n lt = rw (sym lt) refl
+
+differs : (m n : ℕ) → m < n → nat_eq m n ≡ false
+differs m n lt = grind (arith, nat_tests)
+
+pub rising : (xs : List ℕ) (r : Bool) → IsAllAdjacentAnswer (λ x y b. b ≡ nat_lt x y) xs r → r ≡ true → IsDistinct nat_eq xs
+rising xs false below e = absurd (false≢true e)
+rising xs true below e =
+    let sorted : IsStrictlySortedBy nat_cmp xs = sorted_from_all_adjacent nat_cmp_total xs 0 (λ k lt. less (get_or xs k 0) (get_or xs (k + 1) 0) (below k 0 lt)) in
+    IsDistinct-from_apart nat_eq xs (λ i j d lt within. differs (get_or xs i d) (get_or xs j d) (below_from_sorted xs i j d sorted lt within))

@@ -1,0 +1,20 @@
+use Rattle.std.proofs.Common.{◌≡◌, map, sym, ap, ◌∙◌}
+use Rattle.admit_core.specs.Relations.{group_ids}
+use Rattle.admit_core.specs.Standing.{ranked_in}
+use Rattle.dossier_check.specs.Dealt.{candidates_of}
+use Rattle.dossier_check.proofs.BuiltGroups.{map_map}
+use Rattle.dossier_check.proofs.ranks.deal.Goals as goal
+
+pub returns : goal.returns
+returns c =
+    let t = c.args.tables.now in
+    let made = c.in_ok-lists.lists.items in
+    let lists : map (λ l. l.items) made ≡ map (ranked_in t.rankings) (group_ids t) = rw (← c.requires, ← c.as_slice.ensures) c.in_ok-lists.ensures in
+    record {
+      lists = lists;
+      candidates = c.in_ok-candidates.ensures
+          ∙ ap (map (λ l. candidates_of l.items)) c.as_slice-2.ensures.value
+          ∙ sym (map_map candidates_of (λ l. l.items) made)
+          ∙ ap (map candidates_of) lists
+          ∙ map_map candidates_of (ranked_in t.rankings) (group_ids t);
+    }

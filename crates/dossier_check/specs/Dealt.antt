@@ -1,0 +1,36 @@
+-- Rankings dealt out by group.
+use Rattle.std.specs.Prelude.{◌≡◌, ℕ, true, List, map, All}
+use Rattle.admit_core.specs.declared.tables.RankRow.{RankRow}
+use Rattle.admit_core.specs.declared.tables.Tables.{Tables}
+use Rattle.admit_core.specs.declared.ranking.Ranked.{Ranked}
+use Rattle.admit_core.specs.Lists.{is_among, sorted_by}
+use Rattle.admit_core.specs.Relations.{group_ids}
+use Rattle.admit_core.specs.Standing.{ranked_in}
+use Rattle.dossier_check.specs.declared.ranks.Dealt.{Dealt}
+use Rattle.dossier_check.specs.declared.ranks.WhoIsRanked.{WhoIsRanked}
+
+-- the candidates of a list and its ranks, ascending
+abbrev pub candidates_of : List Ranked → List ℕ
+candidates_of list = sorted_by (λ n. n) (map (λ r. r.candidate) list)
+
+abbrev pub ranks_of : List Ranked → List ℕ
+ranks_of list = sorted_by (λ n. n) (map (λ r. r.rank) list)
+
+-- the candidates of a group, ascending
+abbrev pub candidates_in : List RankRow → ℕ → List ℕ
+candidates_in rankings group = candidates_of (ranked_in rankings group)
+
+-- the group of a row is there
+abbrev pub HasItsGroup : List ℕ → RankRow → Type 0
+HasItsGroup groups row = is_among row.group groups ≡ true
+
+-- each group has its candidates, at its place
+pub record AreDealt (t : Tables) (dealt : Dealt) : Type 0 where
+  pub lists : map (λ l. l.items) dealt.lists.items ≡ map (ranked_in t.rankings) (group_ids t)
+  pub candidates : map (λ l. l.items) dealt.candidates.items ≡ map (candidates_in t.rankings) (group_ids t)
+
+-- no one is ranked in another group than these
+pub record SaysWhoIsRanked (t : Tables) (ranked : WhoIsRanked) : Type 0 where
+  pub groups : ranked.groups.now.keys ≡ group_ids t
+  pub candidates : map (λ l. l.items) ranked.candidates.now ≡ map (candidates_in t.rankings) (group_ids t)
+  pub known : All (HasItsGroup (group_ids t)) t.rankings
