@@ -1,5 +1,5 @@
 -- A better boarding rank costs no offer with that school.
-use Rattle.std.proofs.Common.{ℕ, suc, ◌-◌, ◌≤◌, ◌<◌, ◌≡◌, ◌⊎◌, Bool, true, false, not, ◌&&◌, List, [], ◌∷◌, length, inl, inr, refl, sym, ◌∙◌, ap, subst, arith, nat_lt, set, Option, Some, None}
+use Rattle.std.proofs.Common.{ℕ, ◌-◌, ◌≤◌, ◌<◌, ◌≡◌, ◌⊎◌, Bool, true, false, not, ◌&&◌, List, length, inl, inr, refl, sym, ◌∙◌, ap, subst, arith, nat_lt, set, Option, Some, None}
 use Rattle.std.specs.Prelude.{◌≢◌, slice_index, if◌then◌else◌, Contains}
 use Rattle.std.proofs.lemmas.Bool.{and_from, and_left, and_parts, cases_Bool, cases_eq, cases_lt, eq-eqb, eqb-true, le-ltb, lt-ltb, ne_eqb, not_from_false, not_from_true}
 use Rattle.std.proofs.lemmas.List.{get_or-set_other, get_or_past, length-set}
@@ -17,6 +17,7 @@ use Rattle.admit_core.proofs.DemandLaws.{not_barred_step, not_over, open_under_h
 use Rattle.admit_core.proofs.FallsLaw.{at_set}
 use Rattle.fairness.specs.Exchanges.{AreNeighbours, BetterBoardingRankCostsNoOffer, exchanged, exchanged_in, with_ranks_exchanged}
 use Rattle.fairness.proofs.Beds.{ranks_tell}
+use Rattle.fairness.proofs.ByRank.{contains_in}
 use Rattle.fairness.proofs.Exchanging.{BarAlike, fits_after, fits_before, of_better, of_other, of_worse, same_bed, same_proposed}
 use Rattle.fairness.proofs.PassedOver.{seat_for}
 
@@ -138,14 +139,6 @@ module _ (s : State) (orders : List CallOrder) (h better worse : ℕ) (first : 1
                   inr (ap (λ (n : ℕ). nat_lt (slice_index bars n) v.board_rank) is ∙ same ∙ (λ i. nat_lt (slice_index moved_bars (sym is i)) (sym (rank_here v k at is) i)))
             ]
       ])
-
-contains_in : {X : Type 0} (y : X) (xs : List X) → IsIn y xs → Contains xs y
-contains_in y [] has = absurd has
-contains_in y (z ∷ zs) has =
-    elim has [
-      | inl same ↦ (0, omega arith, same)
-      | inr later ↦ let (k, lt, at) = contains_in y zs later in (suc k, omega (arith, lt), at)
-    ]
 
 module _ (s : State) (orders : List CallOrder) (ceilings bars moved_bars : List ℕ) (w : Wish) (m : Mark) (h better : ℕ) (valid : IsValid s.dossier)
     (listed : Contains s.dossier.wishes w) (has : has_school w h ≡ true) (near : AreNeighbours s h better w.board_rank)

@@ -1,8 +1,8 @@
 -- Those of one kind are called by rank, and a resident scholar no later than their rank says.
-use Rattle.std.proofs.Common.{ℕ, zero, suc, ◌≤◌, ◌<◌, ◌≡◌, true, ◌&&◌, List, [], ◌∷◌, map, length, take, inl, inr, refl, sym, ◌∙◌, ap, subst, arith, nat_eq, Some}
-use Rattle.std.specs.Prelude.{◌≢◌, slice_get}
+use Rattle.std.proofs.Common.{ℕ, zero, suc, ◌≤◌, ◌<◌, ◌≡◌, true, List, [], ◌∷◌, map, length, take, inl, inr, refl, sym, ◌∙◌, ap, subst, arith, nat_eq, Some}
+use Rattle.std.specs.Prelude.{◌≢◌, Contains, slice_get}
 use Rattle.std.specs.List.{IsDistinct}
-use Rattle.std.proofs.lemmas.Bool.{and_parts, both_ways, cases_order, eq-eqb, eqb-true, or_left, or_right}
+use Rattle.std.proofs.lemmas.Bool.{both_ways, cases_order, eq-eqb, eqb-true, or_left, or_right}
 use Rattle.std.proofs.lemmas.Cmp.{nat_eq_equiv}
 use Rattle.std.proofs.lemmas.List.{get_or-take, length-map, length-take-le}
 use Rattle.std.proofs.lemmas.List.Folds.{Any-from_list_any}
@@ -22,7 +22,7 @@ use Rattle.admit_core.proofs.CallRows.{IsIn, among_front, call_row, in_list, in_
 use Rattle.admit_core.proofs.LeastFirst.{RisesBy, rises_by_key}
 use Rattle.admit_core.proofs.NextCalls.{find_passes}
 use Rattle.admit_core.proofs.OrderPermutes.{distinct-order}
-use Rattle.admit_core.proofs.ScholarsFirst.{called_is_least}
+use Rattle.admit_core.proofs.ScholarsFirst.{called_is_least, scholars_come_first}
 use Rattle.fairness.specs.OrderPromises.{CallsEachKindByRank, CallsResidentScholarsByRank}
 
 -- those alike may be called alike
@@ -36,13 +36,14 @@ may_alike Alone r s scholar resident may = scholar ∙ may
 abbrev id_of : Ranked → ℕ
 id_of r = r.candidate
 
--- a resident scholar may be called under each bound
-may_always : (b : Bound) (s : Ranked) → (s.scholar && s.resident) ≡ true → may_be_called b s ≡ true
-may_always Free s both = refl
-may_always Scholar s both = (and_parts s.scholar s.resident both).0
-may_always Resident s both = (and_parts s.scholar s.resident both).1
-may_always Both s both = both
-may_always Alone s both = (and_parts s.scholar s.resident both).0
+-- what is in a list, by its place
+pub contains_in : {X : Type 0} (y : X) (xs : List X) → IsIn y xs → Contains xs y
+contains_in y [] has = absurd has
+contains_in y (z ∷ zs) has =
+    elim has [
+      | inl same ↦ (0, omega arith, same)
+      | inr later ↦ let (k, lt, at) = contains_in y zs later in (suc k, omega (arith, lt), at)
+    ]
 
 -- a prefix of distinct ids is distinct
 front_distinct : (xs : List ℕ) (n : ℕ) → n ≤ length xs → IsDistinct nat_eq xs → IsDistinct nat_eq (take n xs)
@@ -124,7 +125,6 @@ resident_scholars_by_rank g order ranking calls s k i ranked both at_i =
     let read = slice_get-get_or xs j x (omega (arith, within, j_in)) in
     let is_x = get_or-take i xs j x j_in in
     let q_is : r.candidate ≡ q = (cc (call.who, read, is_x, at, eqb-true q x same)) in
-    let differs : r.candidate ≢ s.candidate = other_id order j i r s g ranking calls call.who at_i j_in in
-    let least = called_is_least g order j r s b ranking call (in_remaining g xs j i s apart here at_i (omega (arith, j_in))) (may_always b s both) differs in
+    let least = scholars_come_first g order ranking calls r s j i (contains_in r g.list call.ranked) (contains_in s g.list here) call.who at_i j_in both in
     subst (λ (c : ℕ). is_among c (map id_of (take k g.list)) ≡ true) q_is (among_better g.list k r s rises ranked call.ranked least)) in
     omega (arith, fewer, whole, length-map (take k g.list) id_of, length-take-le k g.list (omega (arith, slice_get_within g.list k s ranked)))

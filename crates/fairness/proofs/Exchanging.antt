@@ -2,7 +2,7 @@
 use Rattle.std.proofs.Common.{ℕ, ◌+◌, ◌-◌, ◌≤◌, ◌<◌, ◌≡◌, Bool, true, not, ◌&&◌, ◌||◌, List, [], ◌∷◌, map, length, inl, inr, refl, sym, ◌∙◌, ap, subst, arith, filter, nat_eq, nat_lt, count_by, zip, Option, Some, None}
 use Rattle.std.specs.Prelude.{◌≢◌, ◌==◌, nat_le, slice_index, if◌then◌else◌}
 use Rattle.std.specs.List.{before_first, list_any, range_with_len}
-use Rattle.std.proofs.lemmas.Bool.{cases_Bool, cases_eq, eq-eqb, eqb-true, false≢true, lt-ltb, ne_eqb, or_cases, or_left, or_right}
+use Rattle.std.proofs.lemmas.Bool.{cases_Bool, cases_eq, eq-eqb, eqb-true, false≢true, lt-ltb, ne_eqb}
 use Rattle.std.proofs.lemmas.Cmp.{nat_eq_equiv}
 use Rattle.std.proofs.lemmas.List.{length-map}
 use Rattle.std.proofs.lemmas.Map.Made.{length-le_from_is_member}
@@ -19,7 +19,7 @@ use Rattle.admit_core.proofs.CallRows.{IsIn}
 use Rattle.admit_core.proofs.DemandLaws.{demanded, demands_at}
 use Rattle.admit_core.proofs.FullBeds.{rising_distinct}
 use Rattle.admit_core.proofs.Holders.{any_map}
-use Rattle.admit_core.proofs.Tests.{increasing-ascending}
+use Rattle.admit_core.proofs.Tests.{any_implied, increasing-ascending}
 use Rattle.fairness.specs.Exchanges.{exchanged, exchanged_in, with_ranks_exchanged}
 use Rattle.fairness.proofs.PassedOver.{seat_for}
 
@@ -97,12 +97,8 @@ any_related f p q [] same = refl
 any_related f p q (x ∷ xs) same = λ i. same x (inl refl) i || any_related f p q xs (λ y has. same y (inr has)) i
 
 among-map : (g : ℕ → ℕ) (n : ℕ) (ns : List ℕ) → is_among n ns ≡ true → is_among (g n) (map g ns) ≡ true
-among-map g n [] among = among
-among-map g n (m ∷ ms) among =
-    elim (or_cases (nat_eq n m) (is_among n ms) among) [
-      | inl here ↦ or_left (nat_eq (g n) (g m)) (is_among (g n) (map g ms)) (eq-eqb (g n) (g m) (ap g (eqb-true n m here)))
-      | inr later ↦ or_right (nat_eq (g n) (g m)) (is_among (g n) (map g ms)) (among-map g n ms later)
-    ]
+among-map g n ns among =
+    any_map (nat_eq (g n)) g ns ∙ any_implied (nat_eq n) (λ m. nat_eq (g n) (g m)) (λ m same. eq-eqb (g n) (g m) (ap g (eqb-true n m same))) ns among
 
 -- ---- the state with two ranks of a school exchanged
 module _ (s : State) (orders : List CallOrder) (h better worse : ℕ) (first : 1 ≤ better) (below : better < worse) where
