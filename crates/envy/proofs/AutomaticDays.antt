@@ -36,7 +36,7 @@ pub passes_keep_fair : PassesKeepFair
 passes_keep_fair orders s bars stamp valid called plain long fair = closing_fair orders s bars stamp valid called plain fair
 
 -- nothing passes a test that nothing passes
-filtered_none : {X : Type 0} (test : X → Bool) (xs : List X) → All (λ x. test x ≡ false) xs → filter test xs ≡ []
+pub filtered_none : {X : Type 0} (test : X → Bool) (xs : List X) → All (λ x. test x ≡ false) xs → filter test xs ≡ []
 filtered_none test [] none = refl
 filtered_none test (x ∷ xs) none = rw (All-head (λ y. test y ≡ false) x xs none) (filtered_none test xs (All-tail (λ y. test y ≡ false) x xs none))
 

@@ -1,1 +1,4 @@
 pub mod AutomaticDays
+pub mod Blocks
+pub mod Known
+pub mod Text
