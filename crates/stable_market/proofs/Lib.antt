@@ -1,0 +1,11 @@
+pub mod Best
+pub mod Blocking
+pub mod Held
+pub mod Led
+pub mod Listing
+pub mod Ordering
+pub mod Reading
+pub mod Rounds
+pub mod SamePlaces
+pub mod Stable
+pub mod Stamping
