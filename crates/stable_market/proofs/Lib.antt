@@ -1,9 +1,13 @@
 pub mod Best
 pub mod Blocking
+pub mod Called
 pub mod Held
+pub mod InTurn
 pub mod Led
 pub mod Listing
 pub mod Ordering
+pub mod Owning
+pub mod Rankers
 pub mod Reading
 pub mod Rounds
 pub mod SamePlaces

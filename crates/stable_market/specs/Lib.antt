@@ -1,5 +1,6 @@
 pub mod Bars
 pub mod Blocks
+pub mod Dossiers
 pub mod Faults
 pub mod Firsts
 pub mod Lawful
@@ -11,4 +12,5 @@ pub mod Positions
 pub mod Rounds
 pub mod Solving
 pub mod Stamps
+pub mod Text
 pub mod Worked

@@ -11,17 +11,22 @@ mod laws;
 mod listers;
 mod lists;
 mod market;
+mod named;
 mod orders;
+mod owned;
 mod round;
 mod solution;
 mod stamps;
+mod text;
 
 pub use block::{MarketBlock, first_block};
 pub use fault::MarketFault;
 pub use laws::{laws_of_markets, worked_markets};
 pub use market::Market;
+pub use named::{Named, from_dossier};
 pub use round::MarketRound;
 pub use solution::{Solved, solve};
+pub use text::market_text;
 
 #[cfg(test)]
 mod tests;
