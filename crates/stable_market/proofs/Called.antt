@@ -214,6 +214,15 @@ called_by_listers ws p order listers is =
     ] in
     ap (λ t. filter t (map (λ c. position_or_len (nat_eq c) (named ws)) order)) (λ i x. same x i)
 
+-- nobody is called where nobody lists it
+nobody : (xs : List ℕ) → filter (λ x. is_among x []) xs ≡ []
+nobody [] = refl
+nobody (x ∷ xs) = nobody xs
+
+pub none_called : (listers xs : List ℕ) → length listers ≡ 0 → [] ≡ filter (λ x. is_among x listers) xs
+none_called [] xs none = sym (nobody xs)
+none_called (l ∷ ls) xs none = absurd (omega (arith, none))
+
 -- a candidate more of an order
 pub called_more : (t : ℕ → Bool) (f : ℕ → ℕ) (order : List ℕ) (i c : ℕ) (passes : Bool) → i < length order → c ≡ get_or order i 0 → passes ≡ t (f c)
     → filter t (map f (take (i + 1) order)) ≡ filter t (map f (take i order)) ++ cond passes (f c ∷ []) []

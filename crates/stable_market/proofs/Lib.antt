@@ -1,6 +1,7 @@
 pub mod Best
 pub mod Blocking
 pub mod Called
+pub mod Existing
 pub mod Held
 pub mod InTurn
 pub mod Led
@@ -10,6 +11,8 @@ pub mod Owning
 pub mod Rankers
 pub mod Reading
 pub mod Rounds
+pub mod SamePlaced
 pub mod SamePlaces
 pub mod Stable
 pub mod Stamping
+pub mod Telling

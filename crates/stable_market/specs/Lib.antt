@@ -8,6 +8,7 @@ pub mod Laws
 pub mod Listers
 pub mod Markets
 pub mod Matchings
+pub mod Placed
 pub mod Positions
 pub mod Rounds
 pub mod Solving

@@ -21,7 +21,7 @@ mod text;
 
 pub use block::{MarketBlock, first_block};
 pub use fault::MarketFault;
-pub use laws::{laws_of_markets, worked_markets};
+pub use laws::{laws_of_markets, laws_of_stable_matchings, worked_markets};
 pub use market::Market;
 pub use named::{Named, from_dossier};
 pub use round::MarketRound;

@@ -52,7 +52,8 @@ fn order_of<'o>(dossier: &Dossier, orders: &'o CallOrders, programme: u32) -> &'
     orders.orders.as_slice()[group as usize].list.as_slice()
 }
 
-/// A call order by the numbers of its candidates, without those who are no listers.
+/// A call order by the numbers of its candidates, without those who are no listers. Where there are
+/// none, it goes nowhere.
 fn called(
     alloc: Global,
     order: &[u32],
@@ -63,6 +64,9 @@ fn called(
     requires rises { IsStrictlyIncreasing listers.now }
     ensures { IfOk result (λ v. v ≡ filter (λ x. is_among x listers.now) (map (λ c. position_or_len (nat_eq c) names.now.keys) order.now)) }
 {
+    if listers.is_empty() {
+        return Ok(Sequence::new(alloc));
+    }
     let mut numbers = Vec::new(alloc);
     for candidate in order {
         let number = number_of(names, *candidate);
@@ -73,7 +77,7 @@ fn called(
     Ok(Sequence::from_vec(numbers))
 }
 
-/// The order of each programme. A programme whom nobody lists costs no walk along its call order.
+/// The order of each programme, in one walk along its call order where somebody lists it.
 fn orders_in(
     alloc: Global,
     dossier: &Dossier,

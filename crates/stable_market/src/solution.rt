@@ -3,6 +3,7 @@ ghost use Rattle.std.specs.Prelude.{◌≡◌, length, IfOk, OnErr};
 ghost use Rattle.admit_core.specs.Falls.{IsGreatest};
 ghost use Rattle.stable_market.specs.Matchings.{IsStable, IsBestForAll};
 ghost use Rattle.stable_market.specs.Bars.{market_system, matched_under};
+ghost use Rattle.stable_market.specs.Placed.{ArePlacedInAll};
 ghost use Rattle.stable_market.specs.Solving.{IsLedTo};
 ghost use Rattle.bar_fixpoint.specs.Chosen.{TellsOfFalls};
 
@@ -35,6 +36,7 @@ pub fn solve<L: Ledger>(
 ) -> Result<Solved, OutOfMemory>
     ensures stable { IfOk result (λ solved. IsStable market.now solved.places.items) }
     ensures best { IfOk result (λ solved. IsBestForAll market.now solved.places.items) }
+    ensures placed { IfOk result (λ solved. ArePlacedInAll market.now solved.places.items) }
 
     ensures greatest { IfOk result (λ solved. IsGreatest (market_system market.now) solved.bars.items) }
     ensures places { IfOk result (λ solved. solved.places.items ≡ matched_under market.now solved.bars.items) }

@@ -1,9 +1,10 @@
-use Rattle.std.proofs.Common.{◌≡◌, ℕ, ◌+◌, Bool, List, [], ◌∷◌, ◌++◌, Vec, filter, map, take, get_or, nat_eq, refl, sym, ap, ◌∙◌}
+use Rattle.std.proofs.Common.{◌≡◌, ℕ, ◌+◌, Bool, List, [], ◌∷◌, ◌++◌, Vec, filter, map, length, take, get_or, nat_eq, refl, sym, ap, ◌∙◌}
 use Rattle.std.specs.List.{position_or_len}
 use Rattle.std.specs.declared.alloc.Global.{Global}
+use Rattle.std.proofs.lemmas.Bool.{eqb-true}
 use Rattle.std.proofs.lemmas.List.{append-nil}
 use Rattle.admit_core.specs.Lists.{is_among}
-use Rattle.stable_market.proofs.Called.{called_more}
+use Rattle.stable_market.proofs.Called.{called_more, none_called}
 use Rattle.stable_market.proofs.named.called.Goals as goal
 use Rattle.stable_market.proofs.named.called.Goals.{then-is_in+in_ok-push, else-is_in}
 
@@ -26,3 +27,9 @@ loop-candidate-preserved c =
           let same : filter t (map f (take (i + 1) order)) ≡ before ++ [] = rw w.if-is_in.false at more in
           ap (λ (v : Vec ℕ Global). v.items) w.numbers-is ∙ c.loop-candidate.invariant ∙ sym (same ∙ append-nil before)
     ]
+
+pub returns-then-is_empty : goal.returns-then-is_empty
+returns-then-is_empty c =
+    c.new.ensures
+    ∙ none_called c.args.listers.now (map (λ k. position_or_len (nat_eq k) c.args.names.now.keys) c.args.order.now)
+    (eqb-true (length c.args.listers.now) 0 (sym c.is_empty.ensures ∙ c.if-is_empty.true))
