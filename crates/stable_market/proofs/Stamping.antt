@@ -1,0 +1,107 @@
+-- Stamps along a list.
+use Rattle.std.proofs.Common.{ℕ, ◌+◌, ◌≤◌, ◌<◌, ◌≡◌, Bool, true, false, not, ◌||◌, List, [], ◌∷◌, ◌++◌, length, take, get_or, inl, inr, refl, sym, ◌∙◌, ap, subst, arith, nat_eq, nat_lt}
+use Rattle.std.specs.Prelude.{slice_index}
+use Rattle.std.specs.List.{list_all, position_or_len, IsDistinct}
+use Rattle.std.proofs.Math.ListN.{set}
+use Rattle.std.proofs.lemmas.Bool.{cases_eq, and_parts, and_from, eq-eqb, ne_eqb, lt-ltb, ltb-true, false≢true, false_from_ne_true, or_left, or_right}
+use Rattle.std.proofs.lemmas.Cmp.{nat_eq_equiv}
+use Rattle.std.proofs.lemmas.List.{length-set, take_more, get_or-take, length-take-le}
+use Rattle.std.proofs.lemmas.List.Folds.{list_all-append, list_any-append}
+use Rattle.std.proofs.lemmas.Grind.{get_or-set_at}
+use Rattle.std.proofs.lemmas.Map.Keys.{IsDistinct-push, apart_from_distinct}
+use Rattle.std.proofs.lemmas.Map.Made.{distinct_count-from_IsDistinct}
+use Rattle.admit_core.specs.Lists.{is_among, distinct}
+use Rattle.admit_core.proofs.FallsLaw.{at_set}
+use Rattle.stable_market.specs.Markets.{is_distinct, is_list_below}
+use Rattle.stable_market.specs.Stamps.{AreOlder, AreUpTo, BearStamp}
+use Rattle.stable_market.specs.Firsts.{one_of_all}
+use Rattle.stable_market.specs.Positions.{distinct_from, among_at, first_place, at_first}
+
+pub is_distinct_from : (xs : List ℕ) → IsDistinct nat_eq xs → is_distinct xs ≡ true
+is_distinct_from xs apart = eq-eqb (length (distinct xs)) (length xs) (distinct_count-from_IsDistinct nat_eq_equiv xs apart)
+
+-- the parts of a list of numbers below a count
+pub list_distinct : (n : ℕ) (xs : List ℕ) → is_list_below n xs ≡ true → IsDistinct nat_eq xs
+list_distinct n xs t = distinct_from xs (and_parts (is_distinct xs) (list_all (λ p. nat_lt p n) xs) t).0
+
+pub list_below : (n : ℕ) (xs : List ℕ) (q : ℕ) → is_list_below n xs ≡ true → is_among q xs ≡ true → q < n
+list_below n xs q t among = ltb-true q n (one_of_all (λ p. nat_lt p n) q xs (and_parts (is_distinct xs) (list_all (λ p. nat_lt p n) xs) t).1 among)
+
+pub last_differs : (a b : Bool) → b ≡ false → (a || (b || false)) ≡ a
+last_differs true b e = refl
+last_differs false b e = rw e refl
+
+-- one of a front stands at a place of it
+pub earlier : (p : ℕ) (xs : List ℕ) (k : ℕ) → k ≤ length xs → is_among p (take k xs) ≡ true → (j : ℕ) × ((j < k) × (get_or xs j 0 ≡ p))
+earlier p xs k le t =
+    let j : ℕ = position_or_len (nat_eq p) (take k xs) in
+    let j_lt : j < k = omega (arith, first_place p (take k xs) t, length-take-le k xs le) in
+    (j, (j_lt, sym (get_or-take k xs j 0 j_lt) ∙ at_first p (take k xs) t))
+
+-- what the stamps say after the first k of a list
+pub record AreStamped (n stamp : ℕ) (xs : List ℕ) (stamps : List ℕ) : Type 0 where
+  pub as_many : length stamps ≡ n
+  pub up_to : AreUpTo stamp stamps
+  pub bear : BearStamp stamp xs stamps
+  pub is_list : is_list_below n xs ≡ true
+
+pub stamped_none : (stamp : ℕ) (stamps : List ℕ) → AreOlder stamp stamps → AreStamped (length stamps) stamp [] stamps
+stamped_none stamp stamps older =
+    record {
+      as_many = refl;
+      up_to = λ q lt. omega (arith, older q lt);
+      bear = λ q lt. ne_eqb (slice_index stamps q) stamp (λ e. omega (arith, older q lt, e));
+      is_list = refl;
+    }
+
+pub stamped_more : (n stamp : ℕ) (xs stamps : List ℕ) (k : ℕ) → k < length xs → get_or xs k 0 < n → (slice_index stamps (get_or xs k 0) ≡ stamp → ⊥)
+    → AreStamped n stamp (take k xs) stamps → AreStamped n stamp (take (k + 1) xs) (set stamps (get_or xs k 0) stamp)
+stamped_more n stamp xs stamps k lt below fresh so =
+    let p : ℕ = get_or xs k 0 in
+    let front : List ℕ = take k xs in
+    let p_lt : p < length stamps = omega (arith, below, so.as_many) in
+    let absent : is_among p front ≡ false = sym (so.bear p p_lt) ∙ ne_eqb (slice_index stamps p) stamp fresh in
+    let parts = and_parts (is_distinct front) (list_all (λ q. nat_lt q n) front) so.is_list in
+    let P : List ℕ → Type 0 = λ ys. AreStamped n stamp ys (set stamps p stamp) in
+    subst P (sym (take_more xs k 0 lt)) (record {
+      as_many = length-set stamps p stamp ∙ so.as_many;
+      up_to = λ q q_lt.
+          elim (at_set stamps p stamp q p_lt) [ inl here ↦ omega (arith, here.1) | inr there ↦ omega (arith, there, so.up_to q (omega (arith, q_lt, length-set stamps p stamp))) ];
+      bear = λ q q_lt.
+          elim (cases_eq q p) [
+            | inl here ↦
+                let now : slice_index (set stamps p stamp) q ≡ stamp = get_or-set_at stamps p q stamp 0 here p_lt in
+                eq-eqb (slice_index (set stamps p stamp) q) stamp now
+                ∙ sym (list_any-append (nat_eq q) front (p ∷ []) ∙ or_right (is_among q front) (is_among q (p ∷ [])) (or_left (nat_eq q p) false (eq-eqb q p here)))
+            | inr other ↦
+                let now : slice_index (set stamps p stamp) q ≡ slice_index stamps q =
+                elim (at_set stamps p stamp q p_lt) [ inl here ↦ absurd (other here.0) | inr there ↦ there ] in
+                ap (λ v. nat_eq v stamp) now ∙ so.bear q (omega (arith, q_lt, length-set stamps p stamp))
+                ∙ sym (list_any-append (nat_eq q) front (p ∷ []) ∙ last_differs (is_among q front) (nat_eq q p) (ne_eqb q p other))
+          ];
+      is_list =
+          and_from (is_distinct (front ++ p ∷ [])) (list_all (λ q. nat_lt q n) (front ++ p ∷ []))
+          (is_distinct_from (front ++ p ∷ []) (IsDistinct-push nat_eq_equiv front p (distinct_from front parts.0) absent))
+          (list_all-append (λ q. nat_lt q n) front (p ∷ []) ∙ rw (parts.1, lt-ltb p n below) refl);
+    })
+
+-- a number out of range, or one that bears the stamp already, shows that it is no list
+pub out_of_range : (n : ℕ) (xs : List ℕ) (k : ℕ) → k < length xs → n ≤ get_or xs k 0 → is_list_below n xs ≡ false
+out_of_range n xs k lt past = false_from_ne_true (is_list_below n xs) (λ t. omega (arith, past, list_below n xs (get_or xs k 0) t (among_at xs k lt)))
+
+pub stands_twice : (n stamp : ℕ) (xs stamps : List ℕ) (k : ℕ) → k < length xs → get_or xs k 0 < n → slice_index stamps (get_or xs k 0) ≡ stamp
+    → AreStamped n stamp (take k xs) stamps → is_list_below n xs ≡ false
+stands_twice n stamp xs stamps k lt below bears so =
+    let p : ℕ = get_or xs k 0 in
+    let before : is_among p (take k xs) ≡ true = sym (so.bear p (omega (arith, below, so.as_many))) ∙ eq-eqb (slice_index stamps p) stamp bears in
+    false_from_ne_true (is_list_below n xs) (λ t.
+    let apart = list_distinct n xs t in
+    let (j, (j_lt, j_at)) = earlier p xs k (omega (arith, lt)) before in
+    false≢true (sym (apart_from_distinct nat_eq xs j k 0 apart j_lt lt) ∙ eq-eqb (get_or xs j 0) p j_at))
+
+-- the first k lists stood the test, and the stamps are as many
+pub record AllStood (n : ℕ) (lists : List (List ℕ)) (k stamp : ℕ) (stamps : List ℕ) : Type 0 where
+  pub stamp_is : stamp ≡ k
+  pub as_many : length stamps ≡ n
+  pub up_to : AreUpTo stamp stamps
+  pub stood : (i : ℕ) → i < k → not (is_list_below n (get_or lists i [])) ≡ false

@@ -1,0 +1,16 @@
+use Rattle.stable_market.specs.Lawful.{market_is_lawful}
+use Rattle.stable_market.proofs.Stable.{greatest_is_stable}
+use Rattle.stable_market.proofs.Best.{greatest_is_best}
+use Rattle.stable_market.proofs.SamePlaced.{placed_in_all}
+use Rattle.stable_market.proofs.SamePlaces.{same_places}
+use Rattle.stable_market.proofs.laws.laws_of_markets.Goals as goal
+
+pub returns : goal.returns
+returns c =
+    record {
+      lawful = market_is_lawful;
+      stable = greatest_is_stable;
+      best = greatest_is_best;
+      same = same_places;
+      placed = placed_in_all;
+    }

@@ -1,0 +1,17 @@
+pub mod Bars
+pub mod Blocks
+pub mod Dossiers
+pub mod Faults
+pub mod Firsts
+pub mod Lawful
+pub mod Laws
+pub mod Listers
+pub mod Markets
+pub mod Matchings
+pub mod Placed
+pub mod Positions
+pub mod Rounds
+pub mod Solving
+pub mod Stamps
+pub mod Text
+pub mod Worked

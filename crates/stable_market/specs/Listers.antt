@@ -1,0 +1,35 @@
+-- For each programme the candidates whose lists name it.
+use Rattle.std.specs.Prelude.{◌≡◌, ℕ, ◌<◌, Bool, ◌&&◌, ◌==◌, List, [], ◌∷◌, ◌++◌, length, map, filter, Some, slice_get, slice_index_or, if◌then◌else◌, IsTrue, Vec}
+use Rattle.std.specs.List.{list_all, range_with_len}
+use Rattle.std.specs.declared.alloc.Global.{Global}
+use Rattle.admit_core.specs.Lists.{is_among}
+use Rattle.stable_market.specs.Markets.{MarketRows, is_list_below}
+
+-- each list has numbers below a count, none twice
+abbrev pub AreLists : ℕ → List (List ℕ) → Type 0
+AreLists n lists = (x : ℕ) → x < length lists → IsTrue (is_list_below n (slice_index_or lists x []))
+
+-- among the first k of some lists those that have a number
+abbrev pub naming : List (List ℕ) → ℕ → ℕ → List ℕ
+naming lists p k = filter (λ x. is_among p (slice_index_or lists x [])) (range_with_len 0 k)
+
+-- rows with the first k lists that have each number below a count
+pub record AreListers (lists : List (List ℕ)) (n k : ℕ) (rows : List (Vec ℕ Global)) : Type 0 where
+  pub one_each : length rows ≡ n
+  pub each : (p : ℕ) (row : Vec ℕ Global) → slice_get rows p ≡ Some row → row.items ≡ naming lists p k
+
+-- an item is put at the end of the rows whose numbers pass a test
+pub record ArePutIn (here : ℕ → Bool) (x : ℕ) (old new : List (Vec ℕ Global)) : Type 0 where
+  pub as_many : length new ≡ length old
+  pub each :
+      (p : ℕ) (row : Vec ℕ Global)
+      → slice_get new p ≡ Some row
+      → (before : Vec ℕ Global) × (slice_get old p ≡ Some before) × (row.items ≡ before.items ++ (if here p then x ∷ [] else []))
+
+-- an order of numbers below a count has these candidates, each once, and nobody else
+abbrev pub has_all_of : ℕ → List ℕ → List ℕ → Bool
+has_all_of n listers order = is_list_below n order && (length order == length listers) && list_all (λ x. is_among x order) listers
+
+-- the rows of lists, orders and seats as they are handed over
+abbrev pub rows_of : List (Vec ℕ Global) → List (Vec ℕ Global) → List ℕ → MarketRows
+rows_of lists orders seats = record { lists = map (λ v. v.items) lists; orders = map (λ v. v.items) orders; seats = seats }

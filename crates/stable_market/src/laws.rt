@@ -1,0 +1,29 @@
+//! What holds of markets and their greatest bars, over definitions alone.
+ghost use Rattle.stable_market.specs.Laws.{MarketsAreLawful, GreatestBarsAreStable, GreatestBarsAreBest, GreatestBarsPlaceTheSame};
+ghost use Rattle.stable_market.specs.Laws.{ThereIsABest, TheSameHavePlaces, TheSameWhicheverFallsFirst};
+ghost use Rattle.stable_market.specs.Worked.{CrossedMarket, ContestedMarket, RefusedRows};
+
+/// What the definitions give on small markets. The call does nothing.
+pub fn worked_markets()
+    ensures crossed { CrossedMarket }
+    ensures contested { ContestedMarket }
+    ensures refused { RefusedRows }
+{}
+
+/// The greatest bars give a stable matching, the best one for every candidate, and the same whichever
+/// programme falls first; who has a place in it has one in every stable matching. The call does nothing.
+pub fn laws_of_markets()
+    ensures lawful { MarketsAreLawful }
+    ensures stable { GreatestBarsAreStable }
+    ensures best { GreatestBarsAreBest }
+    ensures same { TheSameWhicheverFallsFirst }
+    ensures placed { GreatestBarsPlaceTheSame }
+{}
+
+/// Every market has a stable matching that is best for all its candidates, and in all its stable
+/// matchings the same candidates have a place, and each programme has as many (the rural hospitals
+/// theorem). The call does nothing.
+pub fn laws_of_stable_matchings()
+    ensures exists { ThereIsABest }
+    ensures placed { TheSameHavePlaces }
+{}

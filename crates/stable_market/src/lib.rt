@@ -1,0 +1,32 @@
+//! Markets of candidates and programmes, solved by bars that fall.
+//!
+//! Each candidate lists programmes, best first, and each programme orders its candidates. Bars on
+//! positions in these orders fall until no programme has more candidates than seats. What they leave
+//! is stable, and the best stable matching for every candidate.
+#![tactic(auto)]
+
+mod block;
+mod fault;
+mod laws;
+mod listers;
+mod lists;
+mod market;
+mod named;
+mod orders;
+mod owned;
+mod round;
+mod solution;
+mod stamps;
+mod text;
+
+pub use block::{MarketBlock, first_block};
+pub use fault::MarketFault;
+pub use laws::{laws_of_markets, laws_of_stable_matchings, worked_markets};
+pub use market::Market;
+pub use named::{Named, from_dossier};
+pub use round::MarketRound;
+pub use solution::{Solved, solve};
+pub use text::market_text;
+
+#[cfg(test)]
+mod tests;

@@ -1,0 +1,27 @@
+//! Whether lists name programmes of a market, none twice.
+ghost use Rattle.std.specs.Prelude.{◌≡◌, ◌≤◌, not, length, position, IfOk};
+ghost use Rattle.stable_market.specs.Markets.{is_list_below};
+
+use crate::stamps::stamp_list;
+use admit_core::{OutOfMemory, Sequence};
+use std::alloc::Global;
+
+/// The first of these lists that has a number out of range, or one twice.
+pub fn first_bad_list(
+    alloc: Global,
+    lists: &[Sequence<u32>],
+    count: u32,
+) -> Result<Option<u32>, OutOfMemory>
+    requires { length lists.now ≤ 16000000 }
+    ensures { IfOk result (λ bad. bad ≡ position (λ list. not (is_list_below count list)) lists.now) }
+{
+    let mut stamps = vec![in alloc; 0; count as usize]?;
+    let mut stamp = 0;
+    for list in lists {
+        stamp += 1;
+        if !stamp_list(list.as_slice(), stamp, &mut stamps) {
+            return Ok(Some(stamp - 1));
+        }
+    }
+    Ok(None)
+}

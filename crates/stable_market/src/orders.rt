@@ -1,0 +1,53 @@
+//! Whether orders have the candidates whose lists name their programmes.
+ghost use Rattle.std.specs.Prelude.{◌≡◌, ◌≤◌, ◌<◌, [], length, All, IfOk};
+ghost use Rattle.stable_market.specs.Markets.{first_bad_order};
+ghost use Rattle.stable_market.specs.Listers.{AreLists, has_all_of};
+ghost use Rattle.stable_market.specs.Stamps.{AreOlder, AreUpTo};
+
+use crate::listers::listers_of;
+use crate::stamps::{all_bear, stamp_list};
+use admit_core::{OutOfMemory, Sequence};
+use std::alloc::Global;
+
+/// The first programme whose order misses a candidate whose list names it, or has another, or one
+/// twice. It costs the length of the lists and the orders.
+pub fn first_bad_order(
+    alloc: Global,
+    lists: &[Sequence<u32>],
+    orders: &[Sequence<u32>],
+) -> Result<Option<u32>, OutOfMemory>
+    requires candidates { length lists.now ≤ 16000000 }
+    requires programmes { length orders.now ≤ 16000000 }
+    requires lists { AreLists (length orders.now) lists.now }
+    ensures { IfOk result (λ bad. bad ≡ first_bad_order (record { lists = lists.now; orders = orders.now; seats = [] })) }
+{
+    let rows = listers_of(alloc, lists, orders.len() as u32)?;
+    let mut room = vec![in alloc; 0; lists.len()]?;
+    let stamps = room.as_mut_slice();
+    let mut stamp = 0;
+    for order in orders {
+        let listers = rows[stamp as usize].as_slice();
+        stamp += 1;
+        if !has_all_of(order.as_slice(), listers, stamp, stamps) {
+            return Ok(Some(stamp - 1));
+        }
+    }
+    Ok(None)
+}
+
+/// Whether an order has each of these candidates once, and nobody else.
+fn has_all_of(order: &[u32], listers: &[u32], stamp: u32, stamps: &mut [u32]) -> bool
+    requires older { AreOlder stamp stamps.old }
+    requires within { All (λ x. x < length stamps.old) listers.now }
+    ensures all { result ≡ has_all_of (length stamps.old) listers.now order.now }
+    ensures as_many { length stamps.new ≡ length stamps.old }
+    ensures up_to { AreUpTo stamp stamps.new }
+{
+    if !stamp_list(order, stamp, stamps) {
+        return false;
+    }
+    if order.len() != listers.len() {
+        return false;
+    }
+    all_bear(listers, stamp, stamps)
+}

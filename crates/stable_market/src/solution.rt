@@ -1,0 +1,72 @@
+//! The stable matching that is best for every candidate.
+ghost use Rattle.std.specs.Prelude.{◌≡◌, length, IfOk, OnErr};
+ghost use Rattle.admit_core.specs.Falls.{IsGreatest};
+ghost use Rattle.stable_market.specs.Matchings.{IsStable, IsBestForAll};
+ghost use Rattle.stable_market.specs.Bars.{market_system, matched_under};
+ghost use Rattle.stable_market.specs.Placed.{ArePlacedInAll};
+ghost use Rattle.stable_market.specs.Solving.{IsLedTo};
+ghost use Rattle.bar_fixpoint.specs.Chosen.{TellsOfFalls};
+
+use crate::laws::laws_of_markets;
+use crate::market::Market;
+use crate::round::{MarketRound, best_within};
+use admit_core::{OutOfMemory, Steps};
+use bar_fixpoint::{Picker, greatest};
+use bar_law::law_of_runs;
+use std::alloc::Global;
+use std::sync::ledger::Ledger;
+
+/// A market's greatest bars, and the place of each candidate under them.
+#[derive(Drop)]
+pub struct Solved {
+    /// The bar of each programme, on the positions in its order.
+    pub bars: Vec<u32>,
+    /// The programme of each candidate, if they have a place.
+    pub places: Vec<Option<u32>>,
+}
+
+/// The stable matching in which every candidate has the best programme that they have in any.
+///
+/// Which picker is asked decides nothing but the order of the falls.
+pub fn solve<L: Ledger>(
+    alloc: Global,
+    market: &Market,
+    picker: &mut dyn Picker,
+    steps: &mut Steps<L>,
+) -> Result<Solved, OutOfMemory>
+    ensures stable { IfOk result (λ solved. IsStable market.now solved.places.items) }
+    ensures best { IfOk result (λ solved. IsBestForAll market.now solved.places.items) }
+    ensures placed { IfOk result (λ solved. ArePlacedInAll market.now solved.places.items) }
+
+    ensures greatest { IfOk result (λ solved. IsGreatest (market_system market.now) solved.bars.items) }
+    ensures places { IfOk result (λ solved. solved.places.items ≡ matched_under market.now solved.bars.items) }
+
+    ensures led { IfOk result (λ solved. IsLedTo (market_system market.now) (choice picker.old) (told picker.old) (told picker.new) solved.bars.items) }
+    ensures early { OnErr result (TellsOfFalls (market_system market.now) (choice picker.old) (told picker.old) (told picker.new)) }
+    ensures choice { choice picker.new ≡ choice picker.old }
+{
+    market.stands();
+    laws_of_markets();
+    law_of_runs();
+    let mut round = MarketRound::build(alloc, market)?;
+    greatest(alloc, &mut round, picker, steps)?;
+    let bars = round.into_bars();
+    let places = matched_under(alloc, market, &bars)?;
+    Ok(Solved { bars, places })
+}
+
+/// The best programme within reach of the bars, for each candidate.
+fn matched_under(
+    alloc: Global,
+    market: &Market,
+    bars: &[u32],
+) -> Result<Vec<Option<u32>>, OutOfMemory>
+    requires { length bars.now ≡ length market.now.orders }
+    ensures { IfOk result (λ places. places.items ≡ matched_under market.now bars.now) }
+{
+    let mut places = Vec::new(alloc);
+    for candidate in 0..market.candidates() {
+        places.push(best_within(market, bars, candidate))?;
+    }
+    Ok(places)
+}
