@@ -31,7 +31,15 @@ fn mix_ceilings(key: &mut KeyMaker, rows: &[CeilingRow]) {
     }
 }
 
-/// Hashing by a key of all numbers that rows are found by.
+/// Hashing by a key of the rankings, of which each fault is found by what is hashed.
+pub(crate) fn hashing_of_ranks(rows: &[RankRow]) -> Keyed {
+    let mut key = KeyMaker::new();
+    mix_ranks(&mut key, rows);
+    key.done()
+}
+
+/// Hashing by a key of all numbers that rows are found by, but for the rankings, which are dealt out
+/// by group.
 pub(crate) fn hashing_of(tables: &Tables) -> Keyed {
     let mut key = KeyMaker::new();
     for row in tables.groups.as_slice() {
@@ -43,7 +51,6 @@ pub(crate) fn hashing_of(tables: &Tables) -> Keyed {
     for row in tables.schools.as_slice() {
         key.mix(row.id, 0);
     }
-    mix_ranks(&mut key, tables.rankings.as_slice());
     mix_boarding(&mut key, tables.boarding.as_slice());
     mix_wishes(&mut key, tables.wishes.as_slice());
     for row in tables.state.as_slice() {

@@ -11,6 +11,7 @@ mod items;
 mod noted;
 mod ranks;
 mod relations;
+mod row_ids;
 mod row_tests;
 mod rules;
 mod scan;

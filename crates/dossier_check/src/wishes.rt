@@ -8,9 +8,10 @@ ghost use Rattle.dossier_check.specs.Dealt.{SaysWhoIsRanked};
 ghost use Rattle.dossier_check.specs.Outcome.{AnswersFault};
 ghost use Rattle.dossier_check.specs.Seen.{boarded_pairs, AreFirstWishes};
 
-use crate::noted::{FirstWish, note_first, row_with};
+use crate::noted::{FirstWish, note_first, row_of};
 use crate::ranks::WhoIsRanked;
-use crate::row_tests::{NamesUnknown, NoTest, Repeats, RowTest, Then, Unless};
+use crate::row_ids::RowIds;
+use crate::row_tests::{NamesUnknown, NoTest, Repeats, RepeatsId, RowTest, Then, Unless};
 use crate::rules::{ItsProgramme, ItsSchool, OwnId, WhatIsWished};
 use crate::scan::scan;
 use crate::wished::wishes_apart;
@@ -23,7 +24,7 @@ use std::alloc::Global;
 #[derive(Drop)]
 pub(crate) struct Unranked<'a> {
     pub(crate) tables: &'a Tables,
-    pub(crate) programmes: &'a IndexSet<u32, Keyed>,
+    pub(crate) programmes: &'a RowIds,
     pub(crate) ranked: WhoIsRanked<'a>,
 }
 
@@ -37,7 +38,7 @@ impl<'a> RowTest<WishRow> for Unranked<'a> {
 
     fn stands(&mut self, row: &WishRow, _number: u64) -> Result<Option<Reason>, OutOfMemory> {
         let programmes = self.tables.programmes.as_slice();
-        if let Some(programme) = row_with(self.programmes, programmes, row.programme) {
+        if let Some(programme) = row_of(self.programmes, programmes, row.programme) {
             if self.ranked.has(programme.group, row.candidate) {
                 return Ok(None);
             }
@@ -131,7 +132,7 @@ impl RowTest<WishRow> for PreferenceTaken {
 /// The ids of the wishes by place, and each candidate's first wish.
 #[derive(Drop)]
 pub(crate) struct WishKeys {
-    pub(crate) ids: IndexSet<u32, Keyed>,
+    pub(crate) ids: RowIds,
     pub(crate) firsts: IndexMap<u32, FirstWish, Keyed>,
 }
 
@@ -140,8 +141,8 @@ pub(crate) fn check_wishes<'a>(
     alloc: Global,
     keyed: Keyed,
     tables: &'a Tables,
-    programmes: &'a IndexSet<u32, Keyed>,
-    schools: &IndexSet<u32, Keyed>,
+    programmes: &'a RowIds,
+    schools: &RowIds,
     ranked: WhoIsRanked<'a>,
     boarded: &'a IndexSet<(u32, u32), Keyed>,
 ) -> Result<WishKeys, InFault>
@@ -194,8 +195,10 @@ pub(crate) fn check_wishes<'a>(
         },
     };
     let mut checks = Then {
-        first: Repeats {
-            keys: IndexSet::with_hasher(alloc, keyed),
+        first: RepeatsId {
+            alloc,
+            keyed,
+            ids: RowIds::with_room(alloc, rows.len())?,
             rule: OwnId,
         },
         rest: Then {
@@ -214,7 +217,7 @@ pub(crate) fn check_wishes<'a>(
     let ranks = rest.rest.rest.rest;
     let preferences = ranks.rest.rest;
     Ok(WishKeys {
-        ids: own.keys,
+        ids: own.ids,
         firsts: preferences.first.firsts,
     })
 }
