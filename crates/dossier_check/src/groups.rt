@@ -31,10 +31,7 @@ pub(crate) fn add(
 }
 
 /// An empty list for each group.
-pub(crate) fn empty_lists(
-    alloc: Global,
-    groups: &RowIds,
-) -> Result<Vec<Vec<Ranked>>, OutOfMemory>
+pub(crate) fn empty_lists(alloc: Global, groups: &RowIds) -> Result<Vec<Vec<Ranked>>, OutOfMemory>
     ensures { IfOk result (λ lists. map (λ l. l.items) lists.items ≡ map (ranked_in []) groups.now.keys) }
 {
     let mut lists = Vec::new(alloc);

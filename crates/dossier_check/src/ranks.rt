@@ -136,11 +136,7 @@ fn shows_no_fault(
 
 /// Checks the rankings, and answers them dealt out by group. The rows are tested one after another
 /// only where there may be a fault, to find the first.
-pub(crate) fn check_ranks(
-    alloc: Global,
-    tables: &Tables,
-    groups: &RowIds,
-) -> Result<Dealt, InFault>
+pub(crate) fn check_ranks(alloc: Global, tables: &Tables, groups: &RowIds) -> Result<Dealt, InFault>
     requires groups { groups.now.keys ≡ group_ids tables.now }
     requires small { length tables.now.rankings < 2 ^ 32 }
     ensures fault { AnswersFault result (first_in slots.Rankings (ranking_tests tables.now) tables.now.rankings) }

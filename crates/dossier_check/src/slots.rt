@@ -20,11 +20,7 @@ use keyed_hash::Keyed;
 use std::alloc::Global;
 
 /// Checks the groups, and answers their ids by place.
-pub(crate) fn check_groups(
-    alloc: Global,
-    keyed: Keyed,
-    tables: &Tables,
-) -> Result<RowIds, InFault>
+pub(crate) fn check_groups(alloc: Global, keyed: Keyed, tables: &Tables) -> Result<RowIds, InFault>
     requires { length tables.now.groups < 2 ^ 32 }
     ensures fault { AnswersFault result (first_in slots.Groups group_tests tables.now.groups) }
     ensures ids { IfOk result (λ ids. ids.keys ≡ group_ids tables.now) }
@@ -77,11 +73,7 @@ pub(crate) fn check_programmes(
 }
 
 /// Checks the schools, and answers their ids by place.
-pub(crate) fn check_schools(
-    alloc: Global,
-    keyed: Keyed,
-    tables: &Tables,
-) -> Result<RowIds, InFault>
+pub(crate) fn check_schools(alloc: Global, keyed: Keyed, tables: &Tables) -> Result<RowIds, InFault>
     requires { length tables.now.schools < 2 ^ 32 }
     ensures fault { AnswersFault result (first_in slots.Schools school_tests tables.now.schools) }
     ensures ids { IfOk result (λ ids. ids.keys ≡ school_ids tables.now) }
