@@ -16,6 +16,7 @@ pub mod Outcomes
 pub mod Pairs
 pub mod Places
 pub mod Rising
+pub mod RisingIds
 pub mod RowFacts
 pub mod Scans
 pub mod SortedBy

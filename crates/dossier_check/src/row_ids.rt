@@ -53,12 +53,13 @@ fn at_distance(ids: &[u32], id: u32) -> Option<usize>
 /// The place of an id among rising ones.
 fn place_among(ids: &[u32], id: u32) -> Option<usize>
     requires { Rises ids.now }
-    ensures { result ≡ position (nat_eq id) ids.now }
+    ensures place { result ≡ position (nat_eq id) ids.now }
+    ensures found { is_some result ≡ list_any (nat_eq id) ids.now }
 {
-    if let Some(place) = at_distance(ids, id) {
-        return Some(place);
+    match at_distance(ids, id) {
+        Some(place) => Some(place),
+        None => ids.binary_search(&id).ok(),
     }
-    ids.binary_search(&id).ok()
 }
 
 /// Whether an id is greater than the last of those before it.
