@@ -1,7 +1,9 @@
-//! The data of the admission engine and the definitions of its rules.
+//! The data of the admission engine (dossiers, marks, records, refusals), and the definitions of
+//! its rules, on which most other crates stand. The rows of a dossier name one another by their
+//! places. The definitions stand in `specs/`, one file a topic; they compute, so worked cases are
+//! theorems.
 //!
-//! The definitions stand in `specs/`, one file a topic. They compute, so that worked cases of the
-//! rules are theorems (`worked_rows`).
+//! `let wish = dossier.wishes.as_slice()[place as usize];`
 #![tactic(auto)]
 
 mod bar_laws;

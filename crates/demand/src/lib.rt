@@ -1,4 +1,8 @@
-//! Which wishes are proposed under given bars, and the boarding schools as a system of falling bars.
+//! Which wishes are proposed under given bars, and the boarding schools as a system of falling bars
+//! that keeps nothing but the bars from fall to fall: the plain form, with which `linked_demand` is
+//! compared.
+//!
+//! `let wishes = proposed(alloc, &state, &orders, bars.as_slice())?;`
 #![tactic(auto)]
 
 mod called;

@@ -1,5 +1,8 @@
-//! Hashing by a key that is made of what is hashed, so that no chosen ids can crowd a table: whoever
-//! picks ids against a key changes it by picking them.
+//! Hashing by a key that is made of what is hashed, so that no chosen ids can crowd a table:
+//! whoever picks ids against a key changes it by picking them. Mix all rows in before the key is
+//! taken.
+//!
+//! `let ids = IndexSet::with_hasher(alloc, key_maker.done());`
 #![tactic(auto)]
 
 use std::hash::{BuildHasher, DefaultHasher, FoldHasher, Hasher};
