@@ -36,8 +36,8 @@ pub fn mark_at(state: &DayState<'_>, place: u32) -> Mark
     state.marks()[place as usize]
 }
 
-/// Whether the candidate of the wish at a place, where he has no bed in its school, ranks there
-/// behind the bar.
+/// Whether the candidate of the wish at a place, where they have no bed in its school, ranks
+/// there behind the bar.
 fn is_behind_bar(state: &DayState<'_>, bars: &[u32], place: u32) -> bool
     requires place { place < length state.now.dossier.wishes }
     requires bars { length bars.now ≡ length state.now.dossier.schools }
@@ -80,7 +80,7 @@ fn any_open(state: &DayState<'_>, bars: &[u32], programme: u32, own: &[u32]) -> 
         .any(|place| is_open_at(state, bars, programme, *place))
 }
 
-/// Whether a candidate has an open wish in a programme; `own` has the places of his wishes.
+/// Whether a candidate has an open wish in a programme; `own` has the places of their wishes.
 pub fn has_open_wish(
     state: &DayState<'_>,
     bars: &[u32],
