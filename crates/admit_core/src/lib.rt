@@ -1,7 +1,5 @@
-//! The data of the admission engine (dossiers, marks, records, refusals), and the definitions of
-//! its rules, on which most other crates stand. The rows of a dossier name one another by their
-//! places. The definitions stand in `specs/`, one file a topic; they compute, so worked cases are
-//! theorems.
+//! The data of the admission engine, and the definitions of its rules (in `specs/`, one file a
+//! topic). These compute, so worked cases are theorems. A dossier's rows name one another by place.
 //!
 //! `let wish = dossier.wishes.as_slice()[place as usize];`
 #![tactic(auto)]

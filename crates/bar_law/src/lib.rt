@@ -1,6 +1,5 @@
-//! What a system of falling bars can be asked, as the boarding schools of a pass, and what holds of
-//! every run of falls: whichever overfilled place comes first, the bars end as the greatest that
-//! fit.
+//! What a system of falling bars can be asked, and what holds of every run of falls: whichever
+//! overfilled place comes first, the bars end as the greatest that fit.
 //!
 //! `let rank = system.over(alloc, place)?;`
 #![tactic(auto)]

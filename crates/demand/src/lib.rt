@@ -1,6 +1,5 @@
 //! Which wishes are proposed under given bars, and the boarding schools as a system of falling bars
-//! that keeps nothing but the bars from fall to fall: the plain form, with which `linked_demand` is
-//! compared.
+//! that keeps nothing but its bars: the plain form of the system in `linked_demand`.
 //!
 //! `let wishes = proposed(alloc, &state, &orders, bars.as_slice())?;`
 #![tactic(auto)]

@@ -103,8 +103,8 @@ fn note_last(lasts: &mut Vec<Option<usize>>, wish: Wish, mark: Mark, place: usiz
     }
 }
 
-/// Of each programme the last place in its call order at which somebody is live there; `places` has that
-/// of each wish's candidate.
+/// Of each programme the last place in its call order at which somebody is live there; `places` has
+/// that of each wish's candidate.
 pub(crate) fn last_live(
     alloc: Global,
     state: &DayState<'_>,

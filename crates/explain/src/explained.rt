@@ -17,8 +17,8 @@ use day_state::DayState;
 use demand::{is_open, is_waiting, limit_of, mark_at};
 use vacancies::seats_left;
 
-/// Why the wish at a place stands as it does in the evening of a campaign's last day, which came about:
-/// the one case that holds.
+/// Why the wish at a place stands as it does in the evening of a campaign's last day, which came
+/// about: the one case that holds.
 pub fn explain(campaign: &Campaign<'_>, wish: u32) -> Explanation
     requires day { IsTrue campaign.now.course.has_day }
     requires wish { wish < length campaign.now.course.present.dossier.wishes }
@@ -29,8 +29,9 @@ pub fn explain(campaign: &Campaign<'_>, wish: u32) -> Explanation
     explained(campaign.state(), &last, wish)
 }
 
-/// The same over a desk after its last day: the ceilings are those of that day, and the bars those of its
-/// last pass. Each day leaves a desk with it, as the clause `desks` of `laws_of_explanations` says.
+/// The same over a desk after its last day: the ceilings are those of that day, and the bars those
+/// of its last pass. Each day leaves a desk with it, as the clause `desks` of
+/// `laws_of_explanations` says.
 pub fn explain_on_desk(
     desk: &Desk<'_>,
     orders: &CallOrders,

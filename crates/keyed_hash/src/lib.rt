@@ -1,6 +1,5 @@
 //! Hashing by a key that is made of what is hashed, so that no chosen ids can crowd a table:
-//! whoever picks ids against a key changes it by picking them. Mix all rows in before the key is
-//! taken.
+//! whoever picks ids against a key changes it by picking them. Mix all rows in first.
 //!
 //! `let ids = IndexSet::with_hasher(alloc, key_maker.done());`
 #![tactic(auto)]

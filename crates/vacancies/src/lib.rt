@@ -1,4 +1,4 @@
-//! The seats and beds that are left in a state, and who needs one, counted by candidates and not by
+//! The seats and beds that are left in a state, and who needs one. Candidates are counted, not
 //! wishes.
 //!
 //! `let beds = beds_left(&state, school);`
