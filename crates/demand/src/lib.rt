@@ -12,6 +12,6 @@ mod walk;
 
 pub use called::{call_everyone, limit_of, order_of};
 pub use demands::{Demand, demands_of};
-pub use open::{is_open, is_waiting, mark_at, wish_at};
+pub use open::{is_open, mark_at, wish_at};
 pub use round::{PlainRound, names_up_to};
 pub use walk::{programme_count, proposed};

@@ -2,21 +2,13 @@
 ghost use Rattle.std.specs.Prelude.{◌≡◌, ◌<◌, ◌&&◌, length, All};
 ghost use Rattle.std.specs.Option.{ForSome};
 ghost use Rattle.std.specs.List.{list_any};
-ghost use Rattle.admit_core.specs.State.{is_waiting};
 ghost use Rattle.admit_core.specs.OwnWishes.{own_places};
 ghost use Rattle.admit_core.specs.Proposals.{is_behind_bar, is_open, has_open_wish};
 ghost use Rattle.day_state.specs.Kept.{mark_in, wish_in};
 ghost use Rattle.demand.specs.Open.{is_open_at};
 
-use admit_core::{Mark, Status, Wish};
+use admit_core::{Mark, Wish};
 use day_state::DayState;
-
-/// Whether a mark is that of a waiting wish.
-pub fn is_waiting(mark: Mark) -> bool
-    ensures { result ≡ is_waiting mark }
-{
-    matches!(mark.status, Status::Waiting)
-}
 
 /// The wish at a place.
 pub fn wish_at(state: &DayState<'_>, place: u32) -> Wish
@@ -58,7 +50,7 @@ pub fn is_open(state: &DayState<'_>, bars: &[u32], place: u32) -> bool
     requires bars { length bars.now ≡ length state.now.dossier.schools }
     ensures { result ≡ is_open state.now bars.now (wish_in state.now.dossier.wishes place) (mark_in state.now.marks place) }
 {
-    is_waiting(mark_at(state, place)) && !is_behind_bar(state, bars, place)
+    mark_at(state, place).is_waiting() && !is_behind_bar(state, bars, place)
 }
 
 /// Whether the wish at a place is an open one in a programme.
