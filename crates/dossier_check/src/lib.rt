@@ -18,6 +18,7 @@ mod rules;
 mod scan;
 mod slots;
 mod state;
+mod wished;
 mod wishes;
 
 pub use index::{Index, school_place, wish_place};
