@@ -19,6 +19,7 @@ mod rules;
 mod scan;
 mod slots;
 mod state;
+mod who_is_ranked;
 mod wished;
 mod wishes;
 

@@ -149,29 +149,3 @@ pub(crate) fn check_ranks(alloc: Global, tables: &Tables, groups: &RowIds) -> Re
     find_rank_fault(alloc, tables, groups)?;
     Ok(dealt)
 }
-
-/// Who is ranked in each group, by the groups' places.
-#[derive(Drop)]
-pub(crate) struct WhoIsRanked<'a> {
-    pub(crate) groups: &'a RowIds,
-    pub(crate) candidates: &'a [Vec<u32>],
-}
-
-impl<'a> WhoIsRanked<'a> {
-    ghost use Rattle.admit_core.specs.declared.tables.Tables.{Tables};
-    ghost use Rattle.admit_core.specs.Relations.{is_in_group};
-    ghost use Rattle.dossier_check.specs.Dealt.{SaysWhoIsRanked};
-
-    /// Whether a candidate is ranked in a group.
-    pub(crate) fn has(&self, group: u32, candidate: u32) -> bool
-        ensures { (t : Tables) → SaysWhoIsRanked t self.now → result ≡ is_in_group t candidate group }
-    {
-        let Some(place) = self.groups.get_index_of(group) else {
-            return false;
-        };
-        match self.candidates.get(place) {
-            Some(ids) => ids.as_slice().binary_search(&candidate).is_ok(),
-            None => false,
-        }
-    }
-}

@@ -18,10 +18,11 @@ use crate::index::Index;
 use crate::items::{
     Keys, answers_of, ceilings_of, programmes_of, schools_of, statuses_of, wishes_of,
 };
-use crate::ranks::{Dealt, WhoIsRanked, check_ranks};
+use crate::ranks::{Dealt, check_ranks};
 use crate::row_ids::RowIds;
 use crate::slots::{check_boarding, check_ceilings, check_groups, check_programmes, check_schools};
 use crate::state::check_state;
+use crate::who_is_ranked::WhoIsRanked;
 use crate::wishes::check_wishes;
 use admit_core::{Dossier, InFault, OutOfMemory, Ranked, Sequence, Since, Tables};
 use indexmap::IndexSet;

@@ -8,12 +8,13 @@ ghost use Rattle.dossier_check.specs.Dealt.{SaysWhoIsRanked};
 ghost use Rattle.dossier_check.specs.Outcome.{AnswersFault};
 ghost use Rattle.dossier_check.specs.Seen.{boarded_pairs, AreFirstWishes};
 
+use crate::hashing::hashing_of_wishes;
 use crate::noted::{FirstWish, note_first, row_of};
-use crate::ranks::WhoIsRanked;
 use crate::row_ids::RowIds;
 use crate::row_tests::{NamesUnknown, NoTest, Repeats, RepeatsId, RowTest, Then, Unless};
 use crate::rules::{ItsProgramme, ItsSchool, OwnId, WhatIsWished};
 use crate::scan::scan;
+use crate::who_is_ranked::WhoIsRanked;
 use crate::wished::wishes_apart;
 use admit_core::{InFault, OutOfMemory, Reason, Slot, Tables, WishRow};
 use indexmap::{IndexMap, IndexSet};
@@ -26,6 +27,8 @@ pub(crate) struct Unranked<'a> {
     pub(crate) tables: &'a Tables,
     pub(crate) programmes: &'a RowIds,
     pub(crate) ranked: WhoIsRanked<'a>,
+    /// Where the next candidate of each group is looked for, by the groups' places.
+    pub(crate) near: Vec<usize>,
 }
 
 impl<'a> RowTest<WishRow> for Unranked<'a> {
@@ -39,7 +42,7 @@ impl<'a> RowTest<WishRow> for Unranked<'a> {
     fn stands(&mut self, row: &WishRow, _number: u64) -> Result<Option<Reason>, OutOfMemory> {
         let programmes = self.tables.programmes.as_slice();
         if let Some(programme) = row_of(self.programmes, programmes, row.programme) {
-            if self.ranked.has(programme.group, row.candidate) {
+            if self.ranked.has(programme.group, row.candidate, &mut self.near) {
                 return Ok(None);
             }
         }
@@ -157,6 +160,12 @@ pub(crate) fn check_wishes<'a>(
 {
     let rows = tables.wishes.as_slice();
     let apart = wishes_apart(alloc, rows)?;
+    let by_wish = if apart {
+        keyed
+    } else {
+        hashing_of_wishes(rows)
+    };
+    let near = vec![in alloc; 0; ranked.candidates.len()]?;
     let preferences = Then {
         first: PreferenceMixed {
             firsts: IndexMap::with_hasher(alloc, keyed),
@@ -173,6 +182,7 @@ pub(crate) fn check_wishes<'a>(
             tables,
             programmes,
             ranked,
+            near,
         },
         rest: Then {
             first: NoBoardingRank { tables, boarded },
@@ -205,7 +215,7 @@ pub(crate) fn check_wishes<'a>(
             first: Unless {
                 is_known: apart,
                 test: Repeats {
-                    keys: IndexSet::with_hasher(alloc, keyed),
+                    keys: IndexSet::with_hasher(alloc, by_wish),
                     rule: WhatIsWished,
                 },
             },
