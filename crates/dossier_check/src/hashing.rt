@@ -47,8 +47,8 @@ pub(crate) fn hashing_of_ranks(rows: &[RankRow]) -> Keyed {
     key.done()
 }
 
-/// Hashing by a key of all numbers that rows are mostly found by. Rankings and what wishes are of are
-/// put in order, and hashed by keys of their own only where that shows a fault.
+/// Hashing by a key of all numbers that rows are mostly found by. Rankings and what wishes are of
+/// are put in order, and hashed by keys of their own only where that shows a fault.
 pub(crate) fn hashing_of(tables: &Tables) -> Keyed {
     let mut key = KeyMaker::new();
     for row in tables.groups.as_slice() {

@@ -116,8 +116,8 @@ impl RowIds {
         })
     }
 
-    /// Notes the id of the next row, and answers the number of the row of the same id where there is
-    /// one.
+    /// Notes the id of the next row, and answers the number of the row of the same id where there
+    /// is one.
     pub(crate) fn note<R, Q: Key<R, u32>>(
         &mut self,
         alloc: Global,

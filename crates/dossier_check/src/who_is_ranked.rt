@@ -53,6 +53,16 @@ fn is_there(numbers: &[u32], number: u32, near: &mut usize) -> bool
     }
 }
 
+/// The same, with where it's looked for at a place of a list.
+fn is_there_by(numbers: &[u32], number: u32, near: &mut [usize], place: usize) -> bool
+    ensures { IsNonDecreasing numbers.now → result ≡ list_any (nat_eq number) numbers.now }
+{
+    match near.get_mut(place) {
+        Some(near) => is_there(numbers, number, near),
+        None => search_near(numbers, number, 0).is_some(),
+    }
+}
+
 /// Who is ranked in each group, by the groups' places.
 #[derive(Drop)]
 pub(crate) struct WhoIsRanked<'a> {
@@ -76,9 +86,6 @@ impl<'a> WhoIsRanked<'a> {
         let Some(ids) = self.candidates.get(place) else {
             return false;
         };
-        match near.get_mut(place) {
-            Some(near) => is_there(ids.as_slice(), candidate, near),
-            None => is_there(ids.as_slice(), candidate, &mut 0),
-        }
+        is_there_by(ids.as_slice(), candidate, near, place)
     }
 }

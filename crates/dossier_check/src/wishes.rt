@@ -42,7 +42,10 @@ impl<'a> RowTest<WishRow> for Unranked<'a> {
     fn stands(&mut self, row: &WishRow, _number: u64) -> Result<Option<Reason>, OutOfMemory> {
         let programmes = self.tables.programmes.as_slice();
         if let Some(programme) = row_of(self.programmes, programmes, row.programme) {
-            if self.ranked.has(programme.group, row.candidate, &mut self.near) {
+            if self
+                .ranked
+                .has(programme.group, row.candidate, &mut self.near)
+            {
                 return Ok(None);
             }
         }
