@@ -1,4 +1,4 @@
-use Rattle.std.proofs.Common.{◌≡◌, position, Some, sym, ap, ◌∙◌, is_some}
+use Rattle.std.proofs.Common.{◌≡◌, position, Some, sym, ◌∙◌}
 use Rattle.dossier_check.proofs.Found.{found_same, not_placed, position-within, read_at}
 use Rattle.dossier_check.proofs.noted.row_at.Goals as goal
 

@@ -1,4 +1,4 @@
-use Rattle.std.proofs.Common.{position, sym, ap, ◌∙◌}
+use Rattle.std.proofs.Common.{position, ap, ◌∙◌}
 use Rattle.dossier_check.proofs.Firsts.{position-map}
 use Rattle.dossier_check.proofs.noted.row_with.Goals as goal
 

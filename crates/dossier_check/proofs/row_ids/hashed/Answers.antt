@@ -1,4 +1,4 @@
-use Rattle.std.proofs.Common.{sym, ◌∙◌}
+use Rattle.std.proofs.Common.{◌∙◌}
 use Rattle.dossier_check.proofs.RisingIds.{set_more}
 use Rattle.dossier_check.proofs.row_ids.hashed.Goals as goal
 

@@ -1,4 +1,4 @@
-use Rattle.std.proofs.Common.{◌≡◌, is_some, sym, ap, ◌∙◌}
+use Rattle.std.proofs.Common.{is_some, sym, ap, ◌∙◌}
 use Rattle.dossier_check.proofs.RisingIds.{searched_place, found_by_place}
 use Rattle.dossier_check.proofs.row_ids.place_among.Goals as goal
 

@@ -1,4 +1,4 @@
-use Rattle.std.proofs.Common.{◌≡◌, ℕ, List, Some, nat_eq, is_some, position, slice_get, sym, ap, ◌∙◌}
+use Rattle.std.proofs.Common.{◌≡◌, Some, nat_eq, is_some, position, slice_get, sym, ap, ◌∙◌}
 use Rattle.std.specs.List.{list_any}
 use Rattle.dossier_check.specs.Dealt.{candidates_in}
 use Rattle.dossier_check.proofs.Found.{read_there}
