@@ -13,8 +13,8 @@ ghost use Rattle.day_state.specs.Kept.{mark_in, wish_in, lives_at, in_school, ho
 use crate::bundles::{Bundles, Sites};
 use crate::counts::{copy_counts, recount, recount_some, zeros};
 use crate::mark::{
-    OwnChange, better, changed_by, live_preference, lives_in_programme, lives_in_school,
-    lost, wish_at,
+    OwnChange, better, changed_by, live_preference, lives_in_programme, lives_in_school, lost,
+    wish_at,
 };
 use admit_core::{Dossier, Freed, Mark, OutOfMemory, Stamp, Status, Wish};
 use std::alloc::Global;
