@@ -10,7 +10,7 @@ ghost use Rattle.auto_answer.specs.LastWish.{wishers};
 use admit_core::{Freed, Stamp};
 use day_state::DayState;
 
-/// Answers for a candidate who ranks his wishes; nothing changes for one who doesn't.
+/// Answers for a candidate who ranks their wishes; nothing changes for one who doesn't.
 pub fn auto_one(state: &mut DayState<'_>, candidate: u32, stamp: Stamp) -> Freed
     ensures state { state.new ≡ auto_one state.old candidate stamp }
     ensures freed { result ≡ freed_by state.old state.new candidate }

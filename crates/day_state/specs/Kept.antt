@@ -99,7 +99,7 @@ pub record AreSpans (ws : List Wish) (order : List ℕ) (n : ℕ) (spans : List 
   pub count : length spans ≡ n
   pub each : (k : ℕ) → k < n → IsSpan ws order (candidate_in ws k) (span_in spans k)
 
--- each candidate of the first n wishes is found, at the place of one of his
+-- each candidate of the first n wishes is found, at the place of one of theirs
 pub record AreFound (ws : List Wish) (n : ℕ) (place_of : ℕ → Option ℕ) : Type 0 where
   pub own : (c : ℕ) → ForSome (place_of c) (λ k. (k < n) × (candidate_in ws k ≡ c))
   pub each : (k : ℕ) → k < n → IsSome (place_of (candidate_in ws k))

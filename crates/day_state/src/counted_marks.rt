@@ -22,7 +22,7 @@ use std::marker::Model;
 
 /// The marks of a dossier's wishes, and of each programme and each school the number of candidates
 /// who are live there. A change of one mark takes the same time however many wishes its candidate
-/// has: the bundles tell whether he is live there still.
+/// has: the bundles tell whether they are still live there.
 #[derive(Drop)]
 pub struct CountedMarks<'d> {
     dossier: &'d Dossier,
@@ -136,7 +136,7 @@ impl<'d> CountedMarks<'d> {
         self.dossier
     }
 
-    /// Whether a candidate is live in a programme; `own` has the places of his wishes.
+    /// Whether a candidate is live in a programme; `own` has the places of their wishes.
     pub fn holds_seat(&self, own: &[u32], candidate: u32, programme: u32) -> bool
         requires { own.now ≡ own_places self.now.dossier candidate }
         ensures { result ≡ holds_seat self.now candidate programme }
@@ -150,7 +150,7 @@ impl<'d> CountedMarks<'d> {
         )
     }
 
-    /// Whether a candidate is live in a school; `own` has the places of his wishes.
+    /// Whether a candidate is live in a school; `own` has the places of their wishes.
     pub fn holds_bed(&self, own: &[u32], candidate: u32, school: u32) -> bool
         requires { own.now ≡ own_places self.now.dossier candidate }
         ensures { result ≡ holds_bed self.now candidate school }
@@ -180,8 +180,8 @@ impl<'d> CountedMarks<'d> {
         self.in_schools.is_live(wish)
     }
 
-    /// The preference number of a candidate's best live wish, where he ranks his wishes; `own` has
-    /// their places.
+    /// The preference number of a candidate's best live wish, where they rank their wishes, whose
+    /// places `own` has.
     pub fn best_preference(&self, own: &[u32], candidate: u32) -> Option<u32>
         requires { own.now ≡ own_places self.now.dossier candidate }
         ensures { result ≡ option_map (λ x. x.0.preference) (best_live self.now candidate) }
@@ -190,7 +190,7 @@ impl<'d> CountedMarks<'d> {
         best_among(dossier.wishes.as_slice(), self.marks.as_slice(), own)
     }
 
-    /// Changes all wishes of a candidate, and counts what he frees; `own` has their places.
+    /// Changes all wishes of a candidate, and counts what that frees; `own` has their places.
     pub fn change_own(
         &mut self,
         own: &[u32],

@@ -290,8 +290,8 @@ impl<'d> DayState<'d> {
     }
 
     /// Does what answers say, in their order, up to the first one that does not fit. Each
-    /// candidate's wishes come of his own answers alone, and the list fits where those of each
-    /// candidate do.
+    /// candidate's wishes come of that candidate's answers alone, and the list fits where those of
+    /// each candidate do.
     pub fn apply_day(&mut self, answers: &[Answer], stamp: Stamp) -> Result<(), UnfitAt>
         requires targets { All (λ a. IsTarget self.old.dossier a.kind a.target) answers.now }
         requires count { length answers.now < 2 ^ 32 }
@@ -322,15 +322,15 @@ impl<'d> DayState<'d> {
         Ok(())
     }
 
-    /// Answers for a candidate, where he ranks his wishes and one of them is live: the best live
-    /// one is accepted, his other live wishes are given up, and so are the waiting ones behind it.
-    /// Tells what he frees.
+    /// Answers for a candidate, where they rank their wishes and one of these is live: the best
+    /// live one is accepted, the other live ones are given up, and so are the waiting ones behind
+    /// it. Tells what that frees.
     pub fn answer_automatically(&mut self, candidate: u32, stamp: Stamp) -> Freed
         ensures state { self.new ≡ auto_one self.old candidate stamp }
         ensures freed { result ≡ freed_by self.old self.new candidate }
     {
         let dossier = self.live.dossier();
-        let _ = &dossier.wishes; // learns that his preferences differ
+        let _ = &dossier.wishes; // learns that their preferences differ
         let own = self.index.of(candidate);
         match self.live.best_preference(own, candidate) {
             None => NOTHING_FREED,

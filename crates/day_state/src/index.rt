@@ -1,4 +1,4 @@
-//! An index from a candidate to his own wishes.
+//! An index from a candidate to their own wishes.
 ghost use Rattle.std.specs.Prelude.{◌≡◌, ◌<◌, ◌≤◌, ◌^◌, length, slice_range, IfOk, OnOk, nat_eq, nat_lt, nat_le, true, false};
 ghost use Rattle.std.specs.List.{range_with_len};
 ghost use Rattle.std.specs.List.Sorted.{IsNonDecreasingBy, IsPermutation, IsStableByKey, IsPartitionPoint};
@@ -22,7 +22,7 @@ struct Span {
 }
 
 /// The places of a dossier's wishes in order by candidate, for each wish where those of its
-/// candidate stand in it, and for each candidate the place of one of his wishes.
+/// candidate stand in it, and for each candidate the place of one of their wishes.
 #[derive(Drop)]
 pub struct CandidateIndex<'d> {
     dossier: &'d Dossier,
@@ -200,7 +200,7 @@ fn hashing_of(wishes: &[Wish]) -> Keyed {
     key.done()
 }
 
-/// For each candidate the place of one of his wishes.
+/// For each candidate the place of one of their wishes.
 fn found_of(alloc: Global, wishes: &[Wish]) -> Result<IndexMap<u32, u32, Keyed>, OutOfMemory>
     requires { length wishes.now < 2 ^ 32 }
     ensures { IfOk result (λ found. AreFound wishes.now (length wishes.now) (get nat_eq found)) }

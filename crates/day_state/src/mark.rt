@@ -84,8 +84,8 @@ pub fn first_mark(status: Status) -> Mark
 
 /// What is done with all wishes of a candidate at once.
 ///
-/// `TakeBest` has the preference number of his best live wish: it is accepted, his other live
-/// wishes are given up, and so are the waiting ones behind it.
+/// `TakeBest` has the preference number of their best live wish: it is accepted, the other live
+/// ones are given up, and so are the waiting ones behind it.
 #[derive(Clone, Copy)]
 pub enum OwnChange {
     RefuseLive,
@@ -134,7 +134,7 @@ pub fn better(one: Option<u32>, other: Option<u32>) -> Option<u32>
     }
 }
 
-/// The preference number of the wish at a place, where it is live and its candidate ranks his
+/// The preference number of the wish at a place, where it is live and its candidate ranks their
 /// wishes.
 pub fn live_preference(wishes: &[Wish], marks: &[Mark], place: u32) -> Option<u32>
     requires wish { place < length wishes.now }
