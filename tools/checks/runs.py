@@ -105,14 +105,16 @@ def put(files: Files, folder: Path) -> None:
 
 
 def watch(words: tuple[str, ...], folder: Path, longest: float, by: str | None = None,
-          environment: dict[str, str] | None = None) -> Watched:
-    """Runs the program, or another one, in the folder; a run that goes on for too long is stopped."""
+          environment: dict[str, str] | None = None, user: int | None = None) -> Watched:
+    """Runs the program, or another one, in the folder, as another user where one is named; a run that goes on for too
+    long is stopped."""
     def limit() -> None:
         resource.setrlimit(resource.RLIMIT_CORE, (0, 0))
     began = time.monotonic()
     with tempfile.TemporaryFile() as output:
         child = subprocess.Popen([by or program(), *words], cwd=folder, stdin=subprocess.DEVNULL, stdout=output,
-                                 stderr=subprocess.DEVNULL, env={**os.environ, **(environment or {})}, preexec_fn=limit)
+                                 stderr=subprocess.DEVNULL, env={**os.environ, **(environment or {})}, preexec_fn=limit,
+                                 user=user, extra_groups=None if user is None else ())
         usage = wait_for(child.pid, began + longest)
         output.seek(0)
         text = output.read()
