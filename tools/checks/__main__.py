@@ -9,7 +9,7 @@ from functools import partial
 
 from dossier.program import program
 
-from . import days, disks, exporting, hostile, killing, script, stored
+from . import days, disks, exporting, hostile, killing, rounds, script, stored
 from .harness import EXAMPLES, Tally
 
 Checks = Callable[[Tally], None]
@@ -24,6 +24,8 @@ def topics(program: str) -> dict[str, list[Checks]]:
         "hostile": [hostile.check_words, hostile.check_folders, hostile.check_broken_dossiers, hostile.check_lines],
         "disks": [disks.check_full_devices, disks.check_small_disks],
         "killing": list(killing.CHECKS),
+        "rounds": [partial(rounds.check_small_rounds, program=program), partial(rounds.check_finds, program=program),
+                   partial(rounds.check_unknown_modes, program=program)],
         "script": [script.check_script],
         "exporting": [exporting.check_round_trips, partial(exporting.check_acceptance, program=program)],
         "days": [partial(days.check_seven_days, program=program), days.check_answers_that_do_not_fit,

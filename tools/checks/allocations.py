@@ -107,6 +107,12 @@ def jobs(mode: Mode) -> list[Job]:
     return list(found.values())
 
 
+def binary() -> str:
+    """The program itself, also where the script `parcours` is named that runs it."""
+    built = Path(program()).parent / "crates/parcours/out/parcours"
+    return str(built) if built.is_file() else program()
+
+
 def shim(folder: Path) -> str:
     """The library that refuses requests."""
     source, library = folder / "refuse.c", folder / "refuse.so"
@@ -138,7 +144,7 @@ class Round:
     found: int = 0
 
     def watch(self, job: Job, **environment: str) -> Watched:
-        return watch(job.words, self.folder, LONGEST, environment={"LD_PRELOAD": self.library, **environment})
+        return watch(job.words, self.folder, LONGEST, binary(), environment={"LD_PRELOAD": self.library, **environment})
 
     def requests(self, job: Job) -> tuple[Watched, int]:
         """A run of which nothing is refused, and how many requests it makes."""
@@ -146,7 +152,7 @@ class Round:
         count.unlink(missing_ok=True)
         whole = self.watch(job, ASKED_FILE=str(count))
         if not count.exists():
-            sys.exit(f"{program()} does not load a library before the C library; it is linked statically, or a script")
+            sys.exit(f"{binary()} does not load a library before the C library; is it linked statically?")
         return whole, int(count.read_text())
 
     def attempt(self, job: Job) -> None:

@@ -2,9 +2,13 @@
 
 import csv
 import io
+import subprocess
+import sys
 from collections.abc import Iterator
 from dataclasses import dataclass
 from random import Random
+
+from dossier.program import NOT_BUILT, program
 
 from .harness import EXAMPLES
 from .runs import BAD_WORDS, SLOTS, Files, Job, file_of, run_of
@@ -79,8 +83,20 @@ def is_known(mode: Mode) -> bool:
     return (ended.status, ended.text) != (BAD_WORDS, b"bad words\n")
 
 
+def make_sure() -> None:
+    """Ends with a message where the program is not there; the script `parcours` may have to build it first."""
+    try:
+        done = subprocess.run([program(), "order"], cwd=EXAMPLES / "two-groups", stdin=subprocess.DEVNULL,
+                              stdout=subprocess.DEVNULL, check=False)
+    except OSError as error:
+        sys.exit(f"{program()} cannot be started: {error.strerror}")
+    if done.returncode == NOT_BUILT:
+        sys.exit(f"{program()} is not built")
+
+
 def known_modes(asked: list[str]) -> list[Mode]:
     """The modes that were asked for, or all; a line says of each that the program does not have."""
+    make_sure()
     found = []
     for mode in MODES.values():
         if asked and mode.name not in asked:
@@ -89,4 +105,6 @@ def known_modes(asked: list[str]) -> list[Mode]:
             found.append(mode)
         else:
             print(f"{mode.name}: skipped, the program answers `bad words`", flush=True)
+    if not found:
+        sys.exit(f"{program()} has none of the modes")
     return found

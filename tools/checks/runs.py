@@ -114,7 +114,7 @@ def watch(words: tuple[str, ...], folder: Path, longest: float, by: str | None =
     with tempfile.TemporaryFile() as output:
         child = subprocess.Popen([by or program(), *words], cwd=folder, stdin=subprocess.DEVNULL, stdout=output,
                                  stderr=subprocess.DEVNULL, env={**os.environ, **(environment or {})}, preexec_fn=limit,
-                                 user=user, extra_groups=None if user is None else ())
+                                 start_new_session=True, user=user, extra_groups=None if user is None else ())
         usage = wait_for(child.pid, began + longest)
         output.seek(0)
         text = output.read()
@@ -129,7 +129,7 @@ def wait_for(child: int, until: float) -> tuple[int, resource.struct_rusage]:
         if ended:
             return status, usage
         if time.monotonic() > until:
-            os.kill(child, signal.SIGKILL)
+            os.killpg(child, signal.SIGKILL)
             _, status, usage = os.wait4(child, 0)
             return status, usage
         time.sleep(pause)
