@@ -80,7 +80,8 @@ each_distinct (x ∷ gs) (o ∷ os) valid calls (suc g) = each_distinct gs os (A
 pub order_distinct : (d : DossierRows) (orders : List CallOrder) → IsValid d → AreCallOrders d.groups orders → (p : ℕ) → IsDistinct nat_eq (order_of d orders p)
 order_distinct d orders valid calls p = each_distinct d.groups orders valid.groups calls (group_of d p)
 
-front_distinct : (xs : List ℕ) (n : ℕ) → n ≤ length xs → IsDistinct nat_eq xs → IsDistinct nat_eq (take n xs)
+-- a prefix of distinct numbers is distinct
+pub front_distinct : (xs : List ℕ) (n : ℕ) → n ≤ length xs → IsDistinct nat_eq xs → IsDistinct nat_eq (take n xs)
 front_distinct xs n le apart =
     IsDistinct-from_apart nat_eq (take n xs) (λ i j d i_lt j_lt.
     let whole = length-take-le n xs le in

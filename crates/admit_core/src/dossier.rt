@@ -15,8 +15,8 @@ pub const MAX_NUMBER: u32 = 2_000_000_000;
 /// The last day that a campaign may have; the first is 1.
 pub const MAX_DAY: u32 = 366;
 
-/// The limits of the code are those of the rules. It does nothing when it is called: its clauses are
-/// theorems.
+/// The limits of the code are those of the rules. It does nothing when it is called: its clauses
+/// are theorems.
 pub fn limits_of_rules()
     ensures rows { MAX_ROWS ≡ 16000000 }
     ensures numbers { MAX_NUMBER ≡ 2000000000 }

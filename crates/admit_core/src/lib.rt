@@ -1,7 +1,7 @@
-//! The data of the admission engine and the definitions of its rules.
+//! The data of the admission engine, and the definitions of its rules (in `specs/`, one file a
+//! topic). These compute, so worked cases are theorems. A dossier's rows name one another by place.
 //!
-//! The definitions stand in `specs/`, one file a topic. They compute, so that worked cases of the
-//! rules are theorems (`worked_rows`).
+//! `let wish = dossier.wishes.as_slice()[place as usize];`
 #![tactic(auto)]
 
 mod bar_laws;

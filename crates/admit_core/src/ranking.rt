@@ -31,8 +31,8 @@ pub enum Bound {
     Alone,
 }
 
-/// The order in which a group's candidates are called (*ordre d'appel*), by their ids, with the bound
-/// of each position.
+/// The order in which a group's candidates are called (*ordre d'appel*), by their ids, with the
+/// bound of each position.
 #[derive(Debug, Drop)]
 pub struct CallOrder {
     pub list: Sequence<u32>,

@@ -13,7 +13,8 @@ pub struct Fall {
     pub wishes: Sequence<u32>,
 }
 
-/// The bars at the end of a pass, the falls that led to them, and the places of the wishes that were offered.
+/// The bars at the end of a pass, the falls that led to them, and the places of the wishes that
+/// were offered.
 #[derive(Debug, Drop)]
 pub struct PassRecord {
     pub bars: Sequence<u32>,

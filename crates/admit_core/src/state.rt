@@ -1,4 +1,6 @@
 //! What became of each wish.
+ghost use Rattle.std.specs.Prelude.{◌≡◌};
+ghost use Rattle.admit_core.specs.State.{is_live, is_live_status, is_waiting, is_waiting_status};
 
 /// What became of a wish. It is live while it is offered or accepted.
 #[derive(Clone, Copy, Debug, PartialEq, Eq)]
@@ -14,6 +16,22 @@ pub enum Status {
     Lapsed,
 }
 
+impl Status {
+    /// Whether a wish of this status is live.
+    pub fn is_live(self) -> bool
+        ensures { result ≡ is_live_status self }
+    {
+        matches!(self, Status::Offered | Status::Accepted)
+    }
+
+    /// Whether a wish of this status waits.
+    pub fn is_waiting(self) -> bool
+        ensures { result ≡ is_waiting_status self }
+    {
+        matches!(self, Status::Waiting)
+    }
+}
+
 /// When a wish last changed its status: the state that came in is day 0 pass 0, a day's lapses and
 /// answers are its pass 0, and the passes are counted from 1.
 #[derive(Clone, Copy, Debug, PartialEq, Eq)]
@@ -27,6 +45,22 @@ pub struct Stamp {
 pub struct Mark {
     pub status: Status,
     pub stamp: Stamp,
+}
+
+impl Mark {
+    /// Whether the wish is live.
+    pub fn is_live(self) -> bool
+        ensures { result ≡ is_live self }
+    {
+        self.status.is_live()
+    }
+
+    /// Whether the wish waits.
+    pub fn is_waiting(self) -> bool
+        ensures { result ≡ is_waiting self }
+    {
+        self.status.is_waiting()
+    }
 }
 
 /// In how many programmes, and in how many schools, candidates were live and no longer are.

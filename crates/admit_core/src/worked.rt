@@ -49,8 +49,8 @@ pub fn worked_days()
     ensures bars_explained { BarsExplained }
 {}
 
-/// Which worked chains are valid, and the first fault of the others; which wishes block worked states;
-/// and how many beds worked schools need.
+/// Which worked chains are valid, and the first fault of the others; which wishes block worked
+/// states; and how many beds worked schools need.
 pub fn worked_chains()
     ensures valid_chain { ValidChain }
     ensures chain_faults { ChainFaults }

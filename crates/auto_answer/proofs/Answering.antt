@@ -1,4 +1,4 @@
--- Candidates are answered for one after another, each at his last wish.
+-- Candidates are answered for one after another, each at their last wish.
 use Rattle.std.proofs.Common.{ℕ, zero, suc, ◌+◌, ◌≤◌, ◌<◌, ◌≡◌, Bool, true, false, not, cond, ◌&&◌, List, [], ◌∷◌, map, length, drop, get_or, inl, inr, refl, sym, ◌∙◌, ap, arith, nat_eq, sum, count_by}
 use Rattle.std.specs.Prelude.{◌==◌, if◌then◌else◌}
 use Rattle.std.specs.List.{range_with_len}
@@ -45,7 +45,7 @@ joined c s t u a b = record {
   same = λ k lt own. a.same k lt own ∙ b.same k (rw a.dossier lt) (rw a.dossier own);
 }
 
--- another candidate's answer leaves his wishes
+-- another candidate's answer leaves this one's wishes
 pub one_other : (c d : ℕ) (s t : State) (stamp : Stamp) → (d ≡ c → ⊥) → Agrees c s t → Agrees c (auto_one s d stamp) t
 one_other c d s t stamp differ a = record {
   dossier = a.dossier;
@@ -58,7 +58,7 @@ one_other c d s t stamp differ a = record {
       ∙ a.same k lt own;
 }
 
--- his own answer does in both states the same
+-- a candidate's own answer does the same in both states
 pub one_both : (c : ℕ) (s t : State) (stamp : Stamp) → Agrees c s t → Agrees c (auto_one s c stamp) (auto_one t c stamp)
 one_both c s t stamp a =
     let t_long : length t.marks ≡ length t.dossier.wishes = rw a.dossier a.long_too in
@@ -72,7 +72,7 @@ one_both c s t stamp a =
           ∙ sym (mark_in-with_marks (one_mark t c stamp) t t_long k (omega (arith, a.long_too)));
     }
 
--- the answers of all do to his wishes what his own answer does
+-- the answers of all do to a candidate's wishes what their own answer does
 pub one_as_all : (c : ℕ) (s : State) (stamp : Stamp) → length s.marks ≡ length s.dossier.wishes → Agrees c (auto_one s c stamp) (auto_all s stamp)
 one_as_all c s stamp long = record {
   dossier = refl;
@@ -95,7 +95,7 @@ all_both c s t stamp a =
     (turned c (auto_one s c stamp) (auto_all s stamp) (one_as_all c s stamp a.long))
     (one_here c s t stamp a)
 
--- what he frees depends on his own wishes before and after
+-- what a candidate frees depends on their own wishes before and after
 abbrev one : Bool → ℕ
 one b = cond b 1 0
 
@@ -164,7 +164,7 @@ answered_none s stamp long = record {
   beds = omega arith;
 }
 
--- the candidates from a place on are the one there and those after him
+-- the candidates from a place on are the one there and those after them
 next_is : (d : DossierRows) (i : ℕ) → i < length d.wishes → later d i ≡ candidate_of d i ∷ later d (i + 1)
 next_is d i lt = drop_more (wishers d) i 0 (omega (arith, length-map d.wishes (λ (w : Wish). w.candidate)))
 
@@ -192,7 +192,7 @@ answered_later start now stamp i all so_far lt again =
       beds = let same = ap (beds_of_all start end) next ∙ total_again (beds_freed start end) x rest again in omega (arith, so_far.beds, same);
     }
 
--- his answer at his last wish frees what it frees in the end
+-- a candidate's answer at their last wish frees what it frees in the end
 pub freed_here : (start now : State) (stamp : Stamp) (i : ℕ) (all : Freed) → IsAnswered start now stamp i all → i < length start.dossier.wishes
     → let x = candidate_of start.dossier i in
     freed_by now (auto_one now x stamp) x ≡ freed_by start (auto_all start stamp) x

@@ -1,4 +1,4 @@
--- A candidate frees no more seats, and no more beds, than he has wishes.
+-- A candidate frees no more seats, and no more beds, than they have wishes.
 use Rattle.std.proofs.Common.{ℕ, zero, suc, ◌+◌, ◌≤◌, ◌<◌, ◌≡◌, Bool, true, false, not, cond, ◌&&◌, ◌||◌, List, [], ◌∷◌, map, length, inl, inr, refl, sym, ◌∙◌, ap, arith, nat_eq, count_by, zip, Option, Some, None}
 use Rattle.std.specs.Prelude.{◌==◌}
 use Rattle.std.specs.List.{list_any, range_with_len}

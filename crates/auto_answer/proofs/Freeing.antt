@@ -86,7 +86,7 @@ refused_of test s stamp c long held lost =
     (and_from (is_live (mark_in end.marks k) && (w.candidate == c)) (test w) (and_from (is_live (mark_in end.marks k)) (w.candidate == c) live inner.1) outer.1))) in
     (k, record { in_range = in_wishes; lived = inner.0; refused = ap (λ (n : Mark). n.status) mark_is ∙ live_no_longer stamp (best_live s w.candidate) w m inner.0 (rw mark_is at gone) })
 
--- what was freed counts a place where he was live and no longer is
+-- what was freed counts a place where they were live and no longer are
 lost_one : (p q : ℕ → Bool) (ks : List ℕ) → (count_by (λ k. p k && not (q k)) ks ≡ 0 → ⊥) → (k : ℕ) × (p k ≡ true) × (q k ≡ false)
 lost_one p q ks some =
     let found = some_counted (λ k. p k && not (q k)) ks some in

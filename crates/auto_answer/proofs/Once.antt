@@ -177,7 +177,7 @@ among_from c cs i (suc m) e =
     ap (is_among c) (drop_more cs i 0 (omega arith))
     ∙ rw (turn_eq c (slice_index cs i)) (ap (λ b. (slice_index cs i == c) || b) (among_from c cs (i + 1) m (omega arith)))
 
--- THE TEST: a wish is its candidate's last where it is the last of his own
+-- THE TEST: a wish is its candidate's last where it is the last of their own
 pub last_own : (d : DossierRows) (place : ℕ) → place < length d.wishes
     → option_eq nat_eq (last_of (own_places d (candidate_of d place))) (Some place) ≡ not (is_among (candidate_of d place) (drop (place + 1) (wishers d)))
 last_own d place lt =

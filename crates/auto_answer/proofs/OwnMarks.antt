@@ -57,7 +57,7 @@ own_holds test c s t a =
     any_own test c s.dossier.wishes s.marks t.marks a.long a.long_too a.same
     ∙ ap (λ (d : DossierRows). list_any (holds test c) (zip d.wishes t.marks)) (sym a.dossier)
 
--- the best of his live wishes
+-- the best of their live wishes
 pub own_best : (c : ℕ) (s t : State) → Agrees c s t → best_live s c ≡ best_live t c
 own_best c s t a =
     let test = λ (w : Wish). nat_lt zero w.preference in

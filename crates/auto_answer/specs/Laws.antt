@@ -16,7 +16,7 @@ pub record SameOwnMarks (c : ℕ) (s t : State) : Type 0 where
   pub dossier : t.dossier ≡ s.dossier
   pub each : (place : ℕ) → place < length s.dossier.wishes → candidate_at s place ≡ c → mark_at s place ≡ mark_at t place
 
--- what becomes of a candidate's wishes depends on his own wishes alone
+-- what becomes of a candidate's wishes depends on their own wishes alone
 abbrev pub OwnWishesDecide : Type 0
 OwnWishesDecide =
     (c : ℕ) (s t : State) (stamp : Stamp) → IsMarked s → IsMarked t
@@ -28,7 +28,7 @@ MayBeExchanged =
     (c d : ℕ) (s : State) (stamp : Stamp) → IsMarked s → c ≢ d
     → auto_one (auto_one s c stamp) d stamp ≡ auto_one (auto_one s d stamp) c stamp
 
--- the automatic answers of all do to each candidate's wishes what his own alone does
+-- the automatic answers of all do to each candidate's wishes what their own alone does
 abbrev pub AllIsEachAlone : Type 0
 AllIsEachAlone = (c : ℕ) (s : State) (stamp : Stamp) → IsMarked s → SameOwnMarks c (auto_one s c stamp) (auto_all s stamp)
 

@@ -10,7 +10,7 @@ ghost use Rattle.auto_answer.specs.LastWish.{wishers};
 use admit_core::{Freed, Stamp};
 use day_state::DayState;
 
-/// Answers for a candidate who ranks his wishes; nothing changes for one who doesn't.
+/// Answers for a candidate who ranks their wishes; nothing changes for one who doesn't.
 pub fn auto_one(state: &mut DayState<'_>, candidate: u32, stamp: Stamp) -> Freed
     ensures state { state.new ≡ auto_one state.old candidate stamp }
     ensures freed { result ≡ freed_by state.old state.new candidate }
@@ -25,10 +25,10 @@ pub fn auto_all(state: &mut DayState<'_>, stamp: Stamp) -> Freed
 {
     let _ = state.marks(); // one for each wish
     let mut all = Freed { seats: 0, beds: 0 };
-    let wishes = state.dossier().wishes.as_slice();
-    for (place, wish) in wishes.iter().enumerate() {
-        if is_last_wish(state, place as u32) {
-            let own = state.answer_automatically(wish.candidate, stamp);
+    let count = state.dossier().wishes.len() as u32;
+    for place in 0..count {
+        if is_last_wish(state, place) {
+            let own = state.answer_beside(place, stamp);
             all = together(all, own);
         }
     }

@@ -1,4 +1,7 @@
-//! Answers for the candidates who rank their wishes (*répondeur automatique*).
+//! Automatic answers (*répondeur automatique*): what is answered after a pass for the candidates
+//! who rank their wishes, and how many seats and beds that frees.
+//!
+//! `let freed = auto_all(&mut state, stamp);`
 #![tactic(auto)]
 
 mod answers;

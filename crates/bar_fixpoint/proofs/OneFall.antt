@@ -14,7 +14,7 @@ use Rattle.admit_core.proofs.FallsLaw.{over_in, over_rank}
 use Rattle.bar_law.specs.Overfilled.{rank_over, all_overfilled}
 use Rattle.bar_fixpoint.specs.Chosen.{PickedFall, TellsAtMostOne}
 
--- a filter that the first n pass and no other is the front of n
+-- a filter that the first n pass and no other is the prefix of length n
 filter_front : (most : ℕ) (xs : List ℕ) (n : ℕ) → ((j : ℕ) → j < n → j < length xs → slice_index xs j ≤ most) → ((j : ℕ) → n ≤ j → j < length xs → most < slice_index xs j)
     → filter (λ x. nat_le x most) xs ≡ take n xs
 filter_front most [] zero pass fail = refl

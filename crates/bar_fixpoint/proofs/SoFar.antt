@@ -92,7 +92,7 @@ module _ (sys : FallingSystem) (lawful : IsLawful sys) (choice : List ℕ → Li
   greatest_so_far falls bars told_now so_far settled =
       subst (IsGreatest sys) (sym so_far.bars_fell) (run_is_greatest sys lawful falls (run_so_far falls bars told_now so_far settled))
 
-  -- where want of memory ends the falls
+  -- where running out of memory ends the falls
   pub early_so_far : (falls : List Fall) (bars told_now told_after : List ℕ) → SoFar sys choice told falls bars told_now → TellsAtMostOne sys choice bars told_now told_after
       → EndsEarly sys choice told told_after bars
   early_so_far falls bars told_now told_after so_far tells =

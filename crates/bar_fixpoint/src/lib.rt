@@ -1,5 +1,7 @@
 //! Finds the greatest bars of a system: bars fall from the ceilings, each one picked from all that
-//! are overfilled, until none is.
+//! are overfilled, until none is. Any picker leads to the same bars.
+//!
+//! `let falls = greatest(alloc, &mut system, &mut FirstPicker::new(alloc), &mut steps)?;`
 #![tactic(auto)]
 
 mod engine;

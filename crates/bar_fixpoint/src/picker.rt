@@ -11,7 +11,7 @@ pub trait Picker: Drop {
     /// What it answers, by what it has told and the places it is asked with. This never changes.
     ghost choice: { Self → List ℕ → List ℕ → ℕ };
 
-    /// Answers one of the places, which are in ascending order. It may refuse for want of memory.
+    /// Answers one of the places, which are in ascending order, unless it runs out of memory.
     fn pick(&mut self, places: &[u32]) -> Result<u32, OutOfMemory>
         requires { 0 < length places.now }
         ensures member { IfOk result (Contains places.now) }

@@ -9,7 +9,8 @@ use std::sync::ledger::Ledger;
 
 /// A system of bars, one for each place, that only fall. Places are counted from 0.
 pub trait Falling {
-    /// The ceilings, the free beds, the demanded ranks under all bars, and their names: they never change.
+    /// The ceilings, the free beds, the demanded ranks under all bars, and their names: they never
+    /// change.
     ghost system: { Self → FallingSystem };
 
     /// The present bars.
@@ -32,8 +33,8 @@ pub trait Falling {
         requires { i < length (system self.now).ceilings }
         ensures { IfOk result (λ over. over ≡ rank_over (system self.now) (bars self.now) i) };
 
-    /// All overfilled places, from the least. A system that keeps count of them answers in less than
-    /// this scan, which asks every place.
+    /// All overfilled places, from the least. A system that keeps count of them answers in less
+    /// than this scan, which asks every place.
     fn overfilled(&self, alloc: Global) -> Result<Vec<u32>, OutOfMemory>
         ensures { IfOk result (λ places. places.items ≡ all_overfilled (system self.now) (bars self.now)) }
     {

@@ -1,4 +1,7 @@
-//! Systems of bars that fall until no place is overfilled, and what holds of every run of falls.
+//! What a system of falling bars can be asked, and what holds of every run of falls: whichever
+//! overfilled place comes first, the bars end as the greatest that fit.
+//!
+//! `let rank = system.over(alloc, place)?;`
 #![tactic(auto)]
 
 mod falling;

@@ -122,8 +122,8 @@ fn beds_of(dossier: &Dossier, school: u32) -> u32
     dossier.schools.as_slice()[school as usize].beds
 }
 
-/// The greatest bars under the low ceilings with the present beds, and those under the high ones with
-/// more beds in one school: no bar of these is below its bar of those.
+/// The greatest bars under the low ceilings with the present beds, and those under the high ones
+/// with more beds in one school: no bar of these is below its bar of those.
 pub fn grown_bars(
     alloc: Global,
     state: &DayState<'_>,

@@ -1,5 +1,7 @@
-//! How many beds a boarding school needs so that everyone who is called gets in, and how the bars stand
-//! then.
+//! How many beds a boarding school needs so that its bar stays at its ceiling, and how the bars of
+//! all schools stand then.
+//!
+//! `let need = least_beds(alloc, &state, &orders, ceilings, school, picker)?;`
 #![tactic(auto)]
 
 mod growth;

@@ -80,11 +80,11 @@ fn need_over(
     need_in(alloc, &mut refitted, orders, ceilings, school, picker)
 }
 
-/// The least number of beds with which the bar of a school stays at its ceiling: with so many, nobody
-/// who is called and ranks within the ceiling lacks a bed.
+/// The least number of beds with which the bar of a school stays at its ceiling: with so many,
+/// nobody who is called and ranks within the ceiling lacks a bed.
 ///
-/// One pass over a school with 2,000,000,000 beds tells who comes. The picker chooses the order of its
-/// falls, and nothing of the answer.
+/// One pass over a school with 2,000,000,000 beds tells who comes. The picker chooses the order of
+/// its falls, and nothing of the answer.
 pub fn least_beds(
     alloc: Global,
     state: &DayState<'_>,

@@ -90,7 +90,7 @@ standing-moves old new test p q n (suc k) moves e (y ∷ ys) x here passes next 
           ])
     ]
 
--- where nobody's place is past the first like him, all stand
+-- where nobody's place is past the first like them, all stand
 pub standing-all : {X : Type 0} (from : X → ℕ) (like : X → X → Bool) (n : ℕ) (xs : List X) → ((x : X) → like x x ≡ true)
     → ((x : X) → from x ≤ n + position_or_len (like x) xs) → standing from n xs ≡ xs
 standing-all from like n [] own first = refl

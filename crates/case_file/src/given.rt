@@ -62,8 +62,8 @@ fn given_in(given: &[Given], slot: Slot) -> Option<&[u8]> {
     Some(given.bytes.as_slice())
 }
 
-/// The slots of a dossier, and those that a case has in place of them. A slot that is in neither has
-/// its header alone.
+/// The slots of a dossier, and those that a case has in place of them. A slot that is in neither
+/// has its header alone.
 #[derive(Drop)]
 pub struct Slots {
     dossier: Vec<Given>,

@@ -1,7 +1,8 @@
-//! Files of worked cases: dossiers by their slots, and what is to be done with them.
+//! Files of worked cases: dossiers by their slots, and what is to be done with them. A file is a
+//! row of sections, each a line that begins with its name and below it the lines of its text, each
+//! behind a bar and a space. A line that begins with `#` tells the reader something.
 //!
-//! A file is a row of sections. A section is a line that begins with its name, and below it the lines
-//! of its text, each behind a bar and a space. A line that begins with `#` tells the reader something.
+//! `let sections = sections(alloc, file.as_str())?;`
 #![tactic(auto)]
 
 mod given;

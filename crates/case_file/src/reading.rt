@@ -15,8 +15,8 @@ pub struct Section<'a> {
     pub text: String,
 }
 
-/// Adds a line of a section's text. In it `{bom}` is a byte order mark and `{cr}` a carriage return;
-/// where it ends with `{cut}`, no line feed follows.
+/// Adds a line of a section's text. In it `{bom}` is a byte order mark and `{cr}` a carriage
+/// return; where it ends with `{cut}`, no line feed follows.
 fn add_line(alloc: Global, text: &mut String, line: &str) -> Result<(), AllocError> {
     let line = line.replace(alloc, "{bom}", "\u{feff}")?;
     let line = line.as_str().replace(alloc, "{cr}", "\r")?;

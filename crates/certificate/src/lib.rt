@@ -1,7 +1,8 @@
-//! Chains: the text of the falls of days, written, read and checked.
+//! Chains, that is the falls of days as a text: written, read by its grammar, and tested day by day
+//! without trust in who wrote it. A chain is lines, each ended by one line feed: `day D`, `pass K`,
+//! `fall S FROM TO W W ..` and, at the end, `end`. One space stands between two words.
 //!
-//! A chain is a text of lines, each ended by one line feed: `day D`, `pass K`, `fall S FROM TO W W ..`
-//! and, at the end, `end`. One space stands between two words.
+//! `let verdict = check_day(alloc, &index, &orders, &morning, ceilings, day, chain)?;`
 #![tactic(auto)]
 
 mod check;

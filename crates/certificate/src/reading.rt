@@ -9,8 +9,8 @@ use std::alloc::Global;
 use std::marker::Model;
 use std::mem;
 
-/// The days that have been read, of which the last may go on: the numbers of the last day line and of
-/// the last pass line in it, each 0 where there is none, and the falls of that pass.
+/// The days that have been read, of which the last may go on: the numbers of the last day line and
+/// of the last pass line in it, each 0 where there is none, and the falls of that pass.
 #[derive(Drop)]
 pub(crate) struct Reading {
     days: Vec<DayChain>,

@@ -16,7 +16,8 @@ pub fn chain_fault_text(alloc: Global, fault: ChainFault) -> Result<Vec<u8>, Out
     Ok(text.into_bytes())
 }
 
-/// The line of a day's chain that is not valid. A school that is still overfilled is told by its id.
+/// The line of a day's chain that is not valid. A school that is still overfilled is told by its
+/// id.
 pub fn verdict_text(
     alloc: Global,
     dossier: &Dossier,

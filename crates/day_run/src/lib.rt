@@ -1,4 +1,7 @@
-//! Days and campaigns: answers, passes until the automatic answers free nothing, and the evening.
+//! Days and campaigns. A day is its lapses and answers, passes until the automatic answers free
+//! nothing, and the evening. A `Campaign` runs day after day; `run_day` runs one day on a `Desk`.
+//!
+//! `let day = campaign.next_day(alloc)?;`
 #![tactic(auto)]
 
 mod answers_on;

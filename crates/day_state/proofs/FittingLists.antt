@@ -36,7 +36,7 @@ ok_own_fit s stamp answers r long is = (
   λ own. rw is (ok_if_none (first_unfit 0 s stamp answers) ((fits_apart s stamp answers long).1 own)),
 )
 
--- and then the wishes of each candidate come of his own answers alone
+-- and then the wishes of each candidate come of their own answers alone
 pub ok_apart : (s t : State) (stamp : Stamp) (answers : List Answer) (r : Result (Unit {0}) UnfitAt) → IsMarked s
     → r ≡ refused_at (first_unfit 0 s stamp answers) → t ≡ after_fitting_front s stamp answers → IsOk r → AreOwn s stamp answers t
 ok_apart s t stamp answers r long is end ok =

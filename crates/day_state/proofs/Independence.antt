@@ -1,4 +1,4 @@
--- What a candidate's wishes become depends on his own answers alone.
+-- What a candidate's wishes become depends on their own answers alone.
 use Rattle.std.proofs.Common.{ℕ, ◌+◌, ◌≤◌, ◌<◌, ◌≡◌, Bool, true, false, ◌&&◌, ◌||◌, List, [], ◌∷◌, ◌++◌, map, length, filter, inl, inr, refl, sym, ◌∙◌, ap, arith, zero, suc, Some, None}
 use Rattle.std.specs.Prelude.{slice_index, ◌==◌, if◌then◌else◌}
 use Rattle.std.proofs.lemmas.Bool.{cases_Bool, cases_eq, cases_lt, and_parts, and_from, eqb-true, eqb-false, eq-eqb, ne_eqb, and_right}

@@ -1,4 +1,4 @@
--- The best live wish of a candidate who ranks his wishes.
+-- The best live wish of a candidate who ranks their wishes.
 use Rattle.std.specs.Prelude.{ℕ, ◌&&◌, nat_lt, min, List, Option, Some, None, fold, if◌then◌else◌}
 use Rattle.admit_core.specs.declared.dossier.Wish.{Wish}
 use Rattle.admit_core.specs.declared.state.Mark.{Mark}

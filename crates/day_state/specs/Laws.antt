@@ -9,7 +9,7 @@ use Rattle.admit_core.specs.Answers.{mark_at, candidate_at, after_all, first_unf
 abbrev pub IsMarked : State → Type 0
 IsMarked s = length s.marks ≡ length s.dossier.wishes
 
--- the wishes of each candidate are in the state t what his own answers alone make of them
+-- the wishes of each candidate are in the state t what their own answers alone make of them
 abbrev pub AreOwn : State → Stamp → List Answer → State → Type 0
 AreOwn s stamp answers t =
     (c place : ℕ) → place < length s.dossier.wishes → candidate_at s place ≡ c
@@ -24,7 +24,7 @@ pub record SameEnd (s : State) (stamp : Stamp) (one other : List Answer) : Type 
   pub state : after_all s stamp one ≡ after_all s stamp other
   pub fits : (first_unfit 0 s stamp one ≡ None) ↔ (first_unfit 0 s stamp other ≡ None)
 
--- after a list of answers, the wishes of each candidate are those after his own answers alone
+-- after a list of answers, the wishes of each candidate are those after their own answers alone
 abbrev pub AnswersStayApart : Type 0
 AnswersStayApart = (s : State) (stamp : Stamp) (answers : List Answer) → IsMarked s → AreOwn s stamp answers (after_all s stamp answers)
 

@@ -1,4 +1,7 @@
-//! The state of a dossier's wishes on a day, and what answers and deadlines do to it.
+//! The state of a dossier's wishes on a day: the status of each and since when it has it, counts of
+//! the live ones, and what offers, answers and deadlines do to them.
+//!
+//! `state.apply(answer, stamp)?;`
 #![tactic(auto)]
 
 mod bundles;
@@ -8,6 +11,7 @@ mod day;
 mod index;
 mod laws;
 mod mark;
+mod numbers;
 
 pub use day::{DayState, UnfitAnswer, UnfitAt};
 pub use laws::candidates_stand_apart;

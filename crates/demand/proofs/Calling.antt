@@ -28,7 +28,7 @@ called_at (g ∷ gs) [] valid are j c t = absurd are
 called_at (g ∷ gs) (o ∷ os) valid are zero c t = among-order g o (valid zero g (omega arith)).ranking are.0 c ∙ t
 called_at (g ∷ gs) (o ∷ os) valid are (suc j) c t = called_at gs os (λ k d lt. valid (suc k) d (omega arith)) are.1 j c t
 
--- in a valid dossier each wish's candidate is called in his programme's order
+-- in a valid dossier each wish's candidate is called in its programme's order
 pub all_called : (d : DossierRows) → IsValid d → (orders : List CallOrder) → AreCallOrders d.groups orders → AreCalled d orders
 all_called d valid orders are = record {
   as_many = as_many d.groups orders are;

@@ -1,4 +1,4 @@
--- The front of a call order before a candidate.
+-- The prefix of a call order before a candidate.
 use Rattle.std.proofs.Common.{ℕ, zero, suc, ◌+◌, ◌≤◌, ◌<◌, ◌≡◌, Bool, true, false, cond, ◌||◌, List, [], ◌∷◌, ◌++◌, length, take, get_or, inl, inr, refl, sym, ◌∙◌, ap, arith, nat_eq, filter, count_by}
 use Rattle.std.specs.List.{before_first}
 use Rattle.std.proofs.lemmas.Bool.{cases_Bool, eq-eqb, or_parts}
@@ -8,7 +8,7 @@ use Rattle.std.proofs.lemmas.List.Sums.{length-filter}
 use Rattle.std.specs.List as std_list
 use Rattle.admit_core.specs.Lists.{is_among}
 
--- the front of a list before the first place of a number
+-- the prefix of a list before the first place of a number
 abbrev pub up_to : ℕ → List ℕ → List ℕ
 up_to c [] = []
 up_to c (x ∷ xs) = cond (nat_eq c x) [] (x ∷ up_to c xs)
@@ -48,7 +48,7 @@ fewer_up_to q c (x ∷ xs) (suc i) lt at =
       | inr other ↦ rw other (elim (cases_Bool (q x)) [ inl passes ↦ rw passes (omega (arith, later)) | inr fails ↦ rw fails later ])
     ]
 
--- the front before a candidate's first place is no longer than that before one of his places, and no more in it pass a test
+-- the prefix before a candidate's first place is no longer than that before one of their places, and no more in it pass a test
 pub front_short : (c : ℕ) (xs : List ℕ) (i : ℕ) → i < length xs → get_or xs i 0 ≡ c → length (before_first (nat_eq c) xs) ≤ i
 front_short c xs i lt at = rw (before_is c xs) (short_up_to c xs i lt at)
 
@@ -58,7 +58,7 @@ front_fewer q c xs i lt at =
     rw (before_is c xs)
     (omega (arith, fewer_up_to q c xs i lt at, length-filter q (up_to c xs), length-filter q (take i xs)))
 
--- and where it is his first place, they are the same
+-- and where it is their first place, the two are the same
 pub front_same : (c : ℕ) (xs : List ℕ) (i : ℕ) → i < length xs → get_or xs i 0 ≡ c → is_among c (take i xs) ≡ false
     → before_first (nat_eq c) xs ≡ take i xs
 front_same c xs i lt at none = before_is c xs ∙ same_up_to c xs i lt at none

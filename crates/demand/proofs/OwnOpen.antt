@@ -44,7 +44,7 @@ has_open_own s bars p c long =
     ∙ sym (any-map test (entry_in s) places)
     ∙ rw (entries_by_place s long) refl
 
--- where a candidate has no open wish in a programme, none of his places has one
+-- where a candidate has no open wish in a programme, none of their places has one
 pub no_open : (s : State) (bars : List ℕ) (p c : ℕ) → length s.marks ≡ length s.dossier.wishes → has_open_wish s bars p c ≡ false
     → (k : ℕ) → k < length s.dossier.wishes → (((wish_in s.dossier.wishes k).candidate == c) && is_open_at s bars p k) ≡ false
 no_open s bars p c long none k lt =
@@ -60,7 +60,7 @@ none_of : {X : Type 0} (p : X → Bool) → ((x : X) → p x ≡ false) → (xs 
 none_of p none [] = refl
 none_of p none (x ∷ xs) = rw (none x, none_of p none xs) refl
 
--- a place is among a candidate's own where its wish is his
+-- a place is among a candidate's own where its wish is theirs
 pub among_own : (d : DossierRows) (c k : ℕ) → k < length d.wishes → is_among k (own_places d c) ≡ ((wish_in d.wishes k).candidate == c)
 among_own d c k lt =
     let places = range_with_len 0 (length d.wishes) in

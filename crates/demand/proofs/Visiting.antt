@@ -79,7 +79,7 @@ other_candidate true false x y = refl
 other_candidate false rest x y = refl
 
 module _ (s : State) (orders : List CallOrder) (bars : List ℕ) (p : ℕ) (order : List ℕ) (is : order ≡ order_of s.dossier orders p) (i : ℕ) (lt : i < length order) where
-  -- the candidate at a place of the order is served there where his wish is by the rule
+  -- the candidate at a place of the order is served there where their wish is by the rule
   served_here : (w : Wish) → w.programme ≡ p → get_or order i 0 ≡ w.candidate
       → is_served s bars w.programme order i w.candidate ≡ true → (needs_no_seat s orders w || nat_lt (ahead s orders bars w) (seats_left s w.programme)) ≡ true
   served_here w programme at t =
@@ -101,7 +101,7 @@ module _ (s : State) (orders : List CallOrder) (bars : List ℕ) (p : ℕ) (orde
         ]
       ]
 
-  -- and at his first place the other way round
+  -- and at their first place the other way round
   served_first : (w : Wish) → w.programme ≡ p → get_or order i 0 ≡ w.candidate → is_among w.candidate (take i order) ≡ false
       → (needs_no_seat s orders w || nat_lt (ahead s orders bars w) (seats_left s w.programme)) ≡ true → is_served s bars w.programme order i w.candidate ≡ true
   served_first w programme at first t =

@@ -8,7 +8,8 @@ ghost use Rattle.demand.specs.Called.{AreCalled};
 use admit_core::CallOrders;
 use day_state::DayState;
 
-/// The call orders of a dossier's groups call every candidate who has a wish. The call does nothing.
+/// The call orders of a dossier's groups call every candidate who has a wish. The call does
+/// nothing.
 pub fn call_everyone(state: &DayState<'_>, orders: &CallOrders)
     requires { AreCallOrders state.now.dossier.groups orders.now.orders }
     ensures { AreCalled state.now.dossier orders.now.orders }

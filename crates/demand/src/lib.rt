@@ -1,4 +1,7 @@
-//! Which wishes are proposed under given bars, and the boarding schools as a system of falling bars.
+//! Which wishes are proposed under given bars, and the boarding schools as a system of falling bars
+//! that keeps nothing but its bars: the plain form of the system in `linked_demand`.
+//!
+//! `let wishes = proposed(alloc, &state, &orders, bars.as_slice())?;`
 #![tactic(auto)]
 
 mod called;
@@ -9,6 +12,6 @@ mod walk;
 
 pub use called::{call_everyone, limit_of, order_of};
 pub use demands::{Demand, demands_of};
-pub use open::{is_open, is_waiting, mark_at, wish_at};
+pub use open::{is_open, mark_at, wish_at};
 pub use round::{PlainRound, names_up_to};
 pub use walk::{programme_count, proposed};

@@ -2,21 +2,13 @@
 ghost use Rattle.std.specs.Prelude.{◌≡◌, ◌<◌, ◌&&◌, length, All};
 ghost use Rattle.std.specs.Option.{ForSome};
 ghost use Rattle.std.specs.List.{list_any};
-ghost use Rattle.admit_core.specs.State.{is_waiting};
 ghost use Rattle.admit_core.specs.OwnWishes.{own_places};
 ghost use Rattle.admit_core.specs.Proposals.{is_behind_bar, is_open, has_open_wish};
 ghost use Rattle.day_state.specs.Kept.{mark_in, wish_in};
 ghost use Rattle.demand.specs.Open.{is_open_at};
 
-use admit_core::{Mark, Status, Wish};
+use admit_core::{Mark, Wish};
 use day_state::DayState;
-
-/// Whether a mark is that of a waiting wish.
-pub fn is_waiting(mark: Mark) -> bool
-    ensures { result ≡ is_waiting mark }
-{
-    matches!(mark.status, Status::Waiting)
-}
 
 /// The wish at a place.
 pub fn wish_at(state: &DayState<'_>, place: u32) -> Wish
@@ -36,8 +28,8 @@ pub fn mark_at(state: &DayState<'_>, place: u32) -> Mark
     state.marks()[place as usize]
 }
 
-/// Whether the candidate of the wish at a place, where he has no bed in its school, ranks there
-/// behind the bar.
+/// Whether the candidate of the wish at a place, where they have no bed in its school, ranks
+/// there behind the bar.
 fn is_behind_bar(state: &DayState<'_>, bars: &[u32], place: u32) -> bool
     requires place { place < length state.now.dossier.wishes }
     requires bars { length bars.now ≡ length state.now.dossier.schools }
@@ -58,7 +50,7 @@ pub fn is_open(state: &DayState<'_>, bars: &[u32], place: u32) -> bool
     requires bars { length bars.now ≡ length state.now.dossier.schools }
     ensures { result ≡ is_open state.now bars.now (wish_in state.now.dossier.wishes place) (mark_in state.now.marks place) }
 {
-    is_waiting(mark_at(state, place)) && !is_behind_bar(state, bars, place)
+    mark_at(state, place).is_waiting() && !is_behind_bar(state, bars, place)
 }
 
 /// Whether the wish at a place is an open one in a programme.
@@ -80,7 +72,7 @@ fn any_open(state: &DayState<'_>, bars: &[u32], programme: u32, own: &[u32]) -> 
         .any(|place| is_open_at(state, bars, programme, *place))
 }
 
-/// Whether a candidate has an open wish in a programme; `own` has the places of his wishes.
+/// Whether a candidate has an open wish in a programme; `own` has the places of their wishes.
 pub fn has_open_wish(
     state: &DayState<'_>,
     bars: &[u32],

@@ -31,8 +31,8 @@ fn flag_open(state: &DayState<'_>, bars: &[u32], programme: u32, own: &[u32], fl
     }
 }
 
-/// Comes to a candidate in the call order of a programme: flags his open wishes there where he is
-/// live in it or `is_called`, and says whether he wants a seat.
+/// Comes to a candidate in the call order of a programme: flags their open wishes there where they
+/// are live in it or `is_called`, and says whether they want a seat.
 fn visit(
     state: &DayState<'_>,
     bars: &[u32],
@@ -58,7 +58,7 @@ fn visit(
     !is_live
 }
 
-/// Whether one is called who has so many before him, of whom so many want a seat.
+/// Whether one is called who has so many before them, of whom so many want a seat.
 fn is_called(before: usize, limit: u32, ahead: usize, left: u32) -> bool
     ensures { result ≡ (nat_lt before limit || nat_lt ahead left) }
 {

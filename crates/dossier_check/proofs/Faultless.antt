@@ -64,3 +64,35 @@ if_known false reason e = cc
 pub knows_all : {R : Type 0} (known : R → Bool) (reason : Reason) (rows : List R) → All (λ row. known row ≡ true) rows
     → Passes (λ before row. if known row then None else Some reason) rows
 knows_all known reason rows fine = record { at = λ k d lt. if_known (known (get_or rows k d)) reason (fine k d lt) }
+
+module _ {R : Type 0} (slot : Slot) (tests others : List (Test R)) where
+  same_refusal : (f : Reason → Refusal) (o q : Option Reason) (p s : Option Refusal) → o ≡ q → p ≡ s → option_or (option_map f o) p ≡ option_or (option_map f q) s
+  same_refusal f o q p s e g = rw (e, g) refl
+
+  same_after : (before rows : List R)
+      → ((k : ℕ) (d : R) → k < length rows → first_reason tests (before ++ take k rows) (get_or rows k d) ≡ first_reason others (before ++ take k rows) (get_or rows k d))
+      → first_after slot tests before rows ≡ first_after slot others before rows
+  unfolding first_after
+  same_after before [] same = refl
+  same_after before (row ∷ rows) same =
+      let here : first_reason tests before row ≡ first_reason others before row = subst (λ b. first_reason tests b row ≡ first_reason others b row) (append-nil before) (same 0 row (omega arith)) in
+      same_refusal (λ reason. record { slot = slot; row = row_number (length before); reason = reason }) (first_reason tests before row) (first_reason others before row)
+      (first_after slot tests (before ++ row ∷ []) rows) (first_after slot others (before ++ row ∷ []) rows) here
+      (same_after (before ++ row ∷ []) rows
+      (λ k d lt. subst (λ b. first_reason tests b (get_or rows k d) ≡ first_reason others b (get_or rows k d)) (sym (append_assoc before (row ∷ []) (take k rows))) (same (suc k) d (omega arith))))
+
+  -- tests that give each row the same reason find the same fault
+  pub same_in : (rows : List R) → ((k : ℕ) (d : R) → k < length rows → first_reason tests (take k rows) (get_or rows k d) ≡ first_reason others (take k rows) (get_or rows k d))
+      → first_in slot tests rows ≡ first_in slot others rows
+  same_in rows same = same_after [] rows same
+
+second_out : (a b c : Option Reason) → b ≡ None → option_or a (option_or None c) ≡ option_or a (option_or b c)
+second_out a b c e = rw e refl
+
+-- where the second test stands at no row, it may be left out
+pub without_second : {R : Type 0} (slot : Slot) (first second : Test R) (rest : List (Test R)) (rows : List R) (known : Bool) → (known ≡ true → Passes second rows)
+    → first_in slot (first ∷ (λ before row. if known then None else second before row) ∷ rest) rows ≡ first_in slot (first ∷ second ∷ rest) rows
+without_second slot first second rest rows false passes = refl
+without_second slot first second rest rows true passes =
+    same_in slot (first ∷ (λ before row. None) ∷ rest) (first ∷ second ∷ rest) rows
+    (λ k d lt. second_out (first (take k rows) (get_or rows k d)) (second (take k rows) (get_or rows k d)) (first_reason rest (take k rows) (get_or rows k d)) ((passes refl).at k d lt))

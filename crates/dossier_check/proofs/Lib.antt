@@ -20,6 +20,7 @@ pub mod RowFacts
 pub mod Scans
 pub mod SortedBy
 pub mod SortedLists
+pub mod TwiceWished
 pub mod Valid
 pub mod ValidAnswers
 pub mod ValidItems

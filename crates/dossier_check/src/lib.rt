@@ -1,5 +1,7 @@
-//! Checks the relations between the rows of tables, and makes the dossier that fault-free tables
-//! stand for.
+//! Checks the relations between the rows of tables: answers their first fault, by slot, row and
+//! reason, or the dossier that they stand for, with the places of its ids.
+//!
+//! `let checked = check(alloc, &tables)?;`
 #![tactic(auto)]
 
 mod answers;
@@ -16,6 +18,7 @@ mod rules;
 mod scan;
 mod slots;
 mod state;
+mod wished;
 mod wishes;
 
 pub use index::{Index, school_place, wish_place};

@@ -61,6 +61,28 @@ impl<R, A: RowTest<R>, B: RowChecks<R>> RowChecks<R> for Then<A, B> {
     }
 }
 
+/// A test, left out where it's known to stand at no row of the slot.
+#[derive(Drop)]
+pub(crate) struct Unless<T> {
+    pub(crate) is_known: bool,
+    pub(crate) test: T,
+}
+
+impl<R, T: RowTest<R>> RowTest<R> for Unless<T> {
+    ghost use Rattle.std.specs.Prelude.{◌≡◌, false, None, if◌then◌else◌};
+
+    ghost test = { λ c before row. if c.is_known then None else T.test c.test before row };
+
+    ghost has_seen = { λ c before. c.is_known ≡ false → T.has_seen c.test before };
+
+    fn stands(&mut self, row: &R, number: u64) -> Result<Option<Reason>, OutOfMemory> {
+        if self.is_known {
+            return Ok(None);
+        }
+        self.test.stands(row, number)
+    }
+}
+
 /// An earlier row has the same key.
 #[derive(Drop)]
 pub(crate) struct Repeats<K: Eq + Hash, Q> {

@@ -10,9 +10,10 @@ ghost use Rattle.dossier_check.specs.Seen.{boarded_pairs, AreFirstWishes};
 
 use crate::noted::{FirstWish, note_first, row_with};
 use crate::ranks::WhoIsRanked;
-use crate::row_tests::{NamesUnknown, NoTest, Repeats, RowTest, Then};
+use crate::row_tests::{NamesUnknown, NoTest, Repeats, RowTest, Then, Unless};
 use crate::rules::{ItsProgramme, ItsSchool, OwnId, WhatIsWished};
 use crate::scan::scan;
+use crate::wished::wishes_apart;
 use admit_core::{InFault, OutOfMemory, Reason, Slot, Tables, WishRow};
 use indexmap::{IndexMap, IndexSet};
 use keyed_hash::Keyed;
@@ -153,6 +154,8 @@ pub(crate) fn check_wishes<'a>(
     ensures ids { IfOk result (λ keys. keys.ids.keys ≡ wish_ids tables.now) }
     ensures firsts { IfOk result (λ keys. AreFirstWishes (get nat_eq keys.firsts) tables.now.wishes) }
 {
+    let rows = tables.wishes.as_slice();
+    let apart = wishes_apart(alloc, rows)?;
     let preferences = Then {
         first: PreferenceMixed {
             firsts: IndexMap::with_hasher(alloc, keyed),
@@ -196,14 +199,17 @@ pub(crate) fn check_wishes<'a>(
             rule: OwnId,
         },
         rest: Then {
-            first: Repeats {
-                keys: IndexSet::with_hasher(alloc, keyed),
-                rule: WhatIsWished,
+            first: Unless {
+                is_known: apart,
+                test: Repeats {
+                    keys: IndexSet::with_hasher(alloc, keyed),
+                    rule: WhatIsWished,
+                },
             },
             rest: names,
         },
     };
-    scan(Slot::Wishes, &mut checks, tables.wishes.as_slice())?;
+    scan(Slot::Wishes, &mut checks, rows)?;
     let Then { first: own, rest } = checks;
     let ranks = rest.rest.rest.rest;
     let preferences = ranks.rest.rest;

@@ -1,8 +1,8 @@
-//! The slots as typed rows.
+//! The slots as typed rows. A slot is a text of comma-separated records, the first of which is its
+//! header. Each reader answers the rows under the header in file order, or the first refusal: row
+//! by row, and in a row from left to right.
 //!
-//! A slot is a text of comma-separated records, the first of which is its header. Each reader
-//! answers the rows under the header in file order, or the first refusal: row by row, and in a row
-//! from left to right.
+//! `let wishes = read_wishes(alloc, bytes.as_slice())?;`
 #![tactic(auto)]
 
 ghost use Rattle.std.specs.Prelude.{All, IfOk};

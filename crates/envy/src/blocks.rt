@@ -22,8 +22,8 @@ use keyed_hash::Keyed;
 use std::alloc::Global;
 use vacancies::seats_left;
 
-/// A wish that blocks: the seats left of its programme, and the last candidate behind its own who is
-/// live there.
+/// A wish that blocks: the seats left of its programme, and the last candidate behind its own who
+/// is live there.
 #[derive(Clone, Copy, Debug, PartialEq, Eq)]
 pub struct Block {
     pub wish: u32,
@@ -65,8 +65,8 @@ fn is_below(number: Option<u32>, other: u32) -> bool
     }
 }
 
-/// Whether the candidate of the wish at a place has nothing that is as good; `best` has the best live
-/// wish of each candidate.
+/// Whether the candidate of the wish at a place has nothing that is as good; `best` has the best
+/// live wish of each candidate.
 fn wants_more(state: &DayState<'_>, best: &IndexMap<u32, u32, Keyed>, place: u32) -> bool
     requires place { place < length state.now.dossier.wishes }
     requires best { AreBest (entries state.now) (get nat_eq best.now) }
@@ -158,8 +158,8 @@ fn blocks_of(
 
 /// The wishes that block a state, by place. After automatic days there are none.
 ///
-/// It costs about the wishes and the call orders together: what each candidate holds, where they stand
-/// and who is the last live one of each programme is noted once.
+/// It costs about the wishes and the call orders together: what each candidate holds, where they
+/// stand and who is the last live one of each programme is noted once.
 pub fn blocking_pairs(
     alloc: Global,
     state: &DayState<'_>,
@@ -198,8 +198,8 @@ fn envies_of(alloc: Global, blocks: &[Block]) -> Result<Vec<Envy>, OutOfMemory>
     Ok(envies.collect(alloc)?)
 }
 
-/// The wishes that block a state whose candidates envy somebody with right, by place, each with the last
-/// one whom they envy.
+/// The wishes that block a state whose candidates envy somebody with right, by place, each with the
+/// last one whom they envy.
 pub fn envy_list(
     alloc: Global,
     state: &DayState<'_>,

@@ -63,7 +63,8 @@ fn group_of(state: &DayState<'_>, programme: u32) -> usize
     dossier.programmes.as_slice()[programme as usize].group as usize
 }
 
-/// No candidate stands twice in a call order, and there is one for each group. The call does nothing.
+/// No candidate stands twice in a call order, and there is one for each group. The call does
+/// nothing.
 fn call_once(state: &DayState<'_>, orders: &CallOrders)
     requires { AreCallOrders state.now.dossier.groups orders.now.orders }
     ensures once { All (λ order. IsDistinct nat_eq order.list) orders.now.orders }
@@ -74,7 +75,8 @@ fn call_once(state: &DayState<'_>, orders: &CallOrders)
     let _ = &dossier.wishes; // learns that the dossier is valid
 }
 
-/// How many stand before each wish's candidate in the call order of its programme, by place of the wish.
+/// How many stand before each wish's candidate in the call order of its programme, by place of the
+/// wish.
 pub(crate) fn places_of(
     alloc: Global,
     state: &DayState<'_>,

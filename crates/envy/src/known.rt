@@ -6,7 +6,7 @@ ghost use Rattle.admit_core.specs.State.{entries, is_live};
 ghost use Rattle.day_state.specs.Bundles.{number_in};
 ghost use Rattle.envy.specs.Known.{AreBest, AreLast, is_better, is_below, place_of, reaches};
 
-use admit_core::{Mark, OutOfMemory, Status, Wish};
+use admit_core::{Mark, OutOfMemory, Wish};
 use day_state::DayState;
 use demand::{mark_at, programme_count, wish_at};
 use indexmap::IndexMap;
@@ -19,13 +19,6 @@ pub(crate) fn wish_count(state: &DayState<'_>) -> u32
 {
     let dossier = state.dossier();
     dossier.wishes.len() as u32
-}
-
-/// Whether a mark is that of a live wish.
-fn is_live(mark: Mark) -> bool
-    ensures { result ≡ is_live mark }
-{
-    matches!(mark.status, Status::Offered | Status::Accepted)
 }
 
 /// The lesser of two preference numbers, the first of which may be missing.
@@ -66,7 +59,7 @@ fn note_best(
     ensures { OnOk result ((c q : ℕ) → is_below (get nat_eq best.new c) q
         ≡ (is_below (get nat_eq best.old c) q || is_better c q (wish, mark))) }
 {
-    if is_live(mark) {
+    if mark.is_live() {
         let least = lesser(best.get(&wish.candidate).copied(), wish.preference);
         best.insert(wish.candidate, least)?;
     }
@@ -97,14 +90,14 @@ fn note_last(lasts: &mut Vec<Option<usize>>, wish: Wish, mark: Mark, place: usiz
     ensures each { (p k : ℕ) → reaches (number_in lasts.new.items p) k
         ≡ (reaches (number_in lasts.old.items p) k || (is_live mark && (wish.programme == p) && nat_le k place)) }
 {
-    if is_live(mark) {
+    if mark.is_live() {
         let programme = wish.programme as usize;
         lasts[programme] = Some(later(lasts[programme], place));
     }
 }
 
-/// Of each programme the last place in its call order at which somebody is live there; `places` has that
-/// of each wish's candidate.
+/// Of each programme the last place in its call order at which somebody is live there; `places` has
+/// that of each wish's candidate.
 pub(crate) fn last_live(
     alloc: Global,
     state: &DayState<'_>,

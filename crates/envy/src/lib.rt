@@ -1,5 +1,7 @@
 //! Wishes that block a state: their candidates would rather have a seat that is vacant, or that
 //! somebody behind them holds.
+//!
+//! `let blocks = blocking_pairs(alloc, &state, &orders)?;`
 #![tactic(auto)]
 
 mod blocks;

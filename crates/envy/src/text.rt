@@ -45,8 +45,8 @@ fn push_blocks(
     Ok(())
 }
 
-/// A line for each block, with the id of its wish, the seats left of the wish's programme and the last
-/// candidate who is envied; and last their number.
+/// A line for each block, with the id of its wish, the seats left of the wish's programme and the
+/// last candidate who is envied; and last their number.
 pub fn envy_text(alloc: Global, dossier: &Dossier, blocks: &[Block]) -> Result<Vec<u8>, OutOfMemory>
     requires { All (λ block. block.wish < length dossier.now.wishes) blocks.now }
     ensures { IfOk result (λ text. text.items ≡ envy_text dossier.now blocks.now) }

@@ -12,8 +12,8 @@ use day_state::DayState;
 use demand::{call_everyone, order_of, programme_count, wish_at};
 use std::marker::Model;
 
-/// The state in which a day's last pass began, the call orders, the ceilings of the day and the bars of
-/// the pass.
+/// The state in which a day's last pass began, the call orders, the ceilings of the day and the
+/// bars of the pass.
 #[derive(Drop)]
 pub struct Closing<'p, 'd> {
     pub opening: &'p DayState<'d>,

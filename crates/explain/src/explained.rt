@@ -1,7 +1,7 @@
 //! The one case that holds of a wish.
 ghost use Rattle.std.specs.Prelude.{◌≡◌, ◌<◌, length, IsTrue};
 ghost use Rattle.std.specs.Option.{ForSome};
-ghost use Rattle.admit_core.specs.State.{is_gone, is_live};
+ghost use Rattle.admit_core.specs.State.{is_gone};
 ghost use Rattle.admit_core.specs.Proposals.{is_barred};
 ghost use Rattle.admit_core.specs.Explanations.{explanation, barred_at, cause_of, no_seat};
 ghost use Rattle.day_state.specs.Kept.{mark_in, wish_in};
@@ -11,14 +11,14 @@ ghost use Rattle.explain.specs.Sayings.{Explains};
 
 use crate::ahead::{before, count_ahead};
 use crate::closing::Closing;
-use admit_core::{BarCause, CallOrders, Explanation, Mark, Status, Wish};
+use admit_core::{BarCause, CallOrders, Explanation, Mark, Wish};
 use day_run::{Campaign, Desk};
 use day_state::DayState;
-use demand::{is_open, is_waiting, limit_of, mark_at};
+use demand::{is_open, limit_of, mark_at};
 use vacancies::seats_left;
 
-/// Why the wish at a place stands as it does in the evening of a campaign's last day, which came about:
-/// the one case that holds.
+/// Why the wish at a place stands as it does in the evening of a campaign's last day, which came
+/// about: the one case that holds.
 pub fn explain(campaign: &Campaign<'_>, wish: u32) -> Explanation
     requires day { IsTrue campaign.now.course.has_day }
     requires wish { wish < length campaign.now.course.present.dossier.wishes }
@@ -29,8 +29,9 @@ pub fn explain(campaign: &Campaign<'_>, wish: u32) -> Explanation
     explained(campaign.state(), &last, wish)
 }
 
-/// The same over a desk after its last day: the ceilings are those of that day, and the bars those of its
-/// last pass. Each day leaves a desk with it, as the clause `desks` of `laws_of_explanations` says.
+/// The same over a desk after its last day: the ceilings are those of that day, and the bars those
+/// of its last pass. Each day leaves a desk with it, as the clause `desks` of
+/// `laws_of_explanations` says.
 pub fn explain_on_desk(
     desk: &Desk<'_>,
     orders: &CallOrders,
@@ -69,7 +70,7 @@ fn case_of(now: Mark, last: &Closing<'_, '_>, place: u32) -> Explanation
     let Mark { status, stamp } = now;
     if is_gone(now) {
         Explanation::Gone { status, stamp }
-    } else if is_live(now) {
+    } else if now.is_live() {
         Explanation::Live { status, stamp }
     } else if is_barred(last, place) {
         barred_at(last, last.wish_at(place))
@@ -82,17 +83,7 @@ fn case_of(now: Mark, last: &Closing<'_, '_>, place: u32) -> Explanation
 fn is_gone(mark: Mark) -> bool
     ensures { result ≡ is_gone mark }
 {
-    !matches!(
-        mark.status,
-        Status::Offered | Status::Accepted | Status::Waiting
-    )
-}
-
-/// Whether a mark is that of a live wish.
-fn is_live(mark: Mark) -> bool
-    ensures { result ≡ is_live mark }
-{
-    matches!(mark.status, Status::Offered | Status::Accepted)
+    !mark.is_live() && !mark.is_waiting()
 }
 
 /// Whether the wish at a place was barred in the opening.
@@ -101,7 +92,7 @@ fn is_barred(last: &Closing<'_, '_>, place: u32) -> bool
     ensures { result ≡ is_barred last.now.opening last.now.bars
         (wish_in last.now.opening.dossier.wishes place) (mark_in last.now.opening.marks place) }
 {
-    is_waiting(mark_at(last.opening, place)) && !is_open(last.opening, last.bars, place)
+    mark_at(last.opening, place).is_waiting() && !is_open(last.opening, last.bars, place)
 }
 
 /// The bar of a wish's school, and why it is as low as it is.

@@ -1,4 +1,7 @@
-//! Why a wish stands as it does in the evening of a day.
+//! Why a wish stands as it does in the evening of a day: live, gone, barred from its boarding
+//! school, or without a seat in its programme.
+//!
+//! `let explanation = explain(&campaign, wish);`
 #![tactic(auto)]
 
 mod ahead;

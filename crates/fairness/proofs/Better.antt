@@ -195,7 +195,7 @@ not_before_first c (x ∷ xs) =
       | inr other ↦ rw other (not_in_more c x xs (place_in xs c) other (not_before_first c xs))
     ]
 
--- a front that another list has too is no longer than that list
+-- a prefix that another list has too is no longer than that list
 front_within : (xs ys : List ℕ) (n : ℕ) → take n xs ≡ take n ys → n ≤ length ys → n ≤ length xs
 front_within xs ys n same le =
     elim (cases_lt (length xs) n) [

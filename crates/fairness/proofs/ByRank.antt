@@ -6,7 +6,6 @@ use Rattle.std.proofs.lemmas.Bool.{both_ways, cases_order, eq-eqb, eqb-true, or_
 use Rattle.std.proofs.lemmas.Cmp.{nat_eq_equiv}
 use Rattle.std.proofs.lemmas.List.{get_or-take, length-map, length-take-le}
 use Rattle.std.proofs.lemmas.List.Folds.{Any-from_list_any}
-use Rattle.std.proofs.lemmas.Map.Keys.{IsDistinct-from_apart, apart_from_distinct}
 use Rattle.std.proofs.lemmas.Map.Made.{length-le_from_is_member}
 use Rattle.std.proofs.lemmas.Option.{slice_get-get_or, slice_get_within}
 use Rattle.admit_core.specs.declared.ranking.Bound.{Bound}
@@ -19,6 +18,7 @@ use Rattle.admit_core.specs.CallOrderLaws.{OfCallOrders}
 use Rattle.admit_core.specs.Lists.{is_among}
 use Rattle.admit_core.specs.Validity.{IsRanking}
 use Rattle.admit_core.proofs.CallRows.{IsIn, among_front, call_row, in_list, in_remaining, least_found, not_among_front, same_row}
+use Rattle.admit_core.proofs.FilledSeats.{front_distinct}
 use Rattle.admit_core.proofs.LeastFirst.{RisesBy, rises_by_key}
 use Rattle.admit_core.proofs.NextCalls.{find_passes}
 use Rattle.admit_core.proofs.OrderPermutes.{distinct-order}
@@ -44,15 +44,6 @@ contains_in y (z ∷ zs) has =
       | inl same ↦ (0, omega arith, same)
       | inr later ↦ let (k, lt, at) = contains_in y zs later in (suc k, omega (arith, lt), at)
     ]
-
--- a prefix of distinct ids is distinct
-front_distinct : (xs : List ℕ) (n : ℕ) → n ≤ length xs → IsDistinct nat_eq xs → IsDistinct nat_eq (take n xs)
-front_distinct xs n le apart =
-    IsDistinct-from_apart nat_eq (take n xs) (λ i j d i_lt j_lt.
-    let whole = length-take-le n xs le in
-    let j_in : j < n = omega (arith, whole) in
-    let i_in : i < n = omega arith in
-    rw (get_or-take n xs i d i_in, get_or-take n xs j d j_in) (apart_from_distinct nat_eq xs i j d apart i_lt (omega (arith, whole))))
 
 -- the one called at a place has another id than who stands behind it
 other_id : (order : CallOrder) (i j : ℕ) (r s : Ranked) (g : RankGroup) → IsRanking g → IsCallOrder g order → slice_get order.list i ≡ Some r.candidate

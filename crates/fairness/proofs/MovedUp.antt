@@ -121,7 +121,7 @@ module _ (s : State) (orders moved : List CallOrder) (p c : ℕ) (is : IsMovedUp
       ap (before_first (nat_eq a)) (is.becomes ∙ sym (append_assoc is.front (c ∷ []) (a ∷ is.back)))
       ∙ before_at (is.front ++ c ∷ []) is.back a a_not_in_longer
 
-  -- a longer front has more in it
+  -- a longer prefix has more in it
   longer : (e : ℕ) → length is.front ≤ length (is.front ++ e ∷ [])
   longer e = omega (arith, length-append is.front (e ∷ []))
 

@@ -23,7 +23,7 @@ use Rattle.fairness.specs.PassPromises.{NobodyIsPassedOver}
 pub place_at_most : (xs : List ℕ) (c : ℕ) → place_in xs c ≤ length xs
 place_at_most xs c = prefix_len-le-length (λ x. not (nat_eq c x)) xs
 
--- who has an earlier place stands in the front
+-- who has an earlier place stands in the prefix
 pub among_taken : (xs : List ℕ) (c n : ℕ) → place_in xs c < n → n ≤ length xs → is_among c (take n xs) ≡ true
 among_taken xs c n earlier le =
     let k = place_in xs c in

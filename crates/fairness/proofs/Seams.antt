@@ -21,7 +21,7 @@ before_step e x xs =
       further : (x : ℕ) (xs : List ℕ) (n : ℕ) → take (1 + n) (x ∷ xs) ≡ x ∷ take n xs
       further x xs n = rw (one_more n) refl
 
--- before the first place of a candidate stands the front
+-- before the first place of a candidate stands the prefix `front`
 pub before_at : (front back : List ℕ) (c : ℕ) → is_among c front ≡ false → before_first (nat_eq c) (front ++ c ∷ back) ≡ front
 before_at [] back c none = before_step c c back ∙ rw (eq-eqb c c refl) refl
 before_at (x ∷ front) back c none =
@@ -66,7 +66,7 @@ at_seam : (front back : List ℕ) (x : ℕ) → slice_get (front ++ x ∷ back) 
 at_seam [] back x = refl
 at_seam (y ∷ front) back x = at_seam front back x
 
--- in a list that has nobody twice, who stands behind a front is not in it
+-- in a list that has nobody twice, who stands behind a prefix is not in it
 pub not_in_front_of : (front back : List ℕ) (x : ℕ) → IsDistinct nat_eq (front ++ x ∷ back) → is_among x front ≡ false
 not_in_front_of front back x once =
     rw take-append_seam at (not_among_front (front ++ x ∷ back) (length front) (length front) x once (at_seam front back x) (omega arith))

@@ -1,6 +1,8 @@
-//! What the rules promise a candidate, and what they do not.
+//! What the rules promise a candidate (nobody is passed over in a call order; a better rank never
+//! means a later call), and what they do not, though it seems so. The calls do nothing: their
+//! clauses are theorems over the definitions of the rules.
 //!
-//! The calls do nothing: their clauses are theorems over the definitions of the rules.
+//! `laws_of_places();`
 #![tactic(auto)]
 
 mod cases;

@@ -1,5 +1,7 @@
 //! From the slots' bytes to what a run works on: the dossier, its index, the dates of its statuses
 //! and the chain's bytes; or why a run stops.
+//!
+//! `let input = take_in(alloc, &request, &mut shelf)?;`
 #![tactic(auto)]
 
 mod files;

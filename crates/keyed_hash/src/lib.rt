@@ -1,5 +1,7 @@
-//! Hashing by a key that is made of what is hashed, so that no chosen ids can crowd a table: whoever
-//! picks ids against a key changes it by picking them.
+//! Hashing by a key that is made of what is hashed, so that no chosen ids can crowd a table:
+//! whoever picks ids against a key changes it by picking them. Mix all rows in first.
+//!
+//! `let ids = IndexSet::with_hasher(alloc, key_maker.done());`
 #![tactic(auto)]
 
 use std::hash::{BuildHasher, DefaultHasher, FoldHasher, Hasher};

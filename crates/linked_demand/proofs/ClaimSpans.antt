@@ -111,7 +111,7 @@ point_of_keys key xs P Q i le point = (
   λ k d low high. subst Q (get_or-map key xs k d 0 high) (point.1 k 0 low (omega (arith, high, length-map xs key))),
 )
 
--- where a candidate stands in the list of candidates, there his claim stands in that of the wishes
+-- where a candidate stands in the list of candidates, there their claim stands in that of the wishes
 pub span_is_claim : (s : DossierRows) (p : ℕ) (wishes candidates : List ℕ) (c : ℕ) (span : Span) → AreWishesFor s p wishes → candidates ≡ map (candidate_in s.wishes) wishes → IsSpanOf candidates c span
     → IsWithin (length wishes) span × (part_of wishes span ≡ claim_of s p c)
 span_is_claim s p wishes candidates c span waiting are is =

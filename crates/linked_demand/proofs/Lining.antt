@@ -137,7 +137,7 @@ first_place c x ys is all = record { within = omega arith; here = is; once = onc
 next_place : (c x k : ℕ) (ys : List ℕ) → nat_eq c x ≡ false → IsPlaceOf c ys k → IsPlaceOf c (x ∷ ys) (suc k)
 next_place c x k ys not_x at = record { within = omega (arith, at.within); here = at.here; once = once_later c x k ys not_x at }
 
--- in a list where none stands twice, one who passes stands among those who pass behind those before him
+-- in a list where none stands twice, one who passes stands among those who pass behind those before them
 pub placed : (f : ℕ → Bool) (xs : List ℕ) (i c : ℕ) → IsDistinct nat_eq xs → i < length xs → get_or xs i 0 ≡ c → f c ≡ true
     → IsPlaceOf c (filter f xs) (length (filter f (take i xs)))
 unfolding IsDistinct
@@ -154,7 +154,7 @@ placed f (x ∷ xs) (suc i) c apart lt at passes =
       | inr dropped ↦ rw dropped later
     ]
 
--- and he isn't among those before him
+-- and one isn't among those before them
 pub fresh : (xs : List ℕ) (i : ℕ) → IsDistinct nat_eq xs → i < length xs → is_among (get_or xs i 0) (take i xs) ≡ false
 unfolding IsDistinct
 fresh [] i apart lt = absurd (omega arith)

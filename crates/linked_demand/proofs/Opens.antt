@@ -32,7 +32,7 @@ pub any_same : {X : Type 0} (p q : X → Bool) → ((x : X) → p x ≡ q x) →
 any_same p q h [] = refl
 any_same p q h (x ∷ xs) = rw (h x, any_same p q h xs) refl
 
--- by the flags of bars a candidate wants a seat exactly where he does under the bars
+-- by the flags of bars a candidate wants a seat exactly where they do under the bars
 pub wants_by_bars : (s : State) (bars : List ℕ) (p c : ℕ) → wants_by s (opens_of s bars) p c ≡ wants_seat s bars p c
 wants_by_bars s bars p c =
     let q = λ (e : Wish × Mark) (flag : Bool). is_flagged_in p c (e, flag) in

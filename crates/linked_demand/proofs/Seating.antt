@@ -61,7 +61,7 @@ module _ (s : DossierRows) (orders : List CallOrder) (n : ℕ) (order : List ℕ
         | inr other ↦ other
       ])) are
 
-  -- for one who has a claim his place is noted
+  -- for one who has a claim their place is noted
   pub seated_more : (places : List ℕ) (early : List Bool) (new_places : List ℕ) (new_early : List Bool) (place : ℕ) (is_early : Bool)
       → order ≡ order_of s orders n → IsDistinct nat_eq order → nat_lt 0 (length (claim_of s n x)) ≡ true
       → is_early ≡ nat_lt i (limit_of s n) → place ≡ length (filter (applies_in s n) (take i order))

@@ -14,7 +14,7 @@ use crate::rows::{RowWish, empty_rows, put_in};
 use crate::wishes::wish_count;
 use admit_core::OutOfMemory;
 use day_state::DayState;
-use demand::{is_waiting, mark_at, wish_at};
+use demand::{mark_at, wish_at};
 use std::alloc::{AllocError, Global};
 use vacancies::beds_left;
 
@@ -29,7 +29,7 @@ fn row_school(state: &DayState<'_>, bars: &[u32], place: u32) -> Option<u32>
     match wish.school {
         None => None,
         Some(school) => {
-            let stays = is_waiting(mark_at(state, place))
+            let stays = mark_at(state, place).is_waiting()
                 && !state.is_live_in_its_school(place)
                 && wish.board_rank <= bars[school as usize];
             if stays { Some(school) } else { None }

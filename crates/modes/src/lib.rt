@@ -1,4 +1,7 @@
-//! The modes: how a run ends, each mode's text, and the line of what stopped a run.
+//! The modes: how a run ends once its days are over, with each mode's text; and the line of what
+//! stopped a run before them.
+//!
+//! `let reply = ending(alloc, &request, &input, dated, &played, &mut pickers)?;`
 #![tactic(auto)]
 
 mod beds;

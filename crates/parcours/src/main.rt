@@ -1,5 +1,7 @@
-//! `parcours`, the admission engine's program: it reads the slots' files in the current folder and
-//! writes to standard output.
+//! `parcours`, the admission engine's program: it reads the slots' files in the current folder,
+//! writes one text to standard output, and says by its status how the run ended.
+//!
+//! `parcours replay --days 3 --picker last`
 #![tactic(auto)]
 
 ghost use Rattle.std.specs.Prelude.{◌≡◌};

@@ -179,7 +179,7 @@ DatedFinals =
     ≡ codes "final\nwish,status,since\n1,lapsed,\n2,offered,2025-06-04\n")
     × (final_dated_text old_offer march (terms 2).before ≡ codes "final\nwish,status,since\n1,offered,2024-02-28\n2,waiting,\n")
 
--- four candidates of one programme, of whom two ask for boarding too; the last answers by his preferences
+-- four candidates of one programme, of whom two ask for boarding too; the last answers by their preferences
 abbrev pub four_candidates : State
 four_candidates =
     record {

@@ -158,8 +158,8 @@ fn push_lapses(
     Ok(())
 }
 
-/// The lines of a day where offers have dates, of which `start` is that of day 1: those of `day_text`,
-/// with the lapses after the first.
+/// The lines of a day where offers have dates, of which `start` is that of day 1: those of
+/// `day_text`, with the lapses after the first.
 pub fn dated_day_text(
     alloc: Global,
     dossier: &Dossier,

@@ -42,7 +42,8 @@ fn offer_date(state: &DayState<'_>, start: Civil, terms: &Terms, place: u32) -> 
     on_day(start, day)
 }
 
-/// Adds the row of a wish at its place, with its status, and the date of its offer where it is offered.
+/// Adds the row of a wish at its place, with its status, and the date of its offer where it is
+/// offered.
 fn push_dated_row(
     text: &mut String,
     state: &DayState<'_>,
@@ -69,7 +70,8 @@ fn push_dated_row(
 }
 
 /// The final state where offers have dates, of which `start` is that of day 1: each wish with its
-/// status and, where it is offered, the date of its offer. What follows the first line is a state slot.
+/// status and, where it is offered, the date of its offer. What follows the first line is a state
+/// slot.
 pub fn final_dated_text(
     alloc: Global,
     state: &DayState<'_>,

@@ -1,5 +1,7 @@
-//! The texts of the report: call orders, days, final states, explanations, refusals and samples, byte
-//! for byte. A text is made whole in memory.
+//! The texts of the report: call orders, days, final states, explanations, refusals and samples,
+//! byte for byte. A text is made whole in memory.
+//!
+//! `let text = order_text(alloc, group.id, order)?;`
 #![tactic(auto)]
 
 mod date;

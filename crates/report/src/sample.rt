@@ -7,8 +7,8 @@ use admit_core::{DayRecord, OutOfMemory, PassEnd, Status};
 use day_state::DayState;
 use std::alloc::{AllocError, Global};
 
-/// How many falls and offers passes have. Each count of a pass may be as great as a list is long, so
-/// their sums are wider.
+/// How many falls and offers passes have. Each count of a pass may be as great as a list is long,
+/// so their sums are wider.
 struct PassSums {
     falls: u128,
     offers: u128,
@@ -87,8 +87,8 @@ fn push_days(text: &mut String, days: &[DayRecord]) -> Result<(), AllocError>
     Ok(())
 }
 
-/// The summary of a sample: its numbers of candidates and of wishes, the passes, falls and offers of
-/// each day, and the numbers of wishes that are live, wait and are gone in the final state.
+/// The summary of a sample: its numbers of candidates and of wishes, the passes, falls and offers
+/// of each day, and the numbers of wishes that are live, wait and are gone in the final state.
 pub fn sample_text(
     alloc: Global,
     number: u32,

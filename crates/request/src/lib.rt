@@ -1,4 +1,7 @@
-//! What the words after the program's name ask for.
+//! What the words after the program's name ask for: a mode with what it needs, and the options that
+//! all modes share. Short tables say what each mode reads, names and runs.
+//!
+//! `let request = read_request(alloc, words)?;`
 #![tactic(auto)]
 
 mod command;

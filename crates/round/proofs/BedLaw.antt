@@ -62,7 +62,7 @@ demand_parts s orders bars h w m t =
     record { has = (and_parts (has_school w h) (nat_lt 0 w.board_rank) middle.0).0; no_bed = middle.1; offers = outer.1 }
 
 module _ (s : State) (valid : IsValid s.dossier) (h : ℕ) where
-  -- in a school, a rank tells its candidate, and a candidate his rank
+  -- in a school, a rank tells its candidate, and a candidate their rank
   ranks_tell : (k j : ℕ) (e f : Wish × Mark) → k < length (entries s) → get_or (entries s) k e ≡ e → j < length (entries s) → get_or (entries s) j f ≡ f
       → has_school e.0 h ≡ true → has_school f.0 h ≡ true → (e.0.board_rank ≡ f.0.board_rank) ↔ (e.0.candidate ≡ f.0.candidate)
   ranks_tell k j e f k_lt e_is j_lt f_is e_has f_has =
@@ -112,7 +112,7 @@ module _ (s : State) (orders : List CallOrder) (bars : List ℕ) (stamp : Stamp)
       let inner = among_filtered (λ x. holds_bed (offered s orders bars stamp) x h) c (candidates_of s.dossier) outer.0 in
       (inner.1, not-true (holds_bed s c h) outer.1)
 
-  -- he demands a bed
+  -- such a candidate demands a bed
   new_demands : (c : ℕ) → (makes : MakesLive s orders bars boards c) → holds_bed s c h ≡ false → demands_at makes.entry.0.board_rank makes.entry ≡ true
   new_demands c makes before =
       let e = makes.entry in

@@ -86,7 +86,7 @@ module _ (s : State) (orders : List CallOrder) (bars : List ℕ) (stamp : Stamp)
   called_once : (p : ℕ) → IsDistinct nat_eq (order_of s.dossier orders p)
   called_once p = order_once s.dossier.groups orders (group_of s.dossier p) are valid.groups
 
-  -- who becomes live in a programme is called, wants a seat, and has few before him who want one
+  -- who becomes live in a programme is called, wants a seat, and has few before them who want one
   served : (p c : ℕ) → MakesLive s orders bars (λ w. w.programme == p) c → holds_seat s c p ≡ false
       → (is_among c (order_of s.dossier orders p) ≡ true) × (wants_seat s bars p c ≡ true)
       × (length (filter (wants_seat s bars p) (before_first (nat_eq c) (order_of s.dossier orders p))) < max (seats_left s p) (limit_of s.dossier p))

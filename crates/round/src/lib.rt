@@ -1,4 +1,7 @@
-//! A pass: the greatest bars of the boarding schools, and the offers under them.
+//! A pass: finds the greatest bars (*barres d'internat*) of the boarding schools, and offers the
+//! wishes that are proposed under them.
+//!
+//! `let record = pass(alloc, &mut state, &orders, &lineup, ceilings, stamp, picker)?;`
 #![tactic(auto)]
 
 mod bars;

@@ -106,7 +106,7 @@ module _ (s : ℕ → ℕ) (h : ℕ) where
       (λ first. record { place = first.place; below = let lt : first.place < j = first.below in omega arith; same = first.same; new = first.new })
       (new_or_first j)
 
--- a boarder has a rank in the school of each of his choices
+-- a boarder has a rank in the school of each of their choices
 pub choice_is_boarded : (n : ℕ) (x : Choice) → IsChoice n x → is_boarder x ≡ true → is_boarded (sample_tables n) x.school x.candidate ≡ true
 choice_is_boarded n x is boards =
     let m : ℕ = programmes_of n in

@@ -15,7 +15,7 @@ programmes_of n = 1 + n / 500
 abbrev pub school_of : ℕ → ℕ
 school_of programme = 1 + (programme - 1) / 2
 
--- the programme that a candidate chooses at a place: those of his choices follow one another, and after the last comes the first
+-- the programme that a candidate chooses at a place: those of their choices follow one another, and after the last comes the first
 abbrev pub chosen : ℕ → ℕ → ℕ → ℕ
 chosen programmes candidate place = 1 + (candidate + place) % programmes
 

@@ -39,7 +39,7 @@ rank_row x =
 abbrev pub board_row : Choice → BoardRow
 board_row x = record { school = x.school; candidate = x.candidate; rank = rank_in (2000001 + 2 * x.school) x.candidate }
 
--- a boarder has one rank in a school, at his first choice there
+-- a boarder has one rank in a school, at their first choice there
 abbrev pub has_board_row : ℕ → Choice → Bool
 has_board_row programmes x = is_boarder x && is_first_at_school programmes x
 

@@ -26,6 +26,6 @@ TakesMoreThan limit before after = (taken : List ℕ) × (limit < length taken) 
 abbrev pub CountsTaken : {E : Type 0} → Result ℕ E → ℕ → ℕ → Type 0
 CountsTaken result before now = MatchResult result (λ count. Counted count before now) (λ _. now ≡ before)
 
--- some of the bytes, from the front, were appended
+-- a prefix of the bytes was appended
 abbrev pub AppendsPrefix : Option (List ℕ) → Option (List ℕ) → List ℕ → Type 0
 AppendsPrefix before after bytes = (count : ℕ) × (count ≤ length bytes) × Appends before after (take count bytes)

@@ -67,8 +67,8 @@ fn read_answer(read: io::Result<usize>) -> Result<usize, IoRefusal>
     read.map_err(|_| IoRefusal::Failed)
 }
 
-/// What a write that std answers so means: any error is a failure of the device, and a write that takes
-/// no byte is one too.
+/// What a write that std answers so means: any error is a failure of the device, and a write that
+/// takes no byte is one too.
 fn write_answer(written: io::Result<usize>) -> Result<usize, IoRefusal>
     ensures { result ≡ write_answer written }
 {

@@ -1,7 +1,8 @@
-//! Where slots are read from and reports are written to, and whole reads and writes over them.
+//! Where slots are read from and texts are written to, and whole reads and writes over them: files
+//! and standard output, or devices in memory. A count of faults rose in a call where it is greater
+//! after it than before, or stands at the last value of its counter.
 //!
-//! A count of faults rose in a call where it is greater after it than before, or stands at the last
-//! value of its counter.
+//! `let bytes = read_slot(alloc, &mut shelf, Slot::Wishes, limit)?;`
 #![tactic(auto)]
 
 mod devices;

@@ -14,8 +14,8 @@ pub trait Sink {
     /// How often the writes have failed, up to the last value of a 64-bit counter.
     ghost faults: { Self → ℕ };
 
-    /// Appends the first bytes of the piece, and answers how many: at least one. A device that takes
-    /// none has failed. A refused write appends nothing.
+    /// Appends the first bytes of the piece, and answers how many: at least one. A device that
+    /// takes none has failed. A refused write appends nothing.
     fn write(&mut self, piece: &[u8]) -> Result<usize, IoRefusal>
         requires { 0 < length piece.now }
         ensures bound { WritesAtMost result piece.now }

@@ -1,8 +1,8 @@
-//! Markets of candidates and programmes, solved by bars that fall.
+//! Markets of candidates and programmes, solved by bars that fall. Each candidate lists programmes,
+//! best first, and each programme orders its candidates; the bars stand on positions in these
+//! orders. What they leave is stable, and the best stable matching for every candidate.
 //!
-//! Each candidate lists programmes, best first, and each programme orders its candidates. Bars on
-//! positions in these orders fall until no programme has more candidates than seats. What they leave
-//! is stable, and the best stable matching for every candidate.
+//! `let solved = solve(alloc, &market, &mut FirstPicker::new(alloc), &mut steps)?;`
 #![tactic(auto)]
 
 mod block;

@@ -1,4 +1,7 @@
-//! Seats and beds that are left, and who needs one.
+//! The seats and beds that are left in a state, and who needs one. Candidates are counted, not
+//! wishes.
+//!
+//! `let beds = beds_left(&state, school);`
 #![tactic(auto)]
 
 ghost use Rattle.std.specs.Prelude.{◌≡◌, ◌<◌, length};

@@ -17,8 +17,8 @@ use std::sync::ledger::{Blank, Ledger};
 /// More falls than any run here makes.
 const MANY_FALLS: u32 = 100;
 
-/// What is seen in a dossier whose bars fall from the ceilings, the last overfilled school's each time:
-/// how often, and the lines of each view.
+/// What is seen in a dossier whose bars fall from the ceilings, the last overfilled school's each
+/// time: how often, and the lines of each view.
 #[derive(Drop)]
 pub(crate) struct Seen {
     pub(crate) falls: u32,
@@ -56,8 +56,8 @@ fn agree<F: Falling, G: Falling>(alloc: Global, one: &F, other: &G) -> Result<bo
     Ok(one.count() == other.count() && one.overfilled(alloc)? == other.overfilled(alloc)?)
 }
 
-/// The places of the wishes that are proposed under the present bars, if a linked round tells of each
-/// wish whether it is one of them, and lists them.
+/// The places of the wishes that are proposed under the present bars, if a linked round tells of
+/// each wish whether it is one of them, and lists them.
 fn proposed_alike(
     alloc: Global,
     state: &DayState<'_>,

@@ -1,6 +1,8 @@
-//! Lowers the bars of worked dossiers in the plain and in the linked system of boarding schools side by
-//! side, and prints a line for each: whether both answer alike from fall to fall, and as its file says.
-//! Its words are the names of the files.
+//! Lowers the bars of worked dossiers in the plain and in the linked system of boarding schools
+//! side by side, and prints a line for each: whether both answer alike from fall to fall, and as
+//! its file says. Its words are the names of the files.
+//!
+//! `worked_dossiers dossiers.txt`
 #![tactic(auto)]
 
 ghost use Rattle.std.specs.Prelude.{◌<◌};

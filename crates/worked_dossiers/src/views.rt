@@ -16,8 +16,8 @@ fn push_wishes(text: &mut String, dossier: &Dossier, places: &[u32]) -> Result<(
     Ok(())
 }
 
-/// The line of a school: its bar, the first rank that finds no bed if there is one, and a wish for each
-/// demanded rank.
+/// The line of a school: its bar, the first rank that finds no bed if there is one, and a wish for
+/// each demanded rank.
 fn push_school<F: Falling>(
     alloc: Global,
     text: &mut String,

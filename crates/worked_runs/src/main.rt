@@ -1,5 +1,7 @@
 //! Runs worked cases over devices in memory, and prints a line for each run: whether it ended and
 //! wrote as the case says. Its words are the names of the files of cases.
+//!
+//! `worked_runs orders.txt days.txt`
 #![tactic(auto)]
 
 mod bench;

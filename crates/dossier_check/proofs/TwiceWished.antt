@@ -1,0 +1,109 @@
+-- What wishes are of, in order.
+use Rattle.std.proofs.Common.{◌≡◌, ℕ, ◌+◌, ◌<◌, Bool, true, false, nat_eq, List, [], ◌∷◌, if◌then◌else◌, map, length, get_or, Option, Some, None, unwrap_or, Ordering, Less, Equal, Greater, refl, sym, ◌∙◌, subst, arith, true≢false, AllPairs}
+use Rattle.std.specs.Option.{option_map_or}
+use Rattle.std.specs.Cmp.{IsTotalOrder}
+use Rattle.std.specs.List.{IsDistinct, IsAllAdjacentAnswer}
+use Rattle.std.specs.List.Sorted.{IsPermutation}
+use Rattle.std.specs.Ordering.{nat_cmp, is_lt, eq_by_cmp, ordering_then}
+use Rattle.std.proofs.lemmas.Bool.{false≢true}
+use Rattle.std.proofs.lemmas.Cmp.{nat_cmp_total, on_total, then_total, tied_itself, eq_by_cmp_equiv}
+use Rattle.std.proofs.lemmas.List.{get_or-map}
+use Rattle.std.proofs.lemmas.List.Sorted.{IsPermutation-sym}
+use Rattle.std.proofs.lemmas.Map.Keys.{IsDistinct-IsPermutation, IsDistinct-from_sorted, sorted_from_all_adjacent, apart_from_distinct}
+use Rattle.admit_core.specs.declared.tables.WishRow.{WishRow}
+use Rattle.admit_core.specs.declared.tables.Tables.{Tables}
+use Rattle.admit_core.specs.declared.refusal.Reason.TheVariants.{Repeat}
+use Rattle.admit_core.specs.declared.slot.Slot.TheVariants as slots
+use Rattle.admit_core.specs.Faults.{Test, first_in, repeats, names_unknown}
+use Rattle.admit_core.specs.Lists.{is_among}
+use Rattle.admit_core.specs.Relations.{same_wish, same_school, wish_tests, programme_ids, school_ids, unranked, no_boarding_rank, preference_mixed, preference_taken}
+use Rattle.dossier_check.specs.Wished.{wished}
+use Rattle.dossier_check.proofs.Faultless.{differ, without_second}
+use Rattle.dossier_check.proofs.Firsts.{length-map-here}
+use Rattle.dossier_check.proofs.Places.{nat_eq_sound}
+
+-- by candidate, then by programme, then by school
+abbrev pub wished_cmp : ℕ × ℕ × ℕ → ℕ × ℕ × ℕ → Ordering
+wished_cmp x y = ordering_then (nat_cmp x.0 y.0) (ordering_then (nat_cmp x.1 y.1) (nat_cmp x.2 y.2))
+
+wished_total : IsTotalOrder wished_cmp
+wished_total = then_total (on_total (λ (x : ℕ × ℕ × ℕ). x.0) nat_cmp_total) (then_total (on_total (λ (x : ℕ × ℕ × ℕ). x.1) nat_cmp_total) (on_total (λ (x : ℕ × ℕ × ℕ). x.2) nat_cmp_total))
+
+less : (o : Ordering) → true ≡ is_lt o → o ≡ Less
+less Less e = refl
+less Equal e = absurd (true≢false e)
+less Greater e = absurd (true≢false e)
+
+-- where each is less than the next, no two are the same
+pub strictly : (xs : List (ℕ × ℕ × ℕ)) (r : Bool) → IsAllAdjacentAnswer (λ x y b. b ≡ is_lt (wished_cmp x y)) xs r → r ≡ true → IsDistinct (eq_by_cmp wished_cmp) xs
+strictly xs false below e = absurd (false≢true e)
+strictly xs true below e =
+    let d : ℕ × ℕ × ℕ = (0, 0, 0) in
+    IsDistinct-from_sorted wished_cmp xs (sorted_from_all_adjacent wished_total xs d (λ k lt. less (wished_cmp (get_or xs k d) (get_or xs (k + 1) d)) (below k d lt)))
+
+same_schools : (h k : Option ℕ) → same_school h k ≡ true → unwrap_or k 0 ≡ unwrap_or h 0
+same_schools None None e = refl
+same_schools (Some h) (Some k) e = sym (nat_eq_sound h k e)
+same_schools None (Some k) e = absurd (false≢true e)
+same_schools (Some h) None e = absurd (false≢true e)
+
+triple : (a b c x y z : ℕ) → a ≡ x → b ≡ y → c ≡ z → eq_by_cmp wished_cmp (a, b, c) (x, y, z) ≡ true
+triple a b c x y z e f g = rw (e, f, g, tied_itself wished_total (x, y, z)) refl
+
+-- rows of the same wish are of the same
+same_keys : (row r : WishRow) → same_wish row r ≡ true → eq_by_cmp wished_cmp (wished r) (wished row) ≡ true
+same_keys row r e = by (nat_eq row.candidate r.candidate) refl (nat_eq row.programme r.programme) refl
+  where
+    by : (a : Bool) → nat_eq row.candidate r.candidate ≡ a → (b : Bool) → nat_eq row.programme r.programme ≡ b → eq_by_cmp wished_cmp (wished r) (wished row) ≡ true
+    by true ea true eb =
+        triple r.candidate r.programme (unwrap_or r.school 0) row.candidate row.programme (unwrap_or row.school 0)
+        (sym (nat_eq_sound row.candidate r.candidate ea)) (sym (nat_eq_sound row.programme r.programme eb)) (same_schools row.school r.school (rw (ea, eb) at e))
+    by true ea false eb = absurd (false≢true (rw (ea, eb) at e))
+    by false ea b eb = absurd (false≢true (rw ea at e))
+
+not_same : (row r : WishRow) → eq_by_cmp wished_cmp (wished r) (wished row) ≡ false → same_wish row r ≡ false
+not_same row r apart = by (same_wish row r) refl
+  where
+    by : (b : Bool) → same_wish row r ≡ b → same_wish row r ≡ false
+    by true e = absurd (true≢false (sym (same_keys row r e) ∙ apart))
+    by false e = e
+
+apart_rows : (rows : List WishRow) → IsDistinct (eq_by_cmp wished_cmp) (map wished rows) → AllPairs (λ r row. same_wish row r ≡ false) rows
+apart_rows rows apart i j d lt within =
+    let there : j < length (map wished rows) = omega (arith, length-map-here wished rows) in
+    let differ : eq_by_cmp wished_cmp (get_or (map wished rows) i (wished d)) (get_or (map wished rows) j (wished d)) ≡ false =
+    apart_from_distinct (eq_by_cmp wished_cmp) (map wished rows) i j (wished d) apart lt there in
+    not_same (get_or rows j d) (get_or rows i d) (rw (get_or-map wished rows i d (wished d) (omega arith), get_or-map wished rows j d (wished d) within) at differ)
+
+pub no_wish_twice : (rows : List WishRow) (keys ordered : List (ℕ × ℕ × ℕ)) (r : Bool) → keys ≡ map wished rows → IsPermutation keys ordered
+    → IsAllAdjacentAnswer (λ x y b. b ≡ is_lt (wished_cmp x y)) ordered r → r ≡ true → AllPairs (λ r row. same_wish row r ≡ false) rows
+no_wish_twice rows keys ordered r made moved answer e =
+    let eq = eq_by_cmp wished_cmp in
+    let apart : IsDistinct eq keys = IsDistinct-IsPermutation eq (eq_by_cmp_equiv wished_total).symm ordered keys (IsPermutation-sym keys ordered moved) (strictly ordered r answer e) in
+    apart_rows rows (subst (IsDistinct eq) made apart)
+
+-- the tests of wishes, where that of the same wish may be left out
+abbrev pub tests_unless : Bool → Tables → List (Test WishRow)
+tests_unless apart t =
+    repeats (λ row r. nat_eq row.id r.id)
+    ∷ (λ before row. if apart then None else repeats same_wish before row)
+    ∷ names_unknown 3 (λ row. is_among row.programme (programme_ids t))
+    ∷ names_unknown 4 (λ row. option_map_or (λ h. is_among h (school_ids t)) row.school true)
+    ∷ unranked t
+    ∷ no_boarding_rank t
+    ∷ preference_mixed
+    ∷ preference_taken
+    ∷ []
+
+pub same_fault : (t : Tables) (apart : Bool) → (apart ≡ true → AllPairs (λ r row. same_wish row r ≡ false) t.wishes)
+    → first_in slots.Wishes (tests_unless apart t) t.wishes ≡ first_in slots.Wishes (wish_tests t) t.wishes
+same_fault t apart pairs =
+    without_second slots.Wishes (repeats (λ row r. nat_eq row.id r.id)) (repeats same_wish)
+    (names_unknown 3 (λ row. is_among row.programme (programme_ids t))
+    ∷ names_unknown 4 (λ row. option_map_or (λ h. is_among h (school_ids t)) row.school true)
+    ∷ unranked t
+    ∷ no_boarding_rank t
+    ∷ preference_mixed
+    ∷ preference_taken
+    ∷ [])
+    t.wishes apart (λ e. differ same_wish Repeat t.wishes (pairs e))
