@@ -179,17 +179,18 @@ class Round:
         for job in all_runs:
             if self.found < MOST_FOUND:
                 self.attempt(job)
-        print(f"{self.mode.name}: {len(all_runs)} runs with {self.asked} requests for memory; {self.tried} times one, or "
-              f"one and all after it, refused: {self.tried - self.same - self.found} ran out of memory, {self.same} "
-              f"gave the same; {self.found} found", flush=True)
+        ran_out = self.tried - self.same - self.found
+        print(f"{self.mode.name}: {len(all_runs)} runs with {self.asked} requests for memory, {self.tried} tried: "
+              f"{ran_out} ran out of memory, {self.same} gave the same; {self.found} found", flush=True)
         return self.found
 
 
 def arguments() -> argparse.ArgumentParser:
     words = argparse.ArgumentParser(
-        prog="fail_allocations.sh", description="Refuses each request for memory in turn, alone and with all after it, in "
-        "runs of examples/two-days and of worked dossiers with the greatest bar and with falls. The answer must be the "
-        f"same, or status 5 with a prefix of the text. A mode that shows something {MOST_FOUND} times is left.",
+        prog="fail_allocations.sh",
+        description="Refuses each request for memory in turn, alone and with all after it, in runs of "
+        "examples/two-days and of worked dossiers with the greatest bar and with falls. The answer must be the same, "
+        f"or status 5 with a prefix of the text. A mode that shows something {MOST_FOUND} times is left.",
         epilog="Status: 0 nothing found, 1 something found, 2 bad words.")
     words.add_argument("modes", nargs="*", metavar="MODE", help=f"{', '.join(MODES)}; all where none is named")
     words.add_argument("--every", type=int, default=1, metavar="N", help="tries one request of N")

@@ -1,4 +1,4 @@
-"""Edges of size and odd files: what each gives, as `docs/FORMATS.md` lists it. The large ones need some 2 GB of disk."""
+"""Edges of size and odd files: what each gives in each mode, as `docs/FORMATS.md` lists it."""
 
 import argparse
 import os
@@ -151,9 +151,9 @@ def edges_of_options(mode: Mode) -> Iterator[Edge]:
 def edges_of_words(mode: Mode) -> Iterator[Edge]:
     files = dossier()
     plain = words(mode, files)
-    odd = (("",), ("\udcff",), ("--days", "\udc80"), ("--days", "\udcff1"), ("x" * 100_000,), ("--days=" + "1" * 100_000,),
-           ("--", "--days", "1"), ("-",), (mode.name,), ("--beds", "1"), ("-d", "1"), ("--days",), ("--days", "1", "--days", "1"),
-           *((f"{mode.name}\udcff",), tuple("x" * 5000)))
+    odd = (("",), ("\udcff",), ("--days", "\udc80"), ("--days", "\udcff1"), (f"{mode.name}\udcff",),
+           ("x" * 100_000,), (f"--days={'1' * 100_000}",), tuple("x" * 5000), ("--", "--days", "1"), ("-",),
+           (mode.name,), ("--beds", "1"), ("-d", "1"), ("--days",), ("--days", "1", "--days", "1"))
     yield Edge("the end of the options", files, (*plain, "--"), is_good)
     for more in odd:
         yield Edge(f"{more}"[:60], files, (*plain, *more), exactly(BAD_WORDS, "bad words\n"))
@@ -260,7 +260,7 @@ class Growing:
 
 
 def growing(tries: Tries, modes: list[Mode]) -> None:
-    """What is there when the end of a file is met counts; the last row may be cut, so the run ends as done or refused."""
+    """What is there when the end of a file is met counts; the last row may be cut, and is refused then."""
     files = dossier()
     grown = {"order": Growing("rankings.csv", files["rankings.csv"], lambda at: f"1,{at + 1000},{at + 1000},0,0\n"),
              "market": Growing("rankings.csv", files["rankings.csv"], lambda at: f"1,{at + 1000},{at + 1000},0,0\n"),
@@ -313,7 +313,8 @@ def large_edges() -> dict[str, list[Edge]]:
             order("one ranking more", partial(write_rankings, MOST_ROWS + 1),
                   exactly(REFUSED, f"refused rankings row {MOST_ROWS + 2} reason 7 TooManyRows\n"))],
         "check": [
-            check(f"a chain of {MOST_BYTES} bytes", MOST_BYTES, exactly(NOT_PROVED, "not a chain row 1 reason 1 NotLine\n")),
+            check(f"a chain of {MOST_BYTES} bytes", MOST_BYTES,
+                  exactly(NOT_PROVED, "not a chain row 1 reason 1 NotLine\n")),
             check("one byte more", MOST_BYTES + 1, exactly(REFUSED, "refused chain row 0 reason 8 TooLarge\n"))],
     }
 
@@ -335,8 +336,9 @@ TOPICS: dict[str, Callable[[Tries, list[Mode]], None]] = {
 
 def arguments() -> argparse.ArgumentParser:
     parser = argparse.ArgumentParser(
-        prog="edges.sh", description="Tries edges of size and odd files in each mode, as docs/FORMATS.md lists them, a line a "
-        "topic and mode. The topic `sizes` takes 2 GB of disk, 4 GB of memory and some minutes; the others a minute or two.",
+        prog="edges.sh",
+        description="Tries edges of size and odd files in each mode, as docs/FORMATS.md lists them, a line a topic and "
+        "mode. The topic `sizes` takes 4 GB of memory, some disk and minutes; the others a minute or two.",
         epilog="Status: 0 nothing found, 1 something found, 2 bad words.")
     parser.add_argument("topics", nargs="*", metavar="TOPIC", help=f"{', '.join(TOPICS)}; all where none is named")
     parser.add_argument("--mode", action="append", default=[], choices=[*MODES], help="this mode; may be given again")

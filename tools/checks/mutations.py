@@ -194,7 +194,8 @@ class Round:
 def differs(ended: Watched, other: Watched) -> str | None:
     if (ended.status, ended.text) == (other.status, other.text):
         return None
-    return f"status {ended.status}, beside it {other.status}; {shortened(ended.text)}, beside it {shortened(other.text)}"
+    texts = f"{shortened(ended.text)}, beside it {shortened(other.text)}"
+    return f"status {ended.status}, beside it {other.status}; {texts}"
 
 
 def keep(job: Job, folder: Path) -> Path:

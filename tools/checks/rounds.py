@@ -25,8 +25,8 @@ exit 2
 """
 FINDS = {
     "order": "groups has no such row", "replay": "the other row is no earlier one", "chain": "status 9",
-    "check": "status 6, and `not a chain row 1 reason 3`", "explain": "ended by the signal 11", "beds": "done, with the line",
-    "envy": "2 lines beside the status 1", "market": "market does not read state",
+    "check": "status 6, and `not a chain row 1 reason 3`", "explain": "ended by the signal 11",
+    "beds": "done, with the line", "envy": "2 lines beside the status 1", "market": "market does not read state",
 }
 WITHOUT_MODES = """#!/bin/sh
 case $1 in order) exec "$PROGRAM" "$@" ;; esac
