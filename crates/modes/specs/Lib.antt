@@ -1,5 +1,6 @@
 pub mod Asking
 pub mod Beds
+pub mod Blocked
 pub mod CheckedDays
 pub mod Checking
 pub mod Endings

@@ -7,6 +7,7 @@ ghost use Rattle.played.specs.Lent.{AreThere, choice_in, standing, told_in};
 ghost use Rattle.request.specs.Modes.{picks_after};
 
 use crate::beds::school_text;
+use crate::blocked::blocked_text;
 use crate::checked::checked;
 use crate::exit::Exit;
 use crate::explained::explained_text;
@@ -65,6 +66,7 @@ fn ended(
             let text = explained_text(alloc, input, &played.orders, days, desk, wish)?;
             Ok(done(text))
         }
+        Mode::Envy => Ok(done(blocked_text(alloc, desk.now(), &played.orders)?)),
         // Its ending is lent a picker.
         Mode::Beds { .. } => unreachable!(),
         Mode::Sample { number } => {

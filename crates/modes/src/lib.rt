@@ -5,6 +5,7 @@
 #![tactic(auto)]
 
 mod beds;
+mod blocked;
 mod checked;
 mod endings;
 mod exit;

@@ -115,6 +115,7 @@ done_of modes.Chain job played desk exit text ends called hands = ends.0
 done_of modes.Check job played desk exit text ends called hands =
     let proof = hands played.orders called in check_done (dossier job) (dated_of job) played.orders job.chain proof.0 proof.1 exit text proof.2 proof.3 ends
 done_of (modes.Explain wish) job played desk exit text ends called hands = ends.0
+done_of modes.Envy job played desk exit text ends called hands = ends.0
 done_of (modes.Beds school) job played desk exit text ends called hands = ends.0
 done_of (modes.Sample number) job played desk exit text ends called hands = ends.0
 

@@ -7,7 +7,7 @@ use Rattle.admit_core.specs.declared.slot.Slot.TheVariants.{Groups, Programmes, 
 use Rattle.clap.specs.Words.{Text}
 use Rattle.dossier_csv.specs.Columns.{choice}
 use Rattle.request.specs.declared.modes.Mode.{Mode}
-use Rattle.request.specs.declared.modes.Mode.TheVariants.{Order, Replay, Chain, Check, Explain, Beds, Sample}
+use Rattle.request.specs.declared.modes.Mode.TheVariants.{Order, Replay, Chain, Check, Explain, Envy, Beds, Sample}
 use Rattle.request.specs.declared.modes.Name.{Name}
 use Rattle.request.specs.declared.modes.Name.TheVariants.{Wish, School}
 use Rattle.request.specs.declared.modes.Numbers.{Numbers}
@@ -24,6 +24,7 @@ modes_by_word numbers =
     (codes "chain", Some Chain) ∷
     (codes "check", Some Check) ∷
     (codes "explain", option_map (λ wish. Explain wish) numbers.wish) ∷
+    (codes "envy", Some Envy) ∷
     (codes "beds", option_map (λ school. Beds school) numbers.school) ∷
     (codes "sample", option_map (λ number. Sample number) numbers.number) ∷ []
 

@@ -20,6 +20,8 @@ pub enum Mode {
     Check,
     /// Explains why a wish, named by its id, stands as it does after the days.
     Explain { wish: u32 },
+    /// Lists the wishes that block the evening after the days.
+    Envy,
     /// Says how many beds a school, named by its id, needs so that its bar stays at its ceiling in the
     /// last pass.
     Beds { school: u32 },
@@ -68,6 +70,7 @@ pub(crate) fn mode_of(word: &str, numbers: Numbers) -> Option<Mode>
         "chain" => Some(Mode::Chain),
         "check" => Some(Mode::Check),
         "explain" => numbers.wish.map(|wish| Mode::Explain { wish }),
+        "envy" => Some(Mode::Envy),
         "beds" => numbers.school.map(|school| Mode::Beds { school }),
         "sample" => numbers.number.map(|number| Mode::Sample { number }),
         _ => None,
