@@ -7,6 +7,7 @@ pub mod Endings
 pub mod Exits
 pub mod Explained
 pub mod Jobs
+pub mod Market
 pub mod Order
 pub mod Replay
 pub mod Stopping

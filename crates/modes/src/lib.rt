@@ -11,6 +11,7 @@ mod endings;
 mod exit;
 mod explained;
 mod job;
+mod market;
 mod order;
 mod replay;
 mod reply;
