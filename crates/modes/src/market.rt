@@ -1,4 +1,5 @@
-//! The mode `market`: the dossier's market, and its stable matching that is best for every candidate.
+//! The mode `market`: the dossier's market, and its stable matching that is best for every
+//! candidate.
 ghost use Rattle.std.specs.Prelude.{◌≡◌, ◌<◌, IfOk, OnErr};
 ghost use Rattle.admit_core.specs.CallOrder.{AreCallOrders};
 ghost use Rattle.admit_core.specs.Falls.{IsGreatest};
@@ -18,8 +19,8 @@ use std::alloc::Global;
 use std::marker::Brand;
 use std::sync::ledger::{Blank, Ledger};
 
-/// The stable matching of a market, by this counter of falls.
-fn solved_by<L: Ledger>(
+/// The stable matching of a market, with a counter of falls that nobody reads.
+fn solved<L: Ledger>(
     alloc: Global,
     blank: Blank,
     market: &Market,
@@ -31,25 +32,16 @@ fn solved_by<L: Ledger>(
 
     ensures stable { IfOk result (λ solved. IsStable market.now solved.places.items) }
     ensures best { IfOk result (λ solved. IsBestForAll market.now solved.places.items) }
-    ensures greatest { IfOk result (λ solved. IsGreatest (market_system market.now) solved.bars.items) }
-    ensures led { IfOk result (λ solved. IsLedTo (market_system market.now) (choice picker.old) (told picker.old) (told picker.new) solved.bars.items) }
-    ensures early { OnErr result (TellsOfFalls (market_system market.now) (choice picker.old) (told picker.old) (told picker.new)) }
+    ensures greatest { IfOk result (λ solved. IsGreatest
+        (market_system market.now) solved.bars.items) }
+    ensures led { IfOk result (λ solved. IsLedTo (market_system market.now)
+        (choice picker.old) (told picker.old) (told picker.new) solved.bars.items) }
+    ensures early { OnErr result (TellsOfFalls (market_system market.now)
+        (choice picker.old) (told picker.old) (told picker.new)) }
     ensures choice { choice picker.new ≡ choice picker.old }
 {
     let mut steps: Steps<L> = Steps::new(blank);
     solve(alloc, market, picker, &mut steps)
-}
-
-/// The stable matching of a market.
-fn solved(alloc: Global, market: &Market, picker: &mut dyn Picker) -> Result<Solved, OutOfMemory>
-    ensures stable { IfOk result (λ solved. IsStable market.now solved.places.items) }
-    ensures best { IfOk result (λ solved. IsBestForAll market.now solved.places.items) }
-    ensures greatest { IfOk result (λ solved. IsGreatest (market_system market.now) solved.bars.items) }
-    ensures led { IfOk result (λ solved. IsLedTo (market_system market.now) (choice picker.old) (told picker.old) (told picker.new) solved.bars.items) }
-    ensures early { OnErr result (TellsOfFalls (market_system market.now) (choice picker.old) (told picker.old) (told picker.new)) }
-    ensures choice { choice picker.new ≡ choice picker.old }
-{
-    solved_by::<Brand>(alloc, Blank::new(1), market, picker)
 }
 
 /// The text of a dossier's market.
@@ -71,13 +63,13 @@ fn text_of(
     ensures early { TellsMore (told picker.old) (told picker.new) }
     ensures choice { choice picker.new ≡ choice picker.old }
 {
-    let _ = &dossier.wishes; // learns the invariant
-    let solved = solved(alloc, &named.market, picker)?;
+    let _ = &dossier.wishes; // learns that the dossier is valid
+    let solved = solved::<Brand>(alloc, Blank::new(1), &named.market, picker)?;
     market_text(alloc, dossier, named, &solved)
 }
 
-/// The stable matching of those who rank their wishes, over the wishes without boarding, that is best
-/// for each of them. The picker chooses nothing of it.
+/// The stable matching of those who rank their wishes, over the wishes without boarding, that is
+/// best for each of them. The picker chooses nothing of it.
 pub(crate) fn matched_text(
     alloc: Global,
     dossier: &Dossier,

@@ -22,11 +22,11 @@ pub enum Mode {
     Explain { wish: u32 },
     /// Lists the wishes that block the evening after the days.
     Envy,
-    /// Says how many beds a school, named by its id, needs so that its bar stays at its ceiling in the
-    /// last pass.
+    /// Says how many beds a school, named by its id, needs so that its bar stays at its ceiling in
+    /// the last pass.
     Beds { school: u32 },
-    /// Writes the stable matching that is best for the candidates who rank their wishes, over the wishes
-    /// without boarding.
+    /// Writes the stable matching that is best for the candidates who rank their wishes, over the
+    /// wishes without boarding.
     Market,
     /// Makes a dossier of so many candidates, from 1 to 1,000,000, and writes a summary of its
     /// days.
