@@ -95,6 +95,7 @@ end_exit modes.Replay seen played desk exit text ends = is_after exit exits.Done
 end_exit modes.Chain seen played desk exit text ends = is_after exit exits.Done ends.0 tt
 end_exit modes.Check seen played desk exit text ends = check_exit seen.dossier seen.chain seen.dated played.orders exit text ends
 end_exit (modes.Explain wish) seen played desk exit text ends = is_after exit exits.Done ends.0 tt
+end_exit modes.Envy seen played desk exit text ends = is_after exit exits.Done ends.0 tt
 end_exit (modes.Beds school) seen played desk exit text ends = is_after exit exits.Done ends.0 tt
 end_exit modes.Market seen played desk exit text ends = is_after exit exits.Done ends.0 tt
 end_exit (modes.Sample number) seen played desk exit text ends = is_after exit exits.Done ends.0 tt
