@@ -25,10 +25,10 @@ pub fn auto_all(state: &mut DayState<'_>, stamp: Stamp) -> Freed
 {
     let _ = state.marks(); // one for each wish
     let mut all = Freed { seats: 0, beds: 0 };
-    let wishes = state.dossier().wishes.as_slice();
-    for (place, wish) in wishes.iter().enumerate() {
-        if is_last_wish(state, place as u32) {
-            let own = state.answer_automatically(wish.candidate, stamp);
+    let count = state.dossier().wishes.len() as u32;
+    for place in 0..count {
+        if is_last_wish(state, place) {
+            let own = state.answer_beside(place, stamp);
             all = together(all, own);
         }
     }

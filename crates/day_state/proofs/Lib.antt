@@ -3,7 +3,6 @@ pub mod Places
 pub mod KeptCounts
 pub mod Change
 pub mod Ordering
-pub mod Finding
 pub mod Along
 pub mod Numbering
 pub mod Lost

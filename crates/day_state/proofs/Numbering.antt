@@ -1,18 +1,18 @@
 -- The numbers of bundles, as a walk in the order of the candidates gives them: each is the first place of its bundle.
-use Rattle.std.proofs.Common.{ℕ, ◌+◌, ◌≤◌, ◌<◌, ◌≡◌, Bool, true, false, ◌&&◌, List, [], ◌∷◌, length, set, replicate, inl, inr, refl, sym, ◌∙◌, ap, arith, nat_eq, Option, Some, None, zero, suc}
+use Rattle.std.proofs.Common.{ℕ, ◌+◌, ◌≤◌, ◌<◌, ◌≡◌, Bool, true, false, ◌&&◌, List, [], ◌∷◌, length, set, replicate, inl, inr, refl, sym, ◌∙◌, ap, arith, nat_eq, filter, map, Option, Some, None, zero, suc}
 use Rattle.std.specs.Prelude.{slice_index, ◌==◌, All}
 use Rattle.std.specs.Option.{ForSome}
-use Rattle.std.specs.List.{find, list_any}
+use Rattle.std.specs.List.{find, list_any, range_with_len}
 use Rattle.std.specs.Cmp.{both_ways}
-use Rattle.std.proofs.lemmas.Bool.{cases_Bool, cases_eq, eqb-true, eq-eqb, and_parts, and_from, and_right, false_from_ne_true}
+use Rattle.std.proofs.lemmas.Bool.{cases_Bool, cases_eq, eqb-true, eq-eqb, and_parts, and_from, and_right, false_from_ne_true, false≢true}
 use Rattle.std.proofs.lemmas.Option.{unwrap_or-slice_get}
-use Rattle.std.proofs.lemmas.List.{length-set, length-replicate, get_or-replicate, get_or-set_same, get_or-set_other, get_or_default}
+use Rattle.std.proofs.lemmas.List.{length-set, length-replicate, get_or-replicate, get_or-set_same, get_or-set_other, get_or_default, ext_get_or}
 use Rattle.std.proofs.lemmas.List.Folds.{list_any_at, Any-from_list_any}
 use Rattle.admit_core.specs.declared.dossier.Wish.{Wish}
 use Rattle.admit_core.proofs.NextCalls.{find_passes}
 use Rattle.day_state.specs.declared.bundles.Sites.{Sites}
 use Rattle.day_state.specs.Kept.{candidate_in, wish_in, IsIndex}
-use Rattle.day_state.specs.Bundles.{site_of, is_same, together, number_in, joined, bundle_there, noted, AreBundles}
+use Rattle.day_state.specs.Bundles.{site_of, is_same, together, number_in, joined, bundle_there, noted, unpacked, bundle_of, AreBundles}
 use Rattle.day_state.proofs.Places.{candidate_in as candidate_there, any-filter}
 use Rattle.day_state.proofs.Along.{among-filter}
 
@@ -239,6 +239,16 @@ last_within sites ws order i h (Some f) index last b e =
     let same : f ≡ b = (cc) in
     rw (← same) (find_within (λ x. together sites (wish_in ws (slice_index order last.at)) (wish_in ws x)) order (length ws) f index.within last.first)
 
+-- the number that the next step notes is a place
+pub number_within : (sites : Sites) (ws : List Wish) (order : List ℕ) (count : ℕ) (last numbers : List (Option ℕ)) (i : ℕ) → IsIndex ws order → i < length order
+    → ForSome (site_of sites (wish_in ws (slice_index order i))) (λ h. h < count) → IsWalked sites ws order count last numbers i
+    → let x = slice_index order i in
+    ForSome (bundle_there ws last (site_of sites (wish_in ws x)) x) (λ b. b < length ws)
+number_within sites ws order count last numbers i index lt within walk = λ b e.
+    let x = slice_index order i in
+    find_within (λ y. together sites (wish_in ws x) (wish_in ws y)) order (length ws) b index.within
+    (number_here sites ws order count last numbers i (site_of sites (wish_in ws x)) index lt walk refl within ∙ e)
+
 -- the found bundle of a place, as the next step asks
 pub found_within : (sites : Sites) (ws : List Wish) (order : List ℕ) (count : ℕ) (last numbers : List (Option ℕ)) (i h : ℕ) → IsIndex ws order → IsWalked sites ws order count last numbers i
     → h < count → ForSome (number_in last h) (λ b. b < length ws)
@@ -277,6 +287,34 @@ bundles_shared sites ws order j k index lt =
     let also : find q order ≡ Some found.0 = sym (find_alike p q (λ x. alike sites v w (wish_in ws x) parts.1 parts.0 parts.2 parts.3) order) ∙ found.1 in
     some_is_same (find p order) (find q order) found.0 found.1 also)
 
+find_among : (p q : ℕ → Bool) → ((x : ℕ) → p x ≡ true → q x ≡ true) → (xs : List ℕ) → find p (filter q xs) ≡ find p xs
+find_among p q weaker [] = refl
+find_among p q weaker (x ∷ xs) =
+    elim (cases_Bool (q x)) [
+      | inl kept ↦ rw (kept, find_among p q weaker xs) refl
+      | inr left ↦
+          let out : p x ≡ false = false_from_ne_true (p x) (λ t. false≢true (sym left ∙ weaker x t)) in
+          rw (left, out) (find_among p q weaker xs)
+    ]
+
+-- the first place in the order is the first place of all
+first_is : (sites : Sites) (ws : List Wish) (order : List ℕ) (k : ℕ) → IsIndex ws order → first_in sites ws order k ≡ bundle_of sites ws k
+first_is sites ws order k index =
+    let c = candidate_in ws k in
+    let p = λ (x : ℕ). together sites (wish_in ws k) (wish_in ws x) in
+    let q = λ (x : ℕ). candidate_in ws x == c in
+    let weaker : (x : ℕ) → p x ≡ true → q x ≡ true = λ x t.
+    eq-eqb (candidate_in ws x) c (candidate_there ws x ∙ (together_parts sites (wish_in ws k) (wish_in ws x) t).0 ∙ sym (candidate_there ws k)) in
+    sym (find_among p q weaker order) ∙ ap (find p) (index.own c) ∙ find_among p q weaker (range_with_len 0 (length ws))
+
+-- the numbers follow from the wishes
+pub same_numbers : (sites : Sites) (ws : List Wish) (ns ms : List (Option ℕ)) → AreBundles sites ws ns → AreBundles sites ws ms → ns ≡ ms
+same_numbers sites ws ns ms one other =
+    ext_get_or None ns ms (one.as_long ∙ sym other.as_long)
+    (λ k lt.
+    let here : k < length ws = omega (arith, lt, one.as_long) in
+    sym (unwrap_or-slice_get ns k None) ∙ one.first k here ∙ sym (other.first k here) ∙ unwrap_or-slice_get ms k None)
+
 -- at the end all wishes have their numbers
 pub walked_all : (sites : Sites) (ws : List Wish) (order : List ℕ) (count : ℕ) (last numbers : List (Option ℕ)) (i : ℕ) → IsIndex ws order → length order ≤ i
     → IsWalked sites ws order count last numbers i → AreBundles sites ws numbers
@@ -286,6 +324,12 @@ walked_all sites ws order count last numbers i index le walk =
     rw place.2 at (walk.walked place.0 (omega (arith, place.1))) in
     record {
       as_long = walk.long;
+      first = λ k lt. is k lt ∙ first_is sites ws order k index;
       within = λ k lt b e. find_within (λ x. together sites (wish_in ws k) (wish_in ws x)) order (length ws) b index.within (sym (is k lt) ∙ e);
       shared = λ j k j_lt k_lt. rw (is j j_lt, is k k_lt) (bundles_shared sites ws order j k index k_lt);
     }
+
+-- no number is packed in each place of a fresh list
+pub none_unpacked : (n : ℕ) → map unpacked (replicate n 4294967295) ≡ replicate n None
+none_unpacked zero = refl
+none_unpacked (suc n) = ap (λ (ns : List (Option ℕ)). None ∷ ns) (none_unpacked n)

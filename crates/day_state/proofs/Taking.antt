@@ -1,5 +1,5 @@
 -- The automatic answer of one candidate.
-use Rattle.std.proofs.Common.{ℕ, ◌<◌, ◌≡◌, Bool, true, false, [], length, inl, inr, refl, sym, ◌∙◌, arith, Option, Some, None}
+use Rattle.std.proofs.Common.{ℕ, ◌<◌, ◌≡◌, Bool, true, false, [], length, inl, inr, refl, sym, subst, ◌∙◌, arith, Option, Some, None}
 use Rattle.std.specs.Prelude.{◌==◌, nat_lt, option_map, if◌then◌else◌}
 use Rattle.std.proofs.lemmas.Bool.{cases_Bool, eqb-true}
 use Rattle.std.proofs.lemmas.Option.{unwrap_or-slice_get}
@@ -97,8 +97,12 @@ whole_found d s c stamp x valid is whole =
       one_accepted = one_taken s c stamp x valid whole.long is whole.one_accepted;
     })
 
-pub whole_taken : (d : DossierRows) (s : State) (c best : ℕ) (stamp : Stamp) → IsValid s.dossier → Some best ≡ option_map (λ x. x.0.preference) (best_live s c)
-    → IsDayState d s → IsDayState d (auto_one s c stamp)
-whole_taken d s c best stamp valid e whole =
-    let found = mapped_some (λ (x : Wish × Mark). x.0.preference) (best_live s c) best e in
-    whole_found d s c stamp found.0 valid found.1 whole
+whole_by : (d : DossierRows) (s : State) (c : ℕ) (stamp : Stamp) (o : Option (Wish × Mark)) → best_live s c ≡ o → IsValid s.dossier → IsDayState d s → IsDayState d (auto_one s c stamp)
+whole_by d s c stamp None is valid whole =
+    let none : None ≡ option_map (λ (x : Wish × Mark). x.0.preference) (best_live s c) = rw is refl in
+    subst (IsDayState d) (auto_none s c stamp whole.long none) whole
+whole_by d s c stamp (Some x) is valid whole = whole_found d s c stamp x valid is whole
+
+-- what every state keeps holds after the answer
+pub whole_taken : (d : DossierRows) (s : State) (c : ℕ) (stamp : Stamp) → IsValid s.dossier → IsDayState d s → IsDayState d (auto_one s c stamp)
+whole_taken d s c stamp valid whole = whole_by d s c stamp (best_live s c) refl valid whole

@@ -1,7 +1,7 @@
 -- Bundles: the wishes of one candidate in one programme, or in one school.
 use Rattle.std.specs.Prelude.{◌≡◌, ℕ, ◌<◌, Bool, false, ◌&&◌, nat_lt, List, length, filter, Option, Some, None, ◌==◌, slice_get, slice_index, slice_set, unwrap_or, if◌then◌else◌}
 use Rattle.std.specs.Option.{ForSome}
-use Rattle.std.specs.List.{range_with_len}
+use Rattle.std.specs.List.{find, range_with_len}
 use Rattle.admit_core.specs.declared.dossier.Wish.{Wish}
 use Rattle.admit_core.specs.declared.state.Mark.{Mark}
 use Rattle.admit_core.specs.State.{State, is_live, is_school}
@@ -27,9 +27,18 @@ together sites v w = (w.candidate == v.candidate) && is_same (site_of sites v) (
 abbrev pub number_in : List (Option ℕ) → ℕ → Option ℕ
 number_in ns k = unwrap_or (slice_get ns k) None
 
--- each wish with a site has the number of its bundle, which two wishes share exactly where they are together
+-- what a packed number stands for
+abbrev pub unpacked : ℕ → Option ℕ
+unpacked n = if n == 4294967295 then None else Some n
+
+-- the first wish that is together with the one at a place
+abbrev pub bundle_of : Sites → List Wish → ℕ → Option ℕ
+bundle_of sites ws k = find (λ j. together sites (wish_in ws k) (wish_in ws j)) (range_with_len 0 (length ws))
+
+-- each wish with a site has the first place of its bundle as its number, which two wishes share exactly where they are together
 pub record AreBundles (sites : Sites) (ws : List Wish) (numbers : List (Option ℕ)) : Type 0 where
   pub as_long : length numbers ≡ length ws
+  pub first : (k : ℕ) → k < length ws → number_in numbers k ≡ bundle_of sites ws k
   pub within : (k : ℕ) → k < length ws → ForSome (number_in numbers k) (λ b. b < length ws)
   pub shared : (j k : ℕ) → j < length ws → k < length ws → is_same (number_in numbers j) (number_in numbers k) ≡ together sites (wish_in ws j) (wish_in ws k)
 

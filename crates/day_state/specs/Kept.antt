@@ -1,6 +1,5 @@
 -- What is kept beside the marks: an index of the candidates, and the numbers of those who are live.
-use Rattle.std.specs.Prelude.{◌≡◌, ℕ, ◌+◌, ◌-◌, ◌≤◌, ◌<◌, Bool, false, cond, ◌&&◌, List, map, length, filter, Option, Some, None, ◌==◌, slice_get, slice_index, slice_range, slice_set, unwrap_or, All, IsSome}
-use Rattle.std.specs.Option.{ForSome}
+use Rattle.std.specs.Prelude.{◌≡◌, ℕ, ◌+◌, ◌-◌, ◌≤◌, ◌<◌, Bool, false, cond, ◌&&◌, nat_lt, List, map, length, filter, Option, Some, None, ◌==◌, slice_get, slice_index, slice_range, slice_set, unwrap_or, All}
 use Rattle.std.specs.List.{list_any, range_with_len}
 use Rattle.std.specs.List.Sorted.{IsNonDecreasingBy}
 use Rattle.admit_core.specs.declared.dossier.Wish.{Wish}
@@ -49,6 +48,10 @@ has_seat_there s place = holds_seat s (wish_in s.dossier.wishes place).candidate
 
 abbrev pub has_bed_there : State → ℕ → Bool
 has_bed_there s place = holds_one (in_school (wish_in s.dossier.wishes place).school) s (wish_in s.dossier.wishes place).candidate
+
+-- the wish at a place is live, and ranked by its candidate
+abbrev pub is_live_and_ranked : State → ℕ → Bool
+is_live_and_ranked s k = nat_lt 0 (wish_in s.dossier.wishes k).preference && is_live (mark_in s.marks k)
 
 -- the state of a dossier with these marks
 abbrev pub state_of : DossierRows → List Mark → State
@@ -99,13 +102,7 @@ pub record AreSpans (ws : List Wish) (order : List ℕ) (n : ℕ) (spans : List 
   pub count : length spans ≡ n
   pub each : (k : ℕ) → k < n → IsSpan ws order (candidate_in ws k) (span_in spans k)
 
--- each candidate of the first n wishes is found, at the place of one of theirs
-pub record AreFound (ws : List Wish) (n : ℕ) (place_of : ℕ → Option ℕ) : Type 0 where
-  pub own : (c : ℕ) → ForSome (place_of c) (λ k. (k < n) × (candidate_in ws k ≡ c))
-  pub each : (k : ℕ) → k < n → IsSome (place_of (candidate_in ws k))
-
 -- an index by candidate and by wish
-pub record IsIndexed (ws : List Wish) (order : List ℕ) (spans : List Span) (place_of : ℕ → Option ℕ) : Type 0 where
+pub record IsIndexed (ws : List Wish) (order : List ℕ) (spans : List Span) : Type 0 where
   pub by_candidate : IsIndex ws order
   pub by_wish : AreSpans ws order (length ws) spans
-  pub found : AreFound ws (length ws) place_of

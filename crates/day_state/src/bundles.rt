@@ -6,8 +6,10 @@ ghost use Rattle.day_state.specs.Kept.{wish_in, one_if, recount_some, IsIndex};
 
 use crate::counts::{copy_counts, recount_some, zeros};
 use crate::mark::wish_at;
+use crate::numbers::Numbers;
 use admit_core::{OutOfMemory, Wish};
 use std::alloc::Global;
+use std::rc::Rc;
 
 /// Where candidates are live.
 #[derive(Clone, Copy)]
@@ -17,10 +19,11 @@ pub enum Sites {
 }
 
 /// Of each wish the number of its bundle, and of each bundle the number of its live wishes. A
-/// bundle has the place of one of its wishes as its number.
+/// bundle has the place of its first wish as its number: so the numbers follow from the wishes, and
+/// copies share them.
 #[derive(Drop)]
 pub struct Bundles {
-    numbers: Vec<Option<u32>>,
+    numbers: Rc<Numbers>,
     live: Vec<u32>,
 }
 
@@ -43,59 +46,60 @@ impl Bundles {
     ) -> Result<Bundles, OutOfMemory>
         requires order { IsIndex wishes.now order.now }
         requires sites { (k : ℕ) → k < length wishes.now → ForSome (site_of sites (wish_in wishes.now k)) (λ h. h < count) }
-        ensures numbers { IfOk result (λ b. AreBundles sites wishes.now b.numbers.items) }
+        requires few { length wishes.now < 2 ^ 32 }
+        ensures numbers { IfOk result (λ b. AreBundles sites wishes.now b.numbers.value) }
         ensures live { IfOk result (λ b. b.live.items ≡ replicate (length wishes.now) 0) }
     {
         let numbers = numbers_of(alloc, sites, wishes, order, count)?;
         let live = zeros(alloc, wishes.len())?;
-        Ok(Bundles { numbers, live })
+        let shared = Rc::new(alloc, numbers)?;
+        Ok(Bundles {
+            numbers: shared,
+            live,
+        })
     }
 
     /// The same bundles again.
     pub fn copy(&self, alloc: Global) -> Result<Bundles, OutOfMemory>
-        ensures numbers { IfOk result (λ b. b.numbers.items ≡ self.now.numbers.items) }
+        ensures numbers { IfOk result (λ b. b.numbers.value ≡ self.now.numbers.value) }
         ensures live { IfOk result (λ b. b.live.items ≡ self.now.live.items) }
     {
         Ok(Bundles {
-            numbers: self.numbers.as_slice().to_vec(alloc)?,
+            numbers: self.numbers.clone()?,
             live: self.live.as_slice().to_vec(alloc)?,
         })
     }
 
-    /// Takes over the bundles of as many wishes.
+    /// Takes over how many wishes are live in each bundle of the same wishes.
     pub fn set_from(&mut self, other: &Bundles)
-        requires numbers { length self.old.numbers.items ≡ length other.now.numbers.items }
-        requires live { length self.old.live.items ≡ length other.now.live.items }
-        ensures numbers { self.new.numbers.items ≡ other.now.numbers.items }
+        requires { length self.old.live.items ≡ length other.now.live.items }
+        ensures numbers { self.new.numbers.value ≡ self.old.numbers.value }
         ensures live { self.new.live.items ≡ other.now.live.items }
     {
-        self.numbers
-            .as_mut_slice()
-            .copy_from_slice(other.numbers.as_slice());
         copy_counts(&mut self.live, &other.live);
     }
 
     /// Whether one of a wish's bundle is live.
     pub fn is_live(&self, wish: u32) -> bool
-        requires place { wish < length self.now.numbers.items }
-        requires number { ForSome (number_in self.now.numbers.items wish) (λ b. b < length self.now.live.items) }
-        ensures { result ≡ has_live self.now.live.items (number_in self.now.numbers.items wish) }
+        requires place { wish < length self.now.numbers.value }
+        requires number { ForSome (number_in self.now.numbers.value wish) (λ b. b < length self.now.live.items) }
+        ensures { result ≡ has_live self.now.live.items (number_in self.now.numbers.value wish) }
     {
-        has_live(&self.live, self.numbers[wish as usize])
+        has_live(&self.live, self.numbers.get(wish))
     }
 
     /// Counts a wish anew that was live, or wasn't, and is live, or isn't.
     pub fn turn(&mut self, wish: u32, was_live: bool, lives: bool) -> Turn
-        requires place { wish < length self.old.numbers.items }
-        requires number { ForSome (number_in self.old.numbers.items wish) (λ b. b < length self.old.live.items) }
-        requires comes { ForSome (number_in self.old.numbers.items wish) (λ b. slice_index self.old.live.items b + one_if lives < 2 ^ 32) }
-        requires goes { ForSome (number_in self.old.numbers.items wish) (λ b. one_if was_live ≤ slice_index self.old.live.items b + one_if lives) }
-        ensures numbers { self.new.numbers.items ≡ self.old.numbers.items }
-        ensures live { self.new.live.items ≡ recount_some self.old.live.items (number_in self.old.numbers.items wish) was_live lives }
-        ensures had { result.had ≡ has_live self.old.live.items (number_in self.old.numbers.items wish) }
-        ensures has { result.has ≡ has_live self.new.live.items (number_in self.old.numbers.items wish) }
+        requires place { wish < length self.old.numbers.value }
+        requires number { ForSome (number_in self.old.numbers.value wish) (λ b. b < length self.old.live.items) }
+        requires comes { ForSome (number_in self.old.numbers.value wish) (λ b. slice_index self.old.live.items b + one_if lives < 2 ^ 32) }
+        requires goes { ForSome (number_in self.old.numbers.value wish) (λ b. one_if was_live ≤ slice_index self.old.live.items b + one_if lives) }
+        ensures numbers { self.new.numbers.value ≡ self.old.numbers.value }
+        ensures live { self.new.live.items ≡ recount_some self.old.live.items (number_in self.old.numbers.value wish) was_live lives }
+        ensures had { result.had ≡ has_live self.old.live.items (number_in self.old.numbers.value wish) }
+        ensures has { result.has ≡ has_live self.new.live.items (number_in self.old.numbers.value wish) }
     {
-        let number = self.numbers[wish as usize];
+        let number = self.numbers.get(wish);
         let had = has_live(&self.live, number);
         recount_some(&mut self.live, number, was_live, lives);
         let has = has_live(&self.live, number);
@@ -131,18 +135,19 @@ fn numbers_of(
     wishes: &[Wish],
     order: &[u32],
     count: usize,
-) -> Result<Vec<Option<u32>>, OutOfMemory>
+) -> Result<Numbers, OutOfMemory>
     requires order { IsIndex wishes.now order.now }
     requires sites { (k : ℕ) → k < length wishes.now → ForSome (site_of sites (wish_in wishes.now k)) (λ h. h < count) }
-    ensures { IfOk result (λ v. AreBundles sites wishes.now v.items) }
+    requires few { length wishes.now < 2 ^ 32 }
+    ensures { IfOk result (AreBundles sites wishes.now) }
 {
     let mut last = no_numbers(alloc, count)?;
-    let mut numbers = no_numbers(alloc, wishes.len())?;
+    let mut numbers = Numbers::none(alloc, wishes.len())?;
     for place in order {
         let site = site_of(sites, wish_at(wishes, *place));
         let number = bundle_there(wishes, last.as_slice(), site, *place);
         note(&mut last, site, number);
-        numbers[*place as usize] = number;
+        numbers.put(*place, number);
     }
     Ok(numbers)
 }

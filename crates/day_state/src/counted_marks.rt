@@ -5,7 +5,7 @@ ghost use Rattle.std.specs.List.{list_any};
 ghost use Rattle.admit_core.specs.State.{State, with_mark_at, holds_seat, holds_bed, seat_holders, bed_holders};
 ghost use Rattle.admit_core.specs.DossierRows.{candidate_of};
 ghost use Rattle.admit_core.specs.OwnWishes.{own_places};
-ghost use Rattle.admit_core.specs.AutoAnswer.{best_live, freed_by};
+ghost use Rattle.admit_core.specs.AutoAnswer.{auto_one, best_live, freed_by};
 ghost use Rattle.day_state.specs.Along.{change_own, changed_by};
 ghost use Rattle.day_state.specs.Best.{best_among};
 ghost use Rattle.day_state.specs.Kept.{mark_in, wish_in, lives_at, in_school, holds_bed_in, has_seat_there, waiting_mark, state_of, IsIndex};
@@ -13,8 +13,8 @@ ghost use Rattle.day_state.specs.Kept.{mark_in, wish_in, lives_at, in_school, ho
 use crate::bundles::{Bundles, Sites};
 use crate::counts::{copy_counts, recount, recount_some, zeros};
 use crate::mark::{
-    OwnChange, better, changed_by, is_live, live_preference, lives_in_programme, lives_in_school,
-    lost, wish_at,
+    OwnChange, better, changed_by, live_preference, lives_in_programme, lives_in_school, lost,
+    wish_at,
 };
 use admit_core::{Dossier, Freed, Mark, OutOfMemory, Stamp, Status, Wish};
 use std::alloc::Global;
@@ -41,7 +41,7 @@ impl<'d> Model for CountedMarks<'d> {
 
     ghost view = { λ s. record { dossier = s.dossier.now; marks = s.marks.items } };
 
-    ghost invariant = { λ s. KeepsCounts (record { dossier = s.dossier.now; marks = s.marks.items }) s.seats.items s.beds.items s.in_programmes.numbers.items s.in_programmes.live.items s.in_schools.numbers.items s.in_schools.live.items };
+    ghost invariant = { λ s. KeepsCounts (record { dossier = s.dossier.now; marks = s.marks.items }) s.seats.items s.beds.items s.in_programmes.numbers.value s.in_programmes.live.items s.in_schools.numbers.value s.in_schools.live.items };
 }
 
 impl<'d> CountedMarks<'d> {
@@ -212,6 +212,20 @@ impl<'d> CountedMarks<'d> {
         freed
     }
 
+    /// Answers for a candidate, where they rank their wishes and one of them is live; `own` has the
+    /// places of their wishes.
+    pub fn take_best(&mut self, own: &[u32], candidate: u32, stamp: Stamp) -> Freed
+        requires { own.now ≡ own_places self.old.dossier candidate }
+        ensures state { self.new ≡ auto_one self.old candidate stamp }
+        ensures freed { result ≡ freed_by self.old self.new candidate }
+    {
+        let _ = &self.marks; // learns the invariant
+        match self.best_preference(own, candidate) {
+            None => NOTHING_FREED,
+            Some(best) => self.change_own(own, candidate, OwnChange::TakeBest(best), stamp),
+        }
+    }
+
     /// Gives a wish a mark, and counts what its candidate frees.
     pub fn set_mark(&mut self, wish: u32, mark: Mark) -> Freed
         requires { wish < length self.old.marks }
@@ -220,8 +234,8 @@ impl<'d> CountedMarks<'d> {
     {
         let dossier = self.dossier;
         let named = wish_at(dossier.wishes.as_slice(), wish);
-        let was_live = is_live(self.marks[wish as usize]);
-        let lives = is_live(mark);
+        let was_live = self.marks[wish as usize].is_live();
+        let lives = mark.is_live();
         let seat = self.in_programmes.turn(wish, was_live, lives);
         let bed = self.in_schools.turn(wish, was_live, lives);
         self.marks[wish as usize] = mark;

@@ -10,15 +10,15 @@ ghost use Rattle.admit_core.specs.Days.{first_evening};
 ghost use Rattle.admit_core.specs.Validity.{IsTarget};
 ghost use Rattle.admit_core.specs.Lapses.{lapse};
 ghost use Rattle.admit_core.specs.AutoAnswer.{auto_one, freed_by};
-ghost use Rattle.day_state.specs.Kept.{mark_in, wish_in, holds_bed_in, IsIndex};
+ghost use Rattle.day_state.specs.Kept.{mark_in, wish_in, holds_bed_in, is_live_and_ranked, IsIndex};
 ghost use Rattle.day_state.specs.Along.{change_along};
 ghost use Rattle.day_state.specs.Lapsing.{lapsed};
 ghost use Rattle.day_state.specs.Laws.{AreOwn, OwnFit};
 ghost use Rattle.day_state.specs.Applied.{answered, after_fitting, after_fitting_front, refused_at};
 
-use crate::counted_marks::{CountedMarks, NOTHING_FREED};
+use crate::counted_marks::CountedMarks;
 use crate::index::{CandidateIndex, candidate_at};
-use crate::mark::{OwnChange, changed_to, first_mark, is_live_status, is_waiting_status, lapses};
+use crate::mark::{OwnChange, changed_to, first_mark, lapses, wish_at};
 use admit_core::{Answer, AnswerKind, Dossier, Freed, Mark, OutOfMemory, Stamp, Status, Terms};
 use std::alloc::Global;
 use std::marker::Model;
@@ -265,21 +265,21 @@ impl<'d> DayState<'d> {
         match answer.kind {
             AnswerKind::Accept => {
                 let status = self.status(wish);
-                if !is_live_status(status) {
+                if !status.is_live() {
                     return Err(UnfitAnswer { status });
                 }
                 self.accept(wish, stamp);
             }
             AnswerKind::Refuse => {
                 let status = self.status(wish);
-                if !is_live_status(status) {
+                if !status.is_live() {
                     return Err(UnfitAnswer { status });
                 }
                 self.put(wish, Status::Refused, stamp);
             }
             AnswerKind::Withdraw => {
                 let status = self.status(wish);
-                if !is_waiting_status(status) {
+                if !status.is_waiting() {
                     return Err(UnfitAnswer { status });
                 }
                 self.put(wish, Status::Withdrawn, stamp);
@@ -322,22 +322,39 @@ impl<'d> DayState<'d> {
         Ok(())
     }
 
-    /// Answers for a candidate, where they rank their wishes and one of these is live: the best
-    /// live one is accepted, the other live ones are given up, and so are the waiting ones behind
-    /// it. Tells what that frees.
+    /// Whether a wish is live, and ranked by its candidate: they are answered for then.
+    pub fn is_live_and_ranked(&self, wish: u32) -> bool
+        requires { wish < length self.now.dossier.wishes }
+        ensures { result ≡ is_live_and_ranked self.now wish }
+    {
+        let dossier = self.live.dossier();
+        let named = wish_at(dossier.wishes.as_slice(), wish);
+        named.preference > 0 && self.live.mark(wish).is_live()
+    }
+
+    /// Answers for a candidate, where they rank their wishes and one of them is live: the best live
+    /// one is accepted, their other live wishes are given up, and so are the waiting ones behind it.
+    /// Tells what they free.
     pub fn answer_automatically(&mut self, candidate: u32, stamp: Stamp) -> Freed
         ensures state { self.new ≡ auto_one self.old candidate stamp }
         ensures freed { result ≡ freed_by self.old self.new candidate }
     {
         let dossier = self.live.dossier();
-        let _ = &dossier.wishes; // learns that their preferences differ
+        let _ = &dossier.wishes; // learns that the preferences of a candidate differ
         let own = self.index.of(candidate);
-        match self.live.best_preference(own, candidate) {
-            None => NOTHING_FREED,
-            Some(best) => self
-                .live
-                .change_own(own, candidate, OwnChange::TakeBest(best), stamp),
-        }
+        self.live.take_best(own, candidate, stamp)
+    }
+
+    /// Answers for a wish's candidate, whom it finds without a search.
+    pub fn answer_beside(&mut self, wish: u32, stamp: Stamp) -> Freed
+        requires { wish < length self.old.dossier.wishes }
+        ensures state { self.new ≡ auto_one self.old (candidate_of self.old.dossier wish) stamp }
+        ensures freed { result ≡ freed_by self.old self.new (candidate_of self.old.dossier wish) }
+    {
+        let dossier = self.live.dossier();
+        let candidate = candidate_at(dossier.wishes.as_slice(), wish);
+        let own = self.index.own_of(wish);
+        self.live.take_best(own, candidate, stamp)
     }
 
     /// Ends the offers whose deadline has passed.

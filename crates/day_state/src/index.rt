@@ -1,16 +1,13 @@
 //! An index from a candidate to their own wishes.
-ghost use Rattle.std.specs.Prelude.{◌≡◌, ◌<◌, ◌≤◌, ◌^◌, length, slice_range, IfOk, OnOk, nat_eq, nat_lt, nat_le, true, false};
+ghost use Rattle.std.specs.Prelude.{◌≡◌, ◌<◌, ◌≤◌, ◌^◌, length, slice_range, IfOk, OnOk, nat_lt, nat_le, true, false};
 ghost use Rattle.std.specs.List.{range_with_len};
 ghost use Rattle.std.specs.List.Sorted.{IsNonDecreasingBy, IsPermutation, IsStableByKey, IsPartitionPoint};
 ghost use Rattle.std.specs.Ordering.{nat_cmp};
-ghost use Rattle.indexmap.specs.IndexMap.{get};
 ghost use Rattle.admit_core.specs.DossierRows.{DossierRows, candidate_of};
 ghost use Rattle.admit_core.specs.OwnWishes.{own_places};
-ghost use Rattle.day_state.specs.Kept.{candidate_in, AreFound, IsIndex, IsSpan, AreSpans};
+ghost use Rattle.day_state.specs.Kept.{candidate_in, IsIndex, IsSpan, AreSpans};
 
 use admit_core::{Dossier, OutOfMemory, Wish};
-use indexmap::IndexMap;
-use keyed_hash::{KeyMaker, Keyed};
 use std::alloc::{AllocError, AllocFailed, Global};
 use std::marker::Model;
 
@@ -21,19 +18,16 @@ struct Span {
     to: u32,
 }
 
-/// The places of a dossier's wishes in order by candidate, for each wish where those of its
-/// candidate stand in it, and for each candidate the place of one of their wishes.
+/// The places of a dossier's wishes in order by candidate, and for each wish where those of its
+/// candidate stand in it.
 #[derive(Drop)]
 pub struct CandidateIndex<'d> {
     dossier: &'d Dossier,
     order: Vec<u32>,
     spans: Vec<Span>,
-    found: IndexMap<u32, u32, Keyed>,
 }
 
 impl<'d> Model for CandidateIndex<'d> {
-    ghost use Rattle.std.specs.Prelude.{nat_eq};
-    ghost use Rattle.indexmap.specs.IndexMap.{get};
     ghost use Rattle.admit_core.specs.DossierRows.{DossierRows};
     ghost use Rattle.day_state.specs.Kept.{IsIndexed};
 
@@ -41,7 +35,7 @@ impl<'d> Model for CandidateIndex<'d> {
 
     ghost view = { λ s. s.dossier.now };
 
-    ghost invariant = { λ s. IsIndexed s.dossier.now.wishes s.order.items s.spans.items (get nat_eq s.found) };
+    ghost invariant = { λ s. IsIndexed s.dossier.now.wishes s.order.items s.spans.items };
 }
 
 impl<'d> CandidateIndex<'d> {
@@ -52,12 +46,10 @@ impl<'d> CandidateIndex<'d> {
         let wishes = dossier.wishes.as_slice();
         let order = order_of(alloc, wishes)?;
         let spans = spans_of(alloc, wishes, order.as_slice())?;
-        let found = found_of(alloc, wishes)?;
         Ok(CandidateIndex {
             dossier,
             order,
             spans,
-            found,
         })
     }
 
@@ -68,14 +60,13 @@ impl<'d> CandidateIndex<'d> {
         self.order.as_slice()
     }
 
-    /// The places of a candidate's wishes, ascending.
+    /// The places of a candidate's wishes, ascending: a binary search.
     pub fn of(&self, candidate: u32) -> &[u32]
         ensures { result.now ≡ own_places self.now candidate }
     {
-        match self.found.get(&candidate) {
-            Some(wish) => self.own_of(*wish),
-            None => &[],
-        }
+        let dossier = self.dossier;
+        let order = self.order.as_slice();
+        part(order, span_of(dossier.wishes.as_slice(), order, candidate))
     }
 
     /// The places of the wishes of a wish's candidate, ascending.
@@ -189,27 +180,6 @@ fn spans_of(alloc: Global, wishes: &[Wish], order: &[u32]) -> Result<Vec<Span>, 
         spans.push(span)?;
     }
     Ok(spans)
-}
-
-/// Hashing by a key of the wishes' candidates.
-fn hashing_of(wishes: &[Wish]) -> Keyed {
-    let mut key = KeyMaker::new();
-    for wish in wishes {
-        key.mix(wish.candidate, wish.id);
-    }
-    key.done()
-}
-
-/// For each candidate the place of one of their wishes.
-fn found_of(alloc: Global, wishes: &[Wish]) -> Result<IndexMap<u32, u32, Keyed>, OutOfMemory>
-    requires { length wishes.now < 2 ^ 32 }
-    ensures { IfOk result (λ found. AreFound wishes.now (length wishes.now) (get nat_eq found)) }
-{
-    let mut found = IndexMap::with_hasher(alloc, hashing_of(wishes));
-    for (place, wish) in wishes.iter().enumerate() {
-        found.insert(wish.candidate, place as u32)?;
-    }
-    Ok(found)
 }
 
 /// The part of an order that a span marks.

@@ -11,6 +11,7 @@ mod day;
 mod index;
 mod laws;
 mod mark;
+mod numbers;
 
 pub use day::{DayState, UnfitAnswer, UnfitAt};
 pub use laws::candidates_stand_apart;

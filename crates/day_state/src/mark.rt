@@ -1,6 +1,6 @@
 //! Tests of wishes and their marks.
 ghost use Rattle.std.specs.Prelude.{◌≡◌, ◌<◌, ◌≤◌, ◌+◌, ◌^◌, ◌&&◌, ◌==◌, length, IsTrue, not, pos, negsuc, ◌≤ℤ◌, slice_index_or, if◌then◌else◌};
-ghost use Rattle.admit_core.specs.State.{changed_to, is_live, is_waiting, is_live_status, is_waiting_status};
+ghost use Rattle.admit_core.specs.State.{changed_to};
 ghost use Rattle.admit_core.specs.AutoAnswer.{auto_status};
 ghost use Rattle.admit_core.specs.Days.{first_mark};
 ghost use Rattle.admit_core.specs.Lapses.{lapses, offer_day};
@@ -9,34 +9,6 @@ ghost use Rattle.day_state.specs.Best.{better, live_preference};
 ghost use Rattle.day_state.specs.Kept.{mark_in, wish_in, lives_at, in_school, one_if};
 
 use admit_core::{Mark, Stamp, Status, Terms, Wish};
-
-/// Whether a status is that of a live wish.
-pub fn is_live_status(status: Status) -> bool
-    ensures { result ≡ is_live_status status }
-{
-    matches!(status, Status::Offered | Status::Accepted)
-}
-
-/// Whether a status is that of a waiting wish.
-pub fn is_waiting_status(status: Status) -> bool
-    ensures { result ≡ is_waiting_status status }
-{
-    matches!(status, Status::Waiting)
-}
-
-/// Whether a mark is that of a live wish.
-pub fn is_live(mark: Mark) -> bool
-    ensures { result ≡ is_live mark }
-{
-    is_live_status(mark.status)
-}
-
-/// Whether a mark is that of a waiting wish.
-pub fn is_waiting(mark: Mark) -> bool
-    ensures { result ≡ is_waiting mark }
-{
-    is_waiting_status(mark.status)
-}
 
 /// The mark of a wish that gets a status: the stamp changes only with the status.
 pub fn changed_to(mark: Mark, status: Status, stamp: Stamp) -> Mark
@@ -98,8 +70,8 @@ pub fn changed_by(change: OwnChange, wish: Wish, mark: Mark, stamp: Stamp) -> Ma
     ensures { result ≡ changed_by change stamp wish mark }
 {
     match change {
-        OwnChange::RefuseLive if is_live(mark) => changed_to(mark, Status::Refused, stamp),
-        OwnChange::QuitOpen if is_live(mark) || is_waiting(mark) => {
+        OwnChange::RefuseLive if mark.is_live() => changed_to(mark, Status::Refused, stamp),
+        OwnChange::QuitOpen if mark.is_live() || mark.is_waiting() => {
             changed_to(mark, Status::Quit, stamp)
         }
         OwnChange::TakeBest(best) => {
@@ -142,7 +114,7 @@ pub fn live_preference(wishes: &[Wish], marks: &[Mark], place: u32) -> Option<u3
     ensures { result ≡ live_preference wishes.now marks.now place }
 {
     let preference = wishes[place as usize].preference;
-    if is_live(marks[place as usize]) && preference > 0 {
+    if marks[place as usize].is_live() && preference > 0 {
         Some(preference)
     } else {
         None
@@ -173,7 +145,7 @@ pub fn lives_in_programme(wishes: &[Wish], marks: &[Mark], place: u32, programme
     requires mark { place < length marks.now }
     ensures { result ≡ lives_at wishes.now marks.now (λ w. w.programme == programme) place }
 {
-    is_live(marks[place as usize]) && wishes[place as usize].programme == programme
+    marks[place as usize].is_live() && wishes[place as usize].programme == programme
 }
 
 /// Whether the wish at a place is live in a school, where one is given.
@@ -182,7 +154,7 @@ pub fn lives_in_school(wishes: &[Wish], marks: &[Mark], place: u32, school: Opti
     requires mark { place < length marks.now }
     ensures { result ≡ lives_at wishes.now marks.now (in_school school) place }
 {
-    is_live(marks[place as usize]) && is_in_school(wishes[place as usize], school)
+    marks[place as usize].is_live() && is_in_school(wishes[place as usize], school)
 }
 
 /// 1 where one who was counted no longer is.

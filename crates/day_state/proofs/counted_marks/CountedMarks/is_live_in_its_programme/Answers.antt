@@ -9,5 +9,5 @@ returns c =
     let marks = c.self.inside.marks.items in
     let in_range : c.args.wish < length marks = rw (sym c.self.view_is) at c.requires in
     c.is_live.ensures
-    ∙ has_seat_is (state_of c.self.inside.dossier.now marks) c.self.inside.in_programmes.numbers.items c.self.inside.in_programmes.live.items c.args.wish c.self.invariant.kept.marks in_range c.self.invariant.programmes
+    ∙ has_seat_is (state_of c.self.inside.dossier.now marks) c.self.inside.in_programmes.numbers.value c.self.inside.in_programmes.live.items c.args.wish c.self.invariant.kept.marks in_range c.self.invariant.programmes
     ∙ ap (λ (s : State). has_seat_there s c.args.wish) c.self.view_is

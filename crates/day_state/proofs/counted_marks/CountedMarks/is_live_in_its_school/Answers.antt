@@ -9,5 +9,5 @@ returns c =
     let marks = c.self.inside.marks.items in
     let in_range : c.args.wish < length marks = rw (sym c.self.view_is) at c.requires in
     c.is_live.ensures
-    ∙ holds_bed_is (state_of c.self.inside.dossier.now marks) c.self.inside.in_schools.numbers.items c.self.inside.in_schools.live.items c.args.wish c.self.invariant.kept.marks in_range c.self.invariant.schools
+    ∙ holds_bed_is (state_of c.self.inside.dossier.now marks) c.self.inside.in_schools.numbers.value c.self.inside.in_schools.live.items c.args.wish c.self.invariant.kept.marks in_range c.self.invariant.schools
     ∙ ap (λ (s : State). holds_bed_in s (wish_in s.dossier.wishes c.args.wish).candidate (wish_in s.dossier.wishes c.args.wish).school) c.self.view_is

@@ -14,7 +14,7 @@ turn-seat-requires-clause-comes c =
     let marks = c.self.inside.marks.items in
     let in_range : c.args.wish < length marks = rw (sym c.self.view_is) at c.requires in
     let valid : IsValid d = subst IsValid c.dossier.view_is c.dossier.invariant in
-    rw c.is_live-lives.ensures (λ b e. (bundle_fits Programmes (state_of d marks) c.self.inside.in_programmes.numbers.items c.self.inside.in_programmes.live.items c.args.wish c.args.mark c.self.invariant.kept.marks in_range valid.size.wishes c.self.invariant.programmes b e).comes)
+    rw c.is_live-lives.ensures (λ b e. (bundle_fits Programmes (state_of d marks) c.self.inside.in_programmes.numbers.value c.self.inside.in_programmes.live.items c.args.wish c.args.mark c.self.invariant.kept.marks in_range valid.size.wishes c.self.invariant.programmes b e).comes)
 
 pub turn-seat-requires-clause-goes : goal.turn-seat-requires-clause-goes
 turn-seat-requires-clause-goes c =
@@ -23,7 +23,7 @@ turn-seat-requires-clause-goes c =
     let in_range : c.args.wish < length marks = rw (sym c.self.view_is) at c.requires in
     let valid : IsValid d = subst IsValid c.dossier.view_is c.dossier.invariant in
     let was : c.is_live-was_live.result ≡ is_live (mark_in marks c.args.wish) = c.is_live-was_live.ensures ∙ ap is_live (sym (mark_read marks c.args.wish c.index.result.now in_range c.index.ensures)) in
-    rw (was, c.is_live-lives.ensures) (λ b e. (bundle_fits Programmes (state_of d marks) c.self.inside.in_programmes.numbers.items c.self.inside.in_programmes.live.items c.args.wish c.args.mark c.self.invariant.kept.marks in_range valid.size.wishes c.self.invariant.programmes b e).goes)
+    rw (was, c.is_live-lives.ensures) (λ b e. (bundle_fits Programmes (state_of d marks) c.self.inside.in_programmes.numbers.value c.self.inside.in_programmes.live.items c.args.wish c.args.mark c.self.invariant.kept.marks in_range valid.size.wishes c.self.invariant.programmes b e).goes)
 
 pub turn-bed-requires-clause-comes : goal.turn-bed-requires-clause-comes
 turn-bed-requires-clause-comes c =
@@ -31,7 +31,7 @@ turn-bed-requires-clause-comes c =
     let marks = c.self.inside.marks.items in
     let in_range : c.args.wish < length marks = rw (sym c.self.view_is) at c.requires in
     let valid : IsValid d = subst IsValid c.dossier.view_is c.dossier.invariant in
-    rw c.is_live-lives.ensures (λ b e. (bundle_fits Schools (state_of d marks) c.self.inside.in_schools.numbers.items c.self.inside.in_schools.live.items c.args.wish c.args.mark c.self.invariant.kept.marks in_range valid.size.wishes c.self.invariant.schools b e).comes)
+    rw c.is_live-lives.ensures (λ b e. (bundle_fits Schools (state_of d marks) c.self.inside.in_schools.numbers.value c.self.inside.in_schools.live.items c.args.wish c.args.mark c.self.invariant.kept.marks in_range valid.size.wishes c.self.invariant.schools b e).comes)
 
 pub turn-bed-requires-clause-goes : goal.turn-bed-requires-clause-goes
 turn-bed-requires-clause-goes c =
@@ -40,7 +40,7 @@ turn-bed-requires-clause-goes c =
     let in_range : c.args.wish < length marks = rw (sym c.self.view_is) at c.requires in
     let valid : IsValid d = subst IsValid c.dossier.view_is c.dossier.invariant in
     let was : c.is_live-was_live.result ≡ is_live (mark_in marks c.args.wish) = c.is_live-was_live.ensures ∙ ap is_live (sym (mark_read marks c.args.wish c.index.result.now in_range c.index.ensures)) in
-    rw (was, c.is_live-lives.ensures) (λ b e. (bundle_fits Schools (state_of d marks) c.self.inside.in_schools.numbers.items c.self.inside.in_schools.live.items c.args.wish c.args.mark c.self.invariant.kept.marks in_range valid.size.wishes c.self.invariant.schools b e).goes)
+    rw (was, c.is_live-lives.ensures) (λ b e. (bundle_fits Schools (state_of d marks) c.self.inside.in_schools.numbers.value c.self.inside.in_schools.live.items c.args.wish c.args.mark c.self.invariant.kept.marks in_range valid.size.wishes c.self.invariant.schools b e).goes)
 
 pub recount-requires-clause-place : goal.recount-requires-clause-place
 recount-requires-clause-place c =
@@ -59,7 +59,7 @@ recount-requires-clause-comes c =
     let valid : IsValid d = subst IsValid c.dossier.view_is c.dossier.invariant in
     let wishes : c.as_slice.result.now ≡ d.wishes = c.as_slice.ensures ∙ ap (λ (d : DossierRows). d.wishes) c.dossier.view_is in
     let was : c.is_live-was_live.result ≡ is_live (mark_in marks c.args.wish) = c.is_live-was_live.ensures ∙ ap is_live (sym (mark_read marks c.args.wish c.index.result.now in_range c.index.ensures)) in
-    let seat = seat_turned d marks c.self.inside.seats.items c.self.inside.beds.items c.self.inside.in_programmes.numbers.items c.self.inside.in_programmes.live.items c.self.inside.in_schools.numbers.items c.self.inside.in_schools.live.items c.args.wish c.args.mark c.is_live-was_live.result c.is_live-lives.result c.turn-seat.result.had c.turn-seat.result.has c.turn-seat.new.self.live.items c.self.invariant in_range was c.is_live-lives.ensures c.turn-seat.ensures.live c.turn-seat.ensures.had c.turn-seat.ensures.has in
+    let seat = seat_turned d marks c.self.inside.seats.items c.self.inside.beds.items c.self.inside.in_programmes.numbers.value c.self.inside.in_programmes.live.items c.self.inside.in_schools.numbers.value c.self.inside.in_schools.live.items c.args.wish c.args.mark c.is_live-was_live.result c.is_live-lives.result c.turn-seat.result.had c.turn-seat.result.has c.turn-seat.new.self.live.items c.self.invariant in_range was c.is_live-lives.ensures c.turn-seat.ensures.live c.turn-seat.ensures.had c.turn-seat.ensures.has in
     rw (c.wish_at-named.ensures, wishes, seat.1) (seat_ready d marks c.self.inside.seats.items c.self.inside.beds.items c.args.wish c.args.mark valid c.self.invariant.kept in_range).comes
 
 pub recount-requires-clause-goes : goal.recount-requires-clause-goes
@@ -70,7 +70,7 @@ recount-requires-clause-goes c =
     let valid : IsValid d = subst IsValid c.dossier.view_is c.dossier.invariant in
     let wishes : c.as_slice.result.now ≡ d.wishes = c.as_slice.ensures ∙ ap (λ (d : DossierRows). d.wishes) c.dossier.view_is in
     let was : c.is_live-was_live.result ≡ is_live (mark_in marks c.args.wish) = c.is_live-was_live.ensures ∙ ap is_live (sym (mark_read marks c.args.wish c.index.result.now in_range c.index.ensures)) in
-    let seat = seat_turned d marks c.self.inside.seats.items c.self.inside.beds.items c.self.inside.in_programmes.numbers.items c.self.inside.in_programmes.live.items c.self.inside.in_schools.numbers.items c.self.inside.in_schools.live.items c.args.wish c.args.mark c.is_live-was_live.result c.is_live-lives.result c.turn-seat.result.had c.turn-seat.result.has c.turn-seat.new.self.live.items c.self.invariant in_range was c.is_live-lives.ensures c.turn-seat.ensures.live c.turn-seat.ensures.had c.turn-seat.ensures.has in
+    let seat = seat_turned d marks c.self.inside.seats.items c.self.inside.beds.items c.self.inside.in_programmes.numbers.value c.self.inside.in_programmes.live.items c.self.inside.in_schools.numbers.value c.self.inside.in_schools.live.items c.args.wish c.args.mark c.is_live-was_live.result c.is_live-lives.result c.turn-seat.result.had c.turn-seat.result.has c.turn-seat.new.self.live.items c.self.invariant in_range was c.is_live-lives.ensures c.turn-seat.ensures.live c.turn-seat.ensures.had c.turn-seat.ensures.has in
     rw (c.wish_at-named.ensures, wishes, seat.0, seat.1) (seat_ready d marks c.self.inside.seats.items c.self.inside.beds.items c.args.wish c.args.mark valid c.self.invariant.kept in_range).goes
 
 pub recount_some-requires-clause-place : goal.recount_some-requires-clause-place
@@ -90,7 +90,7 @@ recount_some-requires-clause-comes c =
     let valid : IsValid d = subst IsValid c.dossier.view_is c.dossier.invariant in
     let wishes : c.as_slice.result.now ≡ d.wishes = c.as_slice.ensures ∙ ap (λ (d : DossierRows). d.wishes) c.dossier.view_is in
     let was : c.is_live-was_live.result ≡ is_live (mark_in marks c.args.wish) = c.is_live-was_live.ensures ∙ ap is_live (sym (mark_read marks c.args.wish c.index.result.now in_range c.index.ensures)) in
-    let bed = bed_turned d marks c.self.inside.seats.items c.self.inside.beds.items c.self.inside.in_programmes.numbers.items c.self.inside.in_programmes.live.items c.self.inside.in_schools.numbers.items c.self.inside.in_schools.live.items c.args.wish c.args.mark c.is_live-was_live.result c.is_live-lives.result c.turn-bed.result.had c.turn-bed.result.has c.turn-bed.new.self.live.items c.self.invariant in_range was c.is_live-lives.ensures c.turn-bed.ensures.live c.turn-bed.ensures.had c.turn-bed.ensures.has in
+    let bed = bed_turned d marks c.self.inside.seats.items c.self.inside.beds.items c.self.inside.in_programmes.numbers.value c.self.inside.in_programmes.live.items c.self.inside.in_schools.numbers.value c.self.inside.in_schools.live.items c.args.wish c.args.mark c.is_live-was_live.result c.is_live-lives.result c.turn-bed.result.had c.turn-bed.result.has c.turn-bed.new.self.live.items c.self.invariant in_range was c.is_live-lives.ensures c.turn-bed.ensures.live c.turn-bed.ensures.had c.turn-bed.ensures.has in
     rw (c.wish_at-named.ensures, wishes, bed.1) (λ h is. ((bed_ready d marks c.self.inside.seats.items c.self.inside.beds.items c.args.wish c.args.mark valid c.self.invariant.kept in_range) h is).comes)
 
 pub recount_some-requires-clause-goes : goal.recount_some-requires-clause-goes
@@ -101,7 +101,7 @@ recount_some-requires-clause-goes c =
     let valid : IsValid d = subst IsValid c.dossier.view_is c.dossier.invariant in
     let wishes : c.as_slice.result.now ≡ d.wishes = c.as_slice.ensures ∙ ap (λ (d : DossierRows). d.wishes) c.dossier.view_is in
     let was : c.is_live-was_live.result ≡ is_live (mark_in marks c.args.wish) = c.is_live-was_live.ensures ∙ ap is_live (sym (mark_read marks c.args.wish c.index.result.now in_range c.index.ensures)) in
-    let bed = bed_turned d marks c.self.inside.seats.items c.self.inside.beds.items c.self.inside.in_programmes.numbers.items c.self.inside.in_programmes.live.items c.self.inside.in_schools.numbers.items c.self.inside.in_schools.live.items c.args.wish c.args.mark c.is_live-was_live.result c.is_live-lives.result c.turn-bed.result.had c.turn-bed.result.has c.turn-bed.new.self.live.items c.self.invariant in_range was c.is_live-lives.ensures c.turn-bed.ensures.live c.turn-bed.ensures.had c.turn-bed.ensures.has in
+    let bed = bed_turned d marks c.self.inside.seats.items c.self.inside.beds.items c.self.inside.in_programmes.numbers.value c.self.inside.in_programmes.live.items c.self.inside.in_schools.numbers.value c.self.inside.in_schools.live.items c.args.wish c.args.mark c.is_live-was_live.result c.is_live-lives.result c.turn-bed.result.had c.turn-bed.result.has c.turn-bed.new.self.live.items c.self.invariant in_range was c.is_live-lives.ensures c.turn-bed.ensures.live c.turn-bed.ensures.had c.turn-bed.ensures.has in
     rw (c.wish_at-named.ensures, wishes, bed.0, bed.1) (λ h is. ((bed_ready d marks c.self.inside.seats.items c.self.inside.beds.items c.args.wish c.args.mark valid c.self.invariant.kept in_range) h is).goes)
 
 pub invariant_of-self : goal.invariant_of-self
@@ -112,10 +112,10 @@ invariant_of-self c =
     let valid : IsValid d = subst IsValid c.dossier.view_is c.dossier.invariant in
     let wishes : c.as_slice.result.now ≡ d.wishes = c.as_slice.ensures ∙ ap (λ (d : DossierRows). d.wishes) c.dossier.view_is in
     let was : c.is_live-was_live.result ≡ is_live (mark_in marks c.args.wish) = c.is_live-was_live.ensures ∙ ap is_live (sym (mark_read marks c.args.wish c.index.result.now in_range c.index.ensures)) in
-    let seat = seat_turned d marks c.self.inside.seats.items c.self.inside.beds.items c.self.inside.in_programmes.numbers.items c.self.inside.in_programmes.live.items c.self.inside.in_schools.numbers.items c.self.inside.in_schools.live.items c.args.wish c.args.mark c.is_live-was_live.result c.is_live-lives.result c.turn-seat.result.had c.turn-seat.result.has c.turn-seat.new.self.live.items c.self.invariant in_range was c.is_live-lives.ensures c.turn-seat.ensures.live c.turn-seat.ensures.had c.turn-seat.ensures.has in
-    let bed = bed_turned d marks c.self.inside.seats.items c.self.inside.beds.items c.self.inside.in_programmes.numbers.items c.self.inside.in_programmes.live.items c.self.inside.in_schools.numbers.items c.self.inside.in_schools.live.items c.args.wish c.args.mark c.is_live-was_live.result c.is_live-lives.result c.turn-bed.result.had c.turn-bed.result.has c.turn-bed.new.self.live.items c.self.invariant in_range was c.is_live-lives.ensures c.turn-bed.ensures.live c.turn-bed.ensures.had c.turn-bed.ensures.has in
+    let seat = seat_turned d marks c.self.inside.seats.items c.self.inside.beds.items c.self.inside.in_programmes.numbers.value c.self.inside.in_programmes.live.items c.self.inside.in_schools.numbers.value c.self.inside.in_schools.live.items c.args.wish c.args.mark c.is_live-was_live.result c.is_live-lives.result c.turn-seat.result.had c.turn-seat.result.has c.turn-seat.new.self.live.items c.self.invariant in_range was c.is_live-lives.ensures c.turn-seat.ensures.live c.turn-seat.ensures.had c.turn-seat.ensures.has in
+    let bed = bed_turned d marks c.self.inside.seats.items c.self.inside.beds.items c.self.inside.in_programmes.numbers.value c.self.inside.in_programmes.live.items c.self.inside.in_schools.numbers.value c.self.inside.in_schools.live.items c.args.wish c.args.mark c.is_live-was_live.result c.is_live-lives.result c.turn-bed.result.had c.turn-bed.result.has c.turn-bed.new.self.live.items c.self.invariant in_range was c.is_live-lives.ensures c.turn-bed.ensures.live c.turn-bed.ensures.had c.turn-bed.ensures.has in
     rw (c.recount.ensures, c.recount_some.ensures, c.wish_at-named.ensures, wishes, seat.0, seat.1, bed.0, bed.1, c.turn-seat.ensures.numbers, c.turn-bed.ensures.numbers, c.turn-seat.ensures.live, c.turn-bed.ensures.live, was, c.is_live-lives.ensures)
-    (keeps_changed d marks c.self.inside.seats.items c.self.inside.beds.items c.self.inside.in_programmes.numbers.items c.self.inside.in_programmes.live.items c.self.inside.in_schools.numbers.items c.self.inside.in_schools.live.items c.args.wish c.args.mark valid c.self.invariant in_range)
+    (keeps_changed d marks c.self.inside.seats.items c.self.inside.beds.items c.self.inside.in_programmes.numbers.value c.self.inside.in_programmes.live.items c.self.inside.in_schools.numbers.value c.self.inside.in_schools.live.items c.args.wish c.args.mark valid c.self.invariant in_range)
 
 pub returns-clause-freed : goal.returns-clause-freed
 returns-clause-freed c =
@@ -124,7 +124,7 @@ returns-clause-freed c =
     let in_range : c.args.wish < length marks = rw (sym c.self.view_is) at c.requires in
     let valid : IsValid d = subst IsValid c.dossier.view_is c.dossier.invariant in
     let was : c.is_live-was_live.result ≡ is_live (mark_in marks c.args.wish) = c.is_live-was_live.ensures ∙ ap is_live (sym (mark_read marks c.args.wish c.index.result.now in_range c.index.ensures)) in
-    let seat = seat_turned d marks c.self.inside.seats.items c.self.inside.beds.items c.self.inside.in_programmes.numbers.items c.self.inside.in_programmes.live.items c.self.inside.in_schools.numbers.items c.self.inside.in_schools.live.items c.args.wish c.args.mark c.is_live-was_live.result c.is_live-lives.result c.turn-seat.result.had c.turn-seat.result.has c.turn-seat.new.self.live.items c.self.invariant in_range was c.is_live-lives.ensures c.turn-seat.ensures.live c.turn-seat.ensures.had c.turn-seat.ensures.has in
-    let bed = bed_turned d marks c.self.inside.seats.items c.self.inside.beds.items c.self.inside.in_programmes.numbers.items c.self.inside.in_programmes.live.items c.self.inside.in_schools.numbers.items c.self.inside.in_schools.live.items c.args.wish c.args.mark c.is_live-was_live.result c.is_live-lives.result c.turn-bed.result.had c.turn-bed.result.has c.turn-bed.new.self.live.items c.self.invariant in_range was c.is_live-lives.ensures c.turn-bed.ensures.live c.turn-bed.ensures.had c.turn-bed.ensures.has in
+    let seat = seat_turned d marks c.self.inside.seats.items c.self.inside.beds.items c.self.inside.in_programmes.numbers.value c.self.inside.in_programmes.live.items c.self.inside.in_schools.numbers.value c.self.inside.in_schools.live.items c.args.wish c.args.mark c.is_live-was_live.result c.is_live-lives.result c.turn-seat.result.had c.turn-seat.result.has c.turn-seat.new.self.live.items c.self.invariant in_range was c.is_live-lives.ensures c.turn-seat.ensures.live c.turn-seat.ensures.had c.turn-seat.ensures.has in
+    let bed = bed_turned d marks c.self.inside.seats.items c.self.inside.beds.items c.self.inside.in_programmes.numbers.value c.self.inside.in_programmes.live.items c.self.inside.in_schools.numbers.value c.self.inside.in_schools.live.items c.args.wish c.args.mark c.is_live-was_live.result c.is_live-lives.result c.turn-bed.result.had c.turn-bed.result.has c.turn-bed.new.self.live.items c.self.invariant in_range was c.is_live-lives.ensures c.turn-bed.ensures.live c.turn-bed.ensures.had c.turn-bed.ensures.has in
     rw (← c.self.view_is, c.lost.ensures, c.lost-2.ensures, seat.0, seat.1, bed.0, bed.1)
     (sym (freed_changed d marks c.self.inside.seats.items c.self.inside.beds.items c.args.wish c.args.mark valid c.self.invariant.kept in_range))

@@ -11,7 +11,7 @@ invariant_of-result c =
     let wishes : c.as_slice-wishes.result.now ≡ d.wishes = c.as_slice-wishes.ensures ∙ ap (λ (d : DossierRows). d.wishes) c.dossier.view_is in
     let programmes : c.len-programmes.result ≡ length d.programmes = c.len-programmes.ensures ∙ ap (λ (d : DossierRows). length d.programmes) c.dossier.view_is in
     let schools : c.len-schools.result ≡ length d.schools = c.len-schools.ensures ∙ ap (λ (d : DossierRows). length d.schools) c.dossier.view_is in
-    let in_programmes : AreBundles Programmes d.wishes c.in_ok-in_programmes.in_programmes.numbers.items = rw wishes at c.in_ok-in_programmes.ensures.numbers in
-    let in_schools : AreBundles Schools d.wishes c.in_ok-in_schools.in_schools.numbers.items = rw wishes at c.in_ok-in_schools.ensures.numbers in
+    let in_programmes : AreBundles Programmes d.wishes c.in_ok-in_programmes.in_programmes.numbers.value = rw wishes at c.in_ok-in_programmes.ensures.numbers in
+    let in_schools : AreBundles Schools d.wishes c.in_ok-in_schools.in_schools.numbers.value = rw wishes at c.in_ok-in_schools.ensures.numbers in
     rw (c.in_ok-marks.ensures, c.in_ok-seats.ensures, c.in_ok-beds.ensures, c.in_ok-in_programmes.ensures.live, c.in_ok-in_schools.ensures.live, wishes, programmes, schools)
-    (keeps_waiting d c.in_ok-in_programmes.in_programmes.numbers.items c.in_ok-in_schools.in_schools.numbers.items in_programmes in_schools)
+    (keeps_waiting d c.in_ok-in_programmes.in_programmes.numbers.value c.in_ok-in_schools.in_schools.numbers.value in_programmes in_schools)
