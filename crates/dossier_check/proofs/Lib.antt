@@ -16,7 +16,7 @@ pub mod OneAccepted
 pub mod Outcomes
 pub mod Pairs
 pub mod Places
-pub mod Preferred
+pub mod TwicePreferred
 pub mod Rising
 pub mod RisingIds
 pub mod RowFacts

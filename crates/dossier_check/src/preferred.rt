@@ -29,8 +29,9 @@ fn all_preferred(alloc: Global, rows: &[WishRow]) -> Result<Vec<(u32, u32)>, Out
 
 /// Whether order shows that no candidate has the same preference twice.
 pub(crate) fn preferences_apart(alloc: Global, rows: &[WishRow]) -> Result<bool, OutOfMemory>
-    ensures { IfOk result (λ apart. apart ≡ true → AllPairs (λ r row. has_preference row ≡ true →
-        (nat_eq row.candidate r.candidate && nat_eq row.preference r.preference) ≡ false) rows.now) }
+    ensures { IfOk result (λ apart. apart ≡ true → AllPairs (λ r row. has_preference row ≡ true
+        → (nat_eq row.candidate r.candidate && nat_eq row.preference r.preference) ≡ false)
+        rows.now) }
 {
     let mut keys = all_preferred(alloc, rows)?;
     keys.sort_unstable();

@@ -1,7 +1,7 @@
 use Rattle.std.proofs.Common.{◌≡◌, rules}
 use Rattle.std.specs.Ordering.{is_lt}
 use Rattle.std.proofs.lemmas.List.Sorted.{answers_always}
-use Rattle.dossier_check.proofs.Preferred.{preferred_cmp, no_preference_twice}
+use Rattle.dossier_check.proofs.TwicePreferred.{preferred_cmp, no_preference_twice}
 use Rattle.dossier_check.proofs.preferred.preferences_apart.Goals as goal
 
 pub returns : goal.returns
