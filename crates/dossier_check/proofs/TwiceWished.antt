@@ -1,25 +1,16 @@
 -- What wishes are of, in order.
-use Rattle.std.proofs.Common.{◌≡◌, ℕ, ◌+◌, ◌<◌, Bool, true, false, nat_eq, List, [], ◌∷◌, if◌then◌else◌, map, length, get_or, Option, Some, None, unwrap_or, Ordering, Less, Equal, Greater, refl, sym, ◌∙◌, subst, arith, true≢false, AllPairs}
-use Rattle.std.specs.Option.{option_map_or}
+use Rattle.std.proofs.Common.{◌≡◌, ℕ, ◌<◌, Bool, true, false, nat_eq, List, map, length, get_or, Option, Some, None, unwrap_or, Ordering, refl, sym, ◌∙◌, subst, arith, true≢false, AllPairs}
 use Rattle.std.specs.Cmp.{IsTotalOrder}
 use Rattle.std.specs.List.{IsDistinct, IsAllAdjacentAnswer}
 use Rattle.std.specs.List.Sorted.{IsPermutation}
 use Rattle.std.specs.Ordering.{nat_cmp, is_lt, eq_by_cmp, ordering_then}
 use Rattle.std.proofs.lemmas.Bool.{false≢true}
-use Rattle.std.proofs.lemmas.Cmp.{nat_cmp_total, on_total, then_total, tied_itself, eq_by_cmp_equiv}
+use Rattle.std.proofs.lemmas.Cmp.{nat_cmp_total, on_total, then_total, tied_itself}
 use Rattle.std.proofs.lemmas.List.{get_or-map}
-use Rattle.std.proofs.lemmas.List.Sorted.{IsPermutation-sym}
-use Rattle.std.proofs.lemmas.Map.Keys.{IsDistinct-IsPermutation, IsDistinct-from_sorted, sorted_from_all_adjacent, apart_from_distinct}
+use Rattle.std.proofs.lemmas.Map.Keys.{apart_from_distinct}
 use Rattle.admit_core.specs.declared.tables.WishRow.{WishRow}
-use Rattle.admit_core.specs.declared.tables.Tables.{Tables}
-use Rattle.admit_core.specs.declared.refusal.Reason.TheVariants.{Repeat}
-use Rattle.admit_core.specs.declared.slot.Slot.TheVariants as slots
-use Rattle.admit_core.specs.Faults.{Test, first_in, repeats, names_unknown}
-use Rattle.admit_core.specs.Lists.{is_among}
-use Rattle.admit_core.specs.Relations.{same_wish, same_school, wish_tests, programme_ids, school_ids, unranked, no_boarding_rank, preference_mixed, preference_taken}
+use Rattle.admit_core.specs.Relations.{same_wish, same_school}
 use Rattle.dossier_check.specs.Wished.{wished}
-use Rattle.dossier_check.proofs.FaultFree.{Passes}
-use Rattle.dossier_check.proofs.Faultless.{left_out, same_in}
 use Rattle.dossier_check.proofs.InOrder.{apart_in_order}
 use Rattle.dossier_check.proofs.Firsts.{length-map-here}
 use Rattle.dossier_check.proofs.Places.{nat_eq_sound}
