@@ -3,7 +3,4 @@
 # that stand below it. The program is the one that PARCOURS names in the environment, else the script `parcours`.
 # The last line is `N passed, M failed`.
 tools=$(dirname -- "$(readlink -f -- "$0")")
-case ${PARCOURS-} in
-    */*) PARCOURS=$(readlink -f -- "$PARCOURS") && export PARCOURS ;;
-esac
-cd -- "$tools" && exec python3 -B -m checks.pages
+PYTHONPATH=$tools exec python3 -B -m checks.pages

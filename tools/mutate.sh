@@ -2,7 +2,4 @@
 # Runs mutated slots of the worked dossiers, by a seed; --help tells the words. It prints a line a mode.
 # The program is the one that PARCOURS names in the environment, else the script `parcours`.
 tools=$(dirname -- "$(readlink -f -- "$0")")
-case ${PARCOURS-} in
-    */*) PARCOURS=$(readlink -f -- "$PARCOURS") && export PARCOURS ;;
-esac
 PYTHONPATH=$tools exec python3 -B -m checks.mutations "$@"

@@ -9,7 +9,7 @@ from functools import partial
 
 from dossier.program import program
 
-from . import days, exporting, hostile, script, stored
+from . import days, disks, exporting, hostile, killing, rounds, script, stored
 from .harness import EXAMPLES, Tally
 
 Checks = Callable[[Tally], None]
@@ -21,8 +21,11 @@ def topics(program: str) -> dict[str, list[Checks]]:
         "stored": [stored.check_prepare, stored.check_leave_out, stored.check_encodings, stored.check_ids,
                    stored.check_next_day, partial(stored.check_in_words, program=program),
                    partial(stored.check_sample, program=program)],
-        "hostile": [hostile.check_words, hostile.check_folders, hostile.check_broken_dossiers, hostile.check_lines,
-                    hostile.check_full_disk, hostile.check_killed],
+        "hostile": [hostile.check_words, hostile.check_folders, hostile.check_broken_dossiers, hostile.check_lines],
+        "disks": [disks.check_full_devices, disks.check_small_disks],
+        "killing": list(killing.CHECKS),
+        "rounds": [partial(rounds.check_small_rounds, program=program), partial(rounds.check_finds, program=program),
+                   partial(rounds.check_unknown_modes, program=program)],
         "script": [script.check_script],
         "exporting": [exporting.check_round_trips, partial(exporting.check_acceptance, program=program)],
         "days": [partial(days.check_seven_days, program=program), days.check_answers_that_do_not_fit,

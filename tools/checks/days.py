@@ -66,6 +66,7 @@ def fitting(random: Random, dossier: Dossier, state: bytes, day: int, term: int 
 def check_seven_days(tally: Tally, program: str) -> None:
     tally.begin(f"{DAYS} days in a row by next_day against one run, {CAMPAIGNS} random campaigns")
     random = Random(SEED)
+    seen: set[bytes] = set()
     for number in range(CAMPAIGNS):
         term = (None, 0, 1, 3)[number % 4]
         with scratch() as place:
@@ -79,6 +80,9 @@ def check_seven_days(tally: Tally, program: str) -> None:
             name = f"campaign {number}, term {term}"
             tally.equal(f"{name}: the final state", (folder / "state.csv").read_bytes(), final_state(text))
             tally.equal(f"{name}: the days told", days_told(folder), text.partition(b"final\n")[0])
+            seen.update(line.partition(b" ")[0] for line in text.splitlines())
+    missed = {b"lapse", b"fall", b"offer", b"auto"} - seen
+    tally.check("there are lapses, falls, offers and automatic answers among them", not missed, missed)
 
 
 def days_told(folder: Path) -> bytes:

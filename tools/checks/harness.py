@@ -3,6 +3,7 @@
 import os
 import resource
 import shutil
+import signal
 import subprocess
 import tempfile
 import traceback
@@ -70,9 +71,15 @@ def run(*words: str | Path, folder: Path = TOP, given: bytes = b"", environment:
     if greatest_file is not None:
         def limit() -> None:
             resource.setrlimit(resource.RLIMIT_FSIZE, (greatest_file, greatest_file))
-    done = subprocess.run([str(word) for word in words], cwd=folder, input=given, stdout=output, stderr=subprocess.PIPE,
-                          env={**os.environ, **(environment or {})}, preexec_fn=limit, timeout=LONGEST_RUN, check=False)
-    return Ended(done.returncode, done.stdout or b"", done.stderr.decode(errors="replace"))
+    with subprocess.Popen([str(word) for word in words], cwd=folder, stdin=subprocess.PIPE, stdout=output,
+                          stderr=subprocess.PIPE, env={**os.environ, **(environment or {})}, preexec_fn=limit,
+                          start_new_session=True) as call:
+        try:
+            told, complained = call.communicate(given, LONGEST_RUN)
+        except subprocess.TimeoutExpired:
+            os.killpg(call.pid, signal.SIGKILL)
+            raise
+    return Ended(call.returncode, told or b"", complained.decode(errors="replace"))
 
 
 @contextmanager

@@ -1,20 +1,11 @@
-"""A hostile round of each tool: no argument, odd ones, folders missing or taken, the disk full, killed half way."""
+"""A hostile round of each tool: no argument, odd ones, folders missing or taken, slots and lines that are none."""
 
-import os
 import shutil
-import signal
-import subprocess
-import time
-from collections.abc import Callable
 from pathlib import Path
 
-from dossier import preparing
-
-from .days import stopped_at
 from .harness import DATA, EXAMPLES, TOOLS, Ended, Tally, contents, run, scratch
 
 BLANK = EXAMPLES / "blank"
-FULL_DEVICE = Path("/dev/full")
 
 
 BAD_NUMBERS = ("abc", "1 000", "0", "1000001", "-5", "1e3", "", "12.0", "99999999999999999999")
@@ -102,82 +93,3 @@ def check_lines(tally: Tally) -> None:
     for given in (*lines, *odd):
         refused(tally, repr(given[:60]), run(TOOLS / "in_words", given=given), 1)
     tally.equal("a line that came through another system", run(TOOLS / "in_words", given=line + b"\r\n").status, 0)
-
-
-def check_full_disk(tally: Tally) -> None:
-    tally.begin("the disk full")
-    if FULL_DEVICE.exists():
-        with open(FULL_DEVICE, "wb") as full:
-            refused(tally, "in_words", run(TOOLS / "in_words", given=b"no such wish 9\n", output=full.fileno()), 4)
-            check_output_full(tally, full.fileno())
-    with scratch() as folder:
-        for room in (0, 10, 30, 100):
-            exports = EXAMPLES / "lycee/exports"
-            ended = run(TOOLS / "prepare", exports, "new", "--dates", "day-first", folder=folder, greatest_file=room)
-            refused(tally, f"prepare, room {room}", ended, 3)
-            tally.equal(f"prepare, room {room}: nothing is left", list(folder.iterdir()), [])
-            ended = run(TOOLS / "write_sample.sh", "100", "new", folder=folder, greatest_file=room)
-            refused(tally, f"write_sample.sh, room {room}", ended, 1)
-            tally.equal(f"write_sample.sh, room {room}: nothing is left", list((folder / "new").iterdir()), [])
-            (folder / "new").rmdir()
-    if run("unshare", "-rm", "true").status == 0:
-        check_small_disk(tally)
-
-
-def check_output_full(tally: Tally, full: int) -> None:
-    """What is done is done, also where it cannot be said."""
-    with scratch() as folder:
-        ended = run(TOOLS / "prepare", EXAMPLES / "two-days", "slots", folder=EXAMPLES, output=full)
-        refused(tally, "prepare: faults are told all the same", ended, 1)
-        ended = run(TOOLS / "prepare", BLANK, "slots", folder=folder, output=full)
-        tally.check("prepare: the dossier is written", ended.status == 0 and "it is done" in ended.complaint, ended)
-        ended = run(TOOLS / "next_day", "slots", folder=folder, output=full)
-        tally.check("next_day: the day is made", ended.status == 0 and "it is done" in ended.complaint, ended)
-        tally.equal("next_day: once", (folder / "slots/campaign.csv").read_text(), "day,date,term\n2,,\n")
-
-
-def check_small_disk(tally: Tally) -> None:
-    """The same on a disk that is truly small."""
-    def on_small_disk(folder: Path, size: int, *words: str | Path) -> Ended:
-        script = f'mount -t tmpfs -o size={size}k none "$1" && cp -r "$2" "$1/slots" && cd "$1" && shift 2 && "$@"'
-        return run("unshare", "-rm", "sh", "-c", script, "sh", folder, EXAMPLES / "lycee/slots", *words)
-
-    with scratch() as folder:
-        exports = EXAMPLES / "lycee/exports"
-        ended = on_small_disk(folder, 60, TOOLS / "prepare", exports, "new", "--dates", "day-first")
-        refused(tally, "prepare on a small disk", ended, 3)
-        ended = on_small_disk(folder, 60, TOOLS / "write_sample.sh", "9000", "new")
-        refused(tally, "write_sample.sh on a small disk", ended, 1)
-        ended = on_small_disk(folder, 48, TOOLS / "next_day", "slots")
-        tally.check("next_day on a small disk", ended.status in (3, 4) and "nothing is" in ended.complaint, ended)
-
-
-def check_killed(tally: Tally) -> None:
-    tally.begin("killed half way")
-    with scratch() as folder:
-        slots = folder / "slots"
-
-        def prepare() -> None:
-            preparing.write_folder(slots, contents(EXAMPLES / "lycee/slots"))
-
-        check_stops(tally, slots, prepare)
-        for wait in (0.05, 0.3, 1):
-            call = subprocess.Popen([TOOLS / "write_sample.sh", "300000", folder / "sample"], start_new_session=True)
-            time.sleep(wait)
-            os.killpg(call.pid, signal.SIGKILL)
-            call.wait()
-            tally.equal(f"write_sample.sh after {wait} s: no slot is there", contents(folder).keys(), set())
-        tally.equal("write_sample.sh, called again", run(TOOLS / "write_sample.sh", "5", folder / "sample").status, 0)
-        tally.equal("its slots", len(contents(folder / "sample")), 9)
-
-
-def check_stops(tally: Tally, slots: Path, prepare: Callable[[], None]) -> None:
-    """Stopped at any step, the folder is not there, or whole."""
-    moment = 1
-    while stopped_at(moment, prepare):
-        is_whole = slots.exists() and contents(slots) == contents(EXAMPLES / "lycee/slots")
-        tally.check(f"prepare, stopped at step {moment}", is_whole or not slots.exists())
-        shutil.rmtree(slots, ignore_errors=True)
-        moment += 1
-    tally.check("prepare: it has many steps", moment > 10, moment)
-    shutil.rmtree(slots)

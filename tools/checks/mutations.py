@@ -1,97 +1,104 @@
 """Mutated slots: the worked dossiers with bytes, fields and rows that are flipped, dropped, doubled and swapped.
 
-A run over them must end by itself with a status that the program gives for its input (done, refused, bad words, not
-proved, no such wish), within the seconds and the memory that so small a dossier takes. With another program beside it,
-both must give the same bytes and the same status.
+A run over them must end by itself as a run may (`judging`). With another program beside it, both must give the same
+bytes and the same status. In place of random changes, each slot may be cut at each of its bytes, or the words be
+changed.
 """
 
 import argparse
-import random
 import sys
 from collections import Counter
-from collections.abc import Callable
+from collections.abc import Callable, Iterator
+from dataclasses import dataclass, field
+from itertools import islice
 from pathlib import Path
+from random import Random
 
 from .harness import scratch, shortened
-from .runs import Job, Watched, all_jobs, by_mode, put, watch
+from .judging import LONGEST, OF_INPUT, fault
+from .modes import MODES, Mode, known_modes, turned, words_of
+from .runs import BAD_WORDS, Job, Watched, all_jobs, put, run_of, watch
 
-LONGEST = 5.0
-MOST_MEMORY = 64 << 20
-OF_INPUT = {0: "done", 1: "refused", 2: "bad words", 6: "not proved", 7: "no such"}
+MOST_FOUND = 20
+OPTIONS = ("--days", "--picker", "--start", "--term", "--wish", "--school", "--number")
+VALUES = ("", "0", "1", "2", "366", "367", "first", "last", "turn", "each", "2025-06-02", "2025-02-29", "1900-12-31",
+          "1901-01-01", "2298-12-31", "2299-01-01", "2000000000", "2000000001", "00000000001", "-1", "+1", "1 ", "Each",
+          "--days", "=", "1=1")
 ODD = (b"\0", b"\r", b"\n", b"\r\n", b",", b'"', b"\xff", b"\xef\xbb\xbf", b" ", b"0", b"-1", b"2000000001",
        b"4294967296", b"99999999999999999999", b"e", b"1e9", b"quit")
-Change = Callable[[bytes, random.Random], bytes]
+Change = Callable[[bytes, Random], bytes]
 
 
-def place(text: bytes, by: random.Random) -> int:
+def place(text: bytes, by: Random) -> int:
     return by.randrange(len(text) + 1)
 
 
-def flip_a_bit(text: bytes, by: random.Random) -> bytes:
+def flip_a_bit(text: bytes, by: Random) -> bytes:
     at = place(text, by)
     return text[:at] + bytes(byte ^ (1 << by.randrange(8)) for byte in text[at:at + 1]) + text[at + 1:]
 
 
-def drop_bytes(text: bytes, by: random.Random) -> bytes:
+def drop_bytes(text: bytes, by: Random) -> bytes:
     at = place(text, by)
     return text[:at] + text[at + by.choice((1, 1, 2, 5)):]
 
 
-def double_bytes(text: bytes, by: random.Random) -> bytes:
+def double_bytes(text: bytes, by: Random) -> bytes:
     at, number = place(text, by), by.choice((1, 1, 3, 20))
     return text[:at] + text[at:at + number] + text[at:]
 
 
-def put_odd_bytes(text: bytes, by: random.Random) -> bytes:
+def put_odd_bytes(text: bytes, by: Random) -> bytes:
     at = place(text, by)
     return text[:at] + by.choice(ODD) + text[at:]
 
 
-def cut_off(text: bytes, by: random.Random) -> bytes:
+def cut_off(text: bytes, by: Random) -> bytes:
     return text[:place(text, by)]
 
 
-def rows_changed(change: Callable[[list[bytes], random.Random], None]) -> Change:
-    def changed(text: bytes, by: random.Random) -> bytes:
+def rows_changed(change: Callable[[list[bytes], Random], None]) -> Change:
+    def changed(text: bytes, by: Random) -> bytes:
         rows = text.split(b"\n")
         change(rows, by)
         return b"\n".join(rows)
     return changed
 
 
-def drop_a_row(rows: list[bytes], by: random.Random) -> None:
+def drop_a_row(rows: list[bytes], by: Random) -> None:
     del rows[by.randrange(len(rows))]
 
 
-def double_a_row(rows: list[bytes], by: random.Random) -> None:
+def double_a_row(rows: list[bytes], by: Random) -> None:
     rows.insert(by.randrange(len(rows) + 1), by.choice(rows))
 
 
-def swap_rows(rows: list[bytes], by: random.Random) -> None:
+def swap_rows(rows: list[bytes], by: Random) -> None:
     a, b = by.randrange(len(rows)), by.randrange(len(rows))
     rows[a], rows[b] = rows[b], rows[a]
 
 
-def fields_changed(change: Callable[[list[bytes], random.Random], None]) -> Change:
-    def on_a_row(rows: list[bytes], by: random.Random) -> None:
+def fields_changed(change: Callable[[list[bytes], Random], None]) -> Change:
+    def on_a_row(rows: list[bytes], by: Random) -> None:
         at = by.randrange(len(rows))
-        fields = rows[at].split(b",")
+        mark = b"," if b"," in rows[at] else b" "
+        fields = rows[at].split(mark)
         change(fields, by)
-        rows[at] = b",".join(fields)
+        rows[at] = mark.join(fields)
     return rows_changed(on_a_row)
 
 
-def put_an_odd_field(fields: list[bytes], by: random.Random) -> None:
+def put_an_odd_field(fields: list[bytes], by: Random) -> None:
     fields[by.randrange(len(fields))] = by.choice(ODD)
 
 
-def change_a_number(fields: list[bytes], by: random.Random) -> None:
+def change_a_number(fields: list[bytes], by: Random) -> None:
     at = by.randrange(len(fields))
     if fields[at].isdigit():
         fields[at] = str(max(0, int(fields[at]) + by.choice((-1, 1, 1, 10, -10)))).encode()
 
 
-def swap_in_a_column(rows: list[bytes], by: random.Random) -> None:
+def swap_in_a_column(rows: list[bytes], by: Random) -> None:
     """Exchanges a value of two rows below the header, which often leaves a dossier that is accepted."""
     whole = [at for at in range(1, len(rows)) if rows[at]]
     if len(whole) < 2:
@@ -110,76 +117,157 @@ CHANGES: tuple[Change, ...] = (
     *[rows_changed(swap_in_a_column)] * 12)
 
 
-def mutated(job: Job, by: random.Random) -> Job:
-    """The job with one to three changes of its slots."""
+def mutated(job: Job, mode: Mode, by: Random) -> Job:
+    """The job with one to three changes of the slots that its mode reads."""
     files = dict(job.files)
     for _ in range(by.choice((1, 1, 1, 2, 3))):
-        name = by.choice(sorted(files))
-        files[name] = by.choice(CHANGES)(files[name], by)
+        name = by.choice(mode.files)
+        files[name] = by.choice(CHANGES)(files.get(name, b""), by)
     return Job(job.title, files, job.words)
 
 
-def fault(ended: Watched) -> str | None:
-    """What is wrong with how a run ended."""
-    if ended.status < 0:
-        return f"ended by the signal {-ended.status} after {ended.seconds:.1f} s"
-    if ended.status not in OF_INPUT:
-        return f"status {ended.status}"
-    if ended.seconds > LONGEST:
-        return f"took {ended.seconds:.1f} s"
-    if ended.memory > MOST_MEMORY:
-        return f"took {ended.memory >> 20} MB"
-    return None
+def cuts(job: Job, mode: Mode) -> Iterator[Job]:
+    """The job with each slot that its mode reads cut at each of its bytes."""
+    for name in mode.files:
+        text = job.files.get(name, b"")
+        for at in range(len(text)):
+            yield Job(f"{job.title}, {name} cut at {at}", {**job.files, name: text[:at]}, job.words)
+
+
+def reworded(job: Job, modes: list[Mode], by: Random) -> Job:
+    """The job with one to three changes of its words; the modes are those that may come in."""
+    words = list(job.words)
+    for _ in range(by.choice((1, 1, 2, 3))):
+        at = by.randrange(len(words) + 1)
+        match by.randrange(5):
+            case 0:
+                words[at:at] = [by.choice(OPTIONS), by.choice(VALUES)]
+            case 1:
+                words[at:at] = [f"{by.choice(OPTIONS)}={by.choice(VALUES)}"]
+            case 2:
+                words[at:at + 1] = [by.choice((*VALUES, *OPTIONS, *(mode.name for mode in modes)))]
+            case 3:
+                del words[at:at + 1]
+            case _:
+                by.shuffle(words)
+    return Job(job.title, job.files, tuple(words))
+
+
+@dataclass
+class Round:
+    """The runs of one mode: how they ended, and how many showed something."""
+
+    name: str
+    asked: argparse.Namespace
+    ends: Counter[str] = field(default_factory=Counter)
+    found: int = 0
+
+    @property
+    def tried(self) -> int:
+        return self.ends.total()
+
+    def attempt(self, job: Job, folder: Path) -> None:
+        put(job.files, folder)
+        ended = watch(job.words, folder, LONGEST)
+        found = fault(job, ended)
+        if found is None and self.asked.beside:
+            found = differs(ended, watch(job.words, folder, LONGEST, self.asked.beside))
+        self.ends[OF_INPUT.get(ended.status, "else")] += 1
+        if found is not None:
+            self.found += 1
+            kept = keep(job, Path(self.asked.keep) / f"{self.name}-{self.tried}")
+            print(f"FOUND {self.name} {self.tried}: {found}; {kept}", flush=True)
+
+    def run(self, jobs: Iterator[Job]) -> int:
+        """Tries the jobs, prints a line, and answers how many showed something. Where many do, it stops early."""
+        with scratch() as place:
+            for job in jobs:
+                self.attempt(job, place / "slots")
+                if self.found == MOST_FOUND:
+                    print(f"{self.name}: stopped early", flush=True)
+                    break
+        told = ", ".join(f"{many} {end}" for end, many in sorted(self.ends.items()))
+        print(f"{self.name}: {self.tried} tried, {told or 'none'}; {self.found} found", flush=True)
+        return self.found
 
 
 def differs(ended: Watched, other: Watched) -> str | None:
     if (ended.status, ended.text) == (other.status, other.text):
         return None
-    return f"status {ended.status}, beside it {other.status}; {shortened(ended.text)}, beside it {shortened(other.text)}"
+    texts = f"{shortened(ended.text)}, beside it {shortened(other.text)}"
+    return f"status {ended.status}, beside it {other.status}; {texts}"
 
 
-def kept(job: Job, keep: Path, number: int) -> Path:
-    """Writes a job that showed something to a folder of its own."""
-    keep.mkdir(parents=True, exist_ok=True)
-    folder = keep / f"{job.mode}-{number}"
+def keep(job: Job, folder: Path) -> Path:
+    """Writes a job that showed something to a folder of its own, its words one a line."""
+    folder.parent.mkdir(parents=True, exist_ok=True)
     put(job.files, folder)
-    (folder / "words").write_text(" ".join(job.words) + "\n")
+    (folder / "words").write_text("".join(f"{word}\n" for word in job.words))
     return folder
 
 
-def round_of(mode: str, jobs: list[Job], asked: argparse.Namespace) -> int:
-    """Tries one mode, prints its line, and answers how many runs showed something."""
-    by = random.Random(f"{asked.seed} {mode}")
-    ends: Counter[str] = Counter()
-    shown = 0
-    with scratch() as place_of_runs:
-        folder = place_of_runs / "slots"
-        for number in range(asked.number):
-            job = mutated(by.choice(jobs), by)
-            put(job.files, folder)
-            ended = watch(job.words, folder, LONGEST)
-            found = fault(ended)
-            if found is None and asked.beside:
-                found = differs(ended, watch(job.words, folder, LONGEST, asked.beside))
-            ends[OF_INPUT.get(ended.status, "else")] += 1
-            if found is not None:
-                shown += 1
-                print(f"FOUND {mode} {number}: {found}; {kept(job, Path(asked.keep), number)}", flush=True)
-    told = ", ".join(f"{many} {end}" for end, many in sorted(ends.items()))
-    print(f"{mode}: {asked.number} runs, {told}; {shown} found", flush=True)
-    return shown
+def jobs_of_mode(mode: Mode, worked: list[Job], by: Random) -> list[Job]:
+    """The worked runs of a mode, and those of `replay` turned into runs of it."""
+    if not mode.reads:
+        return [Job("a sample", {}, words_of(mode, {}, ("--days", str(days)), by)) for days in (1, 2)]
+    own = [job for job in worked if job.mode == mode.name]
+    return own if mode.name == "replay" else own + list(turned(mode, worked, by))
+
+
+def endless(mode: Mode, jobs: list[Job], by: Random) -> Iterator[Job]:
+    while True:
+        yield mutated(by.choice(jobs), mode, by)
+
+
+def all_cuts(mode: Mode, jobs: list[Job], by: Random) -> Iterator[Job]:
+    """All cuts of one job after another, by chance; those whose words are bad read no slot."""
+    for job in by.sample(jobs, len(jobs)):
+        if run_of(job).status != BAD_WORDS:
+            yield from cuts(job, mode)
+
+
+def round_of(mode: Mode, worked: list[Job], asked: argparse.Namespace) -> int:
+    by = Random(f"{asked.seed} {mode.name}")
+    if not mode.reads:
+        print(f"{mode.name}: reads no slot", flush=True)
+        return 0
+    jobs = jobs_of_mode(mode, worked, by)
+    tries = all_cuts(mode, jobs, by) if asked.cuts else endless(mode, jobs, by)
+    return Round(mode.name, asked).run(islice(tries, asked.number))
+
+
+def words_round(modes: list[Mode], worked: list[Job], asked: argparse.Namespace) -> int:
+    by = Random(f"{asked.seed} words")
+    jobs = [job for mode in modes for job in jobs_of_mode(mode, worked, by)]
+    return Round("words", asked).run(reworded(by.choice(jobs), modes, by) for _ in range(asked.number))
+
+
+def arguments() -> argparse.ArgumentParser:
+    words = argparse.ArgumentParser(
+        prog="mutate.sh", description="Runs mutated slots of the worked dossiers, a line a mode. A run must end within "
+        f"{LONGEST:.0f} s with a status of its input, and a line that names a slot and a row must name one that is "
+        f"there. A mode that shows something {MOST_FOUND} times is left.",
+        epilog="Status: 0 nothing found, 1 something found, 2 bad words.")
+    words.add_argument("modes", nargs="*", metavar="MODE", help=f"{', '.join(MODES)}; all where none is named")
+    words.add_argument("--cuts", action="store_true",
+                       help="cuts each slot that a mode reads at each byte, in place of random changes")
+    words.add_argument("--words", action="store_true", help="changes the words in place of the slots")
+    words.add_argument("--seed", type=int, default=1)
+    words.add_argument("--number", type=int, default=2000, help="the most runs a mode, 2000 where it is not given")
+    words.add_argument("--beside", metavar="PROGRAM", help="another program that must answer the same")
+    words.add_argument("--keep", default="mutated", metavar="FOLDER", help="the folder for what showed something")
+    return words
 
 
 def main() -> int:
-    words = argparse.ArgumentParser(prog="mutate.sh", description="Runs mutated slots of the worked dossiers.")
-    words.add_argument("modes", nargs="*", help="the modes; all where none is named")
-    words.add_argument("--seed", type=int, default=1)
-    words.add_argument("--number", type=int, default=2000, help="of runs a mode")
-    words.add_argument("--beside", help="another program that must answer the same")
-    words.add_argument("--keep", default="mutated", help="the folder for slots that showed something")
-    asked = words.parse_args()
-    shown = sum(round_of(mode, jobs, asked) for mode, jobs in by_mode(all_jobs(asked.modes)).items())
-    return 0 if shown == 0 else 1
+    parser = arguments()
+    asked = parser.parse_args()
+    if unknown := [name for name in asked.modes if name not in MODES]:
+        parser.error(f"no mode {unknown[0]}; the modes are {', '.join(MODES)}")
+    modes, worked = known_modes(asked.modes), all_jobs()
+    found = words_round(modes, worked, asked) if asked.words else sum(round_of(mode, worked, asked) for mode in modes)
+    print(f"{found} found")
+    return 0 if found == 0 else 1
 
 
 if __name__ == "__main__":

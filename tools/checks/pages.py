@@ -77,8 +77,8 @@ def blocks_of(page: str) -> list[Block]:
 def outputs_of(runs: list[Run], folder: Path, environment: dict[str, str]) -> list[str]:
     """What each command of a block prints, on standard output and standard error; they run in one shell."""
     marked = (f"status=$?; printf '\\036'; (exit $status)\n{run.command}\n" for run in runs)
-    done = subprocess.run([*SHELL, "exec 2>&1\n" + "".join(marked)], cwd=folder, stdin=subprocess.DEVNULL, env=environment,
-                          stdout=subprocess.PIPE, timeout=LONGEST_RUN, check=False)
+    done = subprocess.run([*SHELL, "exec 2>&1\n" + "".join(marked)], cwd=folder, stdin=subprocess.DEVNULL,
+                          env=environment, stdout=subprocess.PIPE, timeout=LONGEST_RUN, check=False)
     outputs = done.stdout.decode(errors="replace").split(BEFORE_COMMAND)[1:]
     return outputs + [""] * (len(runs) - len(outputs))
 

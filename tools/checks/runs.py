@@ -7,16 +7,18 @@ import signal
 import subprocess
 import tempfile
 import time
-from collections.abc import Callable, Iterator
+from collections.abc import Iterator
 from dataclasses import dataclass
 from pathlib import Path
 
 from dossier.program import program
 
-from .harness import EXAMPLES, TOP
+from .harness import EXAMPLES, TOP, scratch
 
 CASES = TOP / "crates/worked_runs/data"
 SLOTS = ("groups", "programmes", "schools", "rankings", "boarding", "wishes", "state", "ceilings", "answers", "chain")
+BAD_WORDS = 2
+LONGEST_START = 60.0
 MARKS = {"{cr}": "\r", "{bom}": "\ufeff", "{cut}": ""}
 Files = dict[str, bytes]
 
@@ -31,7 +33,10 @@ class Job:
 
     @property
     def mode(self) -> str:
-        return self.words[0] if self.words else "none"
+        """The first word that is neither an option nor the value of one."""
+        before = ("", *self.words)
+        return next((word for earlier, word in zip(before, self.words) if not word.startswith("-")
+                     and (not earlier.startswith("--") or "=" in earlier)), "none")
 
 
 def file_of(slot: str) -> str:
@@ -75,11 +80,10 @@ def jobs_of(file: Path) -> Iterator[Job]:
             yield Job(title, {file_of(slot): text for slot, text in case.items()}, tuple(rest.split()))
 
 
-def all_jobs(modes: list[str]) -> list[Job]:
-    """The worked runs of these modes, of all modes where none is named; large samples are left out."""
+def all_jobs() -> list[Job]:
+    """The worked runs; samples, some of which are large, are left out."""
     found = [job for file in sorted(CASES.glob("*.txt")) for job in jobs_of(file)]
-    return [job for job in found
-            if "--number" not in job.words and (job.mode in modes or (not modes and job.mode.isalpha()))]
+    return [job for job in found if "--number" not in job.words]
 
 
 @dataclass(frozen=True)
@@ -101,14 +105,16 @@ def put(files: Files, folder: Path) -> None:
 
 
 def watch(words: tuple[str, ...], folder: Path, longest: float, by: str | None = None,
-          environment: dict[str, str] | None = None) -> Watched:
-    """Runs the program, or another one, in the folder; a run that goes on for too long is stopped."""
+          environment: dict[str, str] | None = None, user: int | None = None) -> Watched:
+    """Runs the program, or another one, in the folder, as another user where one is named; a run that goes on for too
+    long is stopped."""
     def limit() -> None:
         resource.setrlimit(resource.RLIMIT_CORE, (0, 0))
     began = time.monotonic()
     with tempfile.TemporaryFile() as output:
         child = subprocess.Popen([by or program(), *words], cwd=folder, stdin=subprocess.DEVNULL, stdout=output,
-                                 stderr=subprocess.DEVNULL, env={**os.environ, **(environment or {})}, preexec_fn=limit)
+                                 stderr=subprocess.DEVNULL, env={**os.environ, **(environment or {})}, preexec_fn=limit,
+                                 start_new_session=True, user=user, extra_groups=None if user is None else ())
         usage = wait_for(child.pid, began + longest)
         output.seek(0)
         text = output.read()
@@ -123,20 +129,15 @@ def wait_for(child: int, until: float) -> tuple[int, resource.struct_rusage]:
         if ended:
             return status, usage
         if time.monotonic() > until:
-            os.kill(child, signal.SIGKILL)
+            os.killpg(child, signal.SIGKILL)
             _, status, usage = os.wait4(child, 0)
             return status, usage
         time.sleep(pause)
         pause = min(pause * 1.5, 0.05)
 
 
-def by_mode(jobs: list[Job]) -> dict[str, list[Job]]:
-    found: dict[str, list[Job]] = {}
-    for job in jobs:
-        found.setdefault(job.mode, []).append(job)
-    return found
-
-
-def with_each(jobs: list[Job], attempt: Callable[[str, list[Job]], None]) -> None:
-    for mode, those in by_mode(jobs).items():
-        attempt(mode, those)
+def run_of(job: Job) -> Watched:
+    """How a job ends, in a folder of its own."""
+    with scratch() as place:
+        put(job.files, place / "slots")
+        return watch(job.words, place / "slots", LONGEST_START)

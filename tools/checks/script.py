@@ -81,6 +81,13 @@ def check_unreadable(tally: Tally, script: Path) -> None:
         (folder / "rankings.csv").unlink()
         ended = call(script, "status", "3", "order", folder=folder)
         tally.check("order reads two slots", "rankings.csv" in ended.complaint, ended)
+        for name in ("schools.csv", "rankings.csv"):
+            shutil.copy(EXAMPLES / "blank" / name, folder)
+        ended = call(script, "status", "3", "check", folder=folder)
+        tally.check("check reads the chain", "chain.txt" in ended.complaint, ended)
+        (folder / "state.csv").unlink()
+        ended = call(script, "status", "3", "market", folder=folder)
+        tally.check("market does not read the state", "a slot" in ended.complaint, ended)
 
 
 def check_small_tools(tally: Tally, script: Path) -> None:
@@ -136,6 +143,15 @@ def check_changed_sources(tally: Tally, script: Path) -> None:
     (script.parent / "stand_in").unlink()
     ended = call(script, "hello")
     tally.check("a program that cannot be built", ended.status == 125 and "not built" in ended.complaint, ended)
+    (script.parent / "tools/prove.py").write_text("raise SystemExit(1)\n")
+    ended = call(script, "hello")
+    tally.check("a crate that is not proved", ended.status == 125 and "not proved" in ended.complaint, ended)
+    with scratch() as tools:
+        for tool in ("sh", "mkdir", "rm", *SMALL_TOOLS):
+            (tools / tool).symlink_to(str(shutil.which(tool)))
+        (tools / "rt").symlink_to(script.parent / "bin/rt")
+        ended = call(script, "hello", path=str(tools))
+        tally.check("without python3", ended.status == 125 and "python3 is missing" in ended.complaint, ended)
 
 
 def check_script(tally: Tally) -> None:

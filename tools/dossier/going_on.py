@@ -8,7 +8,7 @@ from pathlib import Path
 from . import program
 from .campaign import Stopped, next_day
 from .dating import Calendar
-from .writing import say
+from .writing import Told, say, stop_cleanly
 
 FIRST_YEAR, LAST_YEAR = 1901, 2298
 LONGEST_TERM = 366
@@ -51,6 +51,7 @@ def main(arguments: list[str]) -> int:
         print(f"next_day: there is no folder {given.folder}; name the folder of the dossier.", file=sys.stderr)
         return program.READ_FAULT
     try:
+        stop_cleanly()
         told = next_day(given.folder, Calendar(1, given.start, given.term))
     except Stopped as stop:
         print(f"next_day: {stop}", file=sys.stderr)
@@ -59,8 +60,8 @@ def main(arguments: list[str]) -> int:
         print(f"next_day: {error.filename or given.folder}: {error.strerror}; nothing is lost, mend it and call again.",
               file=sys.stderr)
         return program.READ_FAULT if isinstance(error, FileNotFoundError) else program.WRITE_FAULT
-    except KeyboardInterrupt:
+    except Told as stop:
         print("next_day: stopped; nothing is lost, call again to go on.", file=sys.stderr)
-        return 130
+        return stop.status
     say("next_day", told)
     return program.DONE

@@ -11,10 +11,9 @@ from .numbering import Numbers, number_ids, thing_of
 from .relations import Relations
 from .slots import SLOTS, Column
 from .tables import Choices, Entry, Exports, Table, read_folder
-from .writing import csv_bytes, say, write_folder
+from .writing import Told, csv_bytes, say, stop_cleanly, write_folder
 
 DONE, FAULTY, BAD_WORDS, NOT_WRITTEN = range(4)
-STOPPED = 130
 TABLE_BACK = "ids.csv"
 
 
@@ -104,10 +103,11 @@ def main(arguments: list[str]) -> int:
         print(f"prepare: {given.folder} is there already; name a new folder.", file=sys.stderr)
         return NOT_WRITTEN
     try:
+        stop_cleanly()
         return prepare(given.exports, given.folder, Choices(given.dates, frozenset(map(fold, given.leave_out))))
     except OSError as error:
         print(f"prepare: {error.filename or given.folder}: {error.strerror}; nothing is written.", file=sys.stderr)
         return NOT_WRITTEN
-    except KeyboardInterrupt:
+    except Told as stop:
         print("prepare: stopped; nothing is written.", file=sys.stderr)
-        return STOPPED
+        return stop.status

@@ -4,10 +4,12 @@ import csv
 import io
 import os
 import shutil
+import signal
 import sys
 import tempfile
 from collections.abc import Iterable, Mapping
 from pathlib import Path
+from types import FrameType
 
 
 def csv_bytes(header: Iterable[str], rows: Iterable[Iterable[object]]) -> bytes:
@@ -61,6 +63,24 @@ def write_folder(folder: Path, files: Mapping[str, bytes]) -> None:
         shutil.rmtree(fresh, ignore_errors=True)
         raise
     settle(folder.parent)
+
+
+class Told(KeyboardInterrupt):
+    """The tool was told to stop, by an interrupt, an end or a hang-up."""
+
+    def __init__(self, number: int):
+        super().__init__(number)
+        self.status = 128 + number
+
+
+def stop_cleanly() -> None:
+    """From here on a signal to stop ends the tool by `Told`, so that what is half made is taken away."""
+    def stop(number: int, _: FrameType | None) -> None:
+        raise Told(number)
+
+    for number in (signal.SIGINT, signal.SIGTERM, signal.SIGHUP):
+        if signal.getsignal(number) is not signal.SIG_IGN:
+            signal.signal(number, stop)
 
 
 def say(tool: str, text: str) -> None:

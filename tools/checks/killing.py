@@ -1,0 +1,113 @@
+"""Tools that are killed at many moments, or told to stop: nothing is lost, and what is half made is not there."""
+
+import os
+import shutil
+import signal
+import subprocess
+import time
+from collections.abc import Callable
+from pathlib import Path
+
+from dossier import preparing
+
+from .days import stopped_at
+from .harness import EXAMPLES, TOOLS, Tally, contents, run, scratch
+from .samples import sample_slots
+
+MOMENTS = 12
+SLOTS = EXAMPLES / "lycee/slots"
+
+
+def check_steps(tally: Tally) -> None:
+    """Stopped at any of its steps, `prepare` has written the folder whole, or not at all."""
+    tally.begin("prepare, stopped at each of its steps")
+    with scratch() as folder:
+        slots = folder / "slots"
+        moment = 1
+        while stopped_at(moment, lambda: preparing.write_folder(slots, contents(SLOTS))):
+            is_whole = slots.exists() and contents(slots) == contents(SLOTS)
+            tally.check(f"stopped at step {moment}", is_whole or not slots.exists())
+            shutil.rmtree(slots, ignore_errors=True)
+            moment += 1
+        tally.check("it has many steps", moment > 10, moment)
+
+
+def ended_by(number: signal.Signals, wait: float, *words: str | Path) -> int:
+    """Runs a tool, sends the signal to it and all that it started after so many seconds, and answers its status."""
+    call = subprocess.Popen(words, start_new_session=True, stdout=subprocess.DEVNULL, stderr=subprocess.DEVNULL)
+    try:
+        return call.wait(wait)
+    except subprocess.TimeoutExpired:
+        os.killpg(call.pid, number)
+        return call.wait()
+
+
+def moments_of(action: Callable[[], object]) -> list[float]:
+    """Moments spread over the time that the action takes, and a little more."""
+    begun = time.monotonic()
+    action()
+    whole = 1.1 * (time.monotonic() - begun)
+    return [whole * moment / MOMENTS for moment in range(1, MOMENTS + 1)]
+
+
+def check_prepare(tally: Tally) -> None:
+    tally.begin(f"prepare, killed or stopped at {MOMENTS} moments")
+    expected = sample_slots(800)
+    with scratch() as place:
+        exports = place / "exports"
+        exports.mkdir()
+        for name, data in expected.items():
+            (exports / name).write_bytes(data)
+        words = (TOOLS / "prepare", exports, place / "in/slots")
+        (place / "in").mkdir()
+        for moment in moments_of(lambda: run(TOOLS / "prepare", exports, place / "first")):
+            for number in (signal.SIGKILL, signal.SIGTERM):
+                status = ended_by(number, moment, *words)
+                found = contents(place / "in/slots") if (place / "in/slots").exists() else None
+                name = f"{number.name} after {moment:.2f} s, status {status}"
+                tally.check(f"{name}: whole or not there", found == (expected if status == 0 else None) or
+                            (number == signal.SIGKILL and found == expected), found and found.keys())
+                left = [path.name for path in (place / "in").iterdir() if path.name != "slots"]
+                tally.check(f"{name}: nothing half made is left", number == signal.SIGKILL or left == [], left)
+                shutil.rmtree(place / "in")
+                (place / "in").mkdir()
+
+
+def check_next_day(tally: Tally) -> None:
+    tally.begin(f"next_day, killed or stopped at {MOMENTS} moments")
+    with scratch() as place:
+        once, twice = place / "once", place / "twice"
+        for folder in (once, twice):
+            shutil.copytree(SLOTS, folder)
+        moments = moments_of(lambda: run(TOOLS / "next_day", twice))
+        run(TOOLS / "next_day", once)
+        run(TOOLS / "next_day", twice)
+        for moment in moments:
+            for number in (signal.SIGKILL, signal.SIGTERM):
+                folder = place / "dossier"
+                shutil.copytree(once, folder)
+                ended_by(number, moment, TOOLS / "next_day", folder)
+                while (folder / "campaign.csv").read_bytes() != (twice / "campaign.csv").read_bytes():
+                    again = run(TOOLS / "next_day", folder)
+                    if again.status != 0:
+                        tally.check(f"{number.name} after {moment:.2f} s: called again", False, again)
+                        break
+                name = f"{number.name} after {moment:.2f} s: called again, all is as ever"
+                tally.equal(name, contents(folder), contents(twice))
+                shutil.rmtree(folder)
+
+
+def check_sample(tally: Tally) -> None:
+    tally.begin("write_sample.sh, killed")
+    with scratch() as folder:
+        for wait in (0.05, 0.1, 0.2, 0.3, 0.5, 0.7, 1):
+            ended_by(signal.SIGKILL, wait, TOOLS / "write_sample.sh", "300000", folder / "sample")
+            tally.equal(f"after {wait} s: no slot is there", contents(folder).keys(), set())
+        ended_by(signal.SIGTERM, 0.5, TOOLS / "write_sample.sh", "300000", folder / "other")
+        left = list((folder / "other").iterdir()) if (folder / "other").exists() else []
+        tally.equal("stopped, nothing half made is left", left, [])
+        tally.equal("called again", run(TOOLS / "write_sample.sh", "5", folder / "sample").status, 0)
+        tally.equal("its slots", len(contents(folder / "sample")), 9)
+
+
+CHECKS = (check_steps, check_prepare, check_next_day, check_sample)
