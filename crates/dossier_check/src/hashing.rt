@@ -20,16 +20,15 @@ fn mix_boarding(key: &mut KeyMaker, rows: &[BoardRow]) {
 fn mix_wishes(key: &mut KeyMaker, rows: &[WishRow]) {
     for row in rows {
         key.mix(row.id, row.candidate);
-        key.mix(row.preference, 0);
     }
 }
 
-/// Hashing by a key of what wishes are of.
+/// Hashing by a key of what wishes are of, and of the preferences.
 pub(crate) fn hashing_of_wishes(rows: &[WishRow]) -> Keyed {
     let mut key = KeyMaker::new();
     for row in rows {
         key.mix(row.candidate, row.programme);
-        key.mix(row.school.unwrap_or(0), 0);
+        key.mix(row.school.unwrap_or(0), row.preference);
     }
     key.done()
 }

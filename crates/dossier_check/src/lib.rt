@@ -11,6 +11,7 @@ mod hashing;
 mod index;
 mod items;
 mod noted;
+mod preferred;
 mod ranks;
 mod relations;
 mod row_ids;

@@ -77,7 +77,8 @@ fn add_rising(ids: &mut Vec<u32>, id: u32) -> Result<bool, OutOfMemory>
     requires { Rises ids.old.items }
     ensures rises { Rises ids.new.items }
     ensures added { IfOk result (λ added. added ≡ true → ids.new.items ≡ ids.old.items ++ id ∷ []) }
-    ensures is_new { IfOk result (λ added. added ≡ true → list_any (nat_eq id) ids.old.items ≡ false) }
+    ensures is_new { IfOk result (λ added.
+        added ≡ true → list_any (nat_eq id) ids.old.items ≡ false) }
     ensures kept { IfOk result (λ added. added ≡ false → ids.new.items ≡ ids.old.items) }
     ensures failed { OnErr result (ids.new.items ≡ ids.old.items) }
 {
@@ -126,9 +127,11 @@ impl RowIds {
         row: &R,
     ) -> Result<Option<u64>, OutOfMemory>
         ensures first { (before : List R) → self.old.keys ≡ map Q.key before →
-            IfOk result (λ first. first ≡ first_row (λ r. nat_eq (Q.key row.now) (Q.key r)) before) }
+            IfOk result (λ first.
+            first ≡ first_row (λ r. nat_eq (Q.key row.now) (Q.key r)) before) }
         ensures noted { (before : List R) → self.old.keys ≡ map Q.key before →
-            IfOk result (λ first. first ≡ None → self.new.keys ≡ map Q.key (before ++ row.now ∷ [])) }
+            IfOk result (λ first.
+            first ≡ None → self.new.keys ≡ map Q.key (before ++ row.now ∷ [])) }
     {
         match &mut self.way {
             Way::Rising(ids) => {

@@ -78,7 +78,8 @@ impl<'a> WhoIsRanked<'a> {
     /// Whether a candidate is ranked in a group. `near` has for each group the place after the
     /// candidate found last: they are mostly asked for in their order.
     pub(crate) fn has(&self, group: u32, candidate: u32, near: &mut [usize]) -> bool
-        ensures { (t : Tables) → SaysWhoIsRanked t self.now → result ≡ is_in_group t candidate group }
+        ensures { (t : Tables) → SaysWhoIsRanked t self.now →
+            result ≡ is_in_group t candidate group }
     {
         let Some(place) = self.groups.get_index_of(group) else {
             return false;

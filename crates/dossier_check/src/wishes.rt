@@ -10,6 +10,7 @@ ghost use Rattle.dossier_check.specs.Seen.{boarded_pairs, AreFirstWishes};
 
 use crate::hashing::hashing_of_wishes;
 use crate::noted::{FirstWish, note_first, row_of};
+use crate::preferred::preferences_apart;
 use crate::row_ids::RowIds;
 use crate::row_tests::{NamesUnknown, NoTest, Repeats, RepeatsId, RowTest, Then, Unless};
 use crate::rules::{ItsProgramme, ItsSchool, OwnId, WhatIsWished};
@@ -163,7 +164,8 @@ pub(crate) fn check_wishes<'a>(
 {
     let rows = tables.wishes.as_slice();
     let apart = wishes_apart(alloc, rows)?;
-    let by_wish = if apart {
+    let distinct = preferences_apart(alloc, rows)?;
+    let by_wish = if apart && distinct {
         keyed
     } else {
         hashing_of_wishes(rows)
@@ -174,8 +176,11 @@ pub(crate) fn check_wishes<'a>(
             firsts: IndexMap::with_hasher(alloc, keyed),
         },
         rest: Then {
-            first: PreferenceTaken {
-                rows: IndexMap::with_hasher(alloc, keyed),
+            first: Unless {
+                is_known: distinct,
+                test: PreferenceTaken {
+                    rows: IndexMap::with_hasher(alloc, by_wish),
+                },
             },
             rest: NoTest,
         },
