@@ -1,6 +1,6 @@
 use Rattle.std.specs.Option.{option_copied}
 use Rattle.day_run.proofs.DayEnds.{no_refusal, ends_played}
-use Rattle.day_run.proofs.day.run_with.Goals as goal
+use Rattle.day_run.proofs.day.run_day_along.Goals as goal
 
 pub returns-else-is_err : goal.returns-else-is_err
 returns-else-is_err g c =
