@@ -38,36 +38,36 @@ list_with items f P (v ∷ vs) (i ∷ ids) e all id known = by (nat_eq id i) ref
     by true g rest = let same : id ≡ i = nat_eq_sound id i g in rw same (subst P heads (all 0 v (omega arith)))
     by false g rest = rest tails (λ k d lt. all (suc k) d (omega arith)) id (rw g at known)
 
-module _ {R : Type 0} (p : R → Bool) (key : R → ℕ) where
-  later_apart : (n : ℕ) (rows : List R) → AllByRecursion (λ m. nat_eq n m ≡ false) (map key (filter p rows)) → (k : ℕ) (d : R) → k < length rows
-      → p (get_or rows k d) ≡ true → nat_eq n (key (get_or rows k d)) ≡ false
+module _ {R K : Type 0} (p : R → Bool) (eq : K → K → Bool) (key : R → K) where
+  later_apart : (n : K) (rows : List R) → AllByRecursion (λ m. eq n m ≡ false) (map key (filter p rows)) → (k : ℕ) (d : R) → k < length rows
+      → p (get_or rows k d) ≡ true → eq n (key (get_or rows k d)) ≡ false
   later_apart n [] apart k d lt e = absurd (omega arith)
   later_apart n (r ∷ rows) apart k d lt e = by (p r) refl (later_apart n rows) k lt e
     where
       by : (b : Bool) → p r ≡ b
-          → (AllByRecursion (λ m. nat_eq n m ≡ false) (map key (filter p rows)) → (i : ℕ) (d : R) → i < length rows → p (get_or rows i d) ≡ true → nat_eq n (key (get_or rows i d)) ≡ false)
-          → (i : ℕ) → i < length (r ∷ rows) → p (get_or (r ∷ rows) i d) ≡ true → nat_eq n (key (get_or (r ∷ rows) i d)) ≡ false
+          → (AllByRecursion (λ m. eq n m ≡ false) (map key (filter p rows)) → (i : ℕ) (d : R) → i < length rows → p (get_or rows i d) ≡ true → eq n (key (get_or rows i d)) ≡ false)
+          → (i : ℕ) → i < length (r ∷ rows) → p (get_or (r ∷ rows) i d) ≡ true → eq n (key (get_or (r ∷ rows) i d)) ≡ false
       by true f rest zero i_lt g = let here = rw f at apart in here.0
       by true f rest (suc i) i_lt g = let here = rw f at apart in rest here.1 i d (omega arith) g
       by false f rest zero i_lt g = absurd (true≢false (sym g ∙ f))
       by false f rest (suc i) i_lt g = rest (rw f at apart) i d (omega arith) g
 
   -- of those that pass, no two have the same key
-  pub filtered_apart : (rows : List R) → IsDistinct nat_eq (map key (filter p rows))
-      → AllPairs (λ r row. p r ≡ true → p row ≡ true → nat_eq (key r) (key row) ≡ false) rows
+  pub filtered_apart : (rows : List R) → IsDistinct eq (map key (filter p rows))
+      → AllPairs (λ r row. p r ≡ true → p row ≡ true → eq (key r) (key row) ≡ false) rows
   filtered_apart [] apart i j d lt within e f = absurd (omega arith)
   filtered_apart (r ∷ rows) apart i j d lt within e f = by (p r) refl (filtered_apart rows) i j lt within e f
     where
-      by : (b : Bool) → p r ≡ b → (IsDistinct nat_eq (map key (filter p rows)) → AllPairs (λ q row. p q ≡ true → p row ≡ true → nat_eq (key q) (key row) ≡ false) rows)
+      by : (b : Bool) → p r ≡ b → (IsDistinct eq (map key (filter p rows)) → AllPairs (λ q row. p q ≡ true → p row ≡ true → eq (key q) (key row) ≡ false) rows)
           → (m n : ℕ) → m < n → n < length (r ∷ rows) → p (get_or (r ∷ rows) m d) ≡ true → p (get_or (r ∷ rows) n d) ≡ true
-          → nat_eq (key (get_or (r ∷ rows) m d)) (key (get_or (r ∷ rows) n d)) ≡ false
+          → eq (key (get_or (r ∷ rows) m d)) (key (get_or (r ∷ rows) n d)) ≡ false
       by b g rest m zero m_lt n_lt em en = absurd (omega arith)
       by true g rest zero (suc n) m_lt n_lt em en =
-          let here : IsDistinct nat_eq (key r ∷ map key (filter p rows)) = rw g at apart in
-          later_apart (key r) rows (IsDistinct-head nat_eq (key r) (map key (filter p rows)) here) n d (omega arith) en
+          let here : IsDistinct eq (key r ∷ map key (filter p rows)) = rw g at apart in
+          later_apart (key r) rows (IsDistinct-head eq (key r) (map key (filter p rows)) here) n d (omega arith) en
       by true g rest (suc m) (suc n) m_lt n_lt em en =
-          let here : IsDistinct nat_eq (key r ∷ map key (filter p rows)) = rw g at apart in
-          rest (IsDistinct-tail nat_eq (key r) (map key (filter p rows)) here) m n d (omega arith) (omega arith) em en
+          let here : IsDistinct eq (key r ∷ map key (filter p rows)) = rw g at apart in
+          rest (IsDistinct-tail eq (key r) (map key (filter p rows)) here) m n d (omega arith) (omega arith) em en
       by false g rest zero (suc n) m_lt n_lt em en = absurd (true≢false (sym em ∙ g))
       by false g rest (suc m) (suc n) m_lt n_lt em en = rest (rw g at apart) m n d (omega arith) (omega arith) em en
 
@@ -90,7 +90,7 @@ rows_apart rows key groups known apart i j d lt within =
     let own : IsDistinct nat_eq (map (λ q. key (ranked_row q)) (filter (λ q. nat_eq r.group q.group) rows)) =
     subst (IsDistinct nat_eq) (sym (map-ranked_in rows r.group key)) (distinct_before _ (apart r.group (known i d (omega arith)))) in
     both_false r.group row.group (key (ranked_row r)) (key (ranked_row row)) (nat_eq row.group r.group) refl
-    (λ e. filtered_apart (λ q. nat_eq r.group q.group) (λ q. key (ranked_row q)) rows own i j d lt within (self r.group) (nat_eq_sym r.group row.group ∙ e))
+    (λ e. filtered_apart (λ q. nat_eq r.group q.group) nat_eq (λ q. key (ranked_row q)) rows own i j d lt within (self r.group) (nat_eq_sym r.group row.group ∙ e))
   where
     self : (n : ℕ) → nat_eq n n ≡ true
     self n = grind (arith, nat_tests)

@@ -56,6 +56,22 @@ differ same reason rows pairs =
           (λ j e j_lt. before_row (λ row r. same row r ≡ false) rows pairs k d lt j e j_lt)));
     }
 
+if_not : (b : Bool) (o : Option Reason) → (b ≡ true → o ≡ None) → (if b then o else None) ≡ None
+if_not true o none = none refl
+if_not false o none = refl
+
+-- the same where only some rows are compared
+pub differ_when : {R : Type 0} (when : R → Bool) (same : R → R → Bool) (reason : ℕ → Reason) (rows : List R)
+    → AllPairs (λ r row. when row ≡ true → same row r ≡ false) rows
+    → Passes (λ before row. if when row then option_map reason (first_row (same row) before) else None) rows
+differ_when when same reason rows pairs =
+    record {
+      at = λ k d lt. if_not (when (get_or rows k d)) (option_map reason (first_row (same (get_or rows k d)) (take k rows)))
+          (λ is. ap (λ o. option_map reason (option_map row_number o))
+          (position-none (same (get_or rows k d)) (take k rows) (list_any_none (same (get_or rows k d)) (take k rows)
+          (λ j e j_lt. before_row (λ row r. when row ≡ true → same row r ≡ false) rows pairs k d lt j e j_lt is))));
+    }
+
 if_known : (b : Bool) (reason : Reason) → b ≡ true → (if b then None else Some reason) ≡ None
 if_known true reason e = refl
 if_known false reason e = cc
@@ -86,13 +102,8 @@ module _ {R : Type 0} (slot : Slot) (tests others : List (Test R)) where
       → first_in slot tests rows ≡ first_in slot others rows
   same_in rows same = same_after [] rows same
 
-second_out : (a b c : Option Reason) → b ≡ None → option_or a (option_or None c) ≡ option_or a (option_or b c)
-second_out a b c e = rw e refl
-
--- where the second test stands at no row, it may be left out
-pub without_second : {R : Type 0} (slot : Slot) (first second : Test R) (rest : List (Test R)) (rows : List R) (known : Bool) → (known ≡ true → Passes second rows)
-    → first_in slot (first ∷ (λ before row. if known then None else second before row) ∷ rest) rows ≡ first_in slot (first ∷ second ∷ rest) rows
-without_second slot first second rest rows false passes = refl
-without_second slot first second rest rows true passes =
-    same_in slot (first ∷ (λ before row. None) ∷ rest) (first ∷ second ∷ rest) rows
-    (λ k d lt. second_out (first (take k rows) (get_or rows k d)) (second (take k rows) (get_or rows k d)) (first_reason rest (take k rows) (get_or rows k d)) ((passes refl).at k d lt))
+-- a test that stands at no row may be left out
+pub left_out : {R : Type 0} (test : Test R) (rows : List R) (known : Bool) → (known ≡ true → Passes test rows) → (k : ℕ) (d : R) → k < length rows
+    → (if known then None else test (take k rows) (get_or rows k d)) ≡ test (take k rows) (get_or rows k d)
+left_out test rows false passes k d lt = refl
+left_out test rows true passes k d lt = sym ((passes refl).at k d lt)

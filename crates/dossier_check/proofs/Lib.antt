@@ -7,6 +7,7 @@ pub mod Faultless
 pub mod FirstRows
 pub mod Firsts
 pub mod Found
+pub mod InOrder
 pub mod KeyPlaces
 pub mod LastRow
 pub mod NoFault
@@ -15,7 +16,9 @@ pub mod OneAccepted
 pub mod Outcomes
 pub mod Pairs
 pub mod Places
+pub mod TwicePreferred
 pub mod Rising
+pub mod RisingIds
 pub mod RowFacts
 pub mod Scans
 pub mod SortedBy
@@ -28,4 +31,5 @@ pub mod ValidRankings
 pub mod ValidSizes
 pub mod ValidWishes
 pub mod WhoIsRanked
+pub mod WishTests
 pub mod WishesApart

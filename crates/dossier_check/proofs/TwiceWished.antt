@@ -1,24 +1,17 @@
 -- What wishes are of, in order.
-use Rattle.std.proofs.Common.{◌≡◌, ℕ, ◌+◌, ◌<◌, Bool, true, false, nat_eq, List, [], ◌∷◌, if◌then◌else◌, map, length, get_or, Option, Some, None, unwrap_or, Ordering, Less, Equal, Greater, refl, sym, ◌∙◌, subst, arith, true≢false, AllPairs}
-use Rattle.std.specs.Option.{option_map_or}
+use Rattle.std.proofs.Common.{◌≡◌, ℕ, ◌<◌, Bool, true, false, nat_eq, List, map, length, get_or, Option, Some, None, unwrap_or, Ordering, refl, sym, ◌∙◌, subst, arith, true≢false, AllPairs}
 use Rattle.std.specs.Cmp.{IsTotalOrder}
 use Rattle.std.specs.List.{IsDistinct, IsAllAdjacentAnswer}
 use Rattle.std.specs.List.Sorted.{IsPermutation}
 use Rattle.std.specs.Ordering.{nat_cmp, is_lt, eq_by_cmp, ordering_then}
 use Rattle.std.proofs.lemmas.Bool.{false≢true}
-use Rattle.std.proofs.lemmas.Cmp.{nat_cmp_total, on_total, then_total, tied_itself, eq_by_cmp_equiv}
+use Rattle.std.proofs.lemmas.Cmp.{nat_cmp_total, on_total, then_total, tied_itself}
 use Rattle.std.proofs.lemmas.List.{get_or-map}
-use Rattle.std.proofs.lemmas.List.Sorted.{IsPermutation-sym}
-use Rattle.std.proofs.lemmas.Map.Keys.{IsDistinct-IsPermutation, IsDistinct-from_sorted, sorted_from_all_adjacent, apart_from_distinct}
+use Rattle.std.proofs.lemmas.Map.Keys.{apart_from_distinct}
 use Rattle.admit_core.specs.declared.tables.WishRow.{WishRow}
-use Rattle.admit_core.specs.declared.tables.Tables.{Tables}
-use Rattle.admit_core.specs.declared.refusal.Reason.TheVariants.{Repeat}
-use Rattle.admit_core.specs.declared.slot.Slot.TheVariants as slots
-use Rattle.admit_core.specs.Faults.{Test, first_in, repeats, names_unknown}
-use Rattle.admit_core.specs.Lists.{is_among}
-use Rattle.admit_core.specs.Relations.{same_wish, same_school, wish_tests, programme_ids, school_ids, unranked, no_boarding_rank, preference_mixed, preference_taken}
+use Rattle.admit_core.specs.Relations.{same_wish, same_school}
 use Rattle.dossier_check.specs.Wished.{wished}
-use Rattle.dossier_check.proofs.Faultless.{differ, without_second}
+use Rattle.dossier_check.proofs.InOrder.{apart_in_order}
 use Rattle.dossier_check.proofs.Firsts.{length-map-here}
 use Rattle.dossier_check.proofs.Places.{nat_eq_sound}
 
@@ -28,18 +21,6 @@ wished_cmp x y = ordering_then (nat_cmp x.0 y.0) (ordering_then (nat_cmp x.1 y.1
 
 wished_total : IsTotalOrder wished_cmp
 wished_total = then_total (on_total (λ (x : ℕ × ℕ × ℕ). x.0) nat_cmp_total) (then_total (on_total (λ (x : ℕ × ℕ × ℕ). x.1) nat_cmp_total) (on_total (λ (x : ℕ × ℕ × ℕ). x.2) nat_cmp_total))
-
-less : (o : Ordering) → true ≡ is_lt o → o ≡ Less
-less Less e = refl
-less Equal e = absurd (true≢false e)
-less Greater e = absurd (true≢false e)
-
--- where each is less than the next, no two are the same
-pub strictly : (xs : List (ℕ × ℕ × ℕ)) (r : Bool) → IsAllAdjacentAnswer (λ x y b. b ≡ is_lt (wished_cmp x y)) xs r → r ≡ true → IsDistinct (eq_by_cmp wished_cmp) xs
-strictly xs false below e = absurd (false≢true e)
-strictly xs true below e =
-    let d : ℕ × ℕ × ℕ = (0, 0, 0) in
-    IsDistinct-from_sorted wished_cmp xs (sorted_from_all_adjacent wished_total xs d (λ k lt. less (wished_cmp (get_or xs k d) (get_or xs (k + 1) d)) (below k d lt)))
 
 same_schools : (h k : Option ℕ) → same_school h k ≡ true → unwrap_or k 0 ≡ unwrap_or h 0
 same_schools None None e = refl
@@ -78,32 +59,5 @@ apart_rows rows apart i j d lt within =
 pub no_wish_twice : (rows : List WishRow) (keys ordered : List (ℕ × ℕ × ℕ)) (r : Bool) → keys ≡ map wished rows → IsPermutation keys ordered
     → IsAllAdjacentAnswer (λ x y b. b ≡ is_lt (wished_cmp x y)) ordered r → r ≡ true → AllPairs (λ r row. same_wish row r ≡ false) rows
 no_wish_twice rows keys ordered r made moved answer e =
-    let eq = eq_by_cmp wished_cmp in
-    let apart : IsDistinct eq keys = IsDistinct-IsPermutation eq (eq_by_cmp_equiv wished_total).symm ordered keys (IsPermutation-sym keys ordered moved) (strictly ordered r answer e) in
-    apart_rows rows (subst (IsDistinct eq) made apart)
-
--- the tests of wishes, where that of the same wish may be left out
-abbrev pub tests_unless : Bool → Tables → List (Test WishRow)
-tests_unless apart t =
-    repeats (λ row r. nat_eq row.id r.id)
-    ∷ (λ before row. if apart then None else repeats same_wish before row)
-    ∷ names_unknown 3 (λ row. is_among row.programme (programme_ids t))
-    ∷ names_unknown 4 (λ row. option_map_or (λ h. is_among h (school_ids t)) row.school true)
-    ∷ unranked t
-    ∷ no_boarding_rank t
-    ∷ preference_mixed
-    ∷ preference_taken
-    ∷ []
-
-pub same_fault : (t : Tables) (apart : Bool) → (apart ≡ true → AllPairs (λ r row. same_wish row r ≡ false) t.wishes)
-    → first_in slots.Wishes (tests_unless apart t) t.wishes ≡ first_in slots.Wishes (wish_tests t) t.wishes
-same_fault t apart pairs =
-    without_second slots.Wishes (repeats (λ row r. nat_eq row.id r.id)) (repeats same_wish)
-    (names_unknown 3 (λ row. is_among row.programme (programme_ids t))
-    ∷ names_unknown 4 (λ row. option_map_or (λ h. is_among h (school_ids t)) row.school true)
-    ∷ unranked t
-    ∷ no_boarding_rank t
-    ∷ preference_mixed
-    ∷ preference_taken
-    ∷ [])
-    t.wishes apart (λ e. differ same_wish Repeat t.wishes (pairs e))
+    let apart : IsDistinct (eq_by_cmp wished_cmp) keys = apart_in_order wished_total (0, 0, 0) keys ordered r moved answer e in
+    apart_rows rows (subst (IsDistinct (eq_by_cmp wished_cmp)) made apart)

@@ -1,7 +1,7 @@
 -- Who is ranked in a group, by the candidates of the groups.
-use Rattle.std.proofs.Common.{◌≡◌, ℕ, ◌≤◌, ◌<◌, Bool, true, false, ◌&&◌, nat_eq, List, [], ◌∷◌, length, map, get_or, Some, Result, Ok, Err, option_map, position, slice_get, refl, sym, ap, ◌∙◌, arith, true≢false, All, inl, inr, ◌⊎◌}
+use Rattle.std.proofs.Common.{◌≡◌, ℕ, ◌≤◌, ◌<◌, Bool, true, false, ◌&&◌, nat_eq, List, [], ◌∷◌, length, map, get_or, Some, Result, Ok, Err, option_map, position, slice_get, refl, sym, ap, ◌∙◌, arith, true≢false, All, inl, inr, ◌⊎◌, subst}
 use Rattle.std.specs.List.{list_any}
-use Rattle.std.specs.List.Sorted.{IsBinarySearchResult}
+use Rattle.std.specs.List.Sorted.{IsBinarySearchResult, IsNonDecreasing}
 use Rattle.std.specs.Ordering.{nat_cmp}
 use Rattle.std.specs.Result.{MatchResult, is_ok}
 use Rattle.std.proofs.lemmas.Bool.Decides.{nat_tests}
@@ -73,8 +73,13 @@ found_among xs x (Err i) at = sym (list_any_none (nat_eq x) xs (λ k d lt. rw (g
     none k lt (inl below) = let less : get_or xs k 0 < x = at.1 k below in grind (arith, nat_tests)
     none k lt (inr above) = let more : x < get_or xs k 0 = at.2 k above lt in grind (arith, nat_tests)
 
-pub is_found : (rows : List RankRow) (group candidate : ℕ) (ids : List ℕ) (r : Result ℕ ℕ) → ids ≡ candidates_in rows group → IsBinarySearchResult (λ y. nat_cmp y candidate) ids r
-    → is_ok r ≡ list_any (λ q. nat_eq group q.group && nat_eq candidate q.candidate) rows
+-- what is told of the candidates of a group, who ascend, is told of the rankings
+pub is_found : (rows : List RankRow) (group candidate : ℕ) (ids : List ℕ) (r : Bool) → ids ≡ candidates_in rows group → (IsNonDecreasing ids → r ≡ list_any (nat_eq candidate) ids)
+    → r ≡ list_any (λ q. nat_eq group q.group && nat_eq candidate q.candidate) rows
 is_found rows group candidate ids r same answer =
-    found_among ids candidate r (searched ids candidate r answer (rw same (numbers_in_order (map (λ q. q.candidate) (ranked_in rows group)))))
+    answer (subst IsNonDecreasing (sym same) (numbers_in_order (map (λ q. q.candidate) (ranked_in rows group))))
     ∙ ap (list_any (nat_eq candidate)) same ∙ among_candidates rows group candidate
+
+-- whether a search in ascending numbers finds one
+pub searched_among : (xs : List ℕ) (x : ℕ) (r : Result ℕ ℕ) → IsNonDecreasing xs → IsBinarySearchResult (λ y. nat_cmp y x) xs r → is_ok r ≡ list_any (nat_eq x) xs
+searched_among xs x r ascends answer = found_among xs x r (searched xs x r answer (λ i j le lt. ascends i j 0 le lt))

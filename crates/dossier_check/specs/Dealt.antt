@@ -7,7 +7,7 @@ use Rattle.admit_core.specs.Lists.{is_among, sorted_by}
 use Rattle.admit_core.specs.Relations.{group_ids}
 use Rattle.admit_core.specs.Standing.{ranked_in}
 use Rattle.dossier_check.specs.declared.ranks.Dealt.{Dealt}
-use Rattle.dossier_check.specs.declared.ranks.WhoIsRanked.{WhoIsRanked}
+use Rattle.dossier_check.specs.declared.who_is_ranked.WhoIsRanked.{WhoIsRanked}
 
 -- the candidates of a list and its ranks, ascending
 abbrev pub candidates_of : List Ranked → List ℕ

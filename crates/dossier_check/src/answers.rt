@@ -9,17 +9,18 @@ ghost use Rattle.dossier_check.specs.Seen.{AreFirstWishes};
 
 use crate::day_falls::{DayFalls, ItsDay};
 use crate::noted::FirstWish;
+use crate::row_ids::RowIds;
 use crate::row_tests::{NoTest, RowTest, Then};
 use crate::scan::scan;
 use admit_core::{AnswerKind, AnswerRow, InFault, OutOfMemory, Reason, Slot, Tables};
-use indexmap::{IndexMap, IndexSet};
+use indexmap::IndexMap;
 use keyed_hash::Keyed;
 
 /// The target isn't a wish, or for `Quit` a candidate who has one.
 #[derive(Drop)]
 pub(crate) struct TargetUnknown<'a> {
     pub(crate) tables: &'a Tables,
-    pub(crate) wishes: &'a IndexSet<u32, Keyed>,
+    pub(crate) wishes: &'a RowIds,
     pub(crate) candidates: &'a IndexMap<u32, FirstWish, Keyed>,
 }
 
@@ -34,7 +35,7 @@ impl<'a> TargetUnknown<'a> {
     {
         match row.kind {
             AnswerKind::Accept | AnswerKind::Refuse | AnswerKind::Withdraw => {
-                self.wishes.contains(&row.target)
+                self.wishes.contains(row.target)
             }
             AnswerKind::Quit => self.candidates.contains_key(&row.target),
         }
@@ -63,7 +64,7 @@ impl<'a> RowTest<AnswerRow> for TargetUnknown<'a> {
 /// Checks the answers.
 pub(crate) fn check_answers<'a>(
     tables: &'a Tables,
-    wishes: &'a IndexSet<u32, Keyed>,
+    wishes: &'a RowIds,
     candidates: &'a IndexMap<u32, FirstWish, Keyed>,
 ) -> Result<(), InFault>
     requires wishes { wishes.now.keys ≡ wish_ids tables.now }

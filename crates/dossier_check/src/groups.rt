@@ -4,9 +4,8 @@ ghost use Rattle.admit_core.specs.Standing.{ranked_in, group_of_row};
 ghost use Rattle.admit_core.specs.Lists.{sorted_by};
 ghost use Rattle.admit_core.specs.Relations.{group_ids};
 
+use crate::row_ids::RowIds;
 use admit_core::{OutOfMemory, RankGroup, RankRow, Ranked, Sequence, Tables};
-use indexmap::IndexSet;
-use keyed_hash::Keyed;
 use std::alloc::Global;
 
 /// Puts candidates in order by rank.
@@ -32,10 +31,7 @@ pub(crate) fn add(
 }
 
 /// An empty list for each group.
-pub(crate) fn empty_lists(
-    alloc: Global,
-    groups: &IndexSet<u32, Keyed>,
-) -> Result<Vec<Vec<Ranked>>, OutOfMemory>
+pub(crate) fn empty_lists(alloc: Global, groups: &RowIds) -> Result<Vec<Vec<Ranked>>, OutOfMemory>
     ensures { IfOk result (λ lists. map (λ l. l.items) lists.items ≡ map (ranked_in []) groups.now.keys) }
 {
     let mut lists = Vec::new(alloc);
@@ -48,7 +44,7 @@ pub(crate) fn empty_lists(
 /// Adds a candidate to the list of his group.
 pub(crate) fn lay_row(
     lists: &mut Vec<Vec<Ranked>>,
-    groups: &IndexSet<u32, Keyed>,
+    groups: &RowIds,
     row: &RankRow,
 ) -> Result<(), OutOfMemory>
     requires { length lists.old.items ≡ length groups.now.keys }
@@ -56,7 +52,7 @@ pub(crate) fn lay_row(
     ensures len { OnOk result (length lists.new.items ≡ length lists.old.items) }
 {
     let _ = groups.len();
-    if let Some(place) = groups.get_index_of(&row.group) {
+    if let Some(place) = groups.get_index_of(row.group) {
         add(
             lists,
             place,
@@ -76,7 +72,7 @@ pub(crate) fn lay_row(
 pub(crate) fn ranked_lists(
     alloc: Global,
     rankings: &[RankRow],
-    groups: &IndexSet<u32, Keyed>,
+    groups: &RowIds,
 ) -> Result<Vec<Vec<Ranked>>, OutOfMemory>
     ensures { IfOk result (λ lists. map (λ l. l.items) lists.items ≡ map (ranked_in rankings.now) groups.now.keys) }
 {

@@ -20,9 +20,17 @@ fn mix_boarding(key: &mut KeyMaker, rows: &[BoardRow]) {
 fn mix_wishes(key: &mut KeyMaker, rows: &[WishRow]) {
     for row in rows {
         key.mix(row.id, row.candidate);
-        key.mix(row.programme, row.school.unwrap_or(0));
-        key.mix(row.preference, 0);
     }
+}
+
+/// Hashing by a key of what wishes are of, and of the preferences.
+pub(crate) fn hashing_of_wishes(rows: &[WishRow]) -> Keyed {
+    let mut key = KeyMaker::new();
+    for row in rows {
+        key.mix(row.candidate, row.programme);
+        key.mix(row.school.unwrap_or(0), row.preference);
+    }
+    key.done()
 }
 
 fn mix_ceilings(key: &mut KeyMaker, rows: &[CeilingRow]) {
@@ -31,7 +39,15 @@ fn mix_ceilings(key: &mut KeyMaker, rows: &[CeilingRow]) {
     }
 }
 
-/// Hashing by a key of all numbers that rows are found by.
+/// Hashing by a key of the rankings.
+pub(crate) fn hashing_of_ranks(rows: &[RankRow]) -> Keyed {
+    let mut key = KeyMaker::new();
+    mix_ranks(&mut key, rows);
+    key.done()
+}
+
+/// Hashing by a key of all numbers that rows are mostly found by. Rankings and what wishes are of
+/// are put in order, and hashed by keys of their own only where that shows a fault.
 pub(crate) fn hashing_of(tables: &Tables) -> Keyed {
     let mut key = KeyMaker::new();
     for row in tables.groups.as_slice() {
@@ -43,7 +59,6 @@ pub(crate) fn hashing_of(tables: &Tables) -> Keyed {
     for row in tables.schools.as_slice() {
         key.mix(row.id, 0);
     }
-    mix_ranks(&mut key, tables.rankings.as_slice());
     mix_boarding(&mut key, tables.boarding.as_slice());
     mix_wishes(&mut key, tables.wishes.as_slice());
     for row in tables.state.as_slice() {

@@ -1,15 +1,14 @@
 //! The places of ids.
 ghost use Rattle.std.specs.Prelude.{◌≡◌, position, nat_eq};
 
-use indexmap::IndexSet;
-use keyed_hash::Keyed;
+use crate::row_ids::RowIds;
 use std::marker::Model;
 
 /// The ids of the wishes and of the schools. A contract sees them as two lists, by place.
 #[derive(Drop)]
 pub struct Index {
-    pub(crate) wishes: IndexSet<u32, Keyed>,
-    pub(crate) schools: IndexSet<u32, Keyed>,
+    pub(crate) wishes: RowIds,
+    pub(crate) schools: RowIds,
 }
 
 impl Model for Index {
@@ -26,7 +25,7 @@ impl Model for Index {
 pub fn wish_place(index: &Index, id: u32) -> Option<u32>
     ensures { result ≡ position (nat_eq id) index.now.wishes }
 {
-    let place = index.wishes.get_index_of(&id)?;
+    let place = index.wishes.get_index_of(id)?;
     Some(place as u32)
 }
 
@@ -34,6 +33,6 @@ pub fn wish_place(index: &Index, id: u32) -> Option<u32>
 pub fn school_place(index: &Index, id: u32) -> Option<u32>
     ensures { result ≡ position (nat_eq id) index.now.schools }
 {
-    let place = index.schools.get_index_of(&id)?;
+    let place = index.schools.get_index_of(id)?;
     Some(place as u32)
 }

@@ -7,6 +7,7 @@ ghost use Rattle.dossier_check.specs.Dates.{dates_of};
 ghost use Rattle.dossier_check.specs.Keys.{AreKeysOf};
 
 use crate::noted::row_with;
+use crate::row_ids::RowIds;
 use admit_core::{
     Answer, AnswerKind, CeilingChange, OutOfMemory, Programme, School, Since, StateRow, Status,
     Tables, Wish, WishRow,
@@ -18,24 +19,24 @@ use std::alloc::Global;
 /// What the rows of the slots are found by, by place.
 #[derive(Drop)]
 pub(crate) struct Keys {
-    pub(crate) groups: IndexSet<u32, Keyed>,
-    pub(crate) programmes: IndexSet<u32, Keyed>,
-    pub(crate) schools: IndexSet<u32, Keyed>,
+    pub(crate) groups: RowIds,
+    pub(crate) programmes: RowIds,
+    pub(crate) schools: RowIds,
     pub(crate) boarding: IndexSet<(u32, u32), Keyed>,
-    pub(crate) wishes: IndexSet<u32, Keyed>,
+    pub(crate) wishes: RowIds,
     pub(crate) state: IndexSet<u32, Keyed>,
 }
 
 /// The place of an id among ids, and their number where it is none of them.
-fn place_in(ids: &IndexSet<u32, Keyed>, id: u32) -> u32
+fn place_in(ids: &RowIds, id: u32) -> u32
     requires { length ids.now.keys < 2 ^ 32 }
     ensures { result ≡ place_of ids.now.keys id }
 {
-    ids.get_index_of(&id).unwrap_or(ids.len()) as u32
+    ids.get_index_of(id).unwrap_or(ids.len()) as u32
 }
 
 /// The same of an id that may be missing.
-fn place_in_any(ids: &IndexSet<u32, Keyed>, id: Option<u32>) -> Option<u32>
+fn place_in_any(ids: &RowIds, id: Option<u32>) -> Option<u32>
     requires { length ids.now.keys < 2 ^ 32 }
     ensures { result ≡ option_map (place_of ids.now.keys) id }
 {
@@ -54,8 +55,9 @@ pub(crate) fn programmes_of(
     requires { AreKeysOf tables.now keys.now }
     ensures { IfOk result (λ programmes. programmes.items ≡ map (programme_of_row tables.now) tables.now.programmes) }
 {
-    let mut programmes = Vec::new(alloc);
-    for row in tables.programmes.as_slice() {
+    let rows = tables.programmes.as_slice();
+    let mut programmes = Vec::with_capacity(alloc, rows.len())?;
+    for row in rows {
         programmes.push(Programme {
             id: row.id,
             group: place_in(&keys.groups, row.group),
@@ -101,8 +103,9 @@ pub(crate) fn wishes_of(
     requires { AreKeysOf tables.now keys.now }
     ensures { IfOk result (λ wishes. wishes.items ≡ map (wish_of_row tables.now) tables.now.wishes) }
 {
-    let mut wishes = Vec::new(alloc);
-    for row in tables.wishes.as_slice() {
+    let rows = tables.wishes.as_slice();
+    let mut wishes = Vec::with_capacity(alloc, rows.len())?;
+    for row in rows {
         wishes.push(Wish {
             id: row.id,
             candidate: row.candidate,
@@ -133,9 +136,10 @@ pub(crate) fn statuses_of(
     ensures statuses { IfOk result (λ made. made.0.items ≡ map (status_of_row tables.now) tables.now.wishes) }
     ensures dates { IfOk result (λ made. made.1.items ≡ dates_of tables.now) }
 {
-    let mut statuses = Vec::new(alloc);
-    let mut dates = Vec::new(alloc);
-    for wish in tables.wishes.as_slice() {
+    let rows = tables.wishes.as_slice();
+    let mut statuses = Vec::with_capacity(alloc, rows.len())?;
+    let mut dates = Vec::with_capacity(alloc, rows.len())?;
+    for wish in rows {
         let row = state_row_of(tables, keys, wish);
         statuses.push(row.map_or(Status::Waiting, |row| row.status))?;
         dates.push(row.and_then(|row| row.since))?;
@@ -185,8 +189,9 @@ pub(crate) fn answers_of(
     requires { AreKeysOf tables.now keys.now }
     ensures { IfOk result (λ answers. answers.items ≡ map (answer_of_row tables.now) tables.now.answers) }
 {
-    let mut answers = Vec::new(alloc);
-    for row in tables.answers.as_slice() {
+    let rows = tables.answers.as_slice();
+    let mut answers = Vec::with_capacity(alloc, rows.len())?;
+    for row in rows {
         answers.push(Answer {
             day: row.day,
             kind: row.kind,

@@ -11,13 +11,16 @@ mod hashing;
 mod index;
 mod items;
 mod noted;
+mod preferred;
 mod ranks;
 mod relations;
+mod row_ids;
 mod row_tests;
 mod rules;
 mod scan;
 mod slots;
 mod state;
+mod who_is_ranked;
 mod wished;
 mod wishes;
 

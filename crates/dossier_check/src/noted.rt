@@ -1,8 +1,9 @@
 //! What is kept of the rows so far: their keys by place, or the first row of each key.
-ghost use Rattle.std.specs.Prelude.{◌≡◌, ℕ, List, [], ◌∷◌, ◌++◌, map, find, Some, None, IfOk, IsSome, if◌then◌else◌};
+ghost use Rattle.std.specs.Prelude.{◌≡◌, ℕ, Bool, List, [], ◌∷◌, ◌++◌, map, find, nat_eq, position, Some, None, IfOk, IsSome, if◌then◌else◌};
 ghost use Rattle.indexmap.specs.IndexMap.{get};
 ghost use Rattle.admit_core.specs.Faults.{first_row};
 
+use crate::row_ids::RowIds;
 use admit_core::OutOfMemory;
 use indexmap::{IndexMap, IndexSet};
 use keyed_hash::Keyed;
@@ -35,6 +36,16 @@ pub(crate) fn note<R, K: Hash + Eq + Copy + Drop, Q: Key<R, K>>(
     Ok(Some(place as u64 + 2))
 }
 
+/// The row at the place of the first one that passes a test.
+fn row_at<R: Copy>(rows: &[R], place: Option<usize>) -> Option<R>
+    ensures { (passes : R → Bool) → place ≡ position passes rows.now → result ≡ find passes rows.now }
+{
+    match place {
+        Some(place) => rows.get(place).copied(),
+        None => None,
+    }
+}
+
 /// The row of a key, where the keys are those of the rows by place.
 pub(crate) fn row_with<R: Copy, K: Hash + Eq + Copy + Drop>(
     keys: &IndexSet<K, Keyed>,
@@ -43,10 +54,14 @@ pub(crate) fn row_with<R: Copy, K: Hash + Eq + Copy + Drop>(
 ) -> Option<R>
     ensures { (own : R → K) → keys.now.keys ≡ map own rows.now → result ≡ find (λ r. K.eq key (own r)) rows.now }
 {
-    match keys.get_index_of(&key) {
-        Some(place) => rows.get(place).copied(),
-        None => None,
-    }
+    row_at(rows, keys.get_index_of(&key))
+}
+
+/// The row of an id, where the ids are those of the rows by place.
+pub(crate) fn row_of<R: Copy>(ids: &RowIds, rows: &[R], id: u32) -> Option<R>
+    ensures { (own : R → ℕ) → ids.now.keys ≡ map own rows.now → result ≡ find (λ r. nat_eq id (own r)) rows.now }
+{
+    row_at(rows, ids.get_index_of(id))
 }
 
 /// What is kept of a candidate's first wish: the row's number, and the preference.

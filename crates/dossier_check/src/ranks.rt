@@ -9,10 +9,9 @@ ghost use Rattle.dossier_check.specs.Dealt.{AreDealt, HasItsGroup, candidates_of
 ghost use Rattle.dossier_check.specs.Outcome.{AnswersFault};
 
 use crate::groups::ranked_lists;
+use crate::row_ids::RowIds;
 use crate::slots::find_rank_fault;
 use admit_core::{InFault, OutOfMemory, RankRow, Ranked, Tables};
-use indexmap::IndexSet;
-use keyed_hash::Keyed;
 use std::alloc::Global;
 
 /// The rankings by the places of their groups: the candidates of each in file order, and their ids
@@ -93,11 +92,11 @@ fn candidates_apart(lists: &[Vec<u32>]) -> bool
 }
 
 /// Whether each row's group is there.
-fn groups_known(rows: &[RankRow], groups: &IndexSet<u32, Keyed>) -> bool
+fn groups_known(rows: &[RankRow], groups: &RowIds) -> bool
     ensures { result ≡ true → All (HasItsGroup groups.now.keys) rows.now }
 {
     for row in rows {
-        if !groups.contains(&row.group) {
+        if !groups.contains(row.group) {
             return false;
         }
     }
@@ -105,7 +104,7 @@ fn groups_known(rows: &[RankRow], groups: &IndexSet<u32, Keyed>) -> bool
 }
 
 /// Deals out the rankings.
-fn deal(alloc: Global, tables: &Tables, groups: &IndexSet<u32, Keyed>) -> Result<Dealt, OutOfMemory>
+fn deal(alloc: Global, tables: &Tables, groups: &RowIds) -> Result<Dealt, OutOfMemory>
     requires { groups.now.keys ≡ group_ids tables.now }
     ensures { IfOk result (AreDealt tables.now) }
 {
@@ -118,7 +117,7 @@ fn deal(alloc: Global, tables: &Tables, groups: &IndexSet<u32, Keyed>) -> Result
 fn shows_no_fault(
     alloc: Global,
     tables: &Tables,
-    groups: &IndexSet<u32, Keyed>,
+    groups: &RowIds,
     dealt: &Dealt,
 ) -> Result<bool, OutOfMemory>
     requires groups { groups.now.keys ≡ group_ids tables.now }
@@ -137,12 +136,7 @@ fn shows_no_fault(
 
 /// Checks the rankings, and answers them dealt out by group. The rows are tested one after another
 /// only where there may be a fault, to find the first.
-pub(crate) fn check_ranks(
-    alloc: Global,
-    keyed: Keyed,
-    tables: &Tables,
-    groups: &IndexSet<u32, Keyed>,
-) -> Result<Dealt, InFault>
+pub(crate) fn check_ranks(alloc: Global, tables: &Tables, groups: &RowIds) -> Result<Dealt, InFault>
     requires groups { groups.now.keys ≡ group_ids tables.now }
     requires small { length tables.now.rankings < 2 ^ 32 }
     ensures fault { AnswersFault result (first_in slots.Rankings (ranking_tests tables.now) tables.now.rankings) }
@@ -152,32 +146,6 @@ pub(crate) fn check_ranks(
     if shows_no_fault(alloc, tables, groups, &dealt)? {
         return Ok(dealt);
     }
-    find_rank_fault(alloc, keyed, tables, groups)?;
+    find_rank_fault(alloc, tables, groups)?;
     Ok(dealt)
-}
-
-/// Who is ranked in each group, by the groups' places.
-#[derive(Drop)]
-pub(crate) struct WhoIsRanked<'a> {
-    pub(crate) groups: &'a IndexSet<u32, Keyed>,
-    pub(crate) candidates: &'a [Vec<u32>],
-}
-
-impl<'a> WhoIsRanked<'a> {
-    ghost use Rattle.admit_core.specs.declared.tables.Tables.{Tables};
-    ghost use Rattle.admit_core.specs.Relations.{is_in_group};
-    ghost use Rattle.dossier_check.specs.Dealt.{SaysWhoIsRanked};
-
-    /// Whether a candidate is ranked in a group.
-    pub(crate) fn has(&self, group: u32, candidate: u32) -> bool
-        ensures { (t : Tables) → SaysWhoIsRanked t self.now → result ≡ is_in_group t candidate group }
-    {
-        let Some(place) = self.groups.get_index_of(&group) else {
-            return false;
-        };
-        match self.candidates.get(place) {
-            Some(ids) => ids.as_slice().binary_search(&candidate).is_ok(),
-            None => false,
-        }
-    }
 }

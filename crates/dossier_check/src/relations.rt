@@ -18,9 +18,11 @@ use crate::index::Index;
 use crate::items::{
     Keys, answers_of, ceilings_of, programmes_of, schools_of, statuses_of, wishes_of,
 };
-use crate::ranks::{Dealt, WhoIsRanked, check_ranks};
+use crate::ranks::{Dealt, check_ranks};
+use crate::row_ids::RowIds;
 use crate::slots::{check_boarding, check_ceilings, check_groups, check_programmes, check_schools};
 use crate::state::check_state;
+use crate::who_is_ranked::WhoIsRanked;
 use crate::wishes::check_wishes;
 use admit_core::{Dossier, InFault, OutOfMemory, Ranked, Sequence, Since, Tables};
 use indexmap::IndexSet;
@@ -41,11 +43,11 @@ fn check_wishes_on<'a>(
     alloc: Global,
     keyed: Keyed,
     tables: &'a Tables,
-    programmes: &'a IndexSet<u32, Keyed>,
-    schools: &'a IndexSet<u32, Keyed>,
+    programmes: &'a RowIds,
+    schools: &'a RowIds,
     ranked: WhoIsRanked<'a>,
     boarding: &'a IndexSet<(u32, u32), Keyed>,
-) -> Result<(IndexSet<u32, Keyed>, IndexSet<u32, Keyed>), InFault>
+) -> Result<(RowIds, IndexSet<u32, Keyed>), InFault>
     requires programmes { programmes.now.keys ≡ programme_ids tables.now }
     requires schools { schools.now.keys ≡ school_ids tables.now }
     requires ranked { SaysWhoIsRanked tables.now ranked }
@@ -73,7 +75,7 @@ fn check_slots(alloc: Global, tables: &Tables) -> Result<(Keys, Vec<Vec<Ranked>>
     let groups = check_groups(alloc, keyed, tables)?;
     let programmes = check_programmes(alloc, keyed, tables, &groups)?;
     let schools = check_schools(alloc, keyed, tables)?;
-    let Dealt { lists, candidates } = check_ranks(alloc, keyed, tables, &groups)?;
+    let Dealt { lists, candidates } = check_ranks(alloc, tables, &groups)?;
     let boarding = check_boarding(alloc, keyed, tables, &schools)?;
     let ranked = WhoIsRanked {
         groups: &groups,

@@ -6,10 +6,12 @@ ghost use Rattle.admit_core.specs.Faults.{Test, row_number, first_reason, repeat
 ghost use Rattle.admit_core.specs.Lists.{is_among};
 
 use crate::noted::{Key, note};
+use crate::row_ids::RowIds;
 use crate::scan::RowChecks;
 use admit_core::{OutOfMemory, Reason};
 use indexmap::IndexSet;
 use keyed_hash::Keyed;
+use std::alloc::Global;
 use std::hash::Hash;
 
 /// One test, with what it needs to know of the rows before.
@@ -103,6 +105,30 @@ impl<R, K: Hash + Eq + Copy + Drop, Q: Key<R, K>> RowTest<R> for Repeats<K, Q> {
     }
 }
 
+/// An earlier row has the same id.
+#[derive(Drop)]
+pub(crate) struct RepeatsId<Q> {
+    pub(crate) alloc: Global,
+    pub(crate) keyed: Keyed,
+    pub(crate) ids: RowIds,
+    pub(crate) rule: Q,
+}
+
+impl<R, Q: Key<R, u32>> RowTest<R> for RepeatsId<Q> {
+    ghost use Rattle.std.specs.Prelude.{nat_eq};
+
+    ghost test = { λ c. repeats (λ row r. nat_eq (Q.key row) (Q.key r)) };
+
+    ghost has_seen = { λ c before. c.ids.keys ≡ map Q.key before };
+
+    fn stands(&mut self, row: &R, _number: u64) -> Result<Option<Reason>, OutOfMemory> {
+        match self.ids.note(self.alloc, self.keyed, &self.rule, row)? {
+            Some(first) => Ok(Some(Reason::Repeat(first))),
+            None => Ok(None),
+        }
+    }
+}
+
 /// An earlier row has the same rank in the same list: the key.
 #[derive(Drop)]
 pub(crate) struct TakesRank<K: Eq + Hash, Q> {
@@ -135,7 +161,7 @@ pub(crate) trait Names<R> {
 #[derive(Drop)]
 pub(crate) struct NamesUnknown<'a, Q> {
     pub(crate) field: u32,
-    pub(crate) ids: &'a IndexSet<u32, Keyed>,
+    pub(crate) ids: &'a RowIds,
     pub(crate) rule: Q,
 }
 
@@ -146,7 +172,7 @@ impl<'a, R, Q: Names<R>> RowTest<R> for NamesUnknown<'a, Q> {
 
     fn stands(&mut self, row: &R, _number: u64) -> Result<Option<Reason>, OutOfMemory> {
         if let Some(id) = self.rule.named_by(row) {
-            if !self.ids.contains(&id) {
+            if !self.ids.contains(id) {
                 return Ok(Some(Reason::Unknown(self.field)));
             }
         }

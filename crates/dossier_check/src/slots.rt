@@ -6,7 +6,9 @@ ghost use Rattle.admit_core.specs.Relations.{group_tests, programme_tests, schoo
 ghost use Rattle.dossier_check.specs.Outcome.{AnswersFault};
 
 use crate::day_falls::{DayFalls, ItsDay};
-use crate::row_tests::{NamesUnknown, NoTest, Repeats, TakesRank, Then};
+use crate::hashing::hashing_of_ranks;
+use crate::row_ids::RowIds;
+use crate::row_tests::{NamesUnknown, NoTest, Repeats, RepeatsId, TakesRank, Then};
 use crate::rules::{
     DayAndSchool, GroupAndCandidate, GroupAndRank, ItsGroup, ItsSchool, OwnId, SchoolAndCandidate,
     SchoolAndRank,
@@ -18,24 +20,23 @@ use keyed_hash::Keyed;
 use std::alloc::Global;
 
 /// Checks the groups, and answers their ids by place.
-pub(crate) fn check_groups(
-    alloc: Global,
-    keyed: Keyed,
-    tables: &Tables,
-) -> Result<IndexSet<u32, Keyed>, InFault>
+pub(crate) fn check_groups(alloc: Global, keyed: Keyed, tables: &Tables) -> Result<RowIds, InFault>
     requires { length tables.now.groups < 2 ^ 32 }
     ensures fault { AnswersFault result (first_in slots.Groups group_tests tables.now.groups) }
     ensures ids { IfOk result (λ ids. ids.keys ≡ group_ids tables.now) }
 {
+    let rows = tables.groups.as_slice();
     let mut checks = Then {
-        first: Repeats {
-            keys: IndexSet::with_hasher(alloc, keyed),
+        first: RepeatsId {
+            alloc,
+            keyed,
+            ids: RowIds::with_room(alloc, rows.len())?,
             rule: OwnId,
         },
         rest: NoTest,
     };
-    scan(Slot::Groups, &mut checks, tables.groups.as_slice())?;
-    Ok(checks.first.keys)
+    scan(Slot::Groups, &mut checks, rows)?;
+    Ok(checks.first.ids)
 }
 
 /// Checks the programmes, and answers their ids by place.
@@ -43,16 +44,19 @@ pub(crate) fn check_programmes(
     alloc: Global,
     keyed: Keyed,
     tables: &Tables,
-    groups: &IndexSet<u32, Keyed>,
-) -> Result<IndexSet<u32, Keyed>, InFault>
+    groups: &RowIds,
+) -> Result<RowIds, InFault>
     requires groups { groups.now.keys ≡ group_ids tables.now }
     requires small { length tables.now.programmes < 2 ^ 32 }
     ensures fault { AnswersFault result (first_in slots.Programmes (programme_tests tables.now) tables.now.programmes) }
     ensures ids { IfOk result (λ ids. ids.keys ≡ programme_ids tables.now) }
 {
+    let rows = tables.programmes.as_slice();
     let mut checks = Then {
-        first: Repeats {
-            keys: IndexSet::with_hasher(alloc, keyed),
+        first: RepeatsId {
+            alloc,
+            keyed,
+            ids: RowIds::with_room(alloc, rows.len())?,
             rule: OwnId,
         },
         rest: Then {
@@ -64,42 +68,42 @@ pub(crate) fn check_programmes(
             rest: NoTest,
         },
     };
-    scan(Slot::Programmes, &mut checks, tables.programmes.as_slice())?;
-    Ok(checks.first.keys)
+    scan(Slot::Programmes, &mut checks, rows)?;
+    Ok(checks.first.ids)
 }
 
 /// Checks the schools, and answers their ids by place.
-pub(crate) fn check_schools(
-    alloc: Global,
-    keyed: Keyed,
-    tables: &Tables,
-) -> Result<IndexSet<u32, Keyed>, InFault>
+pub(crate) fn check_schools(alloc: Global, keyed: Keyed, tables: &Tables) -> Result<RowIds, InFault>
     requires { length tables.now.schools < 2 ^ 32 }
     ensures fault { AnswersFault result (first_in slots.Schools school_tests tables.now.schools) }
     ensures ids { IfOk result (λ ids. ids.keys ≡ school_ids tables.now) }
 {
+    let rows = tables.schools.as_slice();
     let mut checks = Then {
-        first: Repeats {
-            keys: IndexSet::with_hasher(alloc, keyed),
+        first: RepeatsId {
+            alloc,
+            keyed,
+            ids: RowIds::with_room(alloc, rows.len())?,
             rule: OwnId,
         },
         rest: NoTest,
     };
-    scan(Slot::Schools, &mut checks, tables.schools.as_slice())?;
-    Ok(checks.first.keys)
+    scan(Slot::Schools, &mut checks, rows)?;
+    Ok(checks.first.ids)
 }
 
 /// Tests the rankings row by row, and answers the first fault.
 pub(crate) fn find_rank_fault(
     alloc: Global,
-    keyed: Keyed,
     tables: &Tables,
-    groups: &IndexSet<u32, Keyed>,
+    groups: &RowIds,
 ) -> Result<(), InFault>
     requires groups { groups.now.keys ≡ group_ids tables.now }
     requires small { length tables.now.rankings < 2 ^ 32 }
     ensures { AnswersFault result (first_in slots.Rankings (ranking_tests tables.now) tables.now.rankings) }
 {
+    let rows = tables.rankings.as_slice();
+    let keyed = hashing_of_ranks(rows);
     let mut checks = Then {
         first: Repeats {
             keys: IndexSet::with_hasher(alloc, keyed),
@@ -120,7 +124,7 @@ pub(crate) fn find_rank_fault(
             },
         },
     };
-    scan(Slot::Rankings, &mut checks, tables.rankings.as_slice())
+    scan(Slot::Rankings, &mut checks, rows)
 }
 
 /// Checks the boarding ranks, and answers the pairs of school and candidate by place.
@@ -128,7 +132,7 @@ pub(crate) fn check_boarding(
     alloc: Global,
     keyed: Keyed,
     tables: &Tables,
-    schools: &IndexSet<u32, Keyed>,
+    schools: &RowIds,
 ) -> Result<IndexSet<(u32, u32), Keyed>, InFault>
     requires schools { schools.now.keys ≡ school_ids tables.now }
     requires small { length tables.now.boarding < 2 ^ 32 }
@@ -164,7 +168,7 @@ pub(crate) fn check_ceilings(
     alloc: Global,
     keyed: Keyed,
     tables: &Tables,
-    schools: &IndexSet<u32, Keyed>,
+    schools: &RowIds,
 ) -> Result<(), InFault>
     requires schools { schools.now.keys ≡ school_ids tables.now }
     requires small { length tables.now.ceilings < 2 ^ 32 }

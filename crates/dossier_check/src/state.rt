@@ -5,7 +5,8 @@ ghost use Rattle.admit_core.specs.Faults.{first_in};
 ghost use Rattle.admit_core.specs.Relations.{state_tests, wish_ids};
 ghost use Rattle.dossier_check.specs.Outcome.{AnswersFault};
 
-use crate::noted::{note_first, row_with};
+use crate::noted::{note_first, row_of};
+use crate::row_ids::RowIds;
 use crate::row_tests::{NamesUnknown, NoTest, Repeats, RowTest, Then};
 use crate::rules::ItsWish;
 use crate::scan::scan;
@@ -18,7 +19,7 @@ use std::alloc::Global;
 #[derive(Drop)]
 pub(crate) struct TwoAccepted<'a> {
     pub(crate) tables: &'a Tables,
-    pub(crate) wishes: &'a IndexSet<u32, Keyed>,
+    pub(crate) wishes: &'a RowIds,
     pub(crate) rows: IndexMap<u32, u64, Keyed>,
 }
 
@@ -34,7 +35,7 @@ impl<'a> TwoAccepted<'a> {
         if !matches!(row.status, Status::Accepted) {
             return None;
         }
-        let wish = row_with(self.wishes, self.tables.wishes.as_slice(), row.wish)?;
+        let wish = row_of(self.wishes, self.tables.wishes.as_slice(), row.wish)?;
         Some(wish.candidate)
     }
 }
@@ -65,7 +66,7 @@ pub(crate) fn check_state<'a>(
     alloc: Global,
     keyed: Keyed,
     tables: &'a Tables,
-    wishes: &'a IndexSet<u32, Keyed>,
+    wishes: &'a RowIds,
 ) -> Result<IndexSet<u32, Keyed>, InFault>
     requires wishes { wishes.now.keys ≡ wish_ids tables.now }
     requires small { length tables.now.state < 2 ^ 32 }

@@ -8,11 +8,14 @@ ghost use Rattle.dossier_check.specs.Dealt.{SaysWhoIsRanked};
 ghost use Rattle.dossier_check.specs.Outcome.{AnswersFault};
 ghost use Rattle.dossier_check.specs.Seen.{boarded_pairs, AreFirstWishes};
 
-use crate::noted::{FirstWish, note_first, row_with};
-use crate::ranks::WhoIsRanked;
-use crate::row_tests::{NamesUnknown, NoTest, Repeats, RowTest, Then, Unless};
+use crate::hashing::hashing_of_wishes;
+use crate::noted::{FirstWish, note_first, row_of};
+use crate::preferred::preferences_apart;
+use crate::row_ids::RowIds;
+use crate::row_tests::{NamesUnknown, NoTest, Repeats, RepeatsId, RowTest, Then, Unless};
 use crate::rules::{ItsProgramme, ItsSchool, OwnId, WhatIsWished};
 use crate::scan::scan;
+use crate::who_is_ranked::WhoIsRanked;
 use crate::wished::wishes_apart;
 use admit_core::{InFault, OutOfMemory, Reason, Slot, Tables, WishRow};
 use indexmap::{IndexMap, IndexSet};
@@ -23,8 +26,10 @@ use std::alloc::Global;
 #[derive(Drop)]
 pub(crate) struct Unranked<'a> {
     pub(crate) tables: &'a Tables,
-    pub(crate) programmes: &'a IndexSet<u32, Keyed>,
+    pub(crate) programmes: &'a RowIds,
     pub(crate) ranked: WhoIsRanked<'a>,
+    /// Where the next candidate of each group is looked for, by the groups' places.
+    pub(crate) near: Vec<usize>,
 }
 
 impl<'a> RowTest<WishRow> for Unranked<'a> {
@@ -37,8 +42,11 @@ impl<'a> RowTest<WishRow> for Unranked<'a> {
 
     fn stands(&mut self, row: &WishRow, _number: u64) -> Result<Option<Reason>, OutOfMemory> {
         let programmes = self.tables.programmes.as_slice();
-        if let Some(programme) = row_with(self.programmes, programmes, row.programme) {
-            if self.ranked.has(programme.group, row.candidate) {
+        if let Some(programme) = row_of(self.programmes, programmes, row.programme) {
+            if self
+                .ranked
+                .has(programme.group, row.candidate, &mut self.near)
+            {
                 return Ok(None);
             }
         }
@@ -131,7 +139,7 @@ impl RowTest<WishRow> for PreferenceTaken {
 /// The ids of the wishes by place, and each candidate's first wish.
 #[derive(Drop)]
 pub(crate) struct WishKeys {
-    pub(crate) ids: IndexSet<u32, Keyed>,
+    pub(crate) ids: RowIds,
     pub(crate) firsts: IndexMap<u32, FirstWish, Keyed>,
 }
 
@@ -140,8 +148,8 @@ pub(crate) fn check_wishes<'a>(
     alloc: Global,
     keyed: Keyed,
     tables: &'a Tables,
-    programmes: &'a IndexSet<u32, Keyed>,
-    schools: &IndexSet<u32, Keyed>,
+    programmes: &'a RowIds,
+    schools: &RowIds,
     ranked: WhoIsRanked<'a>,
     boarded: &'a IndexSet<(u32, u32), Keyed>,
 ) -> Result<WishKeys, InFault>
@@ -156,13 +164,23 @@ pub(crate) fn check_wishes<'a>(
 {
     let rows = tables.wishes.as_slice();
     let apart = wishes_apart(alloc, rows)?;
+    let distinct = preferences_apart(alloc, rows)?;
+    let by_wish = if apart && distinct {
+        keyed
+    } else {
+        hashing_of_wishes(rows)
+    };
+    let near = vec![in alloc; 0; ranked.candidates.len()]?;
     let preferences = Then {
         first: PreferenceMixed {
             firsts: IndexMap::with_hasher(alloc, keyed),
         },
         rest: Then {
-            first: PreferenceTaken {
-                rows: IndexMap::with_hasher(alloc, keyed),
+            first: Unless {
+                is_known: distinct,
+                test: PreferenceTaken {
+                    rows: IndexMap::with_hasher(alloc, by_wish),
+                },
             },
             rest: NoTest,
         },
@@ -172,6 +190,7 @@ pub(crate) fn check_wishes<'a>(
             tables,
             programmes,
             ranked,
+            near,
         },
         rest: Then {
             first: NoBoardingRank { tables, boarded },
@@ -194,15 +213,17 @@ pub(crate) fn check_wishes<'a>(
         },
     };
     let mut checks = Then {
-        first: Repeats {
-            keys: IndexSet::with_hasher(alloc, keyed),
+        first: RepeatsId {
+            alloc,
+            keyed,
+            ids: RowIds::with_room(alloc, rows.len())?,
             rule: OwnId,
         },
         rest: Then {
             first: Unless {
                 is_known: apart,
                 test: Repeats {
-                    keys: IndexSet::with_hasher(alloc, keyed),
+                    keys: IndexSet::with_hasher(alloc, by_wish),
                     rule: WhatIsWished,
                 },
             },
@@ -214,7 +235,7 @@ pub(crate) fn check_wishes<'a>(
     let ranks = rest.rest.rest.rest;
     let preferences = ranks.rest.rest;
     Ok(WishKeys {
-        ids: own.keys,
+        ids: own.ids,
         firsts: preferences.first.firsts,
     })
 }

@@ -1,0 +1,179 @@
+//! The ids of a slot's rows: found by order where they rise, and by hash elsewhere.
+ghost use Rattle.std.specs.Prelude.{◌≡◌, ◌++◌, ◌∷◌, ◌<◌, [], List, nat_eq, position, is_some, length, map, true, false, None, Some, IfOk, IfSome, OnErr};
+ghost use Rattle.std.specs.List.{IsDistinct, list_any};
+ghost use Rattle.admit_core.specs.Faults.{first_row};
+ghost use Rattle.dossier_check.specs.RowIds.{Rises};
+
+use crate::noted::{Key, note};
+use admit_core::OutOfMemory;
+use indexmap::IndexSet;
+use keyed_hash::Keyed;
+use std::alloc::Global;
+use std::marker::Model;
+
+/// How ids are found.
+#[derive(Drop)]
+pub(crate) enum Way {
+    /// Each is greater than the one before it.
+    Rising(Vec<u32>),
+    Hashed(IndexSet<u32, Keyed>),
+}
+
+/// The ids of a slot's rows, each once. A contract sees them by place.
+#[derive(Drop)]
+pub(crate) struct RowIds {
+    way: Way,
+}
+
+impl Model for RowIds {
+    ghost use Rattle.dossier_check.specs.RowIds.{IsWay, Listed, keys_by};
+
+    ghost Value = { Listed };
+
+    ghost view = { λ x. record { keys = keys_by x.way } };
+
+    ghost invariant = { λ x. IsWay x.way };
+}
+
+/// The place of an id among rising ones, where each id between the first and it is one more than
+/// the one before.
+fn at_distance(ids: &[u32], id: u32) -> Option<usize>
+    requires { Rises ids.now }
+    ensures { IfSome result (λ place. position (nat_eq id) ids.now ≡ Some place) }
+{
+    let first = *ids.first()?;
+    let place = id.checked_sub(first)? as usize;
+    let there = *ids.get(place)?;
+    if there != id {
+        return None;
+    }
+    Some(place)
+}
+
+/// The place of an id among rising ones.
+fn place_among(ids: &[u32], id: u32) -> Option<usize>
+    requires { Rises ids.now }
+    ensures place { result ≡ position (nat_eq id) ids.now }
+    ensures found { is_some result ≡ list_any (nat_eq id) ids.now }
+{
+    match at_distance(ids, id) {
+        Some(place) => Some(place),
+        None => ids.binary_search(&id).ok(),
+    }
+}
+
+/// Whether an id is greater than the last of those before it.
+fn comes_after(ids: &[u32], id: u32) -> bool
+    ensures { result ≡ true → Rises ids.now → Rises (ids.now ++ id ∷ []) }
+{
+    match ids.last() {
+        Some(last) => *last < id,
+        None => true,
+    }
+}
+
+/// Adds an id to rising ones, where they go on rising.
+fn add_rising(ids: &mut Vec<u32>, id: u32) -> Result<bool, OutOfMemory>
+    requires { Rises ids.old.items }
+    ensures rises { Rises ids.new.items }
+    ensures added { IfOk result (λ added. added ≡ true → ids.new.items ≡ ids.old.items ++ id ∷ []) }
+    ensures is_new { IfOk result (λ added.
+        added ≡ true → list_any (nat_eq id) ids.old.items ≡ false) }
+    ensures kept { IfOk result (λ added. added ≡ false → ids.new.items ≡ ids.old.items) }
+    ensures failed { OnErr result (ids.new.items ≡ ids.old.items) }
+{
+    if !comes_after(ids.as_slice(), id) {
+        return Ok(false);
+    }
+    ids.push(id)?;
+    Ok(true)
+}
+
+/// Rising ids, found by hash.
+fn hashed(
+    alloc: Global,
+    keyed: Keyed,
+    ids: &[u32],
+    room: usize,
+) -> Result<IndexSet<u32, Keyed>, OutOfMemory>
+    requires { Rises ids.now }
+    ensures { IfOk result (λ set. set.keys ≡ ids.now) }
+{
+    let mut set = IndexSet::with_capacity_and_hasher(alloc, room, keyed)?;
+    for id in ids {
+        set.insert(*id)?;
+    }
+    Ok(set)
+}
+
+impl RowIds {
+    /// No ids, with room for a number of them.
+    pub(crate) fn with_room(alloc: Global, room: usize) -> Result<RowIds, OutOfMemory>
+        ensures { IfOk result (λ ids. ids.keys ≡ []) }
+    {
+        let ids = Vec::with_capacity(alloc, room)?;
+        Ok(RowIds {
+            way: Way::Rising(ids),
+        })
+    }
+
+    /// Notes the id of the next row, and answers the number of the row of the same id where there
+    /// is one.
+    pub(crate) fn note<R, Q: Key<R, u32>>(
+        &mut self,
+        alloc: Global,
+        keyed: Keyed,
+        rule: &Q,
+        row: &R,
+    ) -> Result<Option<u64>, OutOfMemory>
+        ensures first { (before : List R) → self.old.keys ≡ map Q.key before →
+            IfOk result (λ first.
+            first ≡ first_row (λ r. nat_eq (Q.key row.now) (Q.key r)) before) }
+        ensures noted { (before : List R) → self.old.keys ≡ map Q.key before →
+            IfOk result (λ first.
+            first ≡ None → self.new.keys ≡ map Q.key (before ++ row.now ∷ [])) }
+    {
+        match &mut self.way {
+            Way::Rising(ids) => {
+                if add_rising(ids, rule.key_of(row))? {
+                    return Ok(None);
+                }
+                let mut set = hashed(alloc, keyed, ids.as_slice(), ids.capacity())?;
+                let first = note(&mut set, rule, row)?;
+                self.way = Way::Hashed(set);
+                Ok(first)
+            }
+            Way::Hashed(ids) => note(ids, rule, row),
+        }
+    }
+
+    /// The place of an id.
+    pub(crate) fn get_index_of(&self, id: u32) -> Option<usize>
+        ensures index { result ≡ position (nat_eq id) self.now.keys }
+        ensures found { is_some result ≡ list_any (nat_eq id) self.now.keys }
+        ensures within { IfSome result (λ place. place < length self.now.keys) }
+    {
+        match &self.way {
+            Way::Rising(ids) => place_among(ids.as_slice(), id),
+            Way::Hashed(ids) => ids.get_index_of(&id),
+        }
+    }
+
+    /// Whether an id is there.
+    pub(crate) fn contains(&self, id: u32) -> bool
+        ensures { result ≡ list_any (nat_eq id) self.now.keys }
+    {
+        self.get_index_of(id).is_some()
+    }
+
+    /// The number of ids.
+    pub(crate) fn len(&self) -> usize
+        ensures len { result ≡ length self.now.keys }
+        ensures unique { IsDistinct nat_eq self.now.keys }
+    {
+        match &self.way {
+            Way::Rising(ids) => ids.len(),
+            Way::Hashed(ids) => ids.len(),
+        }
+    }
+}
