@@ -12,11 +12,9 @@ from dataclasses import dataclass
 from pathlib import Path
 from random import Random
 
-from dossier.program import program
-
 from .harness import EXAMPLES, scratch
 from .modes import MODES, NO_CHAIN, Mode, chain_of, known_modes, words_of
-from .runs import Files, Job, Watched, all_jobs, file_of, put, watch
+from .runs import Files, Job, Watched, all_jobs, binary, file_of, put, watch
 
 NO_MEMORY = 5
 LONGEST = 60.0
@@ -105,12 +103,6 @@ def jobs(mode: Mode) -> list[Job]:
         words = words_of(mode, files, options, by)
         found.setdefault((name, words), Job(name, files, words))
     return list(found.values())
-
-
-def binary() -> str:
-    """The program itself, also where the script `parcours` is named that runs it."""
-    built = Path(program()).parent / "crates/parcours/out/parcours"
-    return str(built) if built.is_file() else program()
 
 
 def shim(folder: Path) -> str:

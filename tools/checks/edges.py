@@ -300,6 +300,9 @@ def large_edges() -> dict[str, list[Edge]]:
     def order(name: str, change: Callable[[Path], None], gives: Callable[[Watched], bool]) -> Edge:
         return Edge(name, files, ("order",), gives, change)
 
+    def sample(number: int) -> Edge:
+        return Edge(f"{number} candidates", {}, ("sample", "--number", str(number)), lambda ended: ended.status == DONE)
+
     def check(name: str, size: int, gives: Callable[[Watched], bool]) -> Edge:
         return Edge(name, files, ("check",), gives, partial(write_zeros, file_of("chain"), size))
 
@@ -316,6 +319,7 @@ def large_edges() -> dict[str, list[Edge]]:
             check(f"a chain of {MOST_BYTES} bytes", MOST_BYTES,
                   exactly(NOT_PROVED, "not a chain row 1 reason 1 NotLine\n")),
             check("one byte more", MOST_BYTES + 1, exactly(REFUSED, "refused chain row 0 reason 8 TooLarge\n"))],
+        "sample": [sample(1_000_000)],
     }
 
 

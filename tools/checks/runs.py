@@ -96,6 +96,12 @@ class Watched:
     memory: int
 
 
+def binary() -> str:
+    """The program itself, also where the script `parcours` is named that runs it."""
+    built = Path(program()).parent / "crates/parcours/out/parcours"
+    return str(built) if built.is_file() else program()
+
+
 def put(files: Files, folder: Path) -> None:
     """Makes the folder hold these files alone."""
     shutil.rmtree(folder, ignore_errors=True)

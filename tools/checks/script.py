@@ -9,6 +9,7 @@ import time
 from pathlib import Path
 
 from .harness import EXAMPLES, TOOLS, TOP, Ended, Tally, run, scratch
+from .runs import binary
 
 STAND_IN = """#!/bin/sh
 case $1 in
@@ -46,9 +47,14 @@ def make_tree(folder: Path) -> Path:
     return top / "parcours"
 
 
-def call(script: Path, *words: str, folder: Path | None = None, path: str | None = None) -> Ended:
-    searched = path if path is not None else f"{script.parent / 'bin'}:{os.environ['PATH']}"
-    return run(script, *words, folder=folder or script.parent, environment={"PATH": searched})
+def environment_of(script: Path) -> dict[str, str]:
+    return {**os.environ, "PATH": f"{script.parent / 'bin'}:{os.environ['PATH']}"}
+
+
+def call(script: Path, *words: str, folder: Path | None = None, path: str | None = None,
+         output: int = subprocess.PIPE) -> Ended:
+    environment = environment_of(script) if path is None else {"PATH": path}
+    return run(script, *words, folder=folder or script.parent, environment=environment, output=output)
 
 
 def check_statuses(tally: Tally, script: Path) -> None:
@@ -118,13 +124,14 @@ def check_help(tally: Tally, script: Path) -> None:
 def check_long_runs(tally: Tally, script: Path) -> None:
     """On a terminal a long run says so; elsewhere it is silent; a signal to the script ends the program."""
     ours, theirs = pty.openpty()
-    environment = {**os.environ, "PATH": f"{script.parent / 'bin'}:{os.environ['PATH']}"}
+    environment = environment_of(script)
     with subprocess.Popen([script, "sleep", "6"], stdout=subprocess.PIPE, stderr=theirs, env=environment) as process:
         os.close(theirs)
         output = process.communicate()[0]
     tally.equal("the output is as it was", output, b"[sleep][6]")
     tally.equal("the terminal", os.read(ours, 1000), b"parcours: running for 5 s\r\n")
     os.close(ours)
+    check_quick_runs(tally, script)
     tally.equal("no terminal", call(script, "sleep", "6").complaint, "")
     with subprocess.Popen([script, "sleep", "3"], stdout=subprocess.DEVNULL, env=environment) as process:
         time.sleep(0.5)
@@ -132,6 +139,58 @@ def check_long_runs(tally: Tally, script: Path) -> None:
         begun = time.monotonic()
         tally.equal("stopped", process.wait(), 143)
         tally.check("at once", time.monotonic() - begun < 2)
+
+
+def check_long_builds(tally: Tally) -> None:
+    """On a terminal a long build says so too, and nothing more once it has ended."""
+    with scratch() as folder:
+        script = make_tree(folder)
+        script.write_text(script.read_text().replace("building 30", "building 1"))
+        builder = script.parent / "bin/rt"
+        builder.write_text(builder.read_text() + "sleep 2.5\n")
+        ours, theirs = pty.openpty()
+        environment = environment_of(script)
+        with subprocess.Popen([script, "hello"], stdout=subprocess.PIPE, stderr=theirs, env=environment) as process:
+            os.close(theirs)
+            begun = time.monotonic()
+            tally.equal("the output of a run that is built first", process.communicate(timeout=60)[0], b"[hello]")
+            tally.check("its end is not held up", time.monotonic() - begun < 20)
+        told = os.read(ours, 1000).decode().splitlines()
+        os.close(ours)
+        expected = ["parcours: building the program", "parcours: building for 1 s", "parcours: building for 2 s"]
+        tally.equal("the terminal", sorted(told), sorted(expected))
+
+
+def check_real_program(tally: Tally, script: Path) -> None:
+    """The program itself through the script: a whole text, no word, no slot, and a disk that is full."""
+    program = script.parent / "crates/parcours/out/parcours"
+    stand_in = program.rename(program.with_suffix(".stand_in"))
+    shutil.copy(binary(), program)
+    with scratch() as empty:
+        groups = EXAMPLES / "two-groups"
+        ended = call(script, "order", folder=groups)
+        tally.equal("order", (ended.status, ended.output), (0, (groups / "order.txt").read_bytes()))
+        ended = call(script, folder=groups)
+        tally.equal("no word", (ended.status, ended.output, ended.complaint), (2, b"bad words\n", ""))
+        ended = call(script, "order", folder=empty)
+        tally.check("no slot", ended.status == 3 and "groups.csv cannot be read" in ended.complaint, ended)
+        with open("/dev/full", "wb") as full:
+            ended = call(script, "order", folder=groups, output=full.fileno())
+        tally.check("a full disk", ended.status == 4 and "it is cut" in ended.complaint, ended)
+    stand_in.rename(program)
+
+
+def check_quick_runs(tally: Tally, script: Path) -> None:
+    """On a terminal, runs that end at once are not held up by what would say how long they go on."""
+    ours, theirs = pty.openpty()
+    begun = time.monotonic()
+    for _ in range(20):
+        call = subprocess.run([script, "hello"], stdout=subprocess.PIPE, stderr=theirs, env=environment_of(script),
+                              timeout=60, check=False)
+        tally.equal("a quick run", call.stdout, b"[hello]")
+    tally.check("quick runs end at once", time.monotonic() - begun < 40)
+    for end in (ours, theirs):
+        os.close(end)
 
 
 def check_changed_sources(tally: Tally, script: Path) -> None:
@@ -160,5 +219,6 @@ def check_script(tally: Tally) -> None:
         script = make_tree(folder)
         call(script, "hello")
         for checks in (check_statuses, check_unreadable, check_small_tools, check_help, check_long_runs,
-                       check_changed_sources):
+                       check_real_program, check_changed_sources):
             tally.run(lambda: checks(tally, script))
+    tally.run(lambda: check_long_builds(tally))

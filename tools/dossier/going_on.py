@@ -6,7 +6,7 @@ from datetime import date
 from pathlib import Path
 
 from . import program
-from .campaign import Stopped, next_day
+from .campaign import CALENDAR, Stopped, next_day
 from .dating import Calendar
 from .writing import Told, say, stop_cleanly
 
@@ -42,6 +42,13 @@ def words() -> argparse.ArgumentParser:
     return parser
 
 
+def go_on(folder: Path) -> str:
+    """What to do after a stop, which may have come when the day was made already."""
+    coming = folder / CALENDAR
+    day = f"{coming} says which day is coming" if coming.exists() else "day 1 is coming still"
+    return f"Nothing is lost: {day}, and the next call makes it."
+
+
 def main(arguments: list[str]) -> int:
     parser = words()
     given = parser.parse_args(arguments)
@@ -57,11 +64,10 @@ def main(arguments: list[str]) -> int:
         print(f"next_day: {stop}", file=sys.stderr)
         return stop.status
     except OSError as error:
-        print(f"next_day: {error.filename or given.folder}: {error.strerror}; nothing is lost, mend it and call again.",
-              file=sys.stderr)
+        print(f"next_day: {error.filename or given.folder}: {error.strerror}. {go_on(given.folder)}", file=sys.stderr)
         return program.READ_FAULT if isinstance(error, FileNotFoundError) else program.WRITE_FAULT
     except Told as stop:
-        print("next_day: stopped; nothing is lost, call again to go on.", file=sys.stderr)
+        print(f"next_day: stopped. {go_on(given.folder)}", file=sys.stderr)
         return stop.status
     say("next_day", told)
     return program.DONE
