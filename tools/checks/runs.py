@@ -129,17 +129,21 @@ def watch(words: tuple[str, ...], folder: Path, longest: float, by: str | None =
 
 
 def wait_for(child: int, until: float) -> tuple[int, resource.struct_rusage]:
+    """Waits for a child; it is killed, with all that it started, when its time is over or the wait is stopped."""
     pause = 0.0005
-    while True:
-        ended, status, usage = os.wait4(child, os.WNOHANG)
-        if ended:
-            return status, usage
-        if time.monotonic() > until:
-            os.killpg(child, signal.SIGKILL)
-            _, status, usage = os.wait4(child, 0)
-            return status, usage
-        time.sleep(pause)
-        pause = min(pause * 1.5, 0.05)
+    try:
+        while time.monotonic() <= until:
+            ended, status, usage = os.wait4(child, os.WNOHANG)
+            if ended:
+                return status, usage
+            time.sleep(pause)
+            pause = min(pause * 1.5, 0.05)
+    except BaseException:
+        os.killpg(child, signal.SIGKILL)
+        raise
+    os.killpg(child, signal.SIGKILL)
+    _, status, usage = os.wait4(child, 0)
+    return status, usage
 
 
 def run_of(job: Job) -> Watched:
