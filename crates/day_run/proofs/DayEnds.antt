@@ -58,6 +58,22 @@ module _ (terms : Option Terms) (orders : List CallOrder) (ceilings : List ℕ) 
         choice = kept;
       })
 
+  -- nor does the one that stood there before
+  pub ends_alike : (desk : DeskStates) (old one other was : State) (told : List ℕ) (choice : List ℕ → List ℕ → ℕ) (after : Moment) (r : Result DayRecord DayRefusal)
+      → (at old other was told choice).desk ≡ desk → EndsDay terms orders ceilings day (at old one was told choice) after r
+      → EndsDay terms orders ceilings day (record { desk = desk; told = told; choice = choice }) after r
+  ends_alike desk old one other was told choice after r is ends =
+      let P : DeskStates → Type 0 = λ d. EndsDay terms orders ceilings day (record { desk = d; told = told; choice = choice }) after r in
+      subst P is (record {
+        done = done_there old was after.desk.present after.desk.opening one other after.desk.evening after.desk.evening told after.told choice after.choice r ends.done;
+        unfit = ends.unfit;
+        restored = ends.restored;
+        evening = ends.evening;
+        dossier = ends.dossier;
+        untold = ends.untold;
+        choice = ends.choice;
+      })
+
 -- the next day of a campaign, where it came about
 pub next_ran : (old p : Progress) (terms : Option Terms) (shown ceilings bars : List ℕ) (d : DossierRows) (desk : DeskStates) (told told_after : List ℕ)
     (choice choice_after : List ℕ → List ℕ → ℕ) (done : DayRecord) → p ≡ old → terms ≡ p.terms → shown ≡ ceilings → ceilings ≡ ceilings_of d (p.day + 1) → d ≡ p.present.dossier

@@ -10,6 +10,8 @@ use Rattle.admit_core.specs.State.{State}
 use Rattle.admit_core.specs.Days.{ceilings_of, first_evening, unfit_on}
 use Rattle.admit_core.specs.EveningLaws.{last_bars}
 use Rattle.admit_core.specs.Explanations.{LastPass}
+use Rattle.linked_demand.specs.declared.lineup.Lineup.{Lineup}
+use Rattle.linked_demand.specs.Lineups.{IsLineupOf}
 use Rattle.day_run.specs.AnswersOn.{IsUnfitOf}
 use Rattle.day_run.specs.LastPasses.{IsLastPass, last_pass}
 use Rattle.day_run.specs.RunDay.{Moment, IsDayDone, TellsNoneUnfit}
@@ -38,6 +40,11 @@ pub record IsProgress (p : Progress) : Type 0 where
   pub before : ForSome p.terms (λ t. length t.before ≡ length p.present.dossier.wishes)
   pub bars : length p.bars ≡ length p.present.dossier.schools
   pub last : IsTrue p.has_day → IsLastPass (pass_of p) p.present
+
+-- the same, with the lineup that its days share
+pub record IsAlong (lineup : Lineup) (p : Progress) : Type 0 where
+  pub progress : IsProgress p
+  pub lined_up : IsLineupOf p.present.dossier p.orders lineup
 
 -- the schools' own ceilings
 abbrev pub own_ceilings : DossierRows → List ℕ

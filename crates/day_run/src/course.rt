@@ -7,12 +7,13 @@ ghost use Rattle.day_run.specs.CampaignDays.{EndsNextDay, IsBegun, pass_of};
 ghost use Rattle.day_run.specs.LastPasses.{IsLastPass};
 
 use crate::ceilings::{ceilings_on, own_ceilings};
-use crate::day::run_with;
+use crate::day::run_day_along;
 use crate::desk::Desk;
 use crate::refusal::DayRefusal;
 use admit_core::{CallOrders, DayRecord, Dossier, OutOfMemory, PassEnd, Terms};
 use bar_fixpoint::Picker;
 use day_state::DayState;
+use linked_demand::Lineup;
 use std::alloc::Global;
 use std::marker::Model;
 
@@ -21,6 +22,7 @@ use std::marker::Model;
 pub struct Course<'d> {
     desk: Desk<'d>,
     orders: &'d CallOrders,
+    lineup: Lineup,
     terms: Option<Terms>,
     day: u32,
     has_day: bool,
@@ -29,13 +31,13 @@ pub struct Course<'d> {
 }
 
 impl<'d> Model for Course<'d> {
-    ghost use Rattle.day_run.specs.CampaignDays.{Progress, IsProgress};
+    ghost use Rattle.day_run.specs.CampaignDays.{Progress, IsAlong};
 
     ghost Value = { Progress };
 
     ghost view = { λ s. record { orders = s.orders.now.orders; terms = s.terms; day = s.day; has_day = s.has_day; present = s.desk.present; evening = s.desk.evening; opening = s.desk.opening; bars = s.bars.items; ceilings = s.ceilings.items } };
 
-    ghost invariant = { λ s. IsProgress (record { orders = s.orders.now.orders; terms = s.terms; day = s.day; has_day = s.has_day; present = s.desk.present; evening = s.desk.evening; opening = s.desk.opening; bars = s.bars.items; ceilings = s.ceilings.items }) };
+    ghost invariant = { λ s. IsAlong s.lineup (record { orders = s.orders.now.orders; terms = s.terms; day = s.day; has_day = s.has_day; present = s.desk.present; evening = s.desk.evening; opening = s.desk.opening; bars = s.bars.items; ceilings = s.ceilings.items }) };
 }
 
 impl<'d> Course<'d> {
@@ -51,11 +53,13 @@ impl<'d> Course<'d> {
         ensures { IfOk result (IsBegun dossier.now orders.now.orders terms) }
     {
         let desk = Desk::begin(alloc, dossier)?;
+        let lineup = Lineup::build(alloc, desk.now(), orders)?;
         let bars = own_ceilings(alloc, dossier)?;
         let ceilings = own_ceilings(alloc, dossier)?;
         Ok(Course {
             desk,
             orders,
+            lineup,
             terms,
             day: 0,
             has_day: false,
@@ -79,10 +83,11 @@ impl<'d> Course<'d> {
         self.has_day = false;
         let day = self.day + 1;
         let ceilings = ceilings_on(alloc, self.desk.now().dossier(), day)?;
-        let done = run_with(
+        let done = run_day_along(
             alloc,
             &mut self.desk,
             self.orders,
+            &self.lineup,
             ceilings.as_slice(),
             self.terms.as_ref(),
             day,

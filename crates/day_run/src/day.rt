@@ -6,6 +6,7 @@ ghost use Rattle.admit_core.specs.Ranges.{IsDay as IsDayNumber};
 ghost use Rattle.admit_core.specs.Days.{unfit_on};
 ghost use Rattle.day_run.specs.AnswersOn.{IsUnfitOf};
 ghost use Rattle.day_run.specs.RunDay.{EndsDay, IsDayDone, TellsNoneUnfit};
+ghost use Rattle.linked_demand.specs.Lineups.{IsLineupOf};
 
 use crate::answers_on::answer;
 use crate::desk::Desk;
@@ -37,7 +38,7 @@ pub fn run_day(
         (record { desk = desk.old; told = told picker.old; choice = choice picker.old })
         (record { desk = desk.new; told = told picker.new; choice = choice picker.new }) result }
 {
-    run_with(alloc, desk, orders, ceilings, None, day, picker)
+    run_alone(alloc, desk, orders, ceilings, None, day, picker)
 }
 
 /// Runs a day as `run_day` does, after the lapse of the offers whose deadline has passed.
@@ -59,11 +60,11 @@ pub fn run_dated_day(
         (record { desk = desk.old; told = told picker.old; choice = choice picker.old })
         (record { desk = desk.new; told = told picker.new; choice = choice picker.new }) result }
 {
-    run_with(alloc, desk, orders, ceilings, Some(terms), day, picker)
+    run_alone(alloc, desk, orders, ceilings, Some(terms), day, picker)
 }
 
-/// Runs a day, with its lapse where terms are given; after a refusal the state is that of the evening before.
-pub(crate) fn run_with(
+/// Runs a day, with its lapse where terms are given, along a lineup of its own.
+fn run_alone(
     alloc: Global,
     desk: &mut Desk<'_>,
     orders: &CallOrders,
@@ -82,11 +83,39 @@ pub(crate) fn run_with(
         (record { desk = desk.new; told = told picker.new; choice = choice picker.new }) result }
 {
     desk.evening.set_from(&desk.present);
+    let lineup = Lineup::build(alloc, &desk.present, orders)?;
+    run_day_along(alloc, desk, orders, &lineup, ceilings, terms, day, picker)
+}
+
+/// Runs a day, with its lapse where terms are given, along a lineup of the dossier, which many days
+/// may share. After a refusal the state is that of the evening before.
+pub fn run_day_along(
+    alloc: Global,
+    desk: &mut Desk<'_>,
+    orders: &CallOrders,
+    lineup: &Lineup,
+    ceilings: &[u32],
+    terms: Option<&Terms>,
+    day: u32,
+    picker: &mut dyn Picker,
+) -> Result<DayRecord, DayRefusal>
+    requires orders { AreCallOrders desk.old.present.dossier.groups orders.now.orders }
+    requires lineup { IsLineupOf desk.old.present.dossier orders.now.orders lineup.now }
+    requires ceilings { length ceilings.now ≡ length desk.old.present.dossier.schools }
+    requires before { ForSome (option_copied terms) (λ t. length t.before ≡ length desk.old.present.dossier.wishes) }
+    requires day { IsDayNumber day }
+
+    ensures { EndsDay (option_copied terms.entry) orders.now.orders ceilings.now day
+        (record { desk = desk.old; told = told picker.old; choice = choice picker.old })
+        (record { desk = desk.new; told = told picker.new; choice = choice picker.new }) result }
+{
+    desk.evening.set_from(&desk.present);
     let outcome = play(
         alloc,
         &mut desk.opening,
         &mut desk.present,
         orders,
+        lineup,
         ceilings,
         terms,
         day,
@@ -104,6 +133,7 @@ fn play<'d>(
     opening: &mut DayState<'d>,
     state: &mut DayState<'d>,
     orders: &CallOrders,
+    lineup: &Lineup,
     ceilings: &[u32],
     terms: Option<&Terms>,
     day: u32,
@@ -111,6 +141,7 @@ fn play<'d>(
 ) -> Result<DayRecord, DayRefusal>
     requires same { opening.old.dossier ≡ state.old.dossier }
     requires orders { AreCallOrders state.old.dossier.groups orders.now.orders }
+    requires lineup { IsLineupOf state.old.dossier orders.now.orders lineup.now }
     requires ceilings { length ceilings.now ≡ length state.old.dossier.schools }
     requires before { ForSome (option_copied terms) (λ t. length t.before ≡ length state.old.dossier.wishes) }
     requires day { IsDayNumber day }
@@ -128,10 +159,7 @@ fn play<'d>(
     let _ = state.dossier().wishes.len(); // learns that the dossier is valid
     let lapsed = lapse_offers(alloc, state, terms, day)?;
     answer(state, day)?;
-    let lineup = Lineup::build(alloc, state, orders)?;
-    let passes = make_passes(
-        alloc, opening, state, orders, &lineup, ceilings, day, picker,
-    )?;
+    let passes = make_passes(alloc, opening, state, orders, lineup, ceilings, day, picker)?;
     let left = all_seats_left(alloc, state)?;
     let free = all_beds_left(alloc, state)?;
     Ok(DayRecord {

@@ -21,7 +21,7 @@ mod refusal;
 pub use campaign::{Campaign, NoRoom};
 pub use ceilings::ceilings_on;
 pub use course::Course;
-pub use day::{run_dated_day, run_day};
+pub use day::{run_dated_day, run_day, run_day_along};
 pub use desk::Desk;
 pub use laws::laws_of_days;
 pub use morning::make_morning;

@@ -1,6 +1,7 @@
-pub mod CheckedDay
-pub mod CheckedExits
-pub mod OnDesks
 mod Figuring
 mod Lending
+pub mod CheckedDay
+pub mod CheckedExits
+pub mod Marketing
+pub mod OnDesks
 pub mod Writable

@@ -5,10 +5,11 @@ use Rattle.day_run.specs.DeskStates.{DeskStates}
 use Rattle.played.specs.Lent.{AreBack, Lent, Untold, is_named}
 use Rattle.played.specs.PlayedDays.{Played}
 use Rattle.request.specs.declared.modes.Mode.{Mode}
-use Rattle.request.specs.declared.modes.Mode.TheVariants.{Beds}
+use Rattle.request.specs.declared.modes.Mode.TheVariants.{Beds, Market}
 use Rattle.request.specs.declared.pickers.PickerName.{PickerName}
 use Rattle.modes.specs.Beds.{PicksForFigures}
 use Rattle.modes.specs.Jobs.{Seen, picker_after}
+use Rattle.modes.specs.Market.{PicksForMarket}
 
 -- a picker: what it has told, and what it answers, by what it has told and the places it is asked with
 pub record Asked : Type 0 where
@@ -22,6 +23,7 @@ asked lent name = record { told = lent.told name; choice = lent.choice name }
 abbrev pub ArePicks : Mode → Seen → Played → DeskStates → Asked → List ℕ → Type 0
 ArePicks (Beds school) seen played desk before picks =
     PicksForFigures seen.dossier seen.index played.orders played.days desk school before.choice before.told picks
+ArePicks Market seen played desk before picks = PicksForMarket seen.dossier played.orders before.choice before.told picks
 ArePicks _ seen played desk before picks = picks ≡ []
 
 -- these are the picks that a picker told of

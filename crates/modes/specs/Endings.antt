@@ -16,11 +16,13 @@ use Rattle.report.specs.RefusalText.{refusal_line}
 use Rattle.report.specs.SampleText.{sample_text}
 use Rattle.request.specs.Request.{IsRequest}
 use Rattle.request.specs.declared.modes.Mode.{Mode}
-use Rattle.request.specs.declared.modes.Mode.TheVariants.{Order, Replay, Chain, Check, Explain, Beds, Sample}
+use Rattle.request.specs.declared.modes.Mode.TheVariants.{Order, Replay, Chain, Check, Explain, Envy, Beds, Market, Sample}
 use Rattle.modes.specs.Asking.{ArePicks, Asked, IsLent, TellsAfter, TellsPicks}
 use Rattle.modes.specs.Beds.{TellsFigures}
+use Rattle.modes.specs.Blocked.{blocked_text}
 use Rattle.modes.specs.Checking.{IsChecked}
 use Rattle.modes.specs.Explained.{IsExplained}
+use Rattle.modes.specs.Market.{TellsMarket}
 use Rattle.modes.specs.Jobs.{Seen, days_of, dossier, picker_after, seen_of, terms_of}
 use Rattle.modes.specs.Order.{orders_text}
 use Rattle.modes.specs.Replay.{CanBeDated, CanBeWritten, days_text, replay_text}
@@ -43,7 +45,9 @@ IsEndOf Replay seen played desk = IsDoneWith (replay_text seen.dossier seen.date
 IsEndOf Chain seen played desk = IsDoneWith (chain_text seen.dossier played.days)
 IsEndOf Check seen played desk = IsChecked seen.dossier seen.chain seen.dated played.orders
 IsEndOf (Explain wish) seen played desk = IsDoneSaying (IsExplained seen.dossier seen.index played.orders played.days desk wish)
+IsEndOf Envy seen played desk = IsDoneWith (blocked_text desk.present played.orders)
 IsEndOf (Beds school) seen played desk = IsDoneSaying (TellsFigures seen.dossier seen.index played.orders played.days desk school)
+IsEndOf Market seen played desk = IsDoneSaying (TellsMarket seen.dossier played.orders)
 IsEndOf (Sample number) seen played desk = IsDoneWith (sample_text number (length seen.dossier.wishes) played.days desk.present)
 
 -- what a mode writes before the refusal of an answer that does not fit

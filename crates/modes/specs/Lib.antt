@@ -1,11 +1,13 @@
 pub mod Asking
 pub mod Beds
+pub mod Blocked
 pub mod CheckedDays
 pub mod Checking
 pub mod Endings
 pub mod Exits
 pub mod Explained
 pub mod Jobs
+pub mod Market
 pub mod Order
 pub mod Replay
 pub mod Stopping

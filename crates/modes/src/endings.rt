@@ -7,10 +7,12 @@ ghost use Rattle.played.specs.Lent.{AreThere, choice_in, standing, told_in};
 ghost use Rattle.request.specs.Modes.{picks_after};
 
 use crate::beds::school_text;
+use crate::blocked::blocked_text;
 use crate::checked::checked;
 use crate::exit::Exit;
 use crate::explained::explained_text;
 use crate::job::picker_after;
+use crate::market::matched_text;
 use crate::order::orders_text;
 use crate::replay::{days_text, replay_text};
 use crate::reply::Reply;
@@ -65,8 +67,9 @@ fn ended(
             let text = explained_text(alloc, input, &played.orders, days, desk, wish)?;
             Ok(done(text))
         }
-        // Its ending is lent a picker.
-        Mode::Beds { .. } => unreachable!(),
+        Mode::Envy => Ok(done(blocked_text(alloc, desk.now(), &played.orders)?)),
+        // Their endings are lent a picker.
+        Mode::Beds { .. } | Mode::Market => unreachable!(),
         Mode::Sample { number } => {
             let wishes = dossier.wishes.len() as u32;
             Ok(done(sample_text(alloc, number, wishes, days, desk.now())?))
@@ -151,6 +154,10 @@ fn ended_asking(
         Mode::Beds { school } => {
             let days = played.days.as_slice();
             let text = school_text(alloc, input, &played.orders, days, desk, school, picker)?;
+            Ok(done(text))
+        }
+        Mode::Market => {
+            let text = matched_text(alloc, &input.dossier, &played.orders, picker)?;
             Ok(done(text))
         }
         _ => unreachable!(),

@@ -5,11 +5,13 @@
 #![tactic(auto)]
 
 mod beds;
+mod blocked;
 mod checked;
 mod endings;
 mod exit;
 mod explained;
 mod job;
+mod market;
 mod order;
 mod replay;
 mod reply;

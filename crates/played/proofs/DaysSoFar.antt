@@ -1,5 +1,5 @@
 -- The days that were played so far.
-use Rattle.std.proofs.Common.{◌≡◌, ◌∙◌, ℕ, ◌+◌, ◌<◌, List, [], ◌∷◌, ◌++◌, Result, Ok, Err, IfSome, IsErrAnd, IsSomeAnd, ap, append_assoc, arith, length, refl, subst, sym}
+use Rattle.std.proofs.Common.{◌≡◌, ◌∙◌, ℕ, ◌+◌, ◌<◌, List, [], ◌∷◌, ◌++◌, Result, Ok, Err, IsErrAnd, IsSomeAnd, ap, append_assoc, arith, length, refl, subst, sym}
 use Rattle.std.proofs.lemmas.List.{append-nil, length-append}
 use Rattle.admit_core.specs.CallOrder.{AreCallOrders}
 use Rattle.admit_core.specs.Days.{ceilings_of, unfit_on}
@@ -83,13 +83,9 @@ told_nothing who [] before after none told = λ name. told name ∙ append-nil (
 told_nothing who (day ∷ days) before after none told = absurd (omega (arith, none))
 
 module _ (plan : Plan) (old : DeskStates) (before : Lent) (played : ℕ) (days : List DayRecord) (mid : DeskStates) (between : Lent) (so_far : SoFar plan old before played days mid between) where
-  pub called_still : AreCallOrders old.present.dossier.groups plan.orders → AreCallOrders mid.present.dossier.groups plan.orders
-  called_still called =
-      subst (λ (d : DossierRows). AreCallOrders d.groups plan.orders) (sym (lead_dossier plan 1 old before days mid so_far.lead)) called
-
-  pub terms_still : IfSome plan.terms (λ t. length t.before ≡ length old.present.dossier.wishes) → IfSome plan.terms (λ t. length t.before ≡ length mid.present.dossier.wishes)
-  terms_still each =
-      subst (λ (d : DossierRows). IfSome plan.terms (λ t. length t.before ≡ length d.wishes)) (sym (lead_dossier plan 1 old before days mid so_far.lead)) each
+  -- what holds of the dossier holds of it still
+  pub still : (P : DossierRows → Type 0) → P old.present.dossier → P mid.present.dossier
+  still P holds = subst P (sym (lead_dossier plan 1 old before days mid so_far.lead)) holds
 
   -- one more day
   pub played_on : (day : DayRecord) (more : List DayRecord) (new : DeskStates) (after : Lent) → EndsNext plan (played + 1) mid between (Ok day) new after → more ≡ days ++ day ∷ []

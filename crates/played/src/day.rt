@@ -2,6 +2,7 @@
 ghost use Rattle.std.specs.Prelude.{◌≡◌, IfSome, IsSome, length, option_copied};
 ghost use Rattle.admit_core.specs.CallOrder.{AreCallOrders};
 ghost use Rattle.admit_core.specs.Ranges.{IsDay as IsDayNumber};
+ghost use Rattle.linked_demand.specs.Lineups.{IsLineupOf};
 ghost use Rattle.played.specs.Lent.{AreThere, choice_in, lent, told_in};
 ghost use Rattle.played.specs.OneDay.{EndsWith};
 ghost use Rattle.played.specs.PlayedDays.{EndsNext};
@@ -9,7 +10,8 @@ ghost use Rattle.played.specs.PlayedDays.{EndsNext};
 use crate::pickers::Pickers;
 use admit_core::{CallOrders, DayRecord, Terms};
 use bar_fixpoint::Picker;
-use day_run::{DayRefusal, Desk, ceilings_on, run_dated_day, run_day};
+use day_run::{DayRefusal, Desk, ceilings_on, run_day_along};
+use linked_demand::Lineup;
 use request::{PickerChoice, PickerName, picker_on};
 use std::alloc::Global;
 
@@ -18,11 +20,13 @@ fn run_with(
     alloc: Global,
     desk: &mut Desk<'_>,
     orders: &CallOrders,
+    lineup: &Lineup,
     terms: Option<&Terms>,
     day: u32,
     picker: &mut dyn Picker,
 ) -> Result<DayRecord, DayRefusal>
     requires orders { AreCallOrders desk.old.present.dossier.groups orders.now.orders }
+    requires lineup { IsLineupOf desk.old.present.dossier orders.now.orders lineup.now }
     requires terms { IfSome (option_copied terms) (λ t. length t.before ≡ length desk.old.present.dossier.wishes) }
     requires day { IsDayNumber day }
 
@@ -31,10 +35,7 @@ fn run_with(
         (record { desk = desk.new; told = told picker.new; choice = choice picker.new }) result }
 {
     let ceilings = ceilings_on(alloc, desk.now().dossier(), day)?;
-    match terms {
-        None => run_day(alloc, desk, orders, &ceilings, day, picker),
-        Some(terms) => run_dated_day(alloc, desk, orders, &ceilings, terms, day, picker),
-    }
+    run_day_along(alloc, desk, orders, lineup, &ceilings, terms, day, picker)
 }
 
 /// Runs a day with the picker of this place, which is there again afterwards.
@@ -42,11 +43,13 @@ fn run_lent(
     alloc: Global,
     desk: &mut Desk<'_>,
     orders: &CallOrders,
+    lineup: &Lineup,
     terms: Option<&Terms>,
     day: u32,
     place: &mut Option<Box<dyn Picker>>,
 ) -> Result<DayRecord, DayRefusal>
     requires orders { AreCallOrders desk.old.present.dossier.groups orders.now.orders }
+    requires lineup { IsLineupOf desk.old.present.dossier orders.now.orders lineup.now }
     requires terms { IfSome (option_copied terms) (λ t. length t.before ≡ length desk.old.present.dossier.wishes) }
     requires day { IsDayNumber day }
     requires there { IsSome place.old }
@@ -59,7 +62,7 @@ fn run_lent(
     let Some(mut picker) = place.take() else {
         unreachable!()
     };
-    let done = run_with(alloc, desk, orders, terms, day, &mut *picker);
+    let done = run_with(alloc, desk, orders, lineup, terms, day, &mut *picker);
     *place = Some(picker);
     done
 }
@@ -69,12 +72,14 @@ pub(crate) fn next_day(
     alloc: Global,
     desk: &mut Desk<'_>,
     orders: &CallOrders,
+    lineup: &Lineup,
     terms: Option<&Terms>,
     who: PickerChoice,
     day: u32,
     pickers: &mut Pickers,
 ) -> Result<DayRecord, DayRefusal>
     requires orders { AreCallOrders desk.old.present.dossier.groups orders.now.orders }
+    requires lineup { IsLineupOf desk.old.present.dossier orders.now.orders lineup.now }
     requires terms { IfSome (option_copied terms) (λ t. length t.before ≡ length desk.old.present.dossier.wishes) }
     requires day { IsDayNumber day }
     requires there { AreThere pickers.old }
@@ -85,8 +90,8 @@ pub(crate) fn next_day(
         desk.new (lent (λ p. told p) (λ p. choice p) pickers.new) }
 {
     match picker_on(who, day) {
-        PickerName::First => run_lent(alloc, desk, orders, terms, day, &mut pickers.first),
-        PickerName::Last => run_lent(alloc, desk, orders, terms, day, &mut pickers.last),
-        PickerName::Turn => run_lent(alloc, desk, orders, terms, day, &mut pickers.turn),
+        PickerName::First => run_lent(alloc, desk, orders, lineup, terms, day, &mut pickers.first),
+        PickerName::Last => run_lent(alloc, desk, orders, lineup, terms, day, &mut pickers.last),
+        PickerName::Turn => run_lent(alloc, desk, orders, lineup, terms, day, &mut pickers.turn),
     }
 }

@@ -1,6 +1,7 @@
 //! The days of a run.
 ghost use Rattle.std.specs.Prelude.{◌≡◌, ◌≤◌, [], ◌∷◌, ◌++◌, IfOk, IfSome, OnOk, length, option_copied};
 ghost use Rattle.admit_core.specs.CallOrder.{AreCallOrders};
+ghost use Rattle.linked_demand.specs.Lineups.{IsLineupOf};
 ghost use Rattle.played.specs.Lent.{AreBack, AreThere, Untold, lent};
 ghost use Rattle.played.specs.PlayedDays.{IsPlayed, PlaysDays, first_desk};
 
@@ -9,6 +10,7 @@ use crate::pickers::Pickers;
 use admit_core::{CallOrders, DayRecord, Dossier, OutOfMemory, Refusal, Terms};
 use call_order::call_orders;
 use day_run::{DayRefusal, Desk};
+use linked_demand::Lineup;
 use request::PickerChoice;
 use std::alloc::Global;
 
@@ -35,6 +37,7 @@ fn play_days(
     alloc: Global,
     desk: &mut Desk<'_>,
     orders: &CallOrders,
+    lineup: &Lineup,
     terms: Option<&Terms>,
     number: u32,
     who: PickerChoice,
@@ -42,6 +45,7 @@ fn play_days(
     days: &mut Vec<DayRecord>,
 ) -> Result<(), DayRefusal>
     requires orders { AreCallOrders desk.old.present.dossier.groups orders.now.orders }
+    requires lineup { IsLineupOf desk.old.present.dossier orders.now.orders lineup.now }
     requires terms { IfSome (option_copied terms) (λ t. length t.before ≡ length desk.old.present.dossier.wishes) }
     requires number { number ≤ 366 }
     requires there { AreThere pickers.old }
@@ -53,20 +57,33 @@ fn play_days(
         desk.new (lent (λ p. told p) (λ p. choice p) pickers.new) }
 {
     for played in 0..number {
-        let day = next_day(alloc, desk, orders, terms, who, played + 1, pickers)?;
+        let day = next_day(alloc, desk, orders, lineup, terms, who, played + 1, pickers)?;
         keep(days, day)?;
     }
     Ok(())
 }
 
-/// What a campaign begins with.
-fn begin<'d>(alloc: Global, dossier: &'d Dossier) -> Result<(CallOrders, Desk<'d>), OutOfMemory>
-    ensures orders { IfOk result (λ x. AreCallOrders dossier.now.groups x.0.orders) }
-    ensures desk { IfOk result (λ x. x.1 ≡ first_desk dossier.now) }
+/// What the days begin with, and the lineup that they share.
+#[derive(Drop)]
+struct Begun<'d> {
+    orders: CallOrders,
+    desk: Desk<'d>,
+    lineup: Lineup,
+}
+
+fn begin<'d>(alloc: Global, dossier: &'d Dossier) -> Result<Begun<'d>, OutOfMemory>
+    ensures orders { IfOk result (λ x. AreCallOrders dossier.now.groups x.orders.orders) }
+    ensures desk { IfOk result (λ x. x.desk ≡ first_desk dossier.now) }
+    ensures lineup { IfOk result (λ x. IsLineupOf dossier.now x.orders.orders x.lineup) }
 {
     let orders = call_orders(alloc, dossier.groups.as_slice())?;
     let desk = Desk::begin(alloc, dossier)?;
-    Ok((orders, desk))
+    let lineup = Lineup::build(alloc, desk.now(), &orders)?;
+    Ok(Begun {
+        orders,
+        desk,
+        lineup,
+    })
 }
 
 /// Runs so many days of a dossier, each with the picker of the day, from the evening that it comes in
@@ -91,10 +108,14 @@ pub fn play<'d>(
         (record { orders = p.orders.orders; days = p.days.items; end = p.end })
         (lent (λ p. told p) (λ p. choice p) pickers.new)) }
 {
-    let (orders, mut desk) = begin(alloc, dossier)?;
+    let Begun {
+        orders,
+        mut desk,
+        lineup,
+    } = begin(alloc, dossier)?;
     let mut days = Vec::new(alloc);
     let end = match play_days(
-        alloc, &mut desk, &orders, terms, number, who, pickers, &mut days,
+        alloc, &mut desk, &orders, &lineup, terms, number, who, pickers, &mut days,
     ) {
         Ok(()) => Ok(desk),
         Err(DayRefusal::Unfit(refusal)) => Err(refusal),

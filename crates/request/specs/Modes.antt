@@ -7,7 +7,7 @@ use Rattle.admit_core.specs.declared.slot.Slot.TheVariants.{Groups, Programmes, 
 use Rattle.clap.specs.Words.{Text}
 use Rattle.dossier_csv.specs.Columns.{choice}
 use Rattle.request.specs.declared.modes.Mode.{Mode}
-use Rattle.request.specs.declared.modes.Mode.TheVariants.{Order, Replay, Chain, Check, Explain, Beds, Sample}
+use Rattle.request.specs.declared.modes.Mode.TheVariants.{Order, Replay, Chain, Check, Explain, Envy, Beds, Market, Sample}
 use Rattle.request.specs.declared.modes.Name.{Name}
 use Rattle.request.specs.declared.modes.Name.TheVariants.{Wish, School}
 use Rattle.request.specs.declared.modes.Numbers.{Numbers}
@@ -24,7 +24,9 @@ modes_by_word numbers =
     (codes "chain", Some Chain) ∷
     (codes "check", Some Check) ∷
     (codes "explain", option_map (λ wish. Explain wish) numbers.wish) ∷
+    (codes "envy", Some Envy) ∷
     (codes "beds", option_map (λ school. Beds school) numbers.school) ∷
+    (codes "market", Some Market) ∷
     (codes "sample", option_map (λ number. Sample number) numbers.number) ∷ []
 
 -- the mode of a word, with what it needs
@@ -41,6 +43,7 @@ nine_slots =
 abbrev pub slots_of : Mode → List Slot
 slots_of Order = Groups ∷ Rankings ∷ []
 slots_of (Sample number) = []
+slots_of Market = Groups ∷ Programmes ∷ Schools ∷ Rankings ∷ Boarding ∷ Wishes ∷ []
 slots_of Check = nine_slots ++ ChainSlot ∷ []
 slots_of _ = nine_slots
 
@@ -53,11 +56,14 @@ sample_of _ = None
 abbrev pub runs_days : Mode → Bool
 runs_days Order = false
 runs_days Check = false
+runs_days Market = false
 runs_days _ = true
 
--- the day whose picker the ending is lent, where so many days are asked for; most modes ask nobody once their days are over
+-- the day whose picker the ending is lent, where so many days are asked for; most modes ask nobody once their days are
+-- over. A market runs no day, and is solved with the picker of day 1
 abbrev pub picks_after : Mode → ℕ → Option ℕ
 picks_after (Beds school) days = Some days
+picks_after Market days = Some 1
 picks_after _ days = None
 
 -- what a mode names in the dossier

@@ -20,9 +20,14 @@ pub enum Mode {
     Check,
     /// Explains why a wish, named by its id, stands as it does after the days.
     Explain { wish: u32 },
-    /// Says how many beds a school, named by its id, needs so that its bar stays at its ceiling in the
-    /// last pass.
+    /// Lists the wishes that block the evening after the days.
+    Envy,
+    /// Says how many beds a school, named by its id, needs so that its bar stays at its ceiling in
+    /// the last pass.
     Beds { school: u32 },
+    /// Writes the stable matching that is best for the candidates who rank their wishes, over the
+    /// wishes without boarding.
+    Market,
     /// Makes a dossier of so many candidates, from 1 to 1,000,000, and writes a summary of its
     /// days.
     Sample { number: u32 },
@@ -68,7 +73,9 @@ pub(crate) fn mode_of(word: &str, numbers: Numbers) -> Option<Mode>
         "chain" => Some(Mode::Chain),
         "check" => Some(Mode::Check),
         "explain" => numbers.wish.map(|wish| Mode::Explain { wish }),
+        "envy" => Some(Mode::Envy),
         "beds" => numbers.school.map(|school| Mode::Beds { school }),
+        "market" => Some(Mode::Market),
         "sample" => numbers.number.map(|number| Mode::Sample { number }),
         _ => None,
     }
@@ -82,6 +89,14 @@ pub fn slots_of(mode: Mode) -> &'static [Slot]
     match mode {
         Mode::Order => &[Slot::Groups, Slot::Rankings],
         Mode::Sample { .. } => &[],
+        Mode::Market => &[
+            Slot::Groups,
+            Slot::Programmes,
+            Slot::Schools,
+            Slot::Rankings,
+            Slot::Boarding,
+            Slot::Wishes,
+        ],
         Mode::Check => &[
             Slot::Groups,
             Slot::Programmes,
@@ -127,6 +142,7 @@ pub fn runs_days(mode: Mode) -> bool
     match mode {
         Mode::Order => false,
         Mode::Check => false,
+        Mode::Market => false,
         _ => true,
     }
 }
@@ -138,6 +154,7 @@ pub fn picks_after(mode: Mode, days: u32) -> Option<u32>
 {
     match mode {
         Mode::Beds { .. } => Some(days),
+        Mode::Market => Some(1),
         _ => None,
     }
 }

@@ -1,9 +1,9 @@
 -- Who blocks a matching, found by walks.
-use Rattle.std.proofs.Common.{ℕ, zero, suc, ◌+◌, ◌≤◌, ◌<◌, ◌≡◌, Bool, true, false, cond, not, ◌||◌, List, [], ◌∷◌, ◌++◌, map, length, get_or, inl, inr, refl, sym, ◌∙◌, ap, subst, arith, nat_eq, nat_lt, filter}
+use Rattle.std.proofs.Common.{ℕ, zero, suc, ◌+◌, ◌≤◌, ◌<◌, ◌≡◌, Bool, true, false, cond, ◌||◌, List, [], ◌∷◌, ◌++◌, map, length, get_or, inl, inr, refl, sym, ◌∙◌, ap, subst, arith, nat_lt, filter}
 use Rattle.std.specs.Prelude.{Option, Some, None, find, slice_index}
 use Rattle.std.specs.List.{list_any, before_first, range_with_len}
 use Rattle.std.specs.Option.{is_some}
-use Rattle.std.proofs.lemmas.Bool.{cases_Bool, cases_eq, cases_lt, or_left, or_right, or_from, eq-eqb, le-ltb, false≢true, false_from_ne_true}
+use Rattle.std.proofs.lemmas.Bool.{cases_eq, cases_lt, or_right, or_from, le-ltb, false≢true, false_from_ne_true}
 use Rattle.std.proofs.lemmas.List.{length-append, append-nil, get_or_past}
 use Rattle.std.proofs.lemmas.List.Folds.{list_any-append}
 use Rattle.std.proofs.lemmas.List.FromFn.{filter_of_map_range_with_len_more}
@@ -11,7 +11,7 @@ use Rattle.admit_core.specs.Lists.{is_among}
 use Rattle.admit_core.proofs.NextCalls.{find_none}
 use Rattle.stable_market.specs.Markets.{MarketRows, list_of, position_of}
 use Rattle.stable_market.specs.Matchings.{place_of, is_at, holders, preferred, prefers, would_take, block_of, IsMatching, IsStable}
-use Rattle.stable_market.specs.Firsts.{among_filter, among_range, range_has, any_of, before_yes, before_no}
+use Rattle.stable_market.specs.Firsts.{among_filter, range_has, any_of, before_yes, before_no}
 
 map_same : (xs : List ℕ) → map (λ x. x) xs ≡ xs
 map_same [] = refl
@@ -22,7 +22,7 @@ or_false true b e = refl
 or_false false b e = sym e
 
 -- those of a range that pass, with one more
-kept_more : (t : ℕ → Bool) (k : ℕ) → filter t (range_with_len 0 (k + 1)) ≡ filter t (range_with_len 0 k) ++ cond (t k) (k ∷ []) []
+pub kept_more : (t : ℕ → Bool) (k : ℕ) → filter t (range_with_len 0 (k + 1)) ≡ filter t (range_with_len 0 k) ++ cond (t k) (k ∷ []) []
 kept_more t k =
     let more : filter t (map (λ x. x) (range_with_len 0 (k + 1))) ≡ filter t (map (λ x. x) (range_with_len 0 k)) ++ cond (t k) (k ∷ []) [] =
     filter_of_map_range_with_len_more t (λ x. x) 0 k k (omega arith) in

@@ -5,8 +5,7 @@ use Rattle.std.specs.List.{list_all, position, position_or_len, range_with_len, 
 use Rattle.std.specs.List.Sorted.{IsStrictlyIncreasing, IsBinarySearchResult}
 use Rattle.std.specs.Ordering.{nat_cmp}
 use Rattle.std.specs.Result.{is_ok, MatchResult}
-use Rattle.std.proofs.lemmas.Bool.{cases_Bool, cases_lt, cases_eq, and_parts, and_from, or_cases, or_left, or_right, eqb-true, eq-eqb, ne_eqb, lt-ltb, false≢true, false_from_ne_true}
-use Rattle.std.proofs.lemmas.Cmp.{nat_eq_equiv}
+use Rattle.std.proofs.lemmas.Bool.{cases_Bool, cases_lt, and_parts, and_from, or_cases, or_left, or_right, eqb-true, eq-eqb, ne_eqb, lt-ltb, false≢true, false_from_ne_true}
 use Rattle.std.proofs.lemmas.List.{length-map, map-append, take_more, get_or_past, get_or-map, get_or_default}
 use Rattle.std.proofs.lemmas.List.Elements.{filter-append}
 use Rattle.std.proofs.lemmas.List.Filters.{length-filter_both}
@@ -15,7 +14,7 @@ use Rattle.std.proofs.lemmas.Option.{unwrap_or-slice_get}
 use Rattle.std.proofs.lemmas.List.FromFn.{length-map-range_with_len, get_or-map-range_with_len}
 use Rattle.std.proofs.lemmas.List.Kept.{IsStrictlyIncreasing-filter, AllPairs-from_increasing}
 use Rattle.std.proofs.lemmas.List.Sorted.{searched}
-use Rattle.std.proofs.lemmas.Map.Keys.{IsDistinct-head, IsDistinct-tail, IsDistinct-cons, IsDistinct-push}
+use Rattle.std.proofs.lemmas.Map.Keys.{IsDistinct-head, IsDistinct-tail, IsDistinct-cons}
 use Rattle.admit_core.specs.CallOrder.{AreCallOrders}
 use Rattle.admit_core.specs.DossierRows.{DossierRows}
 use Rattle.admit_core.specs.Lists.{is_among}
@@ -25,14 +24,14 @@ use Rattle.admit_core.specs.declared.dossier.Wish.{Wish}
 use Rattle.admit_core.specs.declared.ranking.CallOrder.{CallOrder}
 use Rattle.demand.proofs.Calling.{all_called}
 use Rattle.linked_demand.proofs.Seating.{called_once}
-use Rattle.stable_market.specs.Markets.{MarketRows, IsMarket, IsSmall, is_list_below, is_distinct, lists_it, list_of, listers, is_order, order_of as order_in}
+use Rattle.stable_market.specs.Markets.{MarketRows, IsMarket, IsSmall, is_list_below, is_distinct, lists_it, listers, order_of as order_in}
 use Rattle.stable_market.specs.Listers.{AreLists, naming}
 use Rattle.stable_market.specs.Dossiers.{counts, counted, named, own, by_preference, lists_in, called_in, market_of}
-use Rattle.stable_market.specs.Firsts.{among_filter, among_range, range_has}
+use Rattle.stable_market.specs.Firsts.{among_filter, range_has}
 use Rattle.stable_market.specs.Lawful.{range_rises}
 use Rattle.stable_market.specs.Positions.{first_place, at_first, only_place, among_at}
 use Rattle.stable_market.proofs.InTurn.{in_turn_apart, named_length}
-use Rattle.stable_market.proofs.Rankers.{is_for, lists_wish, lister_named, all_of, one_counted, is_list_of}
+use Rattle.stable_market.proofs.Rankers.{is_for, lists_wish, all_of, one_counted, is_list_of}
 use Rattle.stable_market.proofs.Stamping.{is_distinct_from}
 
 -- the number of a candidate, and whether the list of a number names a programme

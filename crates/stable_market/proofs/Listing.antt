@@ -54,13 +54,13 @@ pub listers_start : (lists : List (List ℕ)) (n : ℕ) (rows : List (Vec ℕ Gl
 listers_start lists n rows are = record { one_each = are.one_each; each = are.each }
 
 -- nothing is put in, and one more number of the list
-pub put_none : (x : ℕ) (rows : List (Vec ℕ Global)) → ArePutIn (λ p. is_among p []) x rows rows
-put_none x rows = record { as_many = refl; each = λ p row at. (row, at, sym (append-nil row.items)) }
+pub put_none : (item : ℕ → ℕ) (rows : List (Vec ℕ Global)) → ArePutIn (λ p. is_among p []) item rows rows
+put_none item rows = record { as_many = refl; each = λ p row at. (row, at, sym (append-nil row.items)) }
 
-pub put_more : (x : ℕ) (xs : List ℕ) (k : ℕ) (old rows : List (Vec ℕ Global)) (before after : Vec ℕ Global) → is_list_below (length old) xs ≡ true → k < length xs
-    → before ≡ get_or rows (get_or xs k 0) before → after.items ≡ before.items ++ x ∷ []
-    → ArePutIn (λ p. is_among p (take k xs)) x old rows → ArePutIn (λ p. is_among p (take (k + 1) xs)) x old (set rows (get_or xs k 0) after)
-put_more x xs k old rows before after is_list lt read pushed are =
+pub put_more : (item : ℕ → ℕ) (xs : List ℕ) (k : ℕ) (old rows : List (Vec ℕ Global)) (before after : Vec ℕ Global) → is_list_below (length old) xs ≡ true → k < length xs
+    → before ≡ get_or rows (get_or xs k 0) before → after.items ≡ before.items ++ item (get_or xs k 0) ∷ []
+    → ArePutIn (λ p. is_among p (take k xs)) item old rows → ArePutIn (λ p. is_among p (take (k + 1) xs)) item old (set rows (get_or xs k 0) after)
+put_more item xs k old rows before after is_list lt read pushed are =
     let g : ℕ = get_or xs k 0 in
     let g_lt : g < length rows = omega (arith, list_below (length old) xs g is_list (among_at xs k lt), are.as_many) in
     let front : List ℕ = take k xs in
@@ -77,34 +77,35 @@ put_more x xs k old rows before after is_list lt read pushed are =
             let is : after ≡ row = get_set_here rows g after row (rw here at at) in
             let found : slice_get rows g ≡ Some before = slice_get_read rows (length rows) g before refl g_lt read in
             let (first, first_at, items) = are.each g before found in
-            let none : before.items ≡ first.items = items ∙ ap (λ b. first.items ++ (if b then x ∷ [] else [])) absent ∙ append-nil first.items in
+            let none : before.items ≡ first.items = items ∙ ap (λ b. first.items ++ (if b then item g ∷ [] else [])) absent ∙ append-nil first.items in
             let among : is_among p (take (k + 1) xs) ≡ true = grown p ∙ or_right (is_among p front) (nat_eq p g || false) (or_left (nat_eq p g) false (eq-eqb p g here)) in
             let there : slice_get old p ≡ Some first = ap (slice_get old) here ∙ first_at in
-            let are_items : row.items ≡ first.items ++ (if is_among p (take (k + 1) xs) then x ∷ [] else []) =
-            ap (λ (v : Vec ℕ Global). v.items) (sym is) ∙ pushed ∙ ap (λ (ys : List ℕ). ys ++ x ∷ []) none
-            ∙ ap (λ b. first.items ++ (if b then x ∷ [] else [])) (sym among) in
+            let are_items : row.items ≡ first.items ++ (if is_among p (take (k + 1) xs) then item p ∷ [] else []) =
+            ap (λ (v : Vec ℕ Global). v.items) (sym is) ∙ pushed ∙ ap (λ (ys : List ℕ). ys ++ item g ∷ []) none
+            ∙ ap (λ q. first.items ++ item q ∷ []) (sym here)
+            ∙ ap (λ b. first.items ++ (if b then item p ∷ [] else [])) (sym among) in
             (first, there, are_items)
         | inr other ↦
             let (first, first_at, items) = are.each p row (get_set_other rows g p after row other at) in
             let same : is_among p (take (k + 1) xs) ≡ is_among p front = grown p ∙ last_differs (is_among p front) (nat_eq p g) (ne_eqb p g other) in
-            let are_items : row.items ≡ first.items ++ (if is_among p (take (k + 1) xs) then x ∷ [] else []) =
-            items ∙ ap (λ b. first.items ++ (if b then x ∷ [] else [])) (sym same) in
+            let are_items : row.items ≡ first.items ++ (if is_among p (take (k + 1) xs) then item p ∷ [] else []) =
+            items ∙ ap (λ b. first.items ++ (if b then item p ∷ [] else [])) (sym same) in
             (first, first_at, are_items)
       ];
     }
 
 -- the whole list
-pub put_whole : (x : ℕ) (xs : List ℕ) (k : ℕ) (old rows : List (Vec ℕ Global)) → length xs ≤ k
-    → ArePutIn (λ p. is_among p (take k xs)) x old rows → ArePutIn (λ p. is_among p xs) x old rows
-put_whole x xs k old rows past are =
-    let P : List ℕ → Type 0 = λ ys. ArePutIn (λ p. is_among p ys) x old rows in
+pub put_whole : (item : ℕ → ℕ) (xs : List ℕ) (k : ℕ) (old rows : List (Vec ℕ Global)) → length xs ≤ k
+    → ArePutIn (λ p. is_among p (take k xs)) item old rows → ArePutIn (λ p. is_among p xs) item old rows
+put_whole item xs k old rows past are =
+    let P : List ℕ → Type 0 = λ ys. ArePutIn (λ p. is_among p ys) item old rows in
     subst P (take_all k xs past) are
 
-map_same : (xs : List ℕ) → map (λ x. x) xs ≡ xs
+pub map_same : (xs : List ℕ) → map (λ x. x) xs ≡ xs
 map_same [] = refl
 map_same (x ∷ xs) = ap (λ ys. x ∷ ys) (map_same xs)
 
-naming_more : (lists : List (List ℕ)) (p k : ℕ) → naming lists p (k + 1) ≡ naming lists p k ++ cond (is_among p (get_or lists k [])) (k ∷ []) []
+pub naming_more : (lists : List (List ℕ)) (p k : ℕ) → naming lists p (k + 1) ≡ naming lists p k ++ cond (is_among p (get_or lists k [])) (k ∷ []) []
 naming_more lists p k =
     let t : ℕ → Bool = λ x. is_among p (get_or lists x []) in
     let more : filter t (map (λ x. x) (range_with_len 0 (k + 1))) ≡ filter t (map (λ x. x) (range_with_len 0 k)) ++ cond (t k) (k ∷ []) [] =
@@ -113,7 +114,7 @@ naming_more lists p k =
 
 -- one more list
 pub listers_more : (lists : List (List ℕ)) (n k : ℕ) (rows new : List (Vec ℕ Global)) → AreListers lists n k rows
-    → ArePutIn (λ p. is_among p (get_or lists k [])) k rows new → AreListers lists n (k + 1) new
+    → ArePutIn (λ p. is_among p (get_or lists k [])) (λ p. k) rows new → AreListers lists n (k + 1) new
 listers_more lists n k rows new are put =
     record {
       one_each = put.as_many ∙ are.one_each;

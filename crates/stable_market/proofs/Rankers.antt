@@ -1,5 +1,5 @@
 -- The lists of a dossier's market name its programmes, none twice.
-use Rattle.std.proofs.Common.{ℕ, ◌+◌, ◌≤◌, ◌<◌, ◌≡◌, ◌≢◌, Bool, true, false, not, ◌&&◌, List, [], ◌∷◌, map, length, get_or, filter, inl, inr, refl, sym, ◌∙◌, ap, subst, arith, nat_eq, nat_lt, Option, Some, None}
+use Rattle.std.proofs.Common.{ℕ, ◌<◌, ◌≡◌, ◌≢◌, Bool, true, not, ◌&&◌, List, [], ◌∷◌, map, length, get_or, inl, inr, refl, sym, ◌∙◌, subst, arith, nat_eq, nat_lt, Option, Some, None}
 use Rattle.std.specs.Prelude.{All, is_some}
 use Rattle.std.specs.List.{list_any, list_all, AllPairs, IsDistinct}
 use Rattle.std.proofs.lemmas.Bool.{and_parts, or_cases, or_left, or_right, eqb-true, eq-eqb, lt-ltb, false≢true}

@@ -11,7 +11,7 @@ use Rattle.std.proofs.lemmas.Map.Made.{length-le_from_is_member}
 use Rattle.admit_core.specs.Lists.{is_among}
 use Rattle.stable_market.specs.Markets.{MarketRows, IsMarket, list_of, order_of, is_distinct}
 use Rattle.stable_market.specs.Firsts.{one_of_all, range_has}
-use Rattle.stable_market.specs.Positions.{is_candidate, order_lists, order_distinct}
+use Rattle.stable_market.specs.Positions.{distinct_from, is_candidate, order_lists, order_distinct}
 
 -- one at a place of a list, whatever stands for a place past the end
 pub among_place : (xs : List ℕ) (k d : ℕ) → k < length xs → is_among (get_or xs k d) xs ≡ true
@@ -26,6 +26,18 @@ list_within m is x x_lt k d lt =
 pub order_within : (m : MarketRows) → IsMarket m → (p : ℕ) → p < length m.orders → All (λ x. x < length m.lists) (order_of m p)
 order_within m is p p_lt k d lt =
     is_candidate m is p (get_or (order_of m p) k d) (order_lists m is p (get_or (order_of m p) k d) p_lt (among_place (order_of m p) k d lt))
+
+-- a list is no longer than the market has programmes
+pub list_short : (m : MarketRows) → IsMarket m → (x : ℕ) → x < length m.lists → length (list_of m x) ≤ length m.orders
+list_short m is x x_lt =
+    let list : List ℕ = list_of m x in
+    let parts = and_parts (is_distinct list) (list_all (λ q. nat_lt q (length m.orders)) list) (is.lists x x_lt) in
+    let range : List ℕ = range_with_len 0 (length m.orders) in
+    let le : length list ≤ length range =
+    length-le_from_is_member nat_eq_equiv list range (distinct_from list parts.0)
+    (λ p t. range_has p 0 (length m.orders) (omega arith)
+    (omega (arith, ltb-true p (length m.orders) (one_of_all (λ q. nat_lt q (length m.orders)) p list parts.1 t)))) in
+    omega (arith, le, length-range_with_len 0 (length m.orders))
 
 -- an order is no longer than the market has candidates
 pub order_short : (m : MarketRows) → IsMarket m → (p : ℕ) → p < length m.orders → length (order_of m p) ≤ length m.lists

@@ -1,8 +1,8 @@
 -- The same candidates have a place in every stable matching, and each programme has as many: against the best matching,
 -- who has a place in another has one in it, and no programme has fewer in the other.
-use Rattle.std.proofs.Common.{ℕ, zero, suc, ◌+◌, ◌≤◌, ◌<◌, ◌≡◌, Bool, true, false, cond, ◌&&◌, List, [], ◌∷◌, length, filter, inl, inr, refl, sym, ◌∙◌, ap, subst, arith, nat_eq, nat_lt}
+use Rattle.std.proofs.Common.{ℕ, zero, suc, ◌+◌, ◌≤◌, ◌<◌, ◌≡◌, Bool, true, false, cond, List, [], ◌∷◌, length, filter, inl, inr, refl, sym, ◌∙◌, ap, arith, nat_eq, nat_lt}
 use Rattle.std.specs.Prelude.{Option, Some, None, is_some, slice_index}
-use Rattle.std.specs.List.{list_any, before_first, range_with_len}
+use Rattle.std.specs.List.{before_first, range_with_len}
 use Rattle.std.proofs.lemmas.Bool.{cases_Bool, cases_lt, and_parts, or_cases, or_left, or_right, or_parts, eqb-true, eq-eqb, lt-ltb, le-ltb, false≢true, false_from_ne_true}
 use Rattle.std.proofs.lemmas.Cmp.{nat_eq_equiv}
 use Rattle.std.proofs.lemmas.List.{get_or_past}
@@ -13,8 +13,8 @@ use Rattle.admit_core.proofs.FullBeds.{rising_distinct}
 use Rattle.admit_core.proofs.Tests.{Implies, filter_implied}
 use Rattle.stable_market.specs.Markets.{MarketRows, IsMarket, list_of, lists_it}
 use Rattle.stable_market.specs.Matchings.{place_of, is_at, holders, prefers, would_take, IsStable, IsBestForAll}
-use Rattle.stable_market.specs.Placed.{HaveSamePlaced, has_place}
-use Rattle.stable_market.specs.Firsts.{among_filter, among_range, range_has, at_place, before_yes, before_no}
+use Rattle.stable_market.specs.Placed.{HaveSamePlaced}
+use Rattle.stable_market.specs.Firsts.{among_filter, range_has, at_place, before_no}
 use Rattle.stable_market.specs.Positions.{is_candidate, is_programme}
 use Rattle.stable_market.specs.Bars.{market_system, matched_under}
 use Rattle.stable_market.specs.Lawful.{range_rises, market_is_lawful}

@@ -1,5 +1,5 @@
 -- What the text of a dossier's market rests on: a bar for each programme, and places in programmes of the dossier.
-use Rattle.std.proofs.Common.{ℕ, ◌≤◌, ◌<◌, ◌≡◌, List, length, get_or, sym, ◌∙◌, arith}
+use Rattle.std.proofs.Common.{ℕ, ◌<◌, ◌≡◌, List, length, ◌∙◌, arith}
 use Rattle.std.specs.Prelude.{All, Option, None}
 use Rattle.std.specs.Option.{ForSome}
 use Rattle.std.proofs.lemmas.List.{length-map, get_or_default}

@@ -1,5 +1,5 @@
 -- A market as a system of falling bars, which stand on positions in the programmes' orders.
-use Rattle.std.specs.Prelude.{ℕ, Bool, List, length, filter, map, nat_le, find, Option, slice_index}
+use Rattle.std.specs.Prelude.{ℕ, ◌+◌, Some, None, Bool, List, length, filter, map, nat_le, find, Option, slice_index}
 use Rattle.std.specs.List.{range_with_len}
 use Rattle.admit_core.specs.Falls.{FallingSystem}
 use Rattle.stable_market.specs.Markets.{MarketRows, list_of, order_of, position_of, candidate_at}
@@ -30,3 +30,12 @@ market_system m =
 -- the places under bars: each candidate has the best programme within reach
 abbrev pub matched_under : MarketRows → List ℕ → List (Option ℕ)
 matched_under m bars = map (best_within m bars) (range_with_len 0 (length m.lists))
+
+-- a place as a number: 0 for none, and else one more than that of the programme
+abbrev pub place_code : Option ℕ → ℕ
+place_code None = 0
+place_code (Some p) = p + 1
+
+-- the places under bars, as numbers
+abbrev pub offered : MarketRows → List ℕ → List ℕ
+offered m bars = map place_code (matched_under m bars)

@@ -2,6 +2,7 @@ pub mod Bars
 pub mod Blocks
 pub mod Dossiers
 pub mod Faults
+pub mod Fillings
 pub mod Firsts
 pub mod Lawful
 pub mod Laws
@@ -10,8 +11,10 @@ pub mod Markets
 pub mod Matchings
 pub mod Placed
 pub mod Positions
+pub mod Ranked
 pub mod Rounds
 pub mod Solving
 pub mod Stamps
+pub mod Standing
 pub mod Text
 pub mod Worked

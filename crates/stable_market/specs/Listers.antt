@@ -18,13 +18,13 @@ pub record AreListers (lists : List (List ℕ)) (n k : ℕ) (rows : List (Vec �
   pub one_each : length rows ≡ n
   pub each : (p : ℕ) (row : Vec ℕ Global) → slice_get rows p ≡ Some row → row.items ≡ naming lists p k
 
--- an item is put at the end of the rows whose numbers pass a test
-pub record ArePutIn (here : ℕ → Bool) (x : ℕ) (old new : List (Vec ℕ Global)) : Type 0 where
+-- an item of each row is put at its end, where its number passes a test
+pub record ArePutIn (here : ℕ → Bool) (item : ℕ → ℕ) (old new : List (Vec ℕ Global)) : Type 0 where
   pub as_many : length new ≡ length old
   pub each :
       (p : ℕ) (row : Vec ℕ Global)
       → slice_get new p ≡ Some row
-      → (before : Vec ℕ Global) × (slice_get old p ≡ Some before) × (row.items ≡ before.items ++ (if here p then x ∷ [] else []))
+      → (before : Vec ℕ Global) × (slice_get old p ≡ Some before) × (row.items ≡ before.items ++ (if here p then item p ∷ [] else []))
 
 -- an order of numbers below a count has these candidates, each once, and nobody else
 abbrev pub has_all_of : ℕ → List ℕ → List ℕ → Bool

@@ -6,7 +6,9 @@
 #![tactic(auto)]
 
 mod block;
+mod counts;
 mod fault;
+mod filling;
 mod laws;
 mod listers;
 mod lists;
@@ -14,9 +16,12 @@ mod market;
 mod named;
 mod orders;
 mod owned;
+mod ranked;
 mod round;
+mod seating;
 mod solution;
 mod stamps;
+mod standing;
 mod text;
 
 pub use block::{MarketBlock, first_block};

@@ -91,6 +91,7 @@ impl Market {
         requires { candidate < length self.now.lists }
         ensures list { result.now ≡ list_of self.now candidate }
         ensures within { All (λ p. p < length self.now.orders) result.now }
+        ensures short_list { length result.now ≤ 16000000 }
     {
         self.lists[candidate as usize].as_slice()
     }
@@ -103,6 +104,13 @@ impl Market {
         ensures short { length result.now ≤ 16000000 }
     {
         self.orders[programme as usize].as_slice()
+    }
+
+    /// The seats of all programmes.
+    pub(crate) fn all_seats(&self) -> &[u32]
+        ensures { result.now ≡ self.now.seats }
+    {
+        self.seats.as_slice()
     }
 
     /// The seats of a programme.

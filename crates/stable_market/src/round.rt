@@ -1,105 +1,90 @@
 //! A market as a system of falling bars.
-ghost use Rattle.std.specs.Prelude.{◌≡◌, ◌<◌, ◌≤◌, length, map, filter, nat_le, slice_get, slice_index, ◌-◌, All, IfOk};
-ghost use Rattle.stable_market.specs.Markets.{IsMarket, position_of};
-ghost use Rattle.stable_market.specs.Matchings.{is_at};
-ghost use Rattle.stable_market.specs.Bars.{best_within, demanded, market_system};
+ghost use Rattle.std.specs.Prelude.{ℕ, ◌≡◌, ◌<◌, ◌≤◌, length, map, filter, nat_le, slice_get, slice_index, ◌-◌, All, IfOk};
+ghost use Rattle.stable_market.specs.Markets.{IsMarket, order_of, candidate_at};
+ghost use Rattle.stable_market.specs.Matchings.{IsMatching};
+ghost use Rattle.stable_market.specs.Bars.{demanded, market_system, offered, place_code};
+ghost use Rattle.stable_market.specs.Rounds.{IsRound, held_to};
 
 use crate::market::Market;
+use crate::ranked::Ranked;
+use crate::seating::{Seating, is_at, lower_to, seated_under};
 use admit_core::{OutOfMemory, Steps};
 use bar_law::Falling;
 use std::alloc::Global;
 use std::sync::ledger::Ledger;
 
-/// A market and its present bars, which stand on positions in the programmes' orders.
+/// A market and its present bars, which stand on positions in the programmes' orders. It keeps where
+/// in their list each candidate stands, and which programmes have more candidates than seats: a fall
+/// costs the positions that the bar passes and the entries that candidates move on by.
 #[derive(Drop)]
 pub struct MarketRound<'a> {
-    market: &'a Market,
+    market: Ranked<'a>,
     bars: Vec<u32>,
-    ghost one_bar_each: { length bars.items ≡ length market.now.orders },
-    ghost valid: { IsMarket market.now },
+    seating: Seating,
+    ghost round: { IsRound market bars.items seating.stands.items seating.places.items seating.filling },
 }
 
-/// The position of a candidate in the order of a programme, from 1; one past the end where they
-/// aren't in it.
-pub(crate) fn position_of(market: &Market, programme: u32, candidate: u32) -> u32
-    requires { programme < length market.now.orders }
-    ensures { result ≡ position_of market.now programme candidate }
-{
-    let order = market.order(programme);
-    let mut position = 1;
-    for other in order {
-        if *other == candidate {
-            return position;
-        }
-        position += 1;
-    }
-    position
-}
-
-/// The programme that a candidate prefers among those within reach of the bars.
-pub(crate) fn best_within(market: &Market, bars: &[u32], candidate: u32) -> Option<u32>
-    requires candidate { candidate < length market.now.lists }
-    requires bars { length bars.now ≡ length market.now.orders }
-    ensures { result ≡ best_within market.now bars.now candidate }
-{
-    for programme in market.list(candidate) {
-        if position_of(market, *programme, candidate) <= bars[*programme as usize] {
-            return Some(*programme);
-        }
-    }
-    None
-}
-
-/// Whether a programme is the one that a candidate prefers among those within reach.
-fn is_best(market: &Market, bars: &[u32], candidate: u32, programme: u32) -> bool
-    requires candidate { candidate < length market.now.lists }
-    requires bars { length bars.now ≡ length market.now.orders }
-    ensures { result ≡ is_at programme (best_within market.now bars.now candidate) }
-{
-    match best_within(market, bars, candidate) {
-        Some(best) => programme == best,
-        None => false,
-    }
-}
-
-/// The positions of the candidates for whom a programme is the best within reach, ascending.
-fn demanded(
+/// The candidates at the first positions of an order who have a place in its programme.
+fn names_within(
     alloc: Global,
     market: &Market,
-    bars: &[u32],
+    places: &[Option<u32>],
     programme: u32,
+    upto: u32,
 ) -> Result<Vec<u32>, OutOfMemory>
     requires programme { programme < length market.now.orders }
-    requires bars { length bars.now ≡ length market.now.orders }
-    ensures { IfOk result (λ ranks. ranks.items ≡ demanded market.now bars.now programme) }
+    requires places { length places.now ≡ length market.now.lists }
+    requires upto { upto ≤ length (order_of market.now programme) }
+    ensures { IfOk result (λ names. names.items ≡
+        map (candidate_at market.now programme) (held_to market.now places.now programme upto)) }
 {
     let order = market.order(programme);
-    let mut ranks = Vec::new(alloc);
-    for (place, candidate) in order.iter().enumerate() {
-        if is_best(market, bars, *candidate, programme) {
-            ranks.push(place as u32 + 1)?;
+    let mut names = Vec::new(alloc);
+    for place in 0..upto {
+        let candidate = order[place as usize];
+        if is_at(programme, places[candidate as usize]) {
+            names.push(candidate)?;
         }
     }
-    Ok(ranks)
+    Ok(names)
 }
 
 impl<'a> MarketRound<'a> {
-    /// The system of a market, with its bars at the ceilings.
+    /// The system of a market, with its bars at the ceilings. It costs the length of the market's
+    /// lists and orders.
     pub fn build(alloc: Global, market: &'a Market) -> Result<MarketRound<'a>, OutOfMemory>
         ensures system { IfOk result (λ r. ⟦<MarketRound<'a> as Falling>⟧.system r ≡ market_system market.now) }
         ensures bars { IfOk result (λ r. ⟦<MarketRound<'a> as Falling>⟧.bars r ≡ (market_system market.now).ceilings) }
+        ensures offers { IfOk result (λ r. ⟦<MarketRound<'a> as Falling>⟧.offers r ≡ offered market.now) }
     {
-        market.stands();
         let bars = ceilings(alloc, market)?;
-        Ok(MarketRound { market, bars })
+        let market = Ranked::build(alloc, market)?;
+        let seating = seated_under(alloc, &market, &bars)?;
+        Ok(MarketRound {
+            market,
+            bars,
+            seating,
+        })
     }
 
-    /// The present bars, one for each programme.
-    pub(crate) fn into_bars(self) -> Vec<u32>
-        ensures { result.items ≡ ⟦<MarketRound<'a> as Falling>⟧.bars self.entry }
+    /// The present bars, one for each programme, and the place of each candidate under them.
+    pub(crate) fn into_parts(self) -> (Vec<u32>, Vec<Option<u32>>)
+        ensures bars { result.0.items ≡ ⟦<MarketRound<'a> as Falling>⟧.bars self.entry }
+        ensures places { map place_code result.1.items ≡ ⟦<MarketRound<'a> as Falling>⟧.offers self.entry (⟦<MarketRound<'a> as Falling>⟧.bars self.entry) }
     {
-        self.bars
+        let MarketRound { bars, seating, .. } = self;
+        let Seating { places, .. } = seating;
+        (bars, places)
     }
+}
+
+/// The lesser of two numbers.
+fn least(bar: u32, upto: u32) -> u32
+    ensures low { result ≤ bar }
+    ensures within { result ≤ upto }
+    ensures past { (h : ℕ) → result < h → h ≤ upto → bar < h }
+{
+    if bar < upto { bar } else { upto }
 }
 
 /// The number of candidates of each programme.
@@ -113,67 +98,80 @@ fn ceilings(alloc: Global, market: &Market) -> Result<Vec<u32>, OutOfMemory>
     Ok(ceilings)
 }
 
+/// The first position, from the last one up, that has no seat: those who have a place at it and
+/// before it are more than the seats by one. It goes along the positions from the bar on.
+fn first_over(market: &Market, bar: u32, seating: &Seating, programme: u32) -> Option<u32>
+    requires programme { programme < length market.now.orders }
+    requires bar { bar ≤ length (order_of market.now programme) }
+    requires seats { length seating.now.filling.seats ≡ length market.now.orders }
+    requires counts { length seating.now.filling.counts ≡ length market.now.orders }
+    requires places { length seating.now.places.items ≡ length market.now.lists }
+    requires count { slice_index seating.now.filling.counts programme ≡ length (held_to market.now seating.now.places.items programme bar) }
+    ensures { result ≡ slice_get (held_to market.now seating.now.places.items programme bar) (slice_index seating.now.filling.seats programme) }
+{
+    let seats = seating.filling.seats(programme);
+    let mut left = seating.filling.count(programme);
+    if left <= seats {
+        return None;
+    }
+    let order = market.order(programme);
+    for passed in 0..bar {
+        let position = bar - passed;
+        let candidate = order[position as usize - 1];
+        if is_at(programme, seating.places[candidate as usize]) {
+            left -= 1;
+            if left == seats {
+                return Some(position);
+            }
+        }
+    }
+    None
+}
+
 impl Falling for MarketRound<'_> {
-    ghost use Rattle.stable_market.specs.Bars.{market_system};
-    ghost use Rattle.std.specs.Prelude.{[]};
+    ghost use Rattle.stable_market.specs.Bars.{market_system, offered};
     ghost use Rattle.stable_market.specs.Rounds.{round_is_lawful, bar_each};
 
-    ghost system = { λ r. market_system r.market.now };
+    ghost system = { λ r. market_system r.market };
 
     ghost bars = { λ r. r.bars.items };
 
-    ghost offers = { λ _ _. [] };
+    ghost offers = { λ r. offered r.market };
 
-    ghost lawful = { λ r. round_is_lawful r.market.now r.valid };
+    ghost lawful = { λ r. round_is_lawful r.market r.round.valid };
 
-    ghost one_bar_each = { λ r. bar_each r.market.now r.bars.items r.one_bar_each };
+    ghost one_bar_each = { λ r. bar_each r.market r.bars.items r.round.seated.one_bar_each };
 
     fn count(&self) -> u32 {
-        self.market.programmes()
+        self.market.market().programmes()
     }
 
     fn bar(&self, i: u32) -> u32 {
         self.bars[i as usize]
     }
 
-    fn over(&self, alloc: Global, i: u32) -> Result<Option<u32>, OutOfMemory> {
-        let ranks = demanded(alloc, self.market, &self.bars, i)?;
-        Ok(at(&ranks, self.market.seats(i)))
+    fn over(&self, _alloc: Global, i: u32) -> Result<Option<u32>, OutOfMemory> {
+        let bar = self.bars[i as usize];
+        Ok(first_over(self.market.market(), bar, &self.seating, i))
+    }
+
+    fn overfilled(&self, alloc: Global) -> Result<Vec<u32>, OutOfMemory> {
+        self.seating.filling.overfilled(alloc)
     }
 
     fn names(&self, alloc: Global, i: u32, upto: u32) -> Result<Vec<u32>, OutOfMemory> {
-        let ranks = demanded(alloc, self.market, &self.bars, i)?;
-        names_up_to(alloc, &ranks, upto, self.market.order(i))
+        let end = least(self.bars[i as usize], upto);
+        names_within(alloc, self.market.market(), &self.seating.places, i, end)
     }
 
     fn lower<L: Ledger>(&mut self, i: u32, to: u32, steps: &mut Steps<L>) {
-        self.bars[i as usize] = to;
-        steps.tick();
+        lower_to(
+            &self.market,
+            &mut self.bars,
+            &mut self.seating,
+            i,
+            to,
+            steps,
+        );
     }
-}
-
-/// The number at a place, if there is one.
-fn at(list: &[u32], place: u32) -> Option<u32>
-    ensures { result ≡ slice_get list.now place }
-{
-    list.get(place as usize).copied()
-}
-
-/// The candidates at the positions that are at most another.
-fn names_up_to(
-    alloc: Global,
-    ranks: &[u32],
-    upto: u32,
-    order: &[u32],
-) -> Result<Vec<u32>, OutOfMemory>
-    requires { All (λ r. (1 ≤ r) × (r ≤ length order.now)) ranks.now }
-    ensures { IfOk result (λ v. v.items ≡ map (λ r. slice_index order.now (r - 1)) (filter (λ r. nat_le r upto) ranks.now)) }
-{
-    let mut names = Vec::new(alloc);
-    for rank in ranks {
-        if *rank <= upto {
-            names.push(order[*rank as usize - 1])?;
-        }
-    }
-    Ok(names)
 }

@@ -2,17 +2,17 @@
 ghost use Rattle.std.specs.Prelude.{◌≡◌, length, IfOk, OnErr};
 ghost use Rattle.admit_core.specs.Falls.{IsGreatest};
 ghost use Rattle.stable_market.specs.Matchings.{IsStable, IsBestForAll};
-ghost use Rattle.stable_market.specs.Bars.{market_system, matched_under};
+ghost use Rattle.stable_market.specs.Bars.{market_system, matched_under, offered};
 ghost use Rattle.stable_market.specs.Placed.{ArePlacedInAll};
 ghost use Rattle.stable_market.specs.Solving.{IsLedTo};
 ghost use Rattle.bar_fixpoint.specs.Chosen.{TellsOfFalls};
 
 use crate::laws::laws_of_markets;
 use crate::market::Market;
-use crate::round::{MarketRound, best_within};
+use crate::round::MarketRound;
 use admit_core::{OutOfMemory, Steps};
 use bar_fixpoint::{Picker, greatest};
-use bar_law::law_of_runs;
+use bar_law::{Falling, law_of_runs};
 use std::alloc::Global;
 use std::sync::ledger::Ledger;
 
@@ -50,23 +50,15 @@ pub fn solve<L: Ledger>(
     law_of_runs();
     let mut round = MarketRound::build(alloc, market)?;
     greatest(alloc, &mut round, picker, steps)?;
-    let bars = round.into_bars();
-    let places = matched_under(alloc, market, &bars)?;
-    Ok(Solved { bars, places })
+    Ok(solved_by(market, round))
 }
 
-/// The best programme within reach of the bars, for each candidate.
-fn matched_under(
-    alloc: Global,
-    market: &Market,
-    bars: &[u32],
-) -> Result<Vec<Option<u32>>, OutOfMemory>
-    requires { length bars.now ≡ length market.now.orders }
-    ensures { IfOk result (λ places. places.items ≡ matched_under market.now bars.now) }
+/// The bars of a round of a market, and the places under them.
+fn solved_by<'a>(market: &Market, round: MarketRound<'a>) -> Solved
+    requires { ⟦<MarketRound<'a> as Falling>⟧.offers round ≡ offered market.now }
+    ensures bars { result.bars.items ≡ ⟦<MarketRound<'a> as Falling>⟧.bars round.entry }
+    ensures places { result.places.items ≡ matched_under market.now result.bars.items }
 {
-    let mut places = Vec::new(alloc);
-    for candidate in 0..market.candidates() {
-        places.push(best_within(market, bars, candidate))?;
-    }
-    Ok(places)
+    let (bars, places) = round.into_parts();
+    Solved { bars, places }
 }

@@ -1,6 +1,6 @@
 //! Lowers the bars of worked dossiers in the plain and in the linked system of boarding schools
-//! side by side, and prints a line for each: whether both answer alike from fall to fall, and as
-//! its file says. Its words are the names of the files.
+//! side by side, runs campaigns of them, and prints a line for each: whether both systems answer
+//! alike from fall to fall, and all as its file says. Its words are the names of the files.
 //!
 //! `worked_dossiers dossiers.txt`
 #![tactic(auto)]
@@ -8,11 +8,13 @@
 ghost use Rattle.std.specs.Prelude.{◌<◌};
 
 mod alike;
+mod campaigns;
 mod tables;
 mod views;
 
 use admit_core::InFault;
 use alike::{Seen, seen_of};
+use campaigns::campaign_text;
 use case_file::{Section, Slots, sections, slot_named};
 use dossier_check::check;
 use sample_gen::sample;
@@ -62,6 +64,32 @@ fn line_of(
     }
 }
 
+/// The line of a campaign of which this is to be seen; its words are the number of its days, and the
+/// pick that its first picker refuses.
+fn campaign_line(
+    alloc: Global,
+    name: &str,
+    slots: &Slots,
+    section: &Section<'_>,
+) -> Result<String, AllocError> {
+    match seen_in_campaign(alloc, slots, section.words) {
+        Ok(seen) if seen.as_str() == section.text.as_str() => {
+            format!(in alloc; "ok: {name}, as a campaign")
+        }
+        Ok(seen) => format!(in alloc; "FAILED: {name}, as a campaign\n{seen}"),
+        Err(_) => format!(in alloc; "FAILED: {name}, as a campaign: no dossier"),
+    }
+}
+
+/// What is seen of a campaign of the dossier that slots stand for.
+fn seen_in_campaign(alloc: Global, slots: &Slots, words: &str) -> Result<String, InFault> {
+    let (days, refused) = words.split_once(" tires ").unwrap_or((words, ""));
+    let days = days.parse::<u32>().unwrap_or(0);
+    let refused = refused.parse::<u64>().unwrap_or(u64::MAX);
+    let dossier = dossier_of(alloc, slots)?;
+    Ok(campaign_text(alloc, &dossier, days, refused.max(1))?)
+}
+
 /// The line of a sample in which bars are to fall.
 fn sample_line(alloc: Global, number: &str) -> Result<String, AllocError> {
     let falls = falls_in_sample(alloc, number.parse::<u32>().unwrap_or(0));
@@ -86,6 +114,7 @@ fn take(
             let seen = seen_in(alloc, slots);
             Ok(Some(line_of(alloc, name.as_str(), &seen, section.text.as_str())?))
         }
+        "campaign" => Ok(Some(campaign_line(alloc, name.as_str(), slots, section)?)),
         "sample" => Ok(Some(sample_line(alloc, section.words)?)),
         other => match slot_named(other) {
             Some(slot) => {

@@ -1,15 +1,25 @@
-use Rattle.std.proofs.Common.{arith}
-use Rattle.played.proofs.DaysSoFar.{called_still, nothing_played, played_on, plays_all, plays_out, plays_some, terms_still}
+use Rattle.std.proofs.Common.{◌≡◌, IfSome, arith, length}
+use Rattle.std.specs.Option.{option_copied}
+use Rattle.admit_core.specs.CallOrder.{AreCallOrders}
+use Rattle.admit_core.specs.DossierRows.{DossierRows}
+use Rattle.linked_demand.specs.Lineups.{IsLineupOf}
+use Rattle.played.proofs.DaysSoFar.{nothing_played, played_on, plays_all, plays_out, plays_some, still}
 use Rattle.played.proofs.days.play_days.Goals as goal
 
 pub loop-played-init : goal.loop-played-init
 loop-played-init g c = record { so_far = nothing_played _ _ _ _ c.requires.none; there = c.requires.there }
 
 pub next_day-requires-clause-orders : goal.next_day-requires-clause-orders
-next_day-requires-clause-orders g c = called_still _ _ _ _ _ _ _ c.loop-played.invariant.so_far c.requires.orders
+next_day-requires-clause-orders g c =
+    still _ _ _ _ _ _ _ c.loop-played.invariant.so_far (λ (d : DossierRows). AreCallOrders d.groups c.args.orders.now.orders) c.requires.orders
+
+pub next_day-requires-clause-lineup : goal.next_day-requires-clause-lineup
+next_day-requires-clause-lineup g c =
+    still _ _ _ _ _ _ _ c.loop-played.invariant.so_far (λ (d : DossierRows). IsLineupOf d c.args.orders.now.orders c.args.lineup.now) c.requires.lineup
 
 pub next_day-requires-clause-terms : goal.next_day-requires-clause-terms
-next_day-requires-clause-terms g c = terms_still _ _ _ _ _ _ _ c.loop-played.invariant.so_far c.requires.terms
+next_day-requires-clause-terms g c =
+    still _ _ _ _ _ _ _ c.loop-played.invariant.so_far (λ (d : DossierRows). IfSome (option_copied c.args.terms) (λ t. length t.before ≡ length d.wishes)) c.requires.terms
 
 pub next_day-requires-clause-there : goal.next_day-requires-clause-there
 next_day-requires-clause-there g c = c.loop-played.invariant.there

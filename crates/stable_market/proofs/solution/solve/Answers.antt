@@ -1,13 +1,13 @@
 use Rattle.std.proofs.Common.{◌∙◌}
 use Rattle.bar_fixpoint.proofs.OneFall.{on_err}
 use Rattle.stable_market.specs.Bars.{market_system}
-use Rattle.stable_market.proofs.Led.{led, none_told, some_told, all_told}
+use Rattle.stable_market.proofs.Led.{led, none_told, some_told}
 use Rattle.stable_market.proofs.solution.solve.Goals as goal
 
 pub returns-clause-led : goal.returns-clause-led
 returns-clause-led g c =
     led _ (market_system c.args.market.now) _ _ _ _ _ c.in_ok-round.ensures.system c.in_ok-greatest.ensures.run c.in_ok-greatest.ensures.chosen
-    c.in_ok-greatest.ensures.told (c.into_bars-bars.ensures ∙ c.in_ok-greatest.ensures.bars)
+    c.in_ok-greatest.ensures.told (c.solved_by.ensures.bars ∙ c.in_ok-greatest.ensures.bars)
 
 pub returns-in_err-round-clause-early : goal.returns-in_err-round-clause-early
 returns-in_err-round-clause-early g c = on_err c.from_residual.result (none_told (market_system c.args.market.now) _ _)
@@ -16,9 +16,3 @@ pub returns-in_err-greatest-clause-early : goal.returns-in_err-greatest-clause-e
 returns-in_err-greatest-clause-early g c =
     on_err c.from_residual-in_err-greatest.result
     (some_told _ (market_system c.args.market.now) _ _ _ _ c.in_ok-round.ensures.system c.in_err-greatest.ensures.early)
-
-pub returns-in_err-places-clause-early : goal.returns-in_err-places-clause-early
-returns-in_err-places-clause-early g c =
-    on_err c.from_residual-in_err-places.result
-    (all_told _ (market_system c.args.market.now) _ _ _ _ c.in_ok-round.ensures.system c.in_ok-greatest.ensures.run c.in_ok-greatest.ensures.chosen
-    c.in_ok-greatest.ensures.told)

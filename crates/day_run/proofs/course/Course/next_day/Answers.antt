@@ -8,8 +8,8 @@ use Rattle.day_run.proofs.DayEnds.{next_ran}
 use Rattle.day_run.proofs.PassEnds.{desk_ends_so}
 use Rattle.day_run.proofs.course.Course.next_day.Goals as goal
 
-pub run_with-requires-clause-ceilings : goal.run_with-requires-clause-ceilings
-run_with-requires-clause-ceilings g c =
+pub run_day_along-requires-clause-ceilings : goal.run_day_along-requires-clause-ceilings
+run_day_along-requires-clause-ceilings g c =
     ap (λ (l : List ℕ). length l) c.as_slice.ensures.value
     ∙ c.in_ok-ceilings.ensures.one_each
     ∙ ap (λ (d : DossierRows). length d.schools) (c.dossier.ensures ∙ ap (λ (s : State). s.dossier) c.now.ensures)
@@ -20,7 +20,7 @@ keep_bars-requires g c =
     ap (λ (l : List ℕ). length l) c.as_slice.ensures.value
     ∙ c.in_ok-ceilings.ensures.one_each
     ∙ ap (λ (d : DossierRows). length d.schools) (c.dossier.ensures ∙ ap (λ (s : State). s.dossier) c.now.ensures) in
-    c.self.invariant.bars
+    c.self.invariant.progress.bars
     ∙ sym (ap (λ (l : List PassEnd). length (last_bars l)) c.as_slice-2.ensures ∙ last_bars_long _ _ _ _ _ _ c.in_ok-done.done.passes c.in_ok-done.ensures.done.is_day.passes ∙ schools)
 
 pub invariant_of-self-2 : goal.invariant_of-self-2
@@ -30,21 +30,24 @@ invariant_of-self-2 g c =
     ∙ c.in_ok-ceilings.ensures.one_each
     ∙ ap (λ (d : DossierRows). length d.schools) (c.dossier.ensures ∙ ap (λ (s : State). s.dossier) c.now.ensures) in
     record {
-      orders = rw c.run_with.ensures.dossier c.self.invariant.orders;
-      before = rw c.run_with.ensures.dossier c.self.invariant.before;
-      bars =
-          ap (λ (l : List ℕ). length l) c.keep_bars.ensures
-          ∙ ap (λ (l : List PassEnd). length (last_bars l)) c.as_slice-2.ensures
-          ∙ last_bars_long _ _ _ _ _ _ c.in_ok-done.done.passes c.in_ok-done.ensures.done.is_day.passes
-          ∙ schools
-          ∙ ap (λ (d : DossierRows). length d.schools) (sym c.run_with.ensures.dossier);
-      last = λ _.
-          desk_ends_so _ _ _ _ _ _ _ _ _ c.self.invariant.orders schools c.in_ok-done.ensures.done
-          c.as_slice.ensures.value (c.keep_bars.ensures ∙ ap last_bars c.as_slice-2.ensures);
+      progress = record {
+        orders = rw c.run_day_along.ensures.dossier c.self.invariant.progress.orders;
+        before = rw c.run_day_along.ensures.dossier c.self.invariant.progress.before;
+        bars =
+            ap (λ (l : List ℕ). length l) c.keep_bars.ensures
+            ∙ ap (λ (l : List PassEnd). length (last_bars l)) c.as_slice-2.ensures
+            ∙ last_bars_long _ _ _ _ _ _ c.in_ok-done.done.passes c.in_ok-done.ensures.done.is_day.passes
+            ∙ schools
+            ∙ ap (λ (d : DossierRows). length d.schools) (sym c.run_day_along.ensures.dossier);
+        last = λ _.
+            desk_ends_so _ _ _ _ _ _ _ _ _ c.self.invariant.progress.orders schools c.in_ok-done.ensures.done
+            c.as_slice.ensures.value (c.keep_bars.ensures ∙ ap last_bars c.as_slice-2.ensures);
+      };
+      lined_up = rw c.run_day_along.ensures.dossier c.self.invariant.lined_up;
     }
 
 pub returns : goal.returns
 returns g c =
-    next_ran c.args.self.now _ _ c.as_slice.result.now c.in_ok-ceilings.ceilings.items _ c.dossier.result.now c.run_with.new.desk _ _ _ _ c.in_ok-done.done c.self.view_is
+    next_ran c.args.self.now _ _ c.as_slice.result.now c.in_ok-ceilings.ceilings.items _ c.dossier.result.now c.run_day_along.new.desk _ _ _ _ c.in_ok-done.done c.self.view_is
     c.as_ref.ensures.value c.as_slice.ensures.value c.in_ok-ceilings.ensures.ceilings (c.dossier.ensures ∙ ap (λ (s : State). s.dossier) c.now.ensures)
-    c.in_ok-done.ensures.done c.run_with.ensures.dossier (c.keep_bars.ensures ∙ ap last_bars c.as_slice-2.ensures) c.run_with.ensures.choice
+    c.in_ok-done.ensures.done c.run_day_along.ensures.dossier (c.keep_bars.ensures ∙ ap last_bars c.as_slice-2.ensures) c.run_day_along.ensures.choice

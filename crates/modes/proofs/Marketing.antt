@@ -1,0 +1,48 @@
+-- The market that was solved, and what the picker told as it was.
+use Rattle.std.proofs.Common.{◌≡◌, ◌∙◌, ℕ, List, ◌++◌, Option, Result, Ok, Err, IfOk, subst, ap}
+use Rattle.admit_core.specs.DossierRows.{DossierRows}
+use Rattle.admit_core.specs.Falls.{IsGreatest}
+use Rattle.admit_core.specs.declared.ranking.CallOrder.{CallOrder}
+use Rattle.bar_law.specs.Runs.{schools_of}
+use Rattle.day_run.specs.DayPasses.{TellsMore}
+use Rattle.stable_market.specs.Bars.{market_system}
+use Rattle.stable_market.specs.Dossiers.{candidates_of, market_of}
+use Rattle.stable_market.specs.Markets.{MarketRows}
+use Rattle.stable_market.specs.Matchings.{IsBestForAll, IsStable}
+use Rattle.stable_market.specs.Solving.{IsLedTo}
+use Rattle.stable_market.specs.Text.{market_text}
+use Rattle.modes.specs.Asking.{TellsPicks}
+use Rattle.modes.specs.Market.{PicksForMarket, TellsMarket}
+
+module _ (d : DossierRows) (orders : List CallOrder) (m : MarketRows) (same : m ≡ market_of d orders) where
+  pub tells_market : (candidates bars : List ℕ) (places : List (Option ℕ)) (text : List ℕ) → candidates ≡ candidates_of d → IsGreatest (market_system m) bars
+      → IsStable m places → IsBestForAll m places → text ≡ market_text d candidates bars places → TellsMarket d orders text
+  tells_market candidates bars places text named greatest stable best is =
+      record {
+        bars = bars;
+        places = places;
+        greatest = subst (λ (x : MarketRows). IsGreatest (market_system x) bars) same greatest;
+        stable = subst (λ (x : MarketRows). IsStable x places) same stable;
+        best = subst (λ (x : MarketRows). IsBestForAll x places) same best;
+        is_text = is ∙ ap (λ (cs : List ℕ). market_text d cs bars places) named;
+      }
+
+  pub picks_market : (choice : List ℕ → List ℕ → ℕ) (told after bars : List ℕ) → IsLedTo (market_system m) choice told after bars
+      → TellsPicks (PicksForMarket d orders choice told) told after
+  picks_market choice told after bars led = (
+    schools_of led.falls,
+    record {
+      bars = bars;
+      led = subst (λ (x : MarketRows). IsLedTo (market_system x) choice told (told ++ schools_of led.falls) bars) same
+          (subst (λ (a : List ℕ). IsLedTo (market_system m) choice told a bars) led.told_of led);
+    },
+    led.told_of,
+  )
+
+pub led_more : (m : MarketRows) (choice : List ℕ → List ℕ → ℕ) (told after bars : List ℕ) → IsLedTo (market_system m) choice told after bars → TellsMore told after
+led_more m choice told after bars led = (schools_of led.falls, led.told_of)
+
+-- what holds whatever the text is
+pub always : {T E X : Type 0} (r : Result T E) → X → IfOk r (λ t. X)
+always (Ok t) x = x
+always (Err e) x = tt

@@ -1,0 +1,52 @@
+use Rattle.std.proofs.Common.{◌≡◌, subst}
+use Rattle.std.proofs.lemmas.Result.{IfOk-weaker}
+use Rattle.admit_core.specs.DossierRows.{DossierRows}
+use Rattle.admit_core.specs.Falls.{IsGreatest}
+use Rattle.admit_core.specs.Validity.{IsValid}
+use Rattle.day_run.proofs.PassesSoFar.{tells_of_falls}
+use Rattle.stable_market.specs.Bars.{market_system}
+use Rattle.stable_market.specs.Markets.{MarketRows}
+use Rattle.stable_market.specs.Matchings.{IsStable}
+use Rattle.stable_market.specs.Text.{market_text}
+use Rattle.stable_market.proofs.Telling.{bar_each, places_there}
+use Rattle.modes.specs.Market.{TellsMarket}
+use Rattle.modes.proofs.Marketing.{always, led_more, picks_market, tells_market}
+use Rattle.modes.proofs.market.text_of.Goals as goal
+
+pub market_text-requires-clause-bars : goal.market_text-requires-clause-bars
+market_text-requires-clause-bars g c =
+    let P : DossierRows → Type 0 = IsValid in
+    let bars = c.in_ok-solved.solved.bars.items in
+    bar_each c.args.dossier.now (subst P c.dossier.view_is c.dossier.invariant) c.args.orders.now.orders c.requires.orders bars
+    (subst (λ (m : MarketRows). IsGreatest (market_system m) bars) c.requires.market c.in_ok-solved.ensures.greatest)
+
+pub market_text-requires-clause-places : goal.market_text-requires-clause-places
+market_text-requires-clause-places g c =
+    let P : DossierRows → Type 0 = IsValid in
+    let places = c.in_ok-solved.solved.places.items in
+    places_there c.args.dossier.now (subst P c.dossier.view_is c.dossier.invariant) c.args.orders.now.orders c.requires.orders places
+    (subst (λ (m : MarketRows). IsStable m places) c.requires.market c.in_ok-solved.ensures.stable)
+
+pub returns-clause-text : goal.returns-clause-text
+returns-clause-text g c =
+    let d = c.args.dossier.now in
+    let orders = c.args.orders.now.orders in
+    let candidates = c.args.named.now.candidates.items in
+    let bars = c.in_ok-solved.solved.bars.items in
+    let places = c.in_ok-solved.solved.places.items in
+    IfOk-weaker c.market_text.result (λ text. text.items ≡ market_text d candidates bars places) (λ text. TellsMarket d orders text.items)
+    (λ text is.
+    tells_market d orders c.args.named.now.market c.requires.market candidates bars places text.items c.requires.candidates c.in_ok-solved.ensures.greatest
+    c.in_ok-solved.ensures.stable c.in_ok-solved.ensures.best is)
+    c.market_text.ensures
+
+pub returns-clause-picks : goal.returns-clause-picks
+returns-clause-picks g c =
+    always c.market_text.result
+    (picks_market c.args.dossier.now c.args.orders.now.orders c.args.named.now.market c.requires.market _ _ _ c.in_ok-solved.solved.bars.items c.in_ok-solved.ensures.led)
+
+pub returns-clause-early : goal.returns-clause-early
+returns-clause-early g c = led_more c.args.named.now.market _ _ _ c.in_ok-solved.solved.bars.items c.in_ok-solved.ensures.led
+
+pub returns-in_err-solved-clause-early : goal.returns-in_err-solved-clause-early
+returns-in_err-solved-clause-early g c = tells_of_falls _ _ _ _ c.in_err-solved.ensures.early

@@ -1,0 +1,90 @@
+//! The mode `market`: the dossier's market, and its stable matching that is best for every
+//! candidate.
+ghost use Rattle.std.specs.Prelude.{◌≡◌, ◌<◌, IfOk, OnErr};
+ghost use Rattle.admit_core.specs.CallOrder.{AreCallOrders};
+ghost use Rattle.admit_core.specs.Falls.{IsGreatest};
+ghost use Rattle.bar_fixpoint.specs.Chosen.{TellsOfFalls};
+ghost use Rattle.day_run.specs.DayPasses.{TellsMore};
+ghost use Rattle.modes.specs.Asking.{TellsPicks};
+ghost use Rattle.modes.specs.Market.{PicksForMarket, TellsMarket};
+ghost use Rattle.stable_market.specs.Bars.{market_system};
+ghost use Rattle.stable_market.specs.Dossiers.{candidates_of, market_of};
+ghost use Rattle.stable_market.specs.Matchings.{IsBestForAll, IsStable};
+ghost use Rattle.stable_market.specs.Solving.{IsLedTo};
+
+use admit_core::{CallOrders, Dossier, OutOfMemory, Steps};
+use bar_fixpoint::Picker;
+use stable_market::{Market, Named, Solved, from_dossier, market_text, solve};
+use std::alloc::Global;
+use std::marker::Brand;
+use std::sync::ledger::{Blank, Ledger};
+
+/// The stable matching of a market, with a counter of falls that nobody reads.
+fn solved<L: Ledger>(
+    alloc: Global,
+    blank: Blank,
+    market: &Market,
+    picker: &mut dyn Picker,
+) -> Result<Solved, OutOfMemory>
+    requires name { blank.name ≡ L.name }
+    requires parts { blank.parts ≡ L.parts }
+    requires shared { 0 < L.parts }
+
+    ensures stable { IfOk result (λ solved. IsStable market.now solved.places.items) }
+    ensures best { IfOk result (λ solved. IsBestForAll market.now solved.places.items) }
+    ensures greatest { IfOk result (λ solved. IsGreatest
+        (market_system market.now) solved.bars.items) }
+    ensures led { IfOk result (λ solved. IsLedTo (market_system market.now)
+        (choice picker.old) (told picker.old) (told picker.new) solved.bars.items) }
+    ensures early { OnErr result (TellsOfFalls (market_system market.now)
+        (choice picker.old) (told picker.old) (told picker.new)) }
+    ensures choice { choice picker.new ≡ choice picker.old }
+{
+    let mut steps: Steps<L> = Steps::new(blank);
+    solve(alloc, market, picker, &mut steps)
+}
+
+/// The text of a dossier's market.
+fn text_of(
+    alloc: Global,
+    dossier: &Dossier,
+    orders: &CallOrders,
+    named: &Named,
+    picker: &mut dyn Picker,
+) -> Result<Vec<u8>, OutOfMemory>
+    requires orders { AreCallOrders dossier.now.groups orders.now.orders }
+    requires market { named.now.market ≡ market_of dossier.now orders.now.orders }
+    requires candidates { named.now.candidates.items ≡ candidates_of dossier.now }
+
+    ensures text { IfOk result (λ text. TellsMarket dossier.now orders.now.orders text.items) }
+    ensures picks { IfOk result (λ text. TellsPicks
+        (PicksForMarket dossier.now orders.now.orders (choice picker.old) (told picker.old))
+        (told picker.old) (told picker.new)) }
+    ensures early { TellsMore (told picker.old) (told picker.new) }
+    ensures choice { choice picker.new ≡ choice picker.old }
+{
+    let _ = &dossier.wishes; // learns that the dossier is valid
+    let solved = solved::<Brand>(alloc, Blank::new(1), &named.market, picker)?;
+    market_text(alloc, dossier, named, &solved)
+}
+
+/// The stable matching of those who rank their wishes, over the wishes without boarding, that is
+/// best for each of them. The picker chooses nothing of it.
+pub(crate) fn matched_text(
+    alloc: Global,
+    dossier: &Dossier,
+    orders: &CallOrders,
+    picker: &mut dyn Picker,
+) -> Result<Vec<u8>, OutOfMemory>
+    requires { AreCallOrders dossier.now.groups orders.now.orders }
+
+    ensures text { IfOk result (λ text. TellsMarket dossier.now orders.now.orders text.items) }
+    ensures picks { IfOk result (λ text. TellsPicks
+        (PicksForMarket dossier.now orders.now.orders (choice picker.old) (told picker.old))
+        (told picker.old) (told picker.new)) }
+    ensures early { TellsMore (told picker.old) (told picker.new) }
+    ensures choice { choice picker.new ≡ choice picker.old }
+{
+    let named = from_dossier(alloc, dossier, orders)?;
+    text_of(alloc, dossier, orders, &named, picker)
+}
