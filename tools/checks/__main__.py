@@ -10,7 +10,7 @@ from functools import partial
 from dossier.program import program
 
 from . import days, disks, exporting, hostile, killing, rounds, script, stored
-from .harness import EXAMPLES, Tally
+from .harness import EXAMPLES, Tally, until_told
 
 Checks = Callable[[Tally], None]
 
@@ -25,7 +25,8 @@ def topics(program: str) -> dict[str, list[Checks]]:
         "disks": [disks.check_full_devices, disks.check_small_disks],
         "killing": list(killing.CHECKS),
         "rounds": [partial(rounds.check_small_rounds, program=program), partial(rounds.check_finds, program=program),
-                   partial(rounds.check_unknown_modes, program=program)],
+                   partial(rounds.check_unknown_modes, program=program),
+                   partial(rounds.check_stopped, program=program)],
         "script": [script.check_script],
         "exporting": [exporting.check_round_trips, partial(exporting.check_acceptance, program=program)],
         "days": [partial(days.check_seven_days, program=program), days.check_answers_that_do_not_fit,
@@ -64,4 +65,4 @@ def main(named: list[str]) -> int:
     return 0 if tally.failed == 0 else 1
 
 
-sys.exit(main(sys.argv[1:]))
+sys.exit(until_told(partial(main, sys.argv[1:])))

@@ -12,7 +12,7 @@ from dataclasses import dataclass
 from pathlib import Path
 from random import Random
 
-from .harness import EXAMPLES, scratch
+from .harness import EXAMPLES, scratch, until_told
 from .modes import MODES, NO_CHAIN, Mode, chain_of, known_modes, words_of
 from .runs import Files, Job, Watched, all_jobs, binary, file_of, put, watch
 
@@ -204,4 +204,4 @@ def main() -> int:
 
 
 if __name__ == "__main__":
-    sys.exit(main())
+    sys.exit(until_told(main))

@@ -212,7 +212,7 @@ def check_killed_while_running(tally: Tally) -> None:
         shutil.copytree(EXAMPLES / "lycee/slots", folder)
         before = contents(folder)
         slow = place / "slow"
-        slow.write_text("#!/bin/sh\necho half\nexec sleep 20\n")
+        slow.write_text("#!/bin/sh\necho half\nexec sleep 300\n")
         slow.chmod(0o755)
         environment = {**os.environ, "PARCOURS": str(slow)}
         call = subprocess.Popen([TOOLS / "next_day", folder], env=environment, start_new_session=True)

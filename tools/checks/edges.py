@@ -13,7 +13,7 @@ from random import Random
 
 from dossier.slots import SLOTS, Column, Content, Slot
 
-from .harness import EXAMPLES, Tally, contents, scratch
+from .harness import EXAMPLES, Tally, contents, scratch, until_told
 from .modes import MODES, NO_CHAIN, Mode, known_modes, words_of
 from .runs import BAD_WORDS, Files, Watched, file_of, put, watch
 
@@ -365,4 +365,4 @@ def main() -> int:
 
 
 if __name__ == "__main__":
-    sys.exit(main())
+    sys.exit(until_told(main))

@@ -5,12 +5,15 @@ import resource
 import shutil
 import signal
 import subprocess
+import sys
 import tempfile
 import traceback
 from collections.abc import Callable, Iterator
 from contextlib import contextmanager
 from dataclasses import dataclass, field
 from pathlib import Path
+
+from dossier.writing import Told, stop_cleanly
 
 TOP = Path(__file__).resolve().parents[2]
 TOOLS = TOP / "tools"
@@ -50,6 +53,16 @@ class Tally:
             self.check("it runs to its end", False, traceback.format_exc())
 
 
+def until_told(main: Callable[[], int]) -> int:
+    """Runs checks until they end or are told to stop; either way their folders vanish, and what they run is ended."""
+    try:
+        stop_cleanly()
+        return main()
+    except Told as stop:
+        print("stopped", file=sys.stderr)
+        return stop.status
+
+
 def shortened(found: object) -> str:
     text = repr(found)
     return text if len(text) <= LONGEST_SHOWN else f"{text[:LONGEST_SHOWN]} .."
@@ -76,7 +89,7 @@ def run(*words: str | Path, folder: Path = TOP, given: bytes = b"", environment:
                           start_new_session=True) as call:
         try:
             told, complained = call.communicate(given, LONGEST_RUN)
-        except subprocess.TimeoutExpired:
+        except BaseException:
             os.killpg(call.pid, signal.SIGKILL)
             raise
     return Ended(call.returncode, told or b"", complained.decode(errors="replace"))

@@ -11,7 +11,7 @@ from pathlib import Path
 from dossier import preparing
 
 from .days import stopped_at
-from .harness import EXAMPLES, TOOLS, Tally, contents, run, scratch
+from .harness import EXAMPLES, TOOLS, Ended, Tally, contents, run, scratch
 from .samples import sample_slots
 
 MOMENTS = 12
@@ -32,14 +32,15 @@ def check_steps(tally: Tally) -> None:
         tally.check("it has many steps", moment > 10, moment)
 
 
-def ended_by(number: signal.Signals, wait: float, *words: str | Path) -> int:
-    """Runs a tool, sends the signal to it and all that it started after so many seconds, and answers its status."""
-    call = subprocess.Popen(words, start_new_session=True, stdout=subprocess.DEVNULL, stderr=subprocess.DEVNULL)
-    try:
-        return call.wait(wait)
-    except subprocess.TimeoutExpired:
-        os.killpg(call.pid, number)
-        return call.wait()
+def ended_by(number: signal.Signals, wait: float, *words: str | Path) -> Ended:
+    """Runs a tool, sends the signal to it and all that it started after so many seconds, and answers how it ended."""
+    with subprocess.Popen(words, start_new_session=True, stdout=subprocess.DEVNULL, stderr=subprocess.PIPE) as call:
+        try:
+            complaint = call.communicate(timeout=wait)[1]
+        except subprocess.TimeoutExpired:
+            os.killpg(call.pid, number)
+            complaint = call.communicate()[1]
+    return Ended(call.returncode, b"", complaint.decode())
 
 
 def moments_of(action: Callable[[], object]) -> list[float]:
@@ -62,11 +63,14 @@ def check_prepare(tally: Tally) -> None:
         (place / "in").mkdir()
         for moment in moments_of(lambda: run(TOOLS / "prepare", exports, place / "first")):
             for number in (signal.SIGKILL, signal.SIGTERM):
-                status = ended_by(number, moment, *words)
-                found = contents(place / "in/slots") if (place / "in/slots").exists() else None
-                name = f"{number.name} after {moment:.2f} s, status {status}"
-                tally.check(f"{name}: whole or not there", found == (expected if status == 0 else None) or
-                            (number == signal.SIGKILL and found == expected), found and found.keys())
+                ended = ended_by(number, moment, *words)
+                is_there = (place / "in/slots").exists()
+                is_whole = is_there and contents(place / "in/slots") == expected
+                name = f"{number.name} after {moment:.2f} s, status {ended.status}"
+                tally.check(f"{name}: whole, or not there", is_whole or not is_there and ended.status != 0, ended)
+                if ended.status == 128 + signal.SIGTERM:
+                    told = "the dossier is written whole" if is_there else "nothing is written"
+                    tally.check(f"{name}: what is told", told in ended.complaint, ended)
                 left = [path.name for path in (place / "in").iterdir() if path.name != "slots"]
                 tally.check(f"{name}: nothing half made is left", number == signal.SIGKILL or left == [], left)
                 shutil.rmtree(place / "in")

@@ -14,7 +14,7 @@ from itertools import islice
 from pathlib import Path
 from random import Random
 
-from .harness import scratch, shortened
+from .harness import scratch, shortened, until_told
 from .judging import LONGEST, OF_INPUT, fault
 from .modes import MODES, Mode, known_modes, turned, words_of
 from .runs import BAD_WORDS, Job, Watched, all_jobs, put, run_of, watch
@@ -271,4 +271,4 @@ def main() -> int:
 
 
 if __name__ == "__main__":
-    sys.exit(main())
+    sys.exit(until_told(main))

@@ -1,8 +1,11 @@
 """The hostile rounds themselves: what they try on a right program, and whether they find what is wrong with others."""
 
+import os
 import re
 import shutil
+import signal
 import subprocess
+import time
 from pathlib import Path
 
 from .harness import TOOLS, Ended, Tally, run, scratch
@@ -92,6 +95,20 @@ def check_finds(tally: Tally, program: str) -> None:
         tally.check("it stops early", b"chain: stopped early\n" in ended.output, ended)
         if shutil.which("cc"):
             check_careless(tally, folder)
+
+
+def check_stopped(tally: Tally, program: str) -> None:
+    """Told to stop, a round leaves no folder of its own, and nothing running."""
+    tally.begin("mutate.sh, told to stop")
+    with scratch() as folder:
+        environment = {**os.environ, "PARCOURS": program, "TMPDIR": str(folder)}
+        with subprocess.Popen([TOOLS / "mutate.sh", "order", "--number", "100000"], cwd=folder, env=environment,
+                              stdout=subprocess.DEVNULL, stderr=subprocess.PIPE) as call:
+            time.sleep(3)
+            call.send_signal(signal.SIGTERM)
+            complaint = call.communicate(timeout=60)[1]
+        tally.equal("how it ends", (call.returncode, complaint), (143, b"stopped\n"))
+        tally.equal("what is left", list(folder.iterdir()), [])
 
 
 def check_careless(tally: Tally, folder: Path) -> None:

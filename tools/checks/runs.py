@@ -2,6 +2,7 @@
 
 import os
 import resource
+import select
 import shutil
 import signal
 import subprocess
@@ -21,6 +22,9 @@ BAD_WORDS = 2
 LONGEST_START = 60.0
 MARKS = {"{cr}": "\r", "{bom}": "\ufeff", "{cut}": ""}
 Files = dict[str, bytes]
+
+# A run that a signal ends leaves no core behind.
+resource.setrlimit(resource.RLIMIT_CORE, (0, 0))
 
 
 @dataclass(frozen=True)
@@ -114,32 +118,32 @@ def watch(words: tuple[str, ...], folder: Path, longest: float, by: str | None =
           environment: dict[str, str] | None = None, user: int | None = None) -> Watched:
     """Runs the program, or another one, in the folder, as another user where one is named; a run that goes on for too
     long is stopped."""
-    def limit() -> None:
-        resource.setrlimit(resource.RLIMIT_CORE, (0, 0))
     began = time.monotonic()
     with tempfile.TemporaryFile() as output:
         child = subprocess.Popen([by or program(), *words], cwd=folder, stdin=subprocess.DEVNULL, stdout=output,
-                                 stderr=subprocess.DEVNULL, env={**os.environ, **(environment or {})}, preexec_fn=limit,
+                                 stderr=subprocess.DEVNULL, env={**os.environ, **(environment or {})},
                                  start_new_session=True, user=user, extra_groups=None if user is None else ())
-        usage = wait_for(child.pid, began + longest)
+        usage = wait_for(child.pid, longest)
         output.seek(0)
         text = output.read()
     child.returncode = os.waitstatus_to_exitcode(usage[0])
     return Watched(child.returncode, text, time.monotonic() - began, usage[1].ru_maxrss * 1024)
 
 
-def wait_for(child: int, until: float) -> tuple[int, resource.struct_rusage]:
-    pause = 0.0005
-    while True:
-        ended, status, usage = os.wait4(child, os.WNOHANG)
-        if ended:
-            return status, usage
-        if time.monotonic() > until:
+def wait_for(child: int, longest: float) -> tuple[int, resource.struct_rusage]:
+    """Waits for a child; it is killed, with all that it started, when its time is over or the wait is stopped."""
+    handle = os.pidfd_open(child)
+    try:
+        ended, _, _ = select.select([handle], [], [], longest)
+        if not ended:
             os.killpg(child, signal.SIGKILL)
-            _, status, usage = os.wait4(child, 0)
-            return status, usage
-        time.sleep(pause)
-        pause = min(pause * 1.5, 0.05)
+    except BaseException:
+        os.killpg(child, signal.SIGKILL)
+        raise
+    finally:
+        os.close(handle)
+    _, status, usage = os.wait4(child, 0)
+    return status, usage
 
 
 def run_of(job: Job) -> Watched:

@@ -94,6 +94,11 @@ def prepare(source: Path, folder: Path, choices: Choices) -> int:
     return DONE
 
 
+def left(folder: Path) -> str:
+    """What there is of a new folder after a stop, which may have come when all of it was written."""
+    return "the dossier is written whole." if folder.exists() else "nothing is written."
+
+
 def main(arguments: list[str]) -> int:
     given = words().parse_args(arguments)
     if not given.exports.is_dir():
@@ -106,8 +111,8 @@ def main(arguments: list[str]) -> int:
         stop_cleanly()
         return prepare(given.exports, given.folder, Choices(given.dates, frozenset(map(fold, given.leave_out))))
     except OSError as error:
-        print(f"prepare: {error.filename or given.folder}: {error.strerror}; nothing is written.", file=sys.stderr)
+        print(f"prepare: {error.filename or given.folder}: {error.strerror}; {left(given.folder)}", file=sys.stderr)
         return NOT_WRITTEN
     except Told as stop:
-        print("prepare: stopped; nothing is written.", file=sys.stderr)
+        print(f"prepare: stopped; {left(given.folder)}", file=sys.stderr)
         return stop.status
