@@ -7,6 +7,7 @@ pub mod Held
 pub mod InTurn
 pub mod Led
 pub mod Listing
+pub mod Moved
 pub mod Noting
 pub mod Ordering
 pub mod Owning
@@ -17,6 +18,8 @@ pub mod Rounds
 pub mod SamePlaced
 pub mod SamePlaces
 pub mod Seated
+pub mod Shorter
 pub mod Stable
 pub mod Stamping
 pub mod Telling
+pub mod Truth
