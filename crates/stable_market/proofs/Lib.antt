@@ -9,6 +9,7 @@ pub mod Led
 pub mod Listing
 pub mod Moved
 pub mod Noting
+pub mod OneBest
 pub mod Ordering
 pub mod Owning
 pub mod Rankers

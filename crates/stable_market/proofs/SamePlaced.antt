@@ -140,7 +140,7 @@ all_preferred [] = refl
 all_preferred (x ∷ xs) = before_no (λ q. is_at q None) x xs refl ∙ ap (λ ys. x ∷ ys) (all_preferred xs)
 
 -- of two programmes of a list one is preferred
-other_first : (p : ℕ) (o : Option ℕ) (xs : List ℕ) → is_among p xs ≡ true → is_at p o ≡ false
+pub other_first : (p : ℕ) (o : Option ℕ) (xs : List ℕ) → is_among p xs ≡ true → is_at p o ≡ false
     → is_among p (before_first (λ q. is_at q o) xs) ≡ false
     → (q : ℕ) × ((o ≡ Some q) × (is_among q (before_first (λ r. is_at r (Some p)) xs) ≡ true))
 other_first p o [] among apart out = absurd (false≢true among)

@@ -46,3 +46,13 @@ ThereIsABest = (m : MarketRows) → IsMarket m → (places : List (Option ℕ)) 
 abbrev pub TheSameHavePlaces : Type 0
 TheSameHavePlaces = (m : MarketRows) (one other : List (Option ℕ)) → IsMarket m → IsStable m one → IsStable m other
     → HaveSamePlaced m one other
+
+-- and no two are best for all
+abbrev pub TheBestIsOne : Type 0
+TheBestIsOne =
+    (m : MarketRows) (one other : List (Option ℕ))
+    → IsStable m one
+    → IsBestForAll m one
+    → IsStable m other
+    → IsBestForAll m other
+    → one ≡ other

@@ -20,8 +20,8 @@ first_over-requires-clause-count c =
     ∙ ap (λ (b : ℕ). length (held_to r.market places i b)) (sym bar_is)
     ∙ ap (λ (m : MarketRows). length (held_to m places i c.index-bar.result.now)) (sym c.market.ensures)
 
-pub returns : goal.returns
-returns c =
+pub returns-clause-over : goal.returns-clause-over
+returns-clause-over c =
     let r = c.args.self.now in
     let i : ℕ = c.args.i in
     let bars : List ℕ = r.bars.items in
