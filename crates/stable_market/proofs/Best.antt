@@ -136,5 +136,6 @@ module _ (m : MarketRows) (is : IsMarket m) (places : List (Option ℕ)) (stable
       false_from_ne_true (prefers m (matched_under m bars) x p) (λ t.
       omega (arith, beyond_reach m bars x p t, kept_within x p at, (greatest.greatest bars_left stable_bars_fit).each p))
 
-pub greatest_is_best : (m : MarketRows) (bars : List ℕ) → IsMarket m → IsGreatest (market_system m) bars → IsBestForAll m (matched_under m bars)
+pub greatest_is_best : (m : MarketRows) (bars : List ℕ) → IsMarket m → IsGreatest (market_system m) bars
+    → IsBestForAll m (matched_under m bars)
 greatest_is_best m bars is greatest = λ others stable x p at. not_better m is others stable bars greatest x p at

@@ -31,13 +31,15 @@ kept_more t k =
 -- among the first k candidates, so many hold a place in the programme, and none stands later than one
 pub record AreBefore (m : MarketRows) (places : List (Option ℕ)) (p x k held : ℕ) : Type 0 where
   pub counted : held ≡ length (filter (λ y. is_at p (place_of places y)) (range_with_len 0 k))
-  pub earlier : list_any (λ y. nat_lt (position_of m p x) (position_of m p y)) (filter (λ y. is_at p (place_of places y)) (range_with_len 0 k)) ≡ false
+  pub earlier : list_any (λ y. nat_lt (position_of m p x) (position_of m p y))
+      (filter (λ y. is_at p (place_of places y)) (range_with_len 0 k)) ≡ false
   pub few : held ≤ k
 
 pub before_none : (m : MarketRows) (places : List (Option ℕ)) (p x : ℕ) → AreBefore m places p x 0 0
 before_none m places p x = record { counted = refl; earlier = refl; few = omega arith }
 
-pub before_over : (m : MarketRows) (places : List (Option ℕ)) (p x k held : ℕ) → is_at p (place_of places k) ≡ false → AreBefore m places p x k held
+pub before_over : (m : MarketRows) (places : List (Option ℕ)) (p x k held : ℕ) → is_at p (place_of places k) ≡ false
+    → AreBefore m places p x k held
     → AreBefore m places p x (k + 1) held
 before_over m places p x k held out so =
     let t : ℕ → Bool = λ y. is_at p (place_of places y) in
@@ -49,7 +51,8 @@ before_over m places p x k held out so =
       few = omega (arith, so.few);
     }
 
-pub before_more : (m : MarketRows) (places : List (Option ℕ)) (p x k held : ℕ) → is_at p (place_of places k) ≡ true → position_of m p k ≤ position_of m p x
+pub before_more : (m : MarketRows) (places : List (Option ℕ)) (p x k held : ℕ) → is_at p (place_of places k) ≡ true
+    → position_of m p k ≤ position_of m p x
     → AreBefore m places p x k held → AreBefore m places p x (k + 1) (held + 1)
 before_more m places p x k held here le so =
     let t : ℕ → Bool = λ y. is_at p (place_of places y) in
@@ -72,7 +75,8 @@ later_found m places p x k lt here later =
     let t : ℕ → Bool = λ y. is_at p (place_of places y) in
     let in_range : is_among k (range_with_len 0 (length places)) ≡ true = range_has k 0 (length places) (omega arith) (omega (arith, lt)) in
     let held : is_among k (holders places p) ≡ true = among_filter t k (range_with_len 0 (length places)) ∙ rw (in_range, here) refl in
-    sym (or_right (nat_lt (length (holders places p)) (slice_index m.seats p)) (list_any (λ y. nat_lt (position_of m p x) (position_of m p y)) (holders places p))
+    sym (or_right (nat_lt (length (holders places p)) (slice_index m.seats p))
+    (list_any (λ y. nat_lt (position_of m p x) (position_of m p y)) (holders places p))
     (any_of (λ y. nat_lt (position_of m p x) (position_of m p y)) k (holders places p) held later))
 
 -- and where there is none, a free seat
@@ -82,10 +86,12 @@ seat_tells m places p x k held seats k_is seats_are so =
     let P : ℕ → Type 0 = λ j. AreBefore m places p x j held in
     let whole = subst P k_is so in
     ap (λ n. nat_lt n seats) whole.counted ∙ ap (nat_lt (length (holders places p))) seats_are
-    ∙ or_false (nat_lt (length (holders places p)) (slice_index m.seats p)) (list_any (λ y. nat_lt (position_of m p x) (position_of m p y)) (holders places p)) whole.earlier
+    ∙ or_false (nat_lt (length (holders places p)) (slice_index m.seats p))
+    (list_any (λ y. nat_lt (position_of m p x) (position_of m p y)) (holders places p)) whole.earlier
 
 -- a walk along a list up to the first that stops it
-walk_stops : (t u : ℕ → Bool) (xs : List ℕ) (k : ℕ) → k < length xs → ((j : ℕ) → j < k → u (get_or xs j 0) ≡ false) → ((j : ℕ) → j < k → t (get_or xs j 0) ≡ false)
+walk_stops : (t u : ℕ → Bool) (xs : List ℕ) (k : ℕ) → k < length xs → ((j : ℕ) → j < k → u (get_or xs j 0) ≡ false)
+    → ((j : ℕ) → j < k → t (get_or xs j 0) ≡ false)
     → u (get_or xs k 0) ≡ true → find t (before_first u xs) ≡ None
 walk_stops t u [] k lt on fails stop = absurd (omega (arith, lt))
 walk_stops t u (x ∷ xs) zero lt on fails stop = rw (before_yes u x xs stop) refl
@@ -94,7 +100,8 @@ walk_stops t u (x ∷ xs) (suc k) lt on fails stop =
     rw (before_no u x xs (on 0 (omega arith)), first)
     (walk_stops t u xs k (omega (arith, lt)) (λ j l. on (suc j) (omega (arith, l))) (λ j l. fails (suc j) (omega (arith, l))) stop)
 
-walk_finds : (t u : ℕ → Bool) (xs : List ℕ) (k : ℕ) → k < length xs → ((j : ℕ) → j ≤ k → u (get_or xs j 0) ≡ false) → ((j : ℕ) → j < k → t (get_or xs j 0) ≡ false)
+walk_finds : (t u : ℕ → Bool) (xs : List ℕ) (k : ℕ) → k < length xs → ((j : ℕ) → j ≤ k → u (get_or xs j 0) ≡ false)
+    → ((j : ℕ) → j < k → t (get_or xs j 0) ≡ false)
     → t (get_or xs k 0) ≡ true → find t (before_first u xs) ≡ Some (get_or xs k 0)
 walk_finds t u [] k lt on fails passes = absurd (omega (arith, lt))
 walk_finds t u (x ∷ xs) zero lt on fails passes = rw (before_no u x xs (on 0 (omega arith)), passes) refl
@@ -103,12 +110,14 @@ walk_finds t u (x ∷ xs) (suc k) lt on fails passes =
     rw (before_no u x xs (on 0 (omega arith)), first)
     (walk_finds t u xs k (omega (arith, lt)) (λ j l. on (suc j) (omega (arith, l))) (λ j l. fails (suc j) (omega (arith, l))) passes)
 
-walk_ends : (t u : ℕ → Bool) (xs : List ℕ) → ((j : ℕ) → j < length xs → u (get_or xs j 0) ≡ false) → ((j : ℕ) → j < length xs → t (get_or xs j 0) ≡ false)
+walk_ends : (t u : ℕ → Bool) (xs : List ℕ) → ((j : ℕ) → j < length xs → u (get_or xs j 0) ≡ false)
+    → ((j : ℕ) → j < length xs → t (get_or xs j 0) ≡ false)
     → find t (before_first u xs) ≡ None
 walk_ends t u [] on fails = refl
 walk_ends t u (x ∷ xs) on fails =
     let first : t x ≡ false = fails 0 (omega arith) in
-    rw (before_no u x xs (on 0 (omega arith)), first) (walk_ends t u xs (λ j l. on (suc j) (omega (arith, l))) (λ j l. fails (suc j) (omega (arith, l))))
+    rw (before_no u x xs (on 0 (omega arith)), first)
+    (walk_ends t u xs (λ j l. on (suc j) (omega (arith, l))) (λ j l. fails (suc j) (omega (arith, l))))
 
 -- the first k programmes of a list are no place of the candidate, and would not take them
 pub record ArePassed (m : MarketRows) (places : List (Option ℕ)) (x : ℕ) (place : Option ℕ) (list : List ℕ) (k : ℕ) : Type 0 where
@@ -118,41 +127,59 @@ pub record ArePassed (m : MarketRows) (places : List (Option ℕ)) (x : ℕ) (pl
 pub passed_none : (m : MarketRows) (places : List (Option ℕ)) (x : ℕ) (place : Option ℕ) (list : List ℕ) → ArePassed m places x place list 0
 passed_none m places x place list = record { elsewhere = λ j l. absurd (omega (arith, l)); full = λ j l. absurd (omega (arith, l)) }
 
-pub passed_more : (m : MarketRows) (places : List (Option ℕ)) (x : ℕ) (place : Option ℕ) (list : List ℕ) (k : ℕ) → is_at (get_or list k 0) place ≡ false
+pub passed_more : (m : MarketRows) (places : List (Option ℕ)) (x : ℕ) (place : Option ℕ) (list : List ℕ) (k : ℕ)
+    → is_at (get_or list k 0) place ≡ false
     → would_take m places (get_or list k 0) x ≡ false → ArePassed m places x place list k → ArePassed m places x place list (k + 1)
 passed_more m places x place list k away full so =
     record {
-      elsewhere = λ j l. elim (cases_eq j k) [ inl here ↦ ap (λ i. is_at (get_or list i 0) place) here ∙ away | inr other ↦ so.elsewhere j (omega (arith, l, other)) ];
-      full = λ j l. elim (cases_eq j k) [ inl here ↦ ap (λ i. would_take m places (get_or list i 0) x) here ∙ full | inr other ↦ so.full j (omega (arith, l, other)) ];
+      elsewhere = λ j l. elim (cases_eq j k) [
+        | inl here ↦ ap (λ i. is_at (get_or list i 0) place) here
+            ∙ away
+        | inr other ↦ so.elsewhere j (omega (arith, l, other))
+      ];
+      full = λ j l. elim (cases_eq j k) [
+        | inl here ↦ ap (λ i. would_take m places (get_or list i 0) x) here
+            ∙ full
+        | inr other ↦ so.full j (omega (arith, l, other))
+      ];
     }
 
 -- the walk with the candidate's own list and place
-own_walk : (m : MarketRows) (places : List (Option ℕ)) (x : ℕ) (place answer : Option ℕ) (list : List ℕ) → list ≡ list_of m x → place ≡ place_of places x
+own_walk : (m : MarketRows) (places : List (Option ℕ)) (x : ℕ) (place answer : Option ℕ) (list : List ℕ) → list ≡ list_of m x
+    → place ≡ place_of places x
     → find (λ p. would_take m places p x) (before_first (λ p. is_at p place) list) ≡ answer → answer ≡ block_of m places x
 own_walk m places x place answer list list_is place_is e =
     let P : List ℕ → Type 0 = λ xs. find (λ p. would_take m places p x) (before_first (λ p. is_at p place) xs) ≡ answer in
     let Q : Option ℕ → Type 0 = λ o. find (λ p. would_take m places p x) (before_first (λ p. is_at p o) (list_of m x)) ≡ answer in
     sym (subst Q place_is (subst P list_is e))
 
-pub block_stops : (m : MarketRows) (places : List (Option ℕ)) (x : ℕ) (place : Option ℕ) (list : List ℕ) (k : ℕ) → list ≡ list_of m x → place ≡ place_of places x → k < length list
+pub block_stops : (m : MarketRows) (places : List (Option ℕ)) (x : ℕ) (place : Option ℕ) (list : List ℕ) (k : ℕ) → list ≡ list_of m x
+    → place ≡ place_of places x → k < length list
     → is_at (get_or list k 0) place ≡ true → ArePassed m places x place list k → None ≡ block_of m places x
 block_stops m places x place list k list_is place_is lt here so =
     own_walk m places x place None list list_is place_is
     (walk_stops (λ p. would_take m places p x) (λ p. is_at p place) list k lt so.elsewhere so.full here)
 
-pub block_found : (m : MarketRows) (places : List (Option ℕ)) (x : ℕ) (place : Option ℕ) (list : List ℕ) (k : ℕ) → list ≡ list_of m x → place ≡ place_of places x → k < length list
+pub block_found : (m : MarketRows) (places : List (Option ℕ)) (x : ℕ) (place : Option ℕ) (list : List ℕ) (k : ℕ) → list ≡ list_of m x
+    → place ≡ place_of places x → k < length list
     → is_at (get_or list k 0) place ≡ false → would_take m places (get_or list k 0) x ≡ true → ArePassed m places x place list k
     → Some (get_or list k 0) ≡ block_of m places x
 block_found m places x place list k list_is place_is lt away takes so =
     own_walk m places x place (Some (get_or list k 0)) list list_is place_is
     (walk_finds (λ p. would_take m places p x) (λ p. is_at p place) list k lt
-    (λ j l. elim (cases_eq j k) [ inl here ↦ ap (λ i. is_at (get_or list i 0) place) here ∙ away | inr other ↦ so.elsewhere j (omega (arith, l, other)) ]) so.full takes)
+    (λ j l. elim (cases_eq j k) [
+      | inl here ↦ ap (λ i. is_at (get_or list i 0) place) here
+          ∙ away
+      | inr other ↦ so.elsewhere j (omega (arith, l, other))
+    ]) so.full takes)
 
-pub block_ends : (m : MarketRows) (places : List (Option ℕ)) (x : ℕ) (place : Option ℕ) (list : List ℕ) (k : ℕ) → list ≡ list_of m x → place ≡ place_of places x → length list ≤ k
+pub block_ends : (m : MarketRows) (places : List (Option ℕ)) (x : ℕ) (place : Option ℕ) (list : List ℕ) (k : ℕ) → list ≡ list_of m x
+    → place ≡ place_of places x → length list ≤ k
     → ArePassed m places x place list k → None ≡ block_of m places x
 block_ends m places x place list k list_is place_is past so =
     own_walk m places x place None list list_is place_is
-    (walk_ends (λ p. would_take m places p x) (λ p. is_at p place) list (λ j l. so.elsewhere j (omega (arith, l, past))) (λ j l. so.full j (omega (arith, l, past))))
+    (walk_ends (λ p. would_take m places p x) (λ p. is_at p place) list (λ j l. so.elsewhere j (omega (arith, l, past)))
+    (λ j l. so.full j (omega (arith, l, past))))
 
 no_some : (o : Option ℕ) → is_some o ≡ false → o ≡ None
 no_some None e = refl
@@ -169,9 +196,11 @@ stable_from m places matching none =
             | inl lt ↦
                 let nobody : block_of m places x ≡ None = no_some (block_of m places x) (none x (omega arith) lt) in
                 false_from_ne_true (would_take m places p x)
-                (λ takes. false≢true (sym (find_none (λ q. would_take m places q x) (preferred m places x) nobody) ∙ any_of (λ q. would_take m places q x) p (preferred m places x) t takes))
+                (λ takes. false≢true (sym (find_none (λ q. would_take m places q x) (preferred m places x) nobody)
+                ∙ any_of (λ q. would_take m places q x) p (preferred m places x) t takes))
             | inr past ↦
-                let empty : prefers m places x p ≡ false = ap (λ (xs : List ℕ). is_among p (before_first (λ q. is_at q (place_of places x)) xs)) (get_or_past m.lists x [] past) in
+                let empty : prefers m places x p ≡ false = ap
+                (λ (xs : List ℕ). is_among p (before_first (λ q. is_at q (place_of places x)) xs)) (get_or_past m.lists x [] past) in
                 absurd (false≢true (sym empty ∙ t))
           ];
     }

@@ -27,11 +27,11 @@ use Rattle.linked_demand.proofs.Seating.{called_once}
 use Rattle.stable_market.specs.Markets.{MarketRows, IsMarket, IsSmall, is_list_below, is_distinct, lists_it, listers, order_of as order_in}
 use Rattle.stable_market.specs.Listers.{AreLists, naming}
 use Rattle.stable_market.specs.Dossiers.{counts, counted, named, own, by_preference, lists_in, called_in, market_of}
-use Rattle.stable_market.specs.Firsts.{among_filter, range_has}
+use Rattle.stable_market.specs.Firsts.{all_of, among_filter, range_has}
 use Rattle.stable_market.specs.Lawful.{range_rises}
 use Rattle.stable_market.specs.Positions.{first_place, at_first, only_place, among_at}
 use Rattle.stable_market.proofs.InTurn.{in_turn_apart, named_length}
-use Rattle.stable_market.proofs.Rankers.{is_for, lists_wish, all_of, one_counted, is_list_of}
+use Rattle.stable_market.proofs.Rankers.{is_for, lists_wish, one_counted, is_list_of}
 use Rattle.stable_market.proofs.Stamping.{is_distinct_from}
 
 -- the number of a candidate, and whether the list of a number names a programme
@@ -92,11 +92,15 @@ differs c (x ∷ xs) all t =
 
 all_differ : (x : ℕ) (xs : List ℕ) → ((q : ℕ) → is_among q xs ≡ true → nat_eq x q ≡ false) → AllByRecursion (λ y. nat_eq x y ≡ false) xs
 all_differ x [] each = tt
-all_differ x (y ∷ ys) each =
-    (each y (or_left (nat_eq y y) (is_among y ys) (eq-eqb y y refl)), all_differ x ys (λ q among. each q (or_right (nat_eq q y) (is_among q ys) among)))
+all_differ x (y ∷ ys) each = (
+  each y (or_left (nat_eq y y) (is_among y ys) (eq-eqb y y refl)),
+  all_differ x ys
+      (λ q among. each q (or_right (nat_eq q y) (is_among q ys) among)),
+)
 
 -- the numbers of different candidates differ
-numbers_apart : (ws : List Wish) (p : ℕ) (order : List ℕ) → IsDistinct nat_eq order → IsDistinct nat_eq (filter (names_it ws p) (map (number ws) order))
+numbers_apart : (ws : List Wish) (p : ℕ) (order : List ℕ) → IsDistinct nat_eq order
+    → IsDistinct nat_eq (filter (names_it ws p) (map (number ws) order))
 numbers_apart ws p [] apart = in_turn_apart []
 numbers_apart ws p (c ∷ cs) apart =
     let x : ℕ = number ws c in
@@ -106,7 +110,8 @@ numbers_apart ws p (c ∷ cs) apart =
       | inl names ↦
           let others : AllByRecursion (λ y. nat_eq x y ≡ false) later =
           all_differ x later (λ q among. ne_eqb x q (λ same.
-          let both = and_parts (is_among q (map (number ws) cs)) (names_it ws p q) (sym (among_filter (names_it ws p) q (map (number ws) cs)) ∙ among) in
+          let both = and_parts (is_among q (map (number ws) cs)) (names_it ws p q)
+          (sym (among_filter (names_it ws p) q (map (number ws) cs)) ∙ among) in
           let (b, (there, is)) = from_map (number ws) q cs both.0 in
           let x_lt : number ws c < length (named ws) = is_number ws p x names in
           let b_lt : number ws b < length (named ws) = omega (arith, x_lt, same, is) in
@@ -128,7 +133,8 @@ module _ (d : DossierRows) (valid : IsValid d) (orders : List CallOrder) (are : 
   order_is_one : (p : ℕ) → p < length d.programmes
       → (is_distinct (called_in (counted d) p (order_of d orders p))
       && list_all (names_it (counted d) p) (called_in (counted d) p (order_of d orders p))
-      && list_all (λ x. is_among x (called_in (counted d) p (order_of d orders p))) (filter (names_it (counted d) p) (range_with_len 0 (length (lists_in (counted d))))))
+      && list_all (λ x. is_among x (called_in (counted d) p (order_of d orders p)))
+      (filter (names_it (counted d) p) (range_with_len 0 (length (lists_in (counted d))))))
       ≡ true
   order_is_one p lt =
       let ws : List Wish = counted d in
@@ -138,23 +144,27 @@ module _ (d : DossierRows) (valid : IsValid d) (orders : List CallOrder) (are : 
       let range : List ℕ = range_with_len 0 (length (lists_in ws)) in
       let once : is_distinct order ≡ true = is_distinct_from order (numbers_apart ws p call (called_once d valid orders are p)) in
       let list : list_all (names_it ws p) order ≡ true =
-      all_of (names_it ws p) order (λ x among. (and_parts (is_among x numbers) (names_it ws p x) (sym (among_filter (names_it ws p) x numbers) ∙ among)).1) in
+      all_of (names_it ws p) order (λ x among.
+      (and_parts (is_among x numbers) (names_it ws p x) (sym (among_filter (names_it ws p) x numbers) ∙ among)).1) in
       let whole : list_all (λ x. is_among x order) (filter (names_it ws p) range) ≡ true =
       all_of (λ x. is_among x order) (filter (names_it ws p) range) (λ x among.
-      let names : names_it ws p x ≡ true = (and_parts (is_among x range) (names_it ws p x) (sym (among_filter (names_it ws p) x range) ∙ among)).1 in
+      let names : names_it ws p x ≡ true =
+      (and_parts (is_among x range) (names_it ws p x) (sym (among_filter (names_it ws p) x range) ∙ among)).1 in
       let c : ℕ = get_or (named ws) x 0 in
       let P : Wish → Type 0 = λ w. is_among w.candidate (order_of d orders w.programme) ≡ true in
       let (w, (called, for)) = one_counted d P (is_for p c) each_called (sym (lists_wish ws p c) ∙ their_list ws p x names) in
       let parts = and_parts (nat_eq c w.candidate) (nat_eq p w.programme) for in
       let in_call : is_among c call ≡ true =
-      ap (λ k. is_among k call) (eqb-true c w.candidate parts.0) ∙ ap (λ q. is_among w.candidate (order_of d orders q)) (eqb-true p w.programme parts.1) ∙ called in
+      ap (λ k. is_among k call) (eqb-true c w.candidate parts.0)
+      ∙ ap (λ q. is_among w.candidate (order_of d orders q)) (eqb-true p w.programme parts.1) ∙ called in
       let in_numbers : is_among x numbers ≡ true =
       ap (λ k. is_among k numbers) (sym (their_number ws p x names)) ∙ among_map (number ws) c call in_call in
       among_filter (names_it ws p) x numbers ∙ and_from (is_among x numbers) (names_it ws p x) in_numbers names) in
       rw (once, list, whole) refl
 
   order_at : (p : ℕ) → p < length d.programmes → order_in (market_of d orders) p ≡ called_in (counted d) p (order_of d orders p)
-  order_at p lt = get_or-map-range_with_len (λ q. called_in (counted d) q (order_of d orders q)) 0 (length d.programmes) p p [] lt (omega arith)
+  order_at p lt = get_or-map-range_with_len (λ q. called_in (counted d) q (order_of d orders q)) 0 (length d.programmes) p p [] lt
+      (omega arith)
 
   pub orders_long : length (market_of d orders).orders ≡ length d.programmes
   orders_long = length-map-range_with_len (λ q. called_in (counted d) q (order_of d orders q)) 0 (length d.programmes)
@@ -176,12 +186,18 @@ module _ (d : DossierRows) (valid : IsValid d) (orders : List CallOrder) (are : 
         orders = λ p lt.
             let p_lt : p < length d.programmes = omega (arith, lt, orders_long) in
             let P : List ℕ → Type 0 = λ order.
-            (is_distinct order && list_all (lists_it (market_of d orders) p) order && list_all (λ x. is_among x order) (listers (market_of d orders) p)) ≡ true in
+            (is_distinct order && list_all (lists_it (market_of d orders) p) order && list_all (λ x. is_among x order)
+            (listers (market_of d orders) p)) ≡ true in
             subst P (sym (order_at p p_lt)) (order_is_one p p_lt);
       }
 
   pub named_few : length (named (counted d)) ≤ 16000000
-  named_few = omega (arith, named_length (counted d), length-filter_both counts (λ w. not (counts w)) (λ w. refl) d.wishes, valid.size.wishes)
+  named_few = omega (
+    arith,
+    named_length (counted d),
+    length-filter_both counts (λ w. not (counts w)) (λ w. refl) d.wishes,
+    valid.size.wishes,
+  )
 
   pub orders_each : length orders ≡ length d.groups
   orders_each = (all_called d valid orders are).as_many
@@ -223,7 +239,8 @@ none_called [] xs none = sym (nobody xs)
 none_called (l ∷ ls) xs none = absurd (omega (arith, none))
 
 -- a candidate more of an order
-pub called_more : (t : ℕ → Bool) (f : ℕ → ℕ) (order : List ℕ) (i c : ℕ) (passes : Bool) → i < length order → c ≡ get_or order i 0 → passes ≡ t (f c)
+pub called_more : (t : ℕ → Bool) (f : ℕ → ℕ) (order : List ℕ) (i c : ℕ) (passes : Bool) → i < length order → c ≡ get_or order i 0
+    → passes ≡ t (f c)
     → filter t (map f (take (i + 1) order)) ≡ filter t (map f (take i order)) ++ cond passes (f c ∷ []) []
 called_more t f order i c passes lt read told =
     ap (λ (xs : List ℕ). filter t (map f xs)) (take_more order i 0 lt)
@@ -244,7 +261,8 @@ place_of_none test xs none =
     ]
 
 -- whether a number stands in a rising list, by a search
-pub found_in : (xs : List ℕ) (x : ℕ) (r : Result ℕ ℕ) → IsStrictlyIncreasing xs → IsBinarySearchResult (λ y. nat_cmp y x) xs r → is_ok r ≡ is_among x xs
+pub found_in : (xs : List ℕ) (x : ℕ) (r : Result ℕ ℕ) → IsStrictlyIncreasing xs → IsBinarySearchResult (λ y. nat_cmp y x) xs r
+    → is_ok r ≡ is_among x xs
 found_in xs x r rises is = by r (searched xs x r is up)
   where
     up : (i j : ℕ) → i ≤ j → j < length xs → get_or xs i 0 ≤ get_or xs j 0
@@ -269,8 +287,10 @@ found_in xs x r rises is = by r (searched xs x r is up)
         ]))
 
 -- the parts of a dossier's market
-pub market_is : (d : DossierRows) (orders : List CallOrder) (ws : List Wish) (names : List ℕ) (lists called : List (List ℕ)) (seats : List ℕ)
-    → ws ≡ counted d → names ≡ named ws → lists ≡ map (λ c. by_preference (own ws c)) names → called ≡ (market_of d orders).orders → seats ≡ (market_of d orders).seats
+pub market_is : (d : DossierRows) (orders : List CallOrder) (ws : List Wish) (names : List ℕ) (lists called : List (List ℕ))
+    (seats : List ℕ)
+    → ws ≡ counted d → names ≡ named ws → lists ≡ map (λ c. by_preference (own ws c)) names → called ≡ (market_of d orders).orders
+    → seats ≡ (market_of d orders).seats
     → record { lists = lists; orders = called; seats = seats } ≡ market_of d orders
 market_is d orders ws names lists called seats ws_are names_are lists_are called_are seats_are =
     let m : MarketRows = market_of d orders in

@@ -23,7 +23,8 @@ module _ (sys : FallingSystem) (lawful : IsLawful sys) where
       → PickedFall sys first told bars (fall_of sys bars i) (told ++ i ∷ []) (fallen bars (fall_of sys bars i))
   first_falls bars told i is list =
       let over : ℕ → Type 0 = λ j. is_overfilled sys bars j ≡ true in
-      let all : All over (i ∷ is) = subst (All over) list (filter_passes (is_overfilled sys bars) (range_with_len 0 (length sys.ceilings))) in
+      let all : All over (i ∷ is) = subst (All over) list (filter_passes (is_overfilled sys bars) (range_with_len 0 (length sys.ceilings)))
+      in
       record {
         overfilled = all 0 i (omega arith);
         is_fall = refl;
@@ -32,7 +33,8 @@ module _ (sys : FallingSystem) (lawful : IsLawful sys) where
         told_of = refl;
       }
 
-  falls_on : (fuel : ℕ) (falls : List Fall) (bars told : List ℕ) → SoFar sys first [] falls bars told → sum bars ≤ fuel → (greatest : List ℕ) × IsGreatest sys greatest
+  falls_on : (fuel : ℕ) (falls : List Fall) (bars told : List ℕ) → SoFar sys first [] falls bars told → sum bars ≤ fuel
+      → (greatest : List ℕ) × IsGreatest sys greatest
   falls_on zero falls bars told so_far le =
       by_list (all_overfilled sys bars)
       (λ none. (bars, greatest_so_far sys lawful first [] falls bars told so_far (settled_from_none sys bars [] (sym none) refl)))
@@ -51,7 +53,8 @@ module _ (sys : FallingSystem) (lawful : IsLawful sys) where
       let f : Fall = fall_of sys bars i in
       let fell = first_falls bars told i is list in
       let less : sum (fallen bars f) < sum bars =
-      sum_falls sys lawful first told bars f (told ++ i ∷ []) (fallen bars f) (under_so_far sys lawful first [] falls bars told so_far) fell in
+      sum_falls sys lawful first told bars f (told ++ i ∷ []) (fallen bars f) (under_so_far sys lawful first [] falls bars told so_far)
+      fell in
       falls_on fuel (falls ++ f ∷ []) (fallen bars f) (told ++ i ∷ [])
       (one_more sys lawful first [] falls bars told f (told ++ i ∷ []) (fallen bars f) so_far fell)
       (omega (arith, le, less)))

@@ -61,13 +61,15 @@ holders_are_demanded m is bars places each are p lt =
     let range : List ℕ = range_with_len 0 (length places) in
     let by_position : length (demanded m bars p) ≡ length (filter chosen order) =
     same_count chosen order 1 (candidate_at m p) (λ k k_lt. let e : 1 + k - 1 ≡ k = omega arith in ap (λ i. get_or order i 0) e) in
-    let listed : (x : ℕ) → chosen x ≡ true → lists_it m p x ≡ true = λ x t. best_is_listed m bars x p (at_place p (best_within m bars x) t) in
+    let listed : (x : ℕ) → chosen x ≡ true
+    → lists_it m p x ≡ true = λ x t. best_is_listed m bars x p (at_place p (best_within m bars x) t) in
     let same : (x : ℕ) → is_among x (filter holds range) ≡ is_among x (filter chosen order) =
     λ x.
     elim (cases_Bool (chosen x)) [
       | inl t ↦
           let held : holds x ≡ true = ap (is_at p) (are x) ∙ t in
-          let in_range : is_among x range ≡ true = range_has x 0 (length places) (omega arith) (omega (arith, is_candidate m is p x (listed x t), each)) in
+          let in_range : is_among x range ≡ true = range_has x 0 (length places) (omega arith)
+          (omega (arith, is_candidate m is p x (listed x t), each)) in
           let in_it : is_among x order ≡ true = in_order m is p x (listed x t) in
           among_filter holds x range ∙ rw (held, in_range) (sym (among_filter chosen x order ∙ rw (t, in_it) refl))
       | inr f ↦

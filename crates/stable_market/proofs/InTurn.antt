@@ -16,7 +16,8 @@ use Rattle.stable_market.specs.Dossiers.{in_turn, named}
 abbrev pub noted : List ℕ → ℕ → List ℕ
 noted seen n = if is_among n seen then seen else seen ++ n ∷ []
 
-pub named_more : (ws : List Wish) (i : ℕ) (d : Wish) → i < length ws → named (take (i + 1) ws) ≡ noted (named (take i ws)) (get_or ws i d).candidate
+pub named_more : (ws : List Wish) (i : ℕ) (d : Wish) → i < length ws
+    → named (take (i + 1) ws) ≡ noted (named (take i ws)) (get_or ws i d).candidate
 named_more ws i d lt =
     ap named (take_more ws i d lt) ∙ ap in_turn (map-append (λ w. w.candidate) (take i ws) (get_or ws i d ∷ []))
     ∙ fold-append noted [] (map (λ w. w.candidate) (take i ws)) ((get_or ws i d).candidate ∷ [])
@@ -50,7 +51,8 @@ noted_has : (c n : ℕ) (seen : List ℕ) → nat_eq c n ≡ true → is_among c
 noted_has c n seen same =
     elim (cases_Bool (is_among n seen)) [
       | inl has ↦ rw has (ap (λ k. is_among k seen) (eqb-true c n same) ∙ has)
-      | inr lacks ↦ rw lacks (list_any-append (nat_eq c) seen (n ∷ []) ∙ or_right (is_among c seen) (is_among c (n ∷ [])) (or_left (nat_eq c n) false same))
+      | inr lacks ↦ rw lacks (list_any-append (nat_eq c) seen (n ∷ [])
+          ∙ or_right (is_among c seen) (is_among c (n ∷ [])) (or_left (nat_eq c n) false same))
     ]
 
 keeps : (c : ℕ) (ns seen : List ℕ) → is_among c seen ≡ true → is_among c (fold noted seen ns) ≡ true

@@ -8,7 +8,8 @@ use Rattle.bar_law.proofs.RunLaws.{picks_fix}
 use Rattle.bar_fixpoint.specs.Chosen.{AreChosen, EndsEarly, TellsOfFalls}
 use Rattle.stable_market.specs.Solving.{IsLedTo}
 
-pub led : (seen sys : FallingSystem) (choice : List ℕ → List ℕ → ℕ) (told told_after bars : List ℕ) (falls : List Fall) → seen ≡ sys → IsRun seen falls
+pub led : (seen sys : FallingSystem) (choice : List ℕ → List ℕ → ℕ) (told told_after bars : List ℕ) (falls : List Fall) → seen ≡ sys
+    → IsRun seen falls
     → AreChosen seen choice told seen.ceilings falls → told_after ≡ told ++ schools_of falls → bars ≡ bars_after seen.ceilings falls
     → IsLedTo sys choice told told_after bars
 led seen sys choice told told_after bars falls same run chosen told_of bars_fell =
@@ -28,14 +29,16 @@ none_told sys choice told =
     (sys.ceilings, record { falls = []; are_falls = tt; chosen = tt; bars_fell = refl; told_of = inl (sym (append-nil told)) })
 
 -- some falls are told of, at an early end of the engine
-pub some_told : (seen sys : FallingSystem) (choice : List ℕ → List ℕ → ℕ) (told told_after bars : List ℕ) → seen ≡ sys → EndsEarly seen choice told told_after bars
+pub some_told : (seen sys : FallingSystem) (choice : List ℕ → List ℕ → ℕ) (told told_after bars : List ℕ) → seen ≡ sys
+    → EndsEarly seen choice told told_after bars
     → TellsOfFalls sys choice told told_after
 some_told seen sys choice told told_after bars same early =
     let P : FallingSystem → Type 0 = λ s. TellsOfFalls s choice told told_after in
     subst P same (bars, early)
 
 -- all falls are told of
-pub all_told : (seen sys : FallingSystem) (choice : List ℕ → List ℕ → ℕ) (told told_after : List ℕ) (falls : List Fall) → seen ≡ sys → IsRun seen falls
+pub all_told : (seen sys : FallingSystem) (choice : List ℕ → List ℕ → ℕ) (told told_after : List ℕ) (falls : List Fall) → seen ≡ sys
+    → IsRun seen falls
     → AreChosen seen choice told seen.ceilings falls → told_after ≡ told ++ schools_of falls → TellsOfFalls sys choice told told_after
 all_told seen sys choice told told_after falls same run chosen told_of =
     let P : FallingSystem → Type 0 = λ s. TellsOfFalls s choice told told_after in

@@ -7,7 +7,9 @@ pub mod Held
 pub mod InTurn
 pub mod Led
 pub mod Listing
+pub mod Moved
 pub mod Noting
+pub mod OneBest
 pub mod Ordering
 pub mod Owning
 pub mod Rankers
@@ -17,6 +19,8 @@ pub mod Rounds
 pub mod SamePlaced
 pub mod SamePlaces
 pub mod Seated
+pub mod Shorter
 pub mod Stable
 pub mod Stamping
 pub mod Telling
+pub mod Truth

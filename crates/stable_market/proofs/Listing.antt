@@ -39,7 +39,8 @@ get_push (z ∷ xs) x y (suc h) at = get_push xs x y h at
 pub listers_none : AreListers [] 0 0 []
 listers_none = record { one_each = refl; each = λ p row at. absurd (omega (arith, slice_get_within {A = Vec ℕ Global} [] p row at)) }
 
-pub empty_more : (n : ℕ) (rows : List (Vec ℕ Global)) (row : Vec ℕ Global) → AreListers [] n 0 rows → row.items ≡ [] → AreListers [] (n + 1) 0 (rows ++ row ∷ [])
+pub empty_more : (n : ℕ) (rows : List (Vec ℕ Global)) (row : Vec ℕ Global) → AreListers [] n 0 rows → row.items ≡ []
+    → AreListers [] (n + 1) 0 (rows ++ row ∷ [])
 empty_more n rows row are none =
     record {
       one_each = omega (arith, length-append rows (row ∷ []), are.one_each);
@@ -57,9 +58,11 @@ listers_start lists n rows are = record { one_each = are.one_each; each = are.ea
 pub put_none : (item : ℕ → ℕ) (rows : List (Vec ℕ Global)) → ArePutIn (λ p. is_among p []) item rows rows
 put_none item rows = record { as_many = refl; each = λ p row at. (row, at, sym (append-nil row.items)) }
 
-pub put_more : (item : ℕ → ℕ) (xs : List ℕ) (k : ℕ) (old rows : List (Vec ℕ Global)) (before after : Vec ℕ Global) → is_list_below (length old) xs ≡ true → k < length xs
+pub put_more : (item : ℕ → ℕ) (xs : List ℕ) (k : ℕ) (old rows : List (Vec ℕ Global)) (before after : Vec ℕ Global)
+    → is_list_below (length old) xs ≡ true → k < length xs
     → before ≡ get_or rows (get_or xs k 0) before → after.items ≡ before.items ++ item (get_or xs k 0) ∷ []
-    → ArePutIn (λ p. is_among p (take k xs)) item old rows → ArePutIn (λ p. is_among p (take (k + 1) xs)) item old (set rows (get_or xs k 0) after)
+    → ArePutIn (λ p. is_among p (take k xs)) item old rows
+    → ArePutIn (λ p. is_among p (take (k + 1) xs)) item old (set rows (get_or xs k 0) after)
 put_more item xs k old rows before after is_list lt read pushed are =
     let g : ℕ = get_or xs k 0 in
     let g_lt : g < length rows = omega (arith, list_below (length old) xs g is_list (among_at xs k lt), are.as_many) in
@@ -67,7 +70,8 @@ put_more item xs k old rows before after is_list lt read pushed are =
     let absent : is_among g front ≡ false =
     false_from_ne_true (is_among g front) (λ t.
     let (j, (j_lt, j_at)) = earlier g xs k (omega (arith, lt)) t in
-    false≢true (sym (apart_from_distinct nat_eq xs j k 0 (list_distinct (length old) xs is_list) j_lt lt) ∙ eq-eqb (get_or xs j 0) g j_at)) in
+    false≢true (sym (apart_from_distinct nat_eq xs j k 0 (list_distinct (length old) xs is_list) j_lt lt) ∙ eq-eqb (get_or xs j 0) g j_at))
+    in
     let grown : (p : ℕ) → is_among p (take (k + 1) xs) ≡ (is_among p front || (nat_eq p g || false)) =
     λ p. ap (is_among p) (take_more xs k 0 lt) ∙ list_any-append (nat_eq p) front (g ∷ []) in
     record {
@@ -77,8 +81,10 @@ put_more item xs k old rows before after is_list lt read pushed are =
             let is : after ≡ row = get_set_here rows g after row (rw here at at) in
             let found : slice_get rows g ≡ Some before = slice_get_read rows (length rows) g before refl g_lt read in
             let (first, first_at, items) = are.each g before found in
-            let none : before.items ≡ first.items = items ∙ ap (λ b. first.items ++ (if b then item g ∷ [] else [])) absent ∙ append-nil first.items in
-            let among : is_among p (take (k + 1) xs) ≡ true = grown p ∙ or_right (is_among p front) (nat_eq p g || false) (or_left (nat_eq p g) false (eq-eqb p g here)) in
+            let none : before.items ≡ first.items = items ∙ ap (λ b. first.items ++ (if b then item g ∷ [] else [])) absent
+            ∙ append-nil first.items in
+            let among : is_among p (take (k + 1) xs) ≡ true = grown p
+            ∙ or_right (is_among p front) (nat_eq p g || false) (or_left (nat_eq p g) false (eq-eqb p g here)) in
             let there : slice_get old p ≡ Some first = ap (slice_get old) here ∙ first_at in
             let are_items : row.items ≡ first.items ++ (if is_among p (take (k + 1) xs) then item p ∷ [] else []) =
             ap (λ (v : Vec ℕ Global). v.items) (sym is) ∙ pushed ∙ ap (λ (ys : List ℕ). ys ++ item g ∷ []) none
@@ -87,7 +93,8 @@ put_more item xs k old rows before after is_list lt read pushed are =
             (first, there, are_items)
         | inr other ↦
             let (first, first_at, items) = are.each p row (get_set_other rows g p after row other at) in
-            let same : is_among p (take (k + 1) xs) ≡ is_among p front = grown p ∙ last_differs (is_among p front) (nat_eq p g) (ne_eqb p g other) in
+            let same : is_among p (take (k + 1) xs) ≡ is_among p front = grown p
+            ∙ last_differs (is_among p front) (nat_eq p g) (ne_eqb p g other) in
             let are_items : row.items ≡ first.items ++ (if is_among p (take (k + 1) xs) then item p ∷ [] else []) =
             items ∙ ap (λ b. first.items ++ (if b then item p ∷ [] else [])) (sym same) in
             (first, first_at, are_items)
@@ -105,7 +112,8 @@ pub map_same : (xs : List ℕ) → map (λ x. x) xs ≡ xs
 map_same [] = refl
 map_same (x ∷ xs) = ap (λ ys. x ∷ ys) (map_same xs)
 
-pub naming_more : (lists : List (List ℕ)) (p k : ℕ) → naming lists p (k + 1) ≡ naming lists p k ++ cond (is_among p (get_or lists k [])) (k ∷ []) []
+pub naming_more : (lists : List (List ℕ)) (p k : ℕ)
+    → naming lists p (k + 1) ≡ naming lists p k ++ cond (is_among p (get_or lists k [])) (k ∷ []) []
 naming_more lists p k =
     let t : ℕ → Bool = λ x. is_among p (get_or lists x []) in
     let more : filter t (map (λ x. x) (range_with_len 0 (k + 1))) ≡ filter t (map (λ x. x) (range_with_len 0 k)) ++ cond (t k) (k ∷ []) [] =
@@ -120,10 +128,12 @@ listers_more lists n k rows new are put =
       one_each = put.as_many ∙ are.one_each;
       each = λ p row at.
           let (before, found, items) = put.each p row at in
-          items ∙ ap (λ (ys : List ℕ). ys ++ (if is_among p (get_or lists k []) then k ∷ [] else [])) (are.each p before found) ∙ sym (naming_more lists p k);
+          items ∙ ap (λ (ys : List ℕ). ys ++ (if is_among p (get_or lists k []) then k ∷ [] else [])) (are.each p before found)
+          ∙ sym (naming_more lists p k);
     }
 
 -- the row of a number
 pub row_is : (lists : List (List ℕ)) (n k p : ℕ) (rows : List (Vec ℕ Global)) (row : Vec ℕ Global) → AreListers lists n k rows → p < n
     → row ≡ get_or rows p row → row.items ≡ naming lists p k
-row_is lists n k p rows row are lt read = are.each p row (slice_get_read rows (length rows) p row refl (omega (arith, lt, are.one_each)) read)
+row_is lists n k p rows row are lt read = are.each p row
+    (slice_get_read rows (length rows) p row refl (omega (arith, lt, are.one_each)) read)

@@ -28,7 +28,8 @@ pub record AreCountsTo (n : ℕ) (places : List (Option ℕ)) (k : ℕ) (counts 
 -- and the last position at which one is
 pub record AreLastsTo (m : MarketRows) (places : List (Option ℕ)) (k : ℕ) (lasts : List ℕ) : Type 0 where
   pub one_each : length lasts ≡ length m.orders
-  pub each : (p j : ℕ) → p < length m.orders → nat_lt j (slice_index lasts p) ≡ list_any (λ y. nat_lt j (position_of m p y)) (holders_to places p k)
+  pub each : (p j : ℕ) → p < length m.orders
+      → nat_lt j (slice_index lasts p) ≡ list_any (λ y. nat_lt j (position_of m p y)) (holders_to places p k)
 
 pub few_to : (places : List (Option ℕ)) (p k : ℕ) → length (holders_to places p k) ≤ k
 few_to places p k =
@@ -47,11 +48,13 @@ added counts (Some q) p within =
     elim (cases_eq p q) [
       | inl here ↦
           let now : slice_index (set counts q (slice_index counts q + 1)) p ≡ slice_index counts q + 1 =
-          ap (slice_index (set counts q (slice_index counts q + 1))) here ∙ get_or-set_same counts q (slice_index counts q + 1) 0 (within q refl) in
+          ap (slice_index (set counts q (slice_index counts q + 1))) here
+          ∙ get_or-set_same counts q (slice_index counts q + 1) 0 (within q refl) in
           let one : one_if (nat_eq p q) ≡ 1 = ap one_if (eq-eqb p q here) in
           omega (arith, now, one, ap (slice_index counts) here)
       | inr other ↦
-          let now : slice_index (set counts q (slice_index counts q + 1)) p ≡ slice_index counts p = get_or-set_other counts q p (slice_index counts q + 1) 0 other in
+          let now : slice_index (set counts q (slice_index counts q + 1)) p ≡ slice_index counts p = get_or-set_other counts q p
+          (slice_index counts q + 1) 0 other in
           let none : one_if (nat_eq p q) ≡ 0 = ap one_if (ne_eqb p q other) in
           omega (arith, now, none)
     ]
@@ -67,7 +70,8 @@ counts_none n places counts are =
       each = λ p lt. ap (λ (xs : List ℕ). get_or xs p 0) are ∙ get_or-replicate n p 0 0 lt;
     }
 
-pub counts_more : (n : ℕ) (places : List (Option ℕ)) (k : ℕ) (counts new : List ℕ) (o : Option ℕ) → place_of places k ≡ o → ((p : ℕ) → o ≡ Some p → p < n)
+pub counts_more : (n : ℕ) (places : List (Option ℕ)) (k : ℕ) (counts new : List ℕ) (o : Option ℕ) → place_of places k ≡ o
+    → ((p : ℕ) → o ≡ Some p → p < n)
     → AreCountsTo n places k counts → new ≡ counted_in counts o → AreCountsTo n places (k + 1) new
 counts_more n places k counts new o is within are new_is =
     record {
@@ -86,7 +90,8 @@ counts_more n places k counts new o is within are new_is =
           );
     }
 
-pub counts_all : (n k : ℕ) (places : List (Option ℕ)) (counts : List ℕ) → k ≡ length places → AreCountsTo n places k counts → AreCounts n places counts
+pub counts_all : (n k : ℕ) (places : List (Option ℕ)) (counts : List ℕ) → k ≡ length places → AreCountsTo n places k counts
+    → AreCounts n places counts
 counts_all n k places counts k_is are =
     let P : ℕ → Type 0 = λ j. AreCountsTo n places j counts in
     let whole = subst P k_is are in
@@ -99,16 +104,19 @@ turned places x p place lt =
     let t : ℕ → Bool = λ y. is_at p (place_of places y) in
     let u : ℕ → Bool = λ y. is_at p (place_of (set places x place) y) in
     ap (λ n. length (filter u (range_with_len 0 n)) + one_if (t x)) (length-set places x place)
-    ∙ count_turned t u x 0 (length places) (omega arith) (omega (arith, lt)) (λ j other. ap (is_at p) (get_or-set_other places x j place None other))
+    ∙ count_turned t u x 0 (length places) (omega arith) (omega (arith, lt))
+    (λ j other. ap (is_at p) (get_or-set_other places x j place None other))
     ∙ ap (λ (o : Option ℕ). length (holders places p) + one_if (is_at p o)) (get_or-set_same places x place None lt)
 
 -- whoever has a place is counted
 pub one_holds : (places : List (Option ℕ)) (x had : ℕ) → x < length places → place_of places x ≡ Some had → 1 ≤ length (holders places had)
 one_holds places x had lt is =
-    let one : one_if (is_at had (place_of places x)) ≡ 1 = ap (λ (o : Option ℕ). one_if (is_at had o)) is ∙ ap one_if (eq-eqb had had refl) in
+    let one : one_if (is_at had (place_of places x)) ≡ 1 = ap (λ (o : Option ℕ). one_if (is_at had o)) is
+    ∙ ap one_if (eq-eqb had had refl) in
     omega (arith, turned places x had None lt, one)
 
-pub counts_put : (n : ℕ) (places : List (Option ℕ)) (x had : ℕ) (place : Option ℕ) (counts new : List ℕ) → x < length places → place_of places x ≡ Some had → had < n
+pub counts_put : (n : ℕ) (places : List (Option ℕ)) (x had : ℕ) (place : Option ℕ) (counts new : List ℕ) → x < length places
+    → place_of places x ≡ Some had → had < n
     → ((p : ℕ) → place ≡ Some p → p < n) → AreCounts n places counts
     → new ≡ counted_in (set counts had (slice_index counts had - 1)) place → AreCounts n (set places x place) new
 counts_put n places x had place counts new lt is had_lt within are new_is =
@@ -122,7 +130,8 @@ counts_put n places x had place counts new lt is had_lt within are new_is =
           elim (cases_eq p had) [
             | inl here ↦
                 let now : slice_index less p ≡ slice_index counts had - 1 =
-                ap (slice_index less) here ∙ get_or-set_same counts had (slice_index counts had - 1) 0 (omega (arith, had_lt, are.one_each)) in
+                ap (slice_index less) here ∙ get_or-set_same counts had (slice_index counts had - 1) 0
+                (omega (arith, had_lt, are.one_each)) in
                 let one : one_if (nat_eq p had) ≡ 1 = ap one_if (eq-eqb p had here) in
                 omega (arith, now, one, some, ap (slice_index counts) here)
             | inr other ↦
@@ -142,7 +151,8 @@ counts_put n places x had place counts new lt is had_lt within are new_is =
     }
 
 -- counts that one is taken from fit
-pub put_few : (n : ℕ) (places : List (Option ℕ)) (counts : List ℕ) (had v p : ℕ) → AreCounts n places counts → had < n → p < n → v ≤ slice_index counts had
+pub put_few : (n : ℕ) (places : List (Option ℕ)) (counts : List ℕ) (had v p : ℕ) → AreCounts n places counts → had < n → p < n
+    → v ≤ slice_index counts had
     → slice_index (set counts had v) p ≤ length places
 put_few n places counts had v p are had_lt lt le =
     elim (cases_eq p had) [
@@ -159,7 +169,8 @@ put_few n places counts had v p are had_lt lt le =
     ]
 
 -- a count fits
-pub count_few : (n : ℕ) (places : List (Option ℕ)) (counts : List ℕ) (p : ℕ) → AreCounts n places counts → p < n → slice_index counts p ≤ length places
+pub count_few : (n : ℕ) (places : List (Option ℕ)) (counts : List ℕ) (p : ℕ) → AreCounts n places counts → p < n
+    → slice_index counts p ≤ length places
 count_few n places counts p are lt = omega (arith, are.each p lt, few_to places p (length places))
 
 past_max : (j a b : ℕ) → nat_lt j (max a b) ≡ (nat_lt j a || nat_lt j b)
@@ -177,7 +188,8 @@ or_none : (a : Bool) → (a || false) ≡ a
 or_none true = refl
 or_none false = refl
 
-pub lasts_none : (m : MarketRows) (places : List (Option ℕ)) (lasts : List ℕ) → lasts ≡ replicate (length m.orders) 0 → AreLastsTo m places 0 lasts
+pub lasts_none : (m : MarketRows) (places : List (Option ℕ)) (lasts : List ℕ) → lasts ≡ replicate (length m.orders) 0
+    → AreLastsTo m places 0 lasts
 lasts_none m places lasts are =
     record {
       one_each = ap length are ∙ length-replicate (length m.orders) 0;
@@ -199,7 +211,8 @@ lasts_more m places k lasts new o is within are new_is = by o is within new_is
     grown : (p : ℕ) → held p k ≡ true → holders_to places p (k + 1) ≡ holders_to places p k ++ k ∷ []
     grown p here = kept_more (held p) k ∙ ap (λ b. holders_to places p k ++ cond b (k ∷ []) []) here
 
-    by : (o : Option ℕ) → place_of places k ≡ o → ((p : ℕ) → o ≡ Some p → p < length m.orders) → new ≡ noted m k lasts o → AreLastsTo m places (k + 1) new
+    by : (o : Option ℕ) → place_of places k ≡ o → ((p : ℕ) → o ≡ Some p → p < length m.orders) → new ≡ noted m k lasts o
+        → AreLastsTo m places (k + 1) new
     by None is within new_is =
         record {
           one_each = ap length new_is ∙ are.one_each;
@@ -216,7 +229,8 @@ lasts_more m places k lasts new o is within are new_is = by o is within new_is
               elim (cases_eq p q) [
                 | inl here ↦
                     let now : slice_index new p ≡ max (slice_index lasts p) (position_of m p k) =
-                    ap (λ (xs : List ℕ). get_or xs p 0) new_is ∙ ap (slice_index (set lasts q value)) here ∙ get_or-set_same lasts q value 0 q_lt
+                    ap (λ (xs : List ℕ). get_or xs p 0) new_is ∙ ap (slice_index (set lasts q value)) here
+                    ∙ get_or-set_same lasts q value 0 q_lt
                     ∙ ap (λ i. max (slice_index lasts i) (position_of m i k)) (sym here) in
                     let t : ℕ → Bool = λ y. nat_lt j (position_of m p y) in
                     ap (nat_lt j) now ∙ past_max j (slice_index lasts p) (position_of m p k)
@@ -225,13 +239,15 @@ lasts_more m places k lasts new o is within are new_is = by o is within new_is
                     ∙ sym (list_any-append t (holders_to places p k) (k ∷ []))
                     ∙ ap (list_any t) (sym (grown p (ap (is_at p) is ∙ eq-eqb p q here)))
                 | inr other ↦
-                    let now : slice_index new p ≡ slice_index lasts p = ap (λ (xs : List ℕ). get_or xs p 0) new_is ∙ get_or-set_other lasts q p value 0 other in
+                    let now : slice_index new p ≡ slice_index lasts p = ap (λ (xs : List ℕ). get_or xs p 0) new_is
+                    ∙ get_or-set_other lasts q p value 0 other in
                     ap (nat_lt j) now ∙ are.each p j lt
                     ∙ ap (list_any (λ y. nat_lt j (position_of m p y))) (sym (over p (ap (is_at p) is ∙ ne_eqb p q other)))
               ];
         }
 
-pub lasts_all : (m : MarketRows) (k : ℕ) (places : List (Option ℕ)) (lasts : List ℕ) → k ≡ length places → AreLastsTo m places k lasts → AreLasts m places lasts
+pub lasts_all : (m : MarketRows) (k : ℕ) (places : List (Option ℕ)) (lasts : List ℕ) → k ≡ length places → AreLastsTo m places k lasts
+    → AreLasts m places lasts
 lasts_all m k places lasts k_is are =
     let P : ℕ → Type 0 = λ j. AreLastsTo m places j lasts in
     let whole = subst P k_is are in

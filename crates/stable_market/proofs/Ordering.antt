@@ -40,8 +40,10 @@ pub stamped_same : (stamp : ℕ) (ns stamps xs : List ℕ) → BearStamp stamp n
     → list_all (λ n. nat_eq (slice_index stamps n) stamp) xs ≡ list_all (λ x. is_among x ns) xs
 stamped_same stamp ns stamps xs bear within =
     same_test (list_all (λ n. nat_eq (slice_index stamps n) stamp) xs) (list_all (λ x. is_among x ns) xs)
-    (λ t. all_pass (λ x. is_among x ns) xs (λ q among. sym (bear q (within q among)) ∙ one_of_all (λ n. nat_eq (slice_index stamps n) stamp) q xs t among))
-    (λ t. all_pass (λ n. nat_eq (slice_index stamps n) stamp) xs (λ q among. bear q (within q among) ∙ one_of_all (λ x. is_among x ns) q xs t among))
+    (λ t. all_pass (λ x. is_among x ns) xs
+    (λ q among. sym (bear q (within q among)) ∙ one_of_all (λ n. nat_eq (slice_index stamps n) stamp) q xs t among))
+    (λ t. all_pass (λ n. nat_eq (slice_index stamps n) stamp) xs
+    (λ q among. bear q (within q among) ∙ one_of_all (λ x. is_among x ns) q xs t among))
 
 -- what is not among a list differs from each of it
 all_differ : (q : ℕ) (xs : List ℕ) → is_among q xs ≡ false → AllByRecursion (λ x. nat_eq q x ≡ false) xs
@@ -95,7 +97,8 @@ order_is m p lt =
     let first = and_parts (is_list_below n order && (length order == length names)) (list_all (λ x. is_among x order) names) t in
     let second = and_parts (is_list_below n order) (length order == length names) first.0 in
     let third = and_parts (is_distinct order) (list_all (λ x. nat_lt x n) order) second.0 in
-    let inside : (x : ℕ) → is_among x names ≡ true → is_among x order ≡ true = λ x among. one_of_all (λ y. is_among y order) x names first.1 among in
+    let inside : (x : ℕ) → is_among x names ≡ true
+    → is_among x order ≡ true = λ x among. one_of_all (λ y. is_among y order) x names first.1 among in
     let long : length order ≡ length names = eqb-true (length order) (length names) second.1 in
     let only : list_all (lists_it m p) order ≡ true =
     all_pass (lists_it m p) order (λ x among. (lister x (no_other names order x apart long inside among)).1) in
@@ -104,18 +107,23 @@ order_is m p lt =
     (λ t.
     let first = and_parts (is_distinct order && list_all (lists_it m p) order) (list_all (λ x. is_among x order) names) t in
     let second = and_parts (is_distinct order) (list_all (lists_it m p) order) first.0 in
-    let outside : (x : ℕ) → is_among x order ≡ true → is_among x names ≡ true = λ x among. is_lister x (one_of_all (lists_it m p) x order second.1 among) in
-    let inside : (x : ℕ) → is_among x names ≡ true → is_among x order ≡ true = λ x among. one_of_all (λ y. is_among y order) x names first.1 among in
-    let below : list_all (λ x. nat_lt x n) order ≡ true = all_pass (λ x. nat_lt x n) order (λ x among. lt-ltb x n (lister x (outside x among)).0) in
+    let outside : (x : ℕ) → is_among x order ≡ true
+    → is_among x names ≡ true = λ x among. is_lister x (one_of_all (lists_it m p) x order second.1 among) in
+    let inside : (x : ℕ) → is_among x names ≡ true
+    → is_among x order ≡ true = λ x among. one_of_all (λ y. is_among y order) x names first.1 among in
+    let below : list_all (λ x. nat_lt x n) order ≡ true = all_pass (λ x. nat_lt x n) order
+    (λ x among. lt-ltb x n (lister x (outside x among)).0) in
     let long : length order ≡ length names =
     length-from_same_keys nat_eq_equiv order names (distinct_from order second.0) apart
     (λ q. same_test (is_among q order) (is_among q names) (outside q) (inside q)) in
     and_from (is_list_below n order && (length order == length names)) (list_all (λ x. is_among x order) names)
-    (and_from (is_list_below n order) (length order == length names) (and_from (is_distinct order) (list_all (λ x. nat_lt x n) order) second.0 below)
+    (and_from (is_list_below n order) (length order == length names)
+    (and_from (is_distinct order) (list_all (λ x. nat_lt x n) order) second.0 below)
     (eq-eqb (length order) (length names) long)) first.1)
 
 -- the first of a range that passes
-pub range_found : (t : ℕ → Bool) (a n k : ℕ) → a ≤ k → k < a + n → ((i : ℕ) → a ≤ i → i < k → t i ≡ false) → t k ≡ true → find t (range_with_len a n) ≡ Some k
+pub range_found : (t : ℕ → Bool) (a n k : ℕ) → a ≤ k → k < a + n → ((i : ℕ) → a ≤ i → i < k → t i ≡ false) → t k ≡ true
+    → find t (range_with_len a n) ≡ Some k
 range_found t a zero k le lt fails passes = absurd (omega (arith, le, lt))
 range_found t a (suc n) k le lt fails passes =
     elim (cases_eq a k) [
@@ -138,7 +146,8 @@ pub record OrdersStood (m : MarketRows) (k stamp : ℕ) (stamps : List ℕ) : Ty
   pub up_to : AreUpTo stamp stamps
   pub stood : (i : ℕ) → 0 ≤ i → i < k → not (is_order m i) ≡ false
 
-pub orders_start : (m : MarketRows) (stamps : List ℕ) → length stamps ≡ length m.lists → ((q : ℕ) → slice_index stamps q ≡ 0) → OrdersStood m 0 0 stamps
+pub orders_start : (m : MarketRows) (stamps : List ℕ) → length stamps ≡ length m.lists → ((q : ℕ) → slice_index stamps q ≡ 0)
+    → OrdersStood m 0 0 stamps
 orders_start m stamps as_many zeros =
     record { stamp_is = refl; as_many = as_many; up_to = λ q lt. omega (arith, zeros q); stood = λ i le lt. absurd (omega (arith, lt)) }
 
@@ -146,8 +155,10 @@ told_order : (m : MarketRows) (k stamp : ℕ) (stamps : List ℕ) (result : Bool
     → result ≡ has_all_of (length stamps) (listers m k) (order_of m k) → result ≡ is_order m k
 told_order m k stamp stamps result lt so told = told ∙ ap (λ n. has_all_of n (listers m k) (order_of m k)) so.as_many ∙ order_is m k lt
 
-pub orders_more : (m : MarketRows) (k stamp : ℕ) (stamps after : List ℕ) (result : Bool) → k < length m.orders → OrdersStood m k stamp stamps
-    → length after ≡ length stamps → AreUpTo (stamp + 1) after → result ≡ has_all_of (length stamps) (listers m k) (order_of m k) → result ≡ true
+pub orders_more : (m : MarketRows) (k stamp : ℕ) (stamps after : List ℕ) (result : Bool) → k < length m.orders
+    → OrdersStood m k stamp stamps
+    → length after ≡ length stamps → AreUpTo (stamp + 1) after → result ≡ has_all_of (length stamps) (listers m k) (order_of m k)
+    → result ≡ true
     → OrdersStood m (k + 1) (stamp + 1) after
 orders_more m k stamp stamps after result lt so long up_to told stood =
     record {
@@ -169,7 +180,8 @@ orders_found m k stamp stamps result lt so told fails =
     range_found (λ p. not (is_order m p)) 0 (length m.orders) k (omega arith) (omega (arith, lt)) so.stood
     (ap not (sym (told_order m k stamp stamps result lt so told) ∙ fails)) ∙ ap Some at
 
-pub orders_none : (m : MarketRows) (k stamp : ℕ) (stamps : List ℕ) → length m.orders ≤ k → OrdersStood m k stamp stamps → first_bad_order m ≡ None
+pub orders_none : (m : MarketRows) (k stamp : ℕ) (stamps : List ℕ) → length m.orders ≤ k → OrdersStood m k stamp stamps
+    → first_bad_order m ≡ None
 orders_none m k stamp stamps past so =
     range_none (λ p. not (is_order m p)) 0 (length m.orders) (λ i le lt. so.stood i le (omega (arith, lt, past)))
 
@@ -179,21 +191,26 @@ listers_within m p k d lt =
     let range : List ℕ = range_with_len 0 (length m.lists) in
     let x : ℕ = get_or (listers m p) k d in
     let among : is_among x (listers m p) ≡ true = list_any_at (nat_eq x) (listers m p) k d lt (eq-eqb x x refl) in
-    let within = among_range x 0 (length m.lists) (and_parts (is_among x range) (lists_it m p x) (sym (among_filter (lists_it m p) x range) ∙ among)).0 in
+    let within = among_range x 0 (length m.lists)
+    (and_parts (is_among x range) (lists_it m p x) (sym (among_filter (lists_it m p) x range) ∙ among)).0 in
     omega (arith, within.1)
 
 -- the row and the order of a programme, as they are read
-pub row_read : (m : MarketRows) (k stamp : ℕ) (rows : List (Vec ℕ Global)) (row : Vec ℕ Global) (slice : List ℕ) → stamp ≡ k → k < length m.orders
+pub row_read : (m : MarketRows) (k stamp : ℕ) (rows : List (Vec ℕ Global)) (row : Vec ℕ Global) (slice : List ℕ) → stamp ≡ k
+    → k < length m.orders
     → AreListers m.lists (length m.orders) (length m.lists) rows → row ≡ get_or rows stamp row → slice ≡ row.items → slice ≡ listers m k
 row_read m k stamp rows row slice same lt are read is =
     is ∙ row_is m.lists (length m.orders) (length m.lists) stamp rows row are (omega (arith, same, lt)) read ∙ ap (listers m) same
 
-pub order_read : (m : MarketRows) (k : ℕ) (item slice : List ℕ) → k < length m.orders → item ≡ get_or m.orders k item → slice ≡ item → slice ≡ order_of m k
+pub order_read : (m : MarketRows) (k : ℕ) (item slice : List ℕ) → k < length m.orders → item ≡ get_or m.orders k item → slice ≡ item
+    → slice ≡ order_of m k
 order_read m k item slice lt read is = is ∙ read ∙ get_or_default m.orders k item [] lt
 
-pub told_now : (m : MarketRows) (n k : ℕ) (row order : List ℕ) (result : Bool) → row ≡ listers m k → order ≡ order_of m k → result ≡ has_all_of n row order
+pub told_now : (m : MarketRows) (n k : ℕ) (row order : List ℕ) (result : Bool) → row ≡ listers m k → order ≡ order_of m k
+    → result ≡ has_all_of n row order
     → result ≡ has_all_of n (listers m k) (order_of m k)
-told_now m n k row order result row_is order_is told = told ∙ ap (λ xs. has_all_of n xs order) row_is ∙ ap (λ xs. has_all_of n (listers m k) xs) order_is
+told_now m n k row order result row_is order_is told = told ∙ ap (λ xs. has_all_of n xs order) row_is
+    ∙ ap (λ xs. has_all_of n (listers m k) xs) order_is
 
 pub row_within : (m : MarketRows) (n k : ℕ) (row : List ℕ) → row ≡ listers m k → n ≡ length m.lists → All (λ x. x < n) row
 row_within m n k row row_is n_is =
@@ -221,7 +238,8 @@ orders_stand m none p lt =
     let test : ℕ → Bool = λ q. not (is_order m q) in
     let range : List ℕ = range_with_len 0 (length m.orders) in
     not-false (is_order m p)
-    (false_from_ne_true (test p) (λ t. false≢true (sym (find_none test range none) ∙ any_of test p range (range_has p 0 (length m.orders) (omega arith) (omega (arith, lt))) t)))
+    (false_from_ne_true (test p) (λ t. false≢true
+    (sym (find_none test range none) ∙ any_of test p range (range_has p 0 (length m.orders) (omega arith) (omega (arith, lt))) t)))
 
 pub market_stands : (m : MarketRows) → length m.seats ≡ length m.orders → first_bad_list m ≡ None → first_bad_order m ≡ None → IsMarket m
 market_stands m seats lists orders =
@@ -229,18 +247,21 @@ market_stands m seats lists orders =
 
 -- the answers of both tests, on lists and orders as they are read
 pub no_bad_list : (n : ℕ) (lists xs : List (List ℕ)) (orders : List (List ℕ)) (seats : List ℕ) → n ≡ length orders → xs ≡ lists
-    → position (λ list. not (is_list_below n list)) xs ≡ None → first_bad_list (record { lists = lists; orders = orders; seats = seats }) ≡ None
+    → position (λ list. not (is_list_below n list)) xs ≡ None
+    → first_bad_list (record { lists = lists; orders = orders; seats = seats }) ≡ None
 no_bad_list n lists xs orders seats n_is xs_is none =
     let P : List (List ℕ) → Type 0 = λ ys. position (λ list. not (is_list_below n list)) ys ≡ None in
     let Q : ℕ → Type 0 = λ k. position (λ list. not (is_list_below k list)) lists ≡ None in
     subst Q n_is (subst P xs_is none)
 
 pub bad_order_is : (answer : Option ℕ) (lists ys orders zs : List (List ℕ)) (seats : List ℕ) → ys ≡ lists → zs ≡ orders
-    → first_bad_order (record { lists = ys; orders = zs; seats = [] }) ≡ answer → first_bad_order (record { lists = lists; orders = orders; seats = seats }) ≡ answer
+    → first_bad_order (record { lists = ys; orders = zs; seats = [] }) ≡ answer
+    → first_bad_order (record { lists = lists; orders = orders; seats = seats }) ≡ answer
 bad_order_is answer lists ys orders zs seats ys_is zs_is e =
     let P : List (List ℕ) → Type 0 = λ xs. first_bad_order (record { lists = xs; orders = zs; seats = [] }) ≡ answer in
     let Q : List (List ℕ) → Type 0 = λ xs. first_bad_order (record { lists = lists; orders = xs; seats = [] }) ≡ answer in
     subst Q zs_is (subst P ys_is e)
 
-pub lists_ready : (n : ℕ) (xs ys zs : List (List ℕ)) → n ≡ length zs → xs ≡ ys → position (λ list. not (is_list_below n list)) xs ≡ None → AreLists (length zs) ys
+pub lists_ready : (n : ℕ) (xs ys zs : List (List ℕ)) → n ≡ length zs → xs ≡ ys → position (λ list. not (is_list_below n list)) xs ≡ None
+    → AreLists (length zs) ys
 lists_ready n xs ys zs n_is same none = lists_stand (length zs) ys (no_bad_list n ys xs zs [] n_is same none)

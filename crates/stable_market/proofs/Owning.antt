@@ -31,14 +31,17 @@ in_other (r ∷ rows) row k e = by (nat_eq k r.candidate) refl (in_other rows ro
     by false f ih = rw f ih
 
 -- where no key is the candidate
-in_none : (rows : List Wish) (row : Wish) (ks : List ℕ) → list_any (nat_eq row.candidate) ks ≡ false → map (own (rows ++ row ∷ [])) ks ≡ map (own rows) ks
+in_none : (rows : List Wish) (row : Wish) (ks : List ℕ) → list_any (nat_eq row.candidate) ks ≡ false
+    → map (own (rows ++ row ∷ [])) ks ≡ map (own rows) ks
 in_none rows row [] h = refl
 in_none rows row (k ∷ ks) h = by (nat_eq row.candidate k) refl (in_none rows row ks)
   where
-    by : (b : Bool) → nat_eq row.candidate k ≡ b → (list_any (nat_eq row.candidate) ks ≡ false → map (own (rows ++ row ∷ [])) ks ≡ map (own rows) ks)
+    by : (b : Bool) → nat_eq row.candidate k ≡ b
+        → (list_any (nat_eq row.candidate) ks ≡ false → map (own (rows ++ row ∷ [])) ks ≡ map (own rows) ks)
         → map (own (rows ++ row ∷ [])) (k ∷ ks) ≡ map (own rows) (k ∷ ks)
     by true f ih = absurd (true≢false (sym (rw f at (sym h))))
-    by false f ih = let g : list_any (nat_eq row.candidate) ks ≡ false = rw f at h in rw (in_other rows row k (eq_sym k row.candidate ∙ f), ih g) refl
+    by false f ih = let g : list_any (nat_eq row.candidate) ks ≡ false = rw f at h in rw
+        (in_other rows row k (eq_sym k row.candidate ∙ f), ih g) refl
 
 -- g stands at i, and not before
 abbrev pub IsAt : ℕ → List ℕ → ℕ → Type 0
@@ -46,10 +49,12 @@ IsAt g [] i = ⊥
 IsAt g (k ∷ ks) zero = nat_eq g k ≡ true
 IsAt g (k ∷ ks) (suc i) = (nat_eq g k ≡ false) × IsAt g ks i
 
-at_from : (g : ℕ) (ks : List ℕ) (i : ℕ) → i < length ks → nat_eq g (get_or ks i 0) ≡ true → ((k : ℕ) → k < i → nat_eq g (get_or ks k 0) ≡ false) → IsAt g ks i
+at_from : (g : ℕ) (ks : List ℕ) (i : ℕ) → i < length ks → nat_eq g (get_or ks i 0) ≡ true
+    → ((k : ℕ) → k < i → nat_eq g (get_or ks k 0) ≡ false) → IsAt g ks i
 at_from g [] i lt at before = absurd (omega arith)
 at_from g (k ∷ ks) zero lt at before = at
-at_from g (k ∷ ks) (suc i) lt at before = (before 0 (omega arith), at_from g ks i (omega arith) at (λ j below. before (suc j) (omega arith)))
+at_from g (k ∷ ks) (suc i) lt at before =
+    (before 0 (omega arith), at_from g ks i (omega arith) at (λ j below. before (suc j) (omega arith)))
 
 pub is_at : (g : ℕ) (ks : List ℕ) (i : ℕ) → position (nat_eq g) ks ≡ Some i → IsAt g ks i
 is_at g ks i e = let p = position-Some (nat_eq g) ks i 0 e in at_from g ks i p.0 p.1 p.2
@@ -69,5 +74,6 @@ lay rows row (k ∷ ks) zero apart at =
 lay rows row (k ∷ ks) (suc i) apart (not_here, there) =
     rw (in_other rows row k (eq_sym k row.candidate ∙ not_here)) (ap (λ l. own rows k ∷ l) (lay rows row ks i apart.1 there))
 
-pub lay_none : (rows : List Wish) (row : Wish) (ks : List ℕ) → list_any (nat_eq row.candidate) ks ≡ false → map (own rows) ks ≡ map (own (rows ++ row ∷ [])) ks
+pub lay_none : (rows : List Wish) (row : Wish) (ks : List ℕ) → list_any (nat_eq row.candidate) ks ≡ false
+    → map (own rows) ks ≡ map (own (rows ++ row ∷ [])) ks
 lay_none rows row ks h = sym (in_none rows row ks h)

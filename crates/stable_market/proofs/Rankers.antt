@@ -19,6 +19,7 @@ use Rattle.admit_core.proofs.Holders.{any_map}
 use Rattle.admit_core.proofs.Tests.{among-map_filter}
 use Rattle.dossier_check.proofs.SortedLists.{IsPermutation-sorted_by, IsDistinct-sorted_by}
 use Rattle.stable_market.specs.Markets.{is_list_below}
+use Rattle.stable_market.specs.Firsts.{all_of}
 use Rattle.stable_market.specs.Dossiers.{counts, counted, named, own, by_preference}
 use Rattle.stable_market.proofs.InTurn.{in_turn_has}
 use Rattle.stable_market.proofs.Stamping.{is_distinct_from}
@@ -42,26 +43,21 @@ any_named : (p c : ℕ) (ws : List Wish) → list_any (is_for p c) ws ≡ true �
 any_named p c [] t = absurd (false≢true t)
 any_named p c (w ∷ ws) t =
     elim (or_cases (is_for p c w) (list_any (is_for p c) ws) t) [
-      | inl here ↦ or_left (nat_eq c w.candidate) (is_among c (map (λ v. v.candidate) ws)) (and_parts (nat_eq c w.candidate) (nat_eq p w.programme) here).0
+      | inl here ↦ or_left (nat_eq c w.candidate) (is_among c (map (λ v. v.candidate) ws))
+          (and_parts (nat_eq c w.candidate) (nat_eq p w.programme) here).0
       | inr later ↦ or_right (nat_eq c w.candidate) (is_among c (map (λ v. v.candidate) ws)) (any_named p c ws later)
     ]
 
 pub lister_named : (ws : List Wish) (p c : ℕ) → is_among p (by_preference (own ws c)) ≡ true → is_among c (named ws) ≡ true
 lister_named ws p c t = in_turn_has c (map (λ w. w.candidate) ws) (any_named p c ws (sym (lists_wish ws p c) ∙ t))
 
--- what all numbers of a list pass
-pub all_of : (t : ℕ → Bool) (xs : List ℕ) → ((q : ℕ) → is_among q xs ≡ true → t q ≡ true) → list_all t xs ≡ true
-all_of t [] each = refl
-all_of t (x ∷ xs) each =
-    rw (each x (or_left (nat_eq x x) (is_among x xs) (eq-eqb x x refl)))
-    (all_of t xs (λ q among. each q (or_right (nat_eq q x) (is_among q xs) among)))
-
 no_school : (o : Option ℕ) → not (is_some o) ≡ true → o ≡ None
 no_school None t = refl
 no_school (Some h) t = absurd (false≢true t)
 
 -- one of the wishes that count passes a test; it is as all wishes are
-pub one_counted : (d : DossierRows) (P : Wish → Type 0) (t : Wish → Bool) → All P d.wishes → list_any t (counted d) ≡ true → (w : Wish) × (P w × (t w ≡ true))
+pub one_counted : (d : DossierRows) (P : Wish → Type 0) (t : Wish → Bool) → All P d.wishes → list_any t (counted d) ≡ true
+    → (w : Wish) × (P w × (t w ≡ true))
 one_counted d P t all some =
     let (k, w, lt, at, passes) = Any-from_list_any t (counted d) some in
     (w, (subst P at (All-filter counts P d.wishes all k w lt), passes))
@@ -72,13 +68,15 @@ module _ (d : DossierRows) (valid : IsValid d) where
   own_apart c = λ i j e i_lt j_lt.
       let ws : List Wish = own (counted d) c in
       let is_own : Wish → Bool = λ w. nat_eq c w.candidate in
-      let are : AllPairs IsApart ws = AllPairs-filter IsApart is_own (counted d) (AllPairs-filter IsApart counts d.wishes valid.wishes_apart) in
+      let are : AllPairs IsApart ws = AllPairs-filter IsApart is_own (counted d)
+      (AllPairs-filter IsApart counts d.wishes valid.wishes_apart) in
       let theirs : All (λ w. is_own w ≡ true) ws = filter_passes is_own (counted d) in
       let count : All (λ w. counts w ≡ true) ws = All-filter is_own (λ w. counts w ≡ true) (counted d) (filter_passes counts d.wishes) in
       let v : Wish = get_or ws i e in
       let w : Wish = get_or ws j e in
       let i_in : i < length ws = omega (arith, i_lt, j_lt) in
-      let none : (x : Wish) → counts x ≡ true → x.school ≡ None = λ x t. no_school x.school (and_parts (nat_lt 0 x.preference) (not (is_some x.school)) t).1 in
+      let none : (x : Wish) → counts x ≡ true
+      → x.school ≡ None = λ x t. no_school x.school (and_parts (nat_lt 0 x.preference) (not (is_some x.school)) t).1 in
       λ same. (are i j e i_lt j_lt).named
       (sym (eqb-true c v.candidate (theirs i e i_in)) ∙ eqb-true c w.candidate (theirs j e j_lt)) same
       (none v (count i e i_in) ∙ sym (none w (count j e j_lt)))
@@ -96,7 +94,8 @@ module _ (d : DossierRows) (valid : IsValid d) where
   pub is_list_of : (c : ℕ) → is_list_below (length d.programmes) (by_preference (own (counted d) c)) ≡ true
   is_list_of c =
       let list : List ℕ = by_preference (own (counted d) c) in
-      let once : IsDistinct nat_eq list = IsDistinct-sorted_by (λ w. w.preference) (λ w. w.programme) (own (counted d) c) (programmes_apart c) in
+      let once : IsDistinct nat_eq list = IsDistinct-sorted_by (λ w. w.preference) (λ w. w.programme) (own (counted d) c)
+      (programmes_apart c) in
       let below : list_all (λ p. nat_lt p (length d.programmes)) list ≡ true =
       all_of (λ p. nat_lt p (length d.programmes)) list (λ p among.
       let (w, (is, for)) = one_counted d (IsValidWish d) (is_for p c) valid.wishes (sym (lists_wish (counted d) p c) ∙ among) in

@@ -16,20 +16,21 @@ use Rattle.admit_core.specs.Lists.{is_among}
 use Rattle.stable_market.specs.Markets.{MarketRows, IsMarket, order_of, is_distinct, position_of}
 use Rattle.stable_market.specs.Listers.{AreLists, AreListers, ArePutIn, naming}
 use Rattle.stable_market.specs.Ranked.{ArePositions}
-use Rattle.stable_market.specs.Firsts.{among_filter, range_has}
+use Rattle.stable_market.specs.Firsts.{all_of, among_filter, range_has}
 use Rattle.stable_market.specs.Lawful.{range_rises}
-use Rattle.stable_market.specs.Positions.{length_before, only_place, order_distinct, position_is}
+use Rattle.stable_market.specs.Positions.{length_before, only_place, order_distinct, order_lists, is_candidate, position_is}
 use Rattle.stable_market.proofs.Called.{found_in}
 use Rattle.stable_market.proofs.Listing.{naming_more}
-use Rattle.stable_market.proofs.Reading.{order_within}
 use Rattle.stable_market.proofs.Stamping.{is_distinct_from}
 
 -- one at a place of a list of numbers that differ stands at the position after it
-pub own_position : (xs : List ℕ) (k : ℕ) → IsDistinct nat_eq xs → k < length xs → k + 1 ≡ length (before_first (nat_eq (get_or xs k 0)) xs) + 1
+pub own_position : (xs : List ℕ) (k : ℕ) → IsDistinct nat_eq xs → k < length xs
+    → k + 1 ≡ length (before_first (nat_eq (get_or xs k 0)) xs) + 1
 own_position xs k apart lt = omega (arith, length_before (nat_eq (get_or xs k 0)) xs, only_place xs k apart lt)
 
 -- no positions yet
-pub no_positions : (m : MarketRows) (n : ℕ) (rows : List (Vec ℕ Global)) → n ≡ length m.lists → AreListers [] n 0 rows → ArePositions m 0 rows
+pub no_positions : (m : MarketRows) (n : ℕ) (rows : List (Vec ℕ Global)) → n ≡ length m.lists → AreListers [] n 0 rows
+    → ArePositions m 0 rows
 no_positions m n rows n_is are = record { one_each = are.one_each ∙ n_is; each = λ x row at. are.each x row at }
 
 one_more : (f : ℕ → ℕ) (b : Bool) (k : ℕ) → map f (cond b (k ∷ []) []) ≡ (if b then f k ∷ [] else [])
@@ -37,7 +38,8 @@ one_more f true k = refl
 one_more f false k = refl
 
 -- those in one more order
-pub positions_more : (m : MarketRows) (k : ℕ) (order : List ℕ) (rows new : List (Vec ℕ Global)) → order ≡ order_of m k → ArePositions m k rows
+pub positions_more : (m : MarketRows) (k : ℕ) (order : List ℕ) (rows new : List (Vec ℕ Global)) → order ≡ order_of m k
+    → ArePositions m k rows
     → ArePutIn (λ x. is_among x order) (λ x. length (before_first (nat_eq x) order) + 1) rows new → ArePositions m (k + 1) new
 positions_more m k order rows new order_is are put =
     let P : List ℕ → Type 0 = λ xs. ArePutIn (λ x. is_among x xs) (λ x. length (before_first (nat_eq x) xs) + 1) rows new in
@@ -54,17 +56,14 @@ positions_more m k order rows new order_is are put =
           ∙ ap (map f) (sym (naming_more m.orders x k));
     }
 
-all_from : (t : ℕ → Bool) (xs : List ℕ) → ((k : ℕ) → k < length xs → t (get_or xs k 0) ≡ true) → list_all t xs ≡ true
-all_from t [] passes = refl
-all_from t (x ∷ xs) passes = and_from (t x) (list_all t xs) (passes 0 (omega arith)) (all_from t xs (λ k lt. passes (suc k) (omega (arith, lt))))
-
 -- the orders of a market are lists of its candidates
 pub orders_are_lists : (m : MarketRows) → IsMarket m → AreLists (length m.lists) m.orders
 orders_are_lists m is p lt =
     let order : List ℕ = order_of m p in
     and_from (is_distinct order) (list_all (λ x. nat_lt x (length m.lists)) order)
     (is_distinct_from order (order_distinct m is p lt))
-    (all_from (λ x. nat_lt x (length m.lists)) order (λ k k_lt. lt-ltb (get_or order k 0) (length m.lists) (order_within m is p lt k 0 k_lt)))
+    (all_of (λ x. nat_lt x (length m.lists)) order
+    (λ x among. lt-ltb x (length m.lists) (is_candidate m is p x (order_lists m is p x lt among))))
 
 naming_rises : (orders : List (List ℕ)) (x n : ℕ) → IsStrictlyIncreasing (naming orders x n)
 naming_rises orders x n = IsStrictlyIncreasing-filter (λ p. is_among x (get_or orders p [])) (range_with_len 0 n) (range_rises 0 n)
@@ -75,13 +74,19 @@ past_end m p x absent =
     let order : List ℕ = order_of m p in
     let fails : (k : ℕ) → k < length order → nat_eq x (get_or order k 0) ≡ false =
     λ k lt. false_from_ne_true (nat_eq x (get_or order k 0)) (λ t. false≢true (sym absent ∙ list_any_at (nat_eq x) order k 0 lt t)) in
-    omega (arith, position_is m p x, position_or_len_is (nat_eq x) order (length order) 0 (omega arith) fails (λ h. absurd (omega (arith, h))))
+    omega (
+      arith,
+      position_is m p x,
+      position_or_len_is (nat_eq x) order (length order) 0 (omega arith) fails
+          (λ h. absurd (omega (arith, h))),
+    )
 
 -- what a search in the programmes of a candidate finds
 pub looked_up : (m : MarketRows) (p x : ℕ) (programmes positions : List ℕ) (r : Result ℕ ℕ) → p < length m.orders
     → programmes ≡ naming m.orders x (length m.orders) → positions ≡ map (λ q. position_of m q x) (naming m.orders x (length m.orders))
     → IsBinarySearchResult (λ y. nat_cmp y p) programmes r
-    → MatchResult r (λ i. (i < length positions) × ((d : ℕ) → get_or positions i d ≡ position_of m p x)) (λ i. position_of m p x ≡ length (order_of m p) + 1)
+    → MatchResult r (λ i. (i < length positions) × ((d : ℕ) → get_or positions i d ≡ position_of m p x))
+    (λ i. position_of m p x ≡ length (order_of m p) + 1)
 looked_up m p x programmes positions r p_lt are at is = by r (searched programmes p r is up) (found_in programmes p r rises is)
   where
     rises : IsStrictlyIncreasing programmes
@@ -98,11 +103,14 @@ looked_up m p x programmes positions r p_lt are at is = by r (searched programme
     place q = position_of m q x
 
     by : (s : Result ℕ ℕ) → MatchResult s (λ i. (i < length programmes) × (get_or programmes i 0 ≡ p))
-        (λ i. (i ≤ length programmes) × ((k : ℕ) → k < i → get_or programmes k 0 < p) × ((k : ℕ) → i ≤ k → k < length programmes → p < get_or programmes k 0))
+        (λ i. (i ≤ length programmes) × ((k : ℕ) → k < i → get_or programmes k 0 < p) ×
+        ((k : ℕ) → i ≤ k → k < length programmes → p < get_or programmes k 0))
         → is_ok s ≡ is_among p programmes
-        → MatchResult s (λ i. (i < length positions) × ((d : ℕ) → get_or positions i d ≡ position_of m p x)) (λ i. position_of m p x ≡ length (order_of m p) + 1)
+        → MatchResult s (λ i. (i < length positions) × ((d : ℕ) → get_or positions i d ≡ position_of m p x))
+        (λ i. position_of m p x ≡ length (order_of m p) + 1)
     by (Ok i) (lt, here) among =
-        let long : length positions ≡ length programmes = ap length at ∙ length-map (naming m.orders x (length m.orders)) place ∙ ap length (sym are) in
+        let long : length positions ≡ length programmes = ap length at ∙ length-map (naming m.orders x (length m.orders)) place
+        ∙ ap length (sym are) in
         let lt_now : i < length positions = omega (arith, lt, long) in (
           lt_now,
           λ d. get_or_default positions i d (place 0) lt_now

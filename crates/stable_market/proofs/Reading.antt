@@ -25,7 +25,8 @@ list_within m is x x_lt k d lt =
 
 pub order_within : (m : MarketRows) → IsMarket m → (p : ℕ) → p < length m.orders → All (λ x. x < length m.lists) (order_of m p)
 order_within m is p p_lt k d lt =
-    is_candidate m is p (get_or (order_of m p) k d) (order_lists m is p (get_or (order_of m p) k d) p_lt (among_place (order_of m p) k d lt))
+    is_candidate m is p (get_or (order_of m p) k d)
+    (order_lists m is p (get_or (order_of m p) k d) p_lt (among_place (order_of m p) k d lt))
 
 -- a list is no longer than the market has programmes
 pub list_short : (m : MarketRows) → IsMarket m → (x : ℕ) → x < length m.lists → length (list_of m x) ≤ length m.orders
@@ -49,12 +50,14 @@ order_short m is p p_lt =
     omega (arith, le, length-range_with_len 0 (length m.lists))
 
 -- a list as it is read from the rows that are seen as these
-pub read_list : (rows seen : MarketRows) (x : ℕ) (item slice : List ℕ) → rows ≡ seen → x < length seen.lists → item ≡ get_or rows.lists x item → slice ≡ item → slice ≡ list_of seen x
+pub read_list : (rows seen : MarketRows) (x : ℕ) (item slice : List ℕ) → rows ≡ seen → x < length seen.lists
+    → item ≡ get_or rows.lists x item → slice ≡ item → slice ≡ list_of seen x
 read_list rows seen x item slice same lt read is =
     let there : item ≡ get_or seen.lists x item = read ∙ ap (λ (m : MarketRows). get_or m.lists x item) same in
     is ∙ there ∙ get_or_default seen.lists x item [] lt
 
-pub read_order : (rows seen : MarketRows) (p : ℕ) (item slice : List ℕ) → rows ≡ seen → p < length seen.orders → item ≡ get_or rows.orders p item → slice ≡ item → slice ≡ order_of seen p
+pub read_order : (rows seen : MarketRows) (p : ℕ) (item slice : List ℕ) → rows ≡ seen → p < length seen.orders
+    → item ≡ get_or rows.orders p item → slice ≡ item → slice ≡ order_of seen p
 read_order rows seen p item slice same lt read is =
     let there : item ≡ get_or seen.orders p item = read ∙ ap (λ (m : MarketRows). get_or m.orders p item) same in
     is ∙ there ∙ get_or_default seen.orders p item [] lt

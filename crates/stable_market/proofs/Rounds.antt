@@ -33,7 +33,8 @@ get_seam : (xs ys : List ℕ) (x : ℕ) → slice_get (xs ++ x ∷ ys) (length x
 get_seam [] ys x = refl
 get_seam (z ∷ xs) ys x = get_seam xs ys x
 
-find_here : (t : ℕ → Bool) (xs : List ℕ) (k : ℕ) → k < length xs → ((j : ℕ) → j < k → t (get_or xs j 0) ≡ false) → t (get_or xs k 0) ≡ true → find t xs ≡ Some (get_or xs k 0)
+find_here : (t : ℕ → Bool) (xs : List ℕ) (k : ℕ) → k < length xs → ((j : ℕ) → j < k → t (get_or xs j 0) ≡ false) → t (get_or xs k 0) ≡ true
+    → find t xs ≡ Some (get_or xs k 0)
 find_here t [] k lt fails passes = absurd (omega (arith, lt))
 find_here t (x ∷ xs) zero lt fails passes = rw passes refl
 find_here t (x ∷ xs) (suc k) lt fails passes =
@@ -49,7 +50,8 @@ find_nowhere t (x ∷ xs) fails =
 pub best_found : (m : MarketRows) (bars : List ℕ) (x k : ℕ) (list : List ℕ) → list ≡ list_of m x → k < length list
     → ((j : ℕ) → j < k → is_within m bars x (get_or list j 0) ≡ false) → is_within m bars x (get_or list k 0) ≡ true
     → Some (get_or list k 0) ≡ best_within m bars x
-best_found m bars x k list is lt fails passes = sym (ap (find (is_within m bars x)) (sym is) ∙ find_here (is_within m bars x) list k lt fails passes)
+best_found m bars x k list is lt fails passes = sym
+    (ap (find (is_within m bars x)) (sym is) ∙ find_here (is_within m bars x) list k lt fails passes)
 
 pub best_nowhere : (m : MarketRows) (bars : List ℕ) (x k : ℕ) (list : List ℕ) → list ≡ list_of m x → length list ≤ k
     → ((j : ℕ) → j < k → is_within m bars x (get_or list j 0) ≡ false) → None ≡ best_within m bars x
@@ -61,7 +63,8 @@ map_same [] = refl
 map_same (x ∷ xs) = ap (λ ys. x ∷ ys) (map_same xs)
 
 -- a filter in two parts
-pub filter_split : (t : ℕ → Bool) (a k m n : ℕ) → n ≡ k + m → filter t (range_with_len a n) ≡ filter t (range_with_len a k) ++ filter t (range_with_len (a + k) m)
+pub filter_split : (t : ℕ → Bool) (a k m n : ℕ) → n ≡ k + m
+    → filter t (range_with_len a n) ≡ filter t (range_with_len a k) ++ filter t (range_with_len (a + k) m)
 filter_split t a zero m n n_is = let e : n ≡ m = omega (arith, n_is) in let f : a ≡ a + 0 = omega arith in rw (e, ← f) refl
 filter_split t a (suc k) m n n_is =
     let e : n ≡ suc (k + m) = omega (arith, n_is) in
@@ -82,15 +85,21 @@ none_pass t a (suc n) fails =
 pub filter_cut : (t u : ℕ → Bool) (e n : ℕ) → e ≤ n → ((h : ℕ) → 1 ≤ h → h ≤ e → u h ≡ t h) → ((h : ℕ) → e < h → h ≤ n → u h ≡ false)
     → filter u (range_with_len 1 n) ≡ filter t (range_with_len 1 e)
 filter_cut t u e n le same fails =
-    let rest : filter u (range_with_len (1 + e) (n - e)) ≡ [] = none_pass u (1 + e) (n - e) (λ h ge lt. fails h (omega (arith, ge)) (omega (arith, lt, le))) in
-    filter_split u 1 e (n - e) n (omega (arith, le)) ∙ ap (λ (ys : List ℕ). filter u (range_with_len 1 e) ++ ys) rest ∙ append-nil (filter u (range_with_len 1 e))
+    let rest : filter u (range_with_len (1 + e) (n - e)) ≡ [] = none_pass u (1 + e) (n - e)
+    (λ h ge lt. fails h (omega (arith, ge)) (omega (arith, lt, le))) in
+    filter_split u 1 e (n - e) n (omega (arith, le)) ∙ ap (λ (ys : List ℕ). filter u (range_with_len 1 e) ++ ys) rest
+    ∙ append-nil (filter u (range_with_len 1 e))
     ∙ filter_agree u t 1 e (λ h ge lt. same h ge (omega (arith, lt)))
 
 pub filter_both : (t p : ℕ → Bool) (xs : List ℕ) → filter p (filter t xs) ≡ filter (λ x. t x && p x) xs
 filter_both t p [] = refl
 filter_both t p (x ∷ xs) =
     elim (cases_Bool (t x)) [
-      | inl passes ↦ elim (cases_Bool (p x)) [ inl yes_too ↦ rw (passes, yes_too) (ap (λ ys. x ∷ ys) (filter_both t p xs)) | inr not_that ↦ rw (passes, not_that) (filter_both t p xs) ]
+      | inl passes ↦ elim (cases_Bool (p x)) [
+        | inl yes_too ↦ rw (passes, yes_too) (ap (λ ys. x ∷ ys) (filter_both t p xs))
+        | inr not_that ↦ rw (passes, not_that)
+            (filter_both t p xs)
+      ]
       | inr fails ↦ rw fails (filter_both t p xs)
     ]
 
@@ -106,10 +115,12 @@ and_yes true b e = e
 and_yes false b e = refl
 
 -- one position more
-pub held_more : (m : MarketRows) (places : List (Option ℕ)) (p k : ℕ) → held_to m places p (k + 1) ≡ held_to m places p k ++ cond (is_held m places p (k + 1)) ((k + 1) ∷ []) []
+pub held_more : (m : MarketRows) (places : List (Option ℕ)) (p k : ℕ)
+    → held_to m places p (k + 1) ≡ held_to m places p k ++ cond (is_held m places p (k + 1)) ((k + 1) ∷ []) []
 held_more m places p k =
     let t : ℕ → Bool = is_held m places p in
-    let more : filter t (map (λ r. r) (range_with_len 1 (k + 1))) ≡ filter t (map (λ r. r) (range_with_len 1 k)) ++ cond (t (k + 1)) ((k + 1) ∷ []) [] =
+    let more : filter t (map (λ r. r) (range_with_len 1 (k + 1))) ≡ filter t (map (λ r. r) (range_with_len 1 k)) ++ cond (t (k + 1))
+    ((k + 1) ∷ []) [] =
     filter_of_map_range_with_len_more t (λ r. r) 1 k (k + 1) (omega arith) in
     rw (map_same (range_with_len 1 (k + 1)), map_same (range_with_len 1 k)) at more
 
@@ -119,21 +130,27 @@ who_is m p k y order order_is y_is =
     y_is ∙ ap (λ (xs : List ℕ). get_or xs k 0) order_is ∙ ap (λ i. get_or (order_of m p) i 0) e
 
 -- whether a position is held, as it is asked of who stands there
-pub held_is : (m : MarketRows) (places : List (Option ℕ)) (p k y : ℕ) (order : List ℕ) (place : Option ℕ) → order ≡ order_of m p → y ≡ get_or order k 0
+pub held_is : (m : MarketRows) (places : List (Option ℕ)) (p k y : ℕ) (order : List ℕ) (place : Option ℕ) → order ≡ order_of m p
+    → y ≡ get_or order k 0
     → place ≡ place_of places y → is_held m places p (k + 1) ≡ is_at p place
 held_is m places p k y order place order_is y_is place_is =
     ap (λ z. is_at p (place_of places z)) (sym (who_is m p k y order order_is y_is)) ∙ ap (is_at p) (sym place_is)
 
-one_put : (m : MarketRows) (places : List (Option ℕ)) (p k : ℕ) → is_held m places p (k + 1) ≡ true → held_to m places p (k + 1) ≡ held_to m places p k ++ (k + 1) ∷ []
+one_put : (m : MarketRows) (places : List (Option ℕ)) (p k : ℕ) → is_held m places p (k + 1) ≡ true
+    → held_to m places p (k + 1) ≡ held_to m places p k ++ (k + 1) ∷ []
 one_put m places p k held = held_more m places p k ∙ ap (λ b. held_to m places p k ++ cond b ((k + 1) ∷ []) []) held
 
-none_put : (m : MarketRows) (places : List (Option ℕ)) (p k : ℕ) → is_held m places p (k + 1) ≡ false → held_to m places p (k + 1) ≡ held_to m places p k
-none_put m places p k out = held_more m places p k ∙ ap (λ b. held_to m places p k ++ cond b ((k + 1) ∷ []) []) out ∙ append-nil (held_to m places p k)
+none_put : (m : MarketRows) (places : List (Option ℕ)) (p k : ℕ) → is_held m places p (k + 1) ≡ false
+    → held_to m places p (k + 1) ≡ held_to m places p k
+none_put m places p k out = held_more m places p k ∙ ap (λ b. held_to m places p k ++ cond b ((k + 1) ∷ []) []) out
+    ∙ append-nil (held_to m places p k)
 
-pub one_less : (m : MarketRows) (places : List (Option ℕ)) (p k : ℕ) → is_held m places p (k + 1) ≡ true → length (held_to m places p (k + 1)) ≡ length (held_to m places p k) + 1
+pub one_less : (m : MarketRows) (places : List (Option ℕ)) (p k : ℕ) → is_held m places p (k + 1) ≡ true
+    → length (held_to m places p (k + 1)) ≡ length (held_to m places p k) + 1
 one_less m places p k held = ap length (one_put m places p k held) ∙ length-append (held_to m places p k) ((k + 1) ∷ [])
 
-pub none_less : (m : MarketRows) (places : List (Option ℕ)) (p k : ℕ) → is_held m places p (k + 1) ≡ false → length (held_to m places p (k + 1)) ≡ length (held_to m places p k)
+pub none_less : (m : MarketRows) (places : List (Option ℕ)) (p k : ℕ) → is_held m places p (k + 1) ≡ false
+    → length (held_to m places p (k + 1)) ≡ length (held_to m places p k)
 none_less m places p k out = ap length (none_put m places p k out)
 
 -- the names of those who hold them
@@ -148,10 +165,12 @@ pub named_over : (m : MarketRows) (places : List (Option ℕ)) (p k : ℕ) → i
 named_over m places p k out = ap (map (candidate_at m p)) (none_put m places p k out)
 
 -- a bar that is lowered again
-pub set_again : (bars now new : List ℕ) (p v w : ℕ) → p < length bars → now ≡ set bars p v → new ≡ set now p (slice_index now p - 1) → w ≡ v - 1 → new ≡ set bars p w
+pub set_again : (bars now new : List ℕ) (p v w : ℕ) → p < length bars → now ≡ set bars p v → new ≡ set now p (slice_index now p - 1)
+    → w ≡ v - 1 → new ≡ set bars p w
 set_again bars now new p v w lt now_is new_is w_is =
     let read : slice_index now p ≡ v = ap (λ (xs : List ℕ). get_or xs p 0) now_is ∙ get_or-set_same bars p v 0 lt in
-    new_is ∙ ap (λ n. set now p (n - 1)) read ∙ ap (λ (xs : List ℕ). set xs p (v - 1)) now_is ∙ set-set bars p v (v - 1) ∙ ap (set bars p) (sym w_is)
+    new_is ∙ ap (λ n. set now p (n - 1)) read ∙ ap (λ (xs : List ℕ). set xs p (v - 1)) now_is ∙ set-set bars p v (v - 1)
+    ∙ ap (set bars p) (sym w_is)
 
 -- a held position is the first past those before it
 pub first_past : (m : MarketRows) (places : List (Option ℕ)) (p k bar seats : ℕ) → k + 1 ≤ bar → is_held m places p (k + 1) ≡ true
@@ -160,13 +179,15 @@ first_past m places p k bar seats le held long =
     let t : ℕ → Bool = is_held m places p in
     let before : List ℕ = held_to m places p k in
     let after : List ℕ = filter t (range_with_len (1 + (k + 1)) (bar - (k + 1))) in
-    let here : held_to m places p (k + 1) ≡ before ++ (k + 1) ∷ [] = held_more m places p k ∙ ap (λ b. before ++ cond b ((k + 1) ∷ []) []) held in
+    let here : held_to m places p (k + 1) ≡ before ++ (k + 1) ∷ [] = held_more m places p k
+    ∙ ap (λ b. before ++ cond b ((k + 1) ∷ []) []) held in
     let all : held_to m places p bar ≡ (before ++ (k + 1) ∷ []) ++ after =
     filter_split t 1 (k + 1) (bar - (k + 1)) bar (omega (arith, le)) ∙ ap (λ (ys : List ℕ). ys ++ after) here in
     let whole : held_to m places p bar ≡ before ++ (k + 1) ∷ after = all ∙ append_assoc before ((k + 1) ∷ []) after in
     ap (λ (xs : List ℕ). slice_get xs seats) whole ∙ ap (slice_get (before ++ (k + 1) ∷ after)) (sym long) ∙ get_seam before after (k + 1)
 
-module _ (m : MarketRows) (is : IsMarket m) (bars stands : List ℕ) (places : List (Option ℕ)) (f : Fill) (round : IsRound m bars stands places f) (p : ℕ) (p_lt : p < length m.orders) where
+module _ (m : MarketRows) (is : IsMarket m) (bars stands : List ℕ) (places : List (Option ℕ)) (f : Fill)
+    (round : IsRound m bars stands places f) (p : ℕ) (p_lt : p < length m.orders) where
   abbrev bar : ℕ
   bar = slice_index bars p
 
@@ -178,7 +199,13 @@ module _ (m : MarketRows) (is : IsMarket m) (bars stands : List ℕ) (places : L
   none_past r past le =
       false_from_ne_true (is_held m places p r) (λ t.
       let best : best_within m bars (candidate_at m p r) ≡ Some p = at_place p (best_within m bars (candidate_at m p r)) (asked r ∙ t) in
-      omega (arith, past, best_is_within m bars (candidate_at m p r) p best, position_at m p r (order_distinct m is p p_lt) (omega (arith, past)) le))
+      omega (
+        arith,
+        past,
+        best_is_within m bars (candidate_at m p r) p best,
+        position_at m p r (order_distinct m is p p_lt)
+            (omega (arith, past)) le,
+      ))
 
   demanded_is : demanded m bars p ≡ filter (is_held m places p) (range_with_len 1 (length (order_of m p)))
   demanded_is = ap (λ (t : ℕ → Bool). filter t (range_with_len 1 (length (order_of m p)))) (λ i r. asked r i)
@@ -186,7 +213,8 @@ module _ (m : MarketRows) (is : IsMarket m) (bars stands : List ℕ) (places : L
   pub demanded_are_held : demanded m bars p ≡ held_to m places p bar
   demanded_are_held =
       demanded_is
-      ∙ filter_cut (is_held m places p) (is_held m places p) bar (length (order_of m p)) (round.seated.under p) (λ h one le. refl) (λ h past le. none_past h past le)
+      ∙ filter_cut (is_held m places p) (is_held m places p) bar (length (order_of m p)) (round.seated.under p) (λ h one le. refl)
+      (λ h past le. none_past h past le)
 
   -- the demanded positions up to one
   pub demanded_upto : (upto e : ℕ) → e ≤ upto → e ≤ bar → ((h : ℕ) → e < h → h ≤ upto → bar < h)
@@ -206,7 +234,8 @@ module _ (m : MarketRows) (is : IsMarket m) (bars stands : List ℕ) (places : L
   -- as many as are counted
   pub counted_held : slice_index f.counts p ≡ length (held_to m places p bar)
   counted_held =
-      round.counts.each p p_lt ∙ holders_are_demanded m is bars places round.seated.one_place_each round.seated.placed p p_lt ∙ ap length demanded_are_held
+      round.counts.each p p_lt ∙ holders_are_demanded m is bars places round.seated.one_place_each round.seated.placed p p_lt
+      ∙ ap length demanded_are_held
 
 -- the programmes that have more than their seats are the overfilled ones
 pub overfilled_are : (m : MarketRows) (bars stands : List ℕ) (places : List (Option ℕ)) (f : Fill) → IsRound m bars stands places f
@@ -216,9 +245,11 @@ overfilled_are m bars stands places f round =
     let long : length (market_system m).ceilings ≡ n = length-map m.orders length in
     let same : (h : ℕ) → h < n → is_over f.seats f.counts h ≡ is_overfilled (market_system m) bars h =
     λ h lt.
-    let held = round.counts.each h lt ∙ holders_are_demanded m round.valid bars places round.seated.one_place_each round.seated.placed h lt in
+    let held = round.counts.each h lt ∙ holders_are_demanded m round.valid bars places round.seated.one_place_each round.seated.placed h lt
+    in
     ap (λ (xs : List ℕ). nat_lt (slice_index xs h) (slice_index f.counts h)) round.seats ∙ ap (nat_lt (slice_index m.seats h)) held
-    ∙ sym (ap (λ b. b && nat_lt (slice_index m.seats h) (length (demanded m bars h))) (lt-ltb h (length (market_system m).ceilings) (omega (arith, lt, long)))) in
+    ∙ sym (ap (λ b. b && nat_lt (slice_index m.seats h) (length (demanded m bars h)))
+    (lt-ltb h (length (market_system m).ceilings) (omega (arith, lt, long)))) in
     ap (λ k. filter (is_over f.seats f.counts) (range_with_len 0 k)) round.counts.one_each
     ∙ filter_agree (is_over f.seats f.counts) (is_overfilled (market_system m) bars) 0 n (λ h ge lt. same h (omega (arith, lt)))
     ∙ ap (λ k. filter (is_overfilled (market_system m) bars) (range_with_len 0 k)) (sym long)

@@ -104,12 +104,14 @@ total_placed place n below [] = total_zero n
     total_zero zero = refl
     total_zero (suc k) = omega (arith, total_zero k)
 total_placed place n below (x ∷ xs) =
-    total_both (λ p. one_if (is_at p (place x))) (λ p. length (filter (λ y. is_at p (place y)) xs)) (λ p. length (filter (λ y. is_at p (place y)) (x ∷ xs))) n
+    total_both (λ p. one_if (is_at p (place x))) (λ p. length (filter (λ y. is_at p (place y)) xs))
+    (λ p. length (filter (λ y. is_at p (place y)) (x ∷ xs))) n
     (λ p. counted_more (λ y. is_at p (place y)) x xs)
     ∙ omega (arith, total_place (place x) n (below x), total_placed place n below xs, counted_more (λ y. is_some (place y)) x xs)
 
 -- where as many pass a weaker test, the same pass
-same_kept : (t u : ℕ → Bool) → Implies t u → (xs : List ℕ) → length (filter t xs) ≡ length (filter u xs) → (x : ℕ) → is_among x xs ≡ true → t x ≡ u x
+same_kept : (t u : ℕ → Bool) → Implies t u → (xs : List ℕ) → length (filter t xs) ≡ length (filter u xs) → (x : ℕ) → is_among x xs ≡ true
+    → t x ≡ u x
 same_kept t u weaker [] same x among = absurd (false≢true among)
 same_kept t u weaker (y ∷ ys) same x among =
     let less = filter_implied t u weaker ys in
@@ -138,7 +140,8 @@ all_preferred [] = refl
 all_preferred (x ∷ xs) = before_no (λ q. is_at q None) x xs refl ∙ ap (λ ys. x ∷ ys) (all_preferred xs)
 
 -- of two programmes of a list one is preferred
-other_first : (p : ℕ) (o : Option ℕ) (xs : List ℕ) → is_among p xs ≡ true → is_at p o ≡ false → is_among p (before_first (λ q. is_at q o) xs) ≡ false
+pub other_first : (p : ℕ) (o : Option ℕ) (xs : List ℕ) → is_among p xs ≡ true → is_at p o ≡ false
+    → is_among p (before_first (λ q. is_at q o) xs) ≡ false
     → (q : ℕ) × ((o ≡ Some q) × (is_among q (before_first (λ r. is_at r (Some p)) xs) ≡ true))
 other_first p o [] among apart out = absurd (false≢true among)
 other_first p o (y ∷ ys) among apart out =
@@ -201,12 +204,14 @@ module _ (m : MarketRows) (is : IsMarket m) (best : List (Option ℕ)) (stable :
             elim (cases_Bool (at other x)) [
               | inl holds ↦
                   let x_lt : x < length other = omega (arith, is_candidate m is p x on_list, other_stable.matching.one_place_each) in
-                  among_filter (at other) x (range_of other) ∙ rw (range_has x 0 (length other) (omega arith) (omega (arith, x_lt)), holds) refl
+                  among_filter (at other) x (range_of other)
+                  ∙ rw (range_has x 0 (length other) (omega arith) (omega (arith, x_lt)), holds) refl
               | inr apart ↦
                   elim (cases_Bool (prefers m other x p)) [
                     | inl wants ↦
                         let takes : would_take m other p x ≡ true =
-                        or_left (nat_lt (length (holders other p)) (slice_index m.seats p)) _ (lt-ltb (length (holders other p)) (slice_index m.seats p) free) in
+                        or_left (nat_lt (length (holders other p)) (slice_index m.seats p)) _
+                        (lt-ltb (length (holders other p)) (slice_index m.seats p) free) in
                         absurd (false≢true (sym (other_stable.no_block x p wants) ∙ takes))
                     | inr content ↦
                         let (q, (q_at, first)) = other_first p (place_of other x) (list_of m x) on_list apart content in
@@ -221,7 +226,8 @@ module _ (m : MarketRows) (is : IsMarket m) (best : List (Option ℕ)) (stable :
   programme_below places its x q at = is_programme m is q x (its.matching.listed x q at)
 
   -- all who have a place, counted by programmes
-  by_programmes : (places : List (Option ℕ)) → IsStable m places → total (λ p. length (holders places p)) (length m.orders) ≡ length (filter (placed_in places) range)
+  by_programmes : (places : List (Option ℕ)) → IsStable m places
+      → total (λ p. length (holders places p)) (length m.orders) ≡ length (filter (placed_in places) range)
   unfolding placed_in range
   by_programmes places its =
       total_placed (place_of places) (length m.orders) (programme_below places its) (range_with_len 0 (length places))
@@ -242,7 +248,8 @@ module _ (m : MarketRows) (is : IsMarket m) (best : List (Option ℕ)) (stable :
       record {
         candidates = λ x. elim (cases_lt x (length m.lists)) [
           | inl lt ↦
-              sym (same_kept (placed_in other) (placed_in best) placed_stay range as_many.0 x (range_has x 0 (length m.lists) (omega arith) (omega (arith, lt))))
+              sym (same_kept (placed_in other) (placed_in best) placed_stay range as_many.0 x
+              (range_has x 0 (length m.lists) (omega arith) (omega (arith, lt))))
           | inr past ↦
               ap is_some (get_or_past best x None (omega (arith, past, stable.matching.one_place_each)))
               ∙ sym (ap is_some (get_or_past other x None (omega (arith, past, other_stable.matching.one_place_each))))

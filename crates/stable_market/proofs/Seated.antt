@@ -44,7 +44,8 @@ stand_from m bars x s le beyond reached =
     }
 
 -- the entry at a stand is within reach
-pub reached_at : (m : MarketRows) (bars : List ℕ) (x s : ℕ) → IsStand m bars x s → s < length (list_of m x) → is_within m bars x (slice_index (list_of m x) s) ≡ true
+pub reached_at : (m : MarketRows) (bars : List ℕ) (x s : ℕ) → IsStand m bars x s → s < length (list_of m x)
+    → is_within m bars x (slice_index (list_of m x) s) ≡ true
 reached_at m bars x s stand lt =
     let p : ℕ = slice_index (list_of m x) s in
     le-leb (position_of m p x) (slice_index bars p) (best_is_within m bars x p (sym stand.best ∙ slice_get-get_or (list_of m x) s 0 lt))
@@ -158,7 +159,8 @@ module _ (m : MarketRows) (is : IsMarket m) (bars : List ℕ) (p : ℕ) (p_lt : 
       same_within who q (inr other) ∙ reached_at m bars who s stand lt)
 
   -- where they have it, it is beyond reach now
-  now_beyond : (s : ℕ) → best_within m bars who ≡ Some p → IsStand m bars who s → (s < length (list_of m who)) × AreBeyond m lower who (s + 1)
+  now_beyond : (s : ℕ) → best_within m bars who ≡ Some p → IsStand m bars who s
+      → (s < length (list_of m who)) × AreBeyond m lower who (s + 1)
   now_beyond s best stand =
       let found : slice_get (list_of m who) s ≡ Some p = stand.best ∙ best in
       let entry : slice_index (list_of m who) s ≡ p = get_or_from_slice_get (list_of m who) s p 0 found in (
@@ -170,7 +172,8 @@ module _ (m : MarketRows) (is : IsMarket m) (bars : List ℕ) (p : ℕ) (p_lt : 
   under_now : ((q : ℕ) → slice_index bars q ≤ length (order_of m q)) → (q : ℕ) → slice_index lower q ≤ length (order_of m q)
   under_now all q = omega (arith, lower_le q, all q)
 
-  others_best : (stands : List ℕ) → AreStands m bars stands → (x : ℕ) → x ≢ who → x < length m.lists → best_within m lower x ≡ best_within m bars x
+  others_best : (stands : List ℕ) → AreStands m bars stands → (x : ℕ) → x ≢ who → x < length m.lists
+      → best_within m lower x ≡ best_within m bars x
   others_best stands are x other lt =
       let stand = are.each x lt in
       sym (others_stand x (slice_index stands x) other stand).best ∙ stand.best
@@ -207,7 +210,8 @@ module _ (m : MarketRows) (bars stands : List ℕ) (places : List (Option ℕ)) 
 
   others : (x : ℕ) → x ≢ next → x < length m.lists → IsStand m low x (slice_index stands x)
   others x other lt =
-      others_stand m round.valid bars p p_lt round.seated.one_bar_each above (round.seated.under p) x (slice_index stands x) other (round.seated.stood.each x lt)
+      others_stand m round.valid bars p p_lt round.seated.one_bar_each above (round.seated.under p) x (slice_index stands x) other
+      (round.seated.stood.each x lt)
 
   -- nobody moves on
   stays : next < length m.lists → is_at p (place_of places next) ≡ false → IsRound m low stands places f
@@ -218,7 +222,8 @@ module _ (m : MarketRows) (bars stands : List ℕ) (places : List (Option ℕ)) 
       λ x lt. elim (cases_eq x next) [
         | inl here ↦
             subst Q (sym here)
-            (stands_elsewhere m round.valid bars p p_lt round.seated.one_bar_each above (round.seated.under p) (slice_index stands next) away_best
+            (stands_elsewhere m round.valid bars p p_lt round.seated.one_bar_each above (round.seated.under p) (slice_index stands next)
+            away_best
             (round.seated.stood.each next next_lt))
         | inr other ↦ others x other lt
       ] in
@@ -243,13 +248,15 @@ module _ (m : MarketRows) (bars stands : List ℕ) (places : List (Option ℕ)) 
       → AreCounts (length m.orders) now g.counts → IsRound m low new now g
   moves new now g next_lt stand new_is now_is seats counts =
       let s : ℕ = slice_index new next in
-      let now_long : length now ≡ length m.lists = ap length now_is ∙ length-set places next (best_within m low next) ∙ round.seated.one_place_each in
+      let now_long : length now ≡ length m.lists = ap length now_is ∙ length-set places next (best_within m low next)
+      ∙ round.seated.one_place_each in
       let Q : ℕ → Type 0 = λ z. IsStand m low z (slice_index new z) in
       let stood : (x : ℕ) → x < length m.lists → IsStand m low x (slice_index new x) =
       λ x lt. elim (cases_eq x next) [
         | inl here ↦ subst Q (sym here) stand
         | inr other ↦
-            let same : slice_index new x ≡ slice_index stands x = ap (λ (xs : List ℕ). get_or xs x 0) new_is ∙ get_or-set_other stands next x s 0 other in
+            let same : slice_index new x ≡ slice_index stands x = ap (λ (xs : List ℕ). get_or xs x 0) new_is
+            ∙ get_or-set_other stands next x s 0 other in
             let R : ℕ → Type 0 = λ v. IsStand m low x v in
             subst R (sym same) (others x other lt)
       ] in
@@ -294,10 +301,12 @@ module _ (m : MarketRows) (bars stands : List ℕ) (places : List (Option ℕ)) 
     pub entry_left : is_at p (place_of places y) ≡ true
         → (slice_index stands y < length (list_of m y)) × AreBeyond m lower_bars y (slice_index stands y + 1)
     entry_left holds =
-        let best : best_within m bars next ≡ Some p = sym (round.seated.placed next) ∙ ap (place_of places) (sym y_is) ∙ at_place p (place_of places y) holds in
+        let best : best_within m bars next ≡ Some p = sym (round.seated.placed next) ∙ ap (place_of places) (sym y_is)
+        ∙ at_place p (place_of places y) holds in
         let P : ℕ → List ℕ → Type 0 = λ z bs. (slice_index stands z < length (list_of m z)) × AreBeyond m bs z (slice_index stands z + 1) in
         let here : P next low =
-        now_beyond m round.valid bars p p_lt round.seated.one_bar_each above (round.seated.under p) (slice_index stands next) best (round.seated.stood.each next next_lt) in
+        now_beyond m round.valid bars p p_lt round.seated.one_bar_each above (round.seated.under p) (slice_index stands next) best
+        (round.seated.stood.each next next_lt) in
         subst (P y) (sym lower_is) (subst (λ z. P z low) (sym y_is) here)
 
     pub moves_on : (new : List ℕ) (now : List (Option ℕ)) (g : Fill) → IsStand m lower_bars y (slice_index new y)
@@ -313,9 +322,11 @@ module _ (m : MarketRows) (bars stands : List ℕ) (places : List (Option ℕ)) 
         (subst (λ z. N z low) y_is (subst (N y) lower_is now_is)) seats counts)
 
 -- a round, as it begins
-pub round_from : (m : MarketRows) → IsMarket m → (bars stands : List ℕ) (places : List (Option ℕ)) (f : Fill) (counts seats : List ℕ) → length bars ≡ length m.orders
+pub round_from : (m : MarketRows) → IsMarket m → (bars stands : List ℕ) (places : List (Option ℕ)) (f : Fill) (counts seats : List ℕ)
+    → length bars ≡ length m.orders
     → ((p : ℕ) → slice_index bars p ≤ length (order_of m p)) → AreStands m bars stands → places ≡ matched_under m bars
-    → f ≡ record { seats = seats; counts = counts } → seats ≡ m.seats → AreCounts (length m.orders) places counts → IsRound m bars stands places f
+    → f ≡ record { seats = seats; counts = counts } → seats ≡ m.seats → AreCounts (length m.orders) places counts
+    → IsRound m bars stands places f
 round_from m is bars stands places f counts seats each under stood are f_is seats_are counted =
     let P : Fill → Type 0 = λ g. IsRound m bars stands places g in
     subst P (sym f_is) (record {

@@ -26,10 +26,12 @@ pub beyond_reach : (m : MarketRows) (bars : List ℕ) (x p : ℕ) → prefers m 
     → slice_index bars p < position_of m p x
 beyond_reach m bars x p t =
     let P : Option ℕ → Type 0 = λ o. is_among p (before_first (λ q. is_at q o) (list_of m x)) ≡ true in
-    leb-false (position_of m p x) (slice_index bars p) (fails_before (is_within m bars x) p (list_of m x) (subst P (place_under m bars x) t))
+    leb-false (position_of m p x) (slice_index bars p)
+    (fails_before (is_within m bars x) p (list_of m x) (subst P (place_under m bars x) t))
 
 -- one who holds a place there is within reach of it
-holder_within : (m : MarketRows) (bars : List ℕ) (p y : ℕ) → is_among y (holders (matched_under m bars) p) ≡ true → position_of m p y ≤ slice_index bars p
+holder_within : (m : MarketRows) (bars : List ℕ) (p y : ℕ) → is_among y (holders (matched_under m bars) p) ≡ true
+    → position_of m p y ≤ slice_index bars p
 holder_within m bars p y t =
     let places : List (Option ℕ) = matched_under m bars in
     let holds : ℕ → Bool = λ x. is_at p (place_of places x) in
@@ -41,7 +43,8 @@ holder_within m bars p y t =
 pub position_le : (m : MarketRows) → IsMarket m → (p x : ℕ) → lists_it m p x ≡ true → position_of m p x ≤ length (order_of m p)
 position_le m is p x t = omega (arith, position_is m p x, first_place x (order_of m p) (in_order m is p x t))
 
-pub greatest_is_stable : (m : MarketRows) (bars : List ℕ) → IsMarket m → IsGreatest (market_system m) bars → IsStable m (matched_under m bars)
+pub greatest_is_stable : (m : MarketRows) (bars : List ℕ) → IsMarket m → IsGreatest (market_system m) bars
+    → IsStable m (matched_under m bars)
 greatest_is_stable m bars is greatest =
     let places : List (Option ℕ) = matched_under m bars in
     let each : length places ≡ length m.lists = length-map-range_with_len (best_within m bars) 0 (length m.lists) in
@@ -59,8 +62,10 @@ greatest_is_stable m bars is greatest =
           let out = beyond_reach m bars x p t in
           let on_list : lists_it m p x ≡ true = (among_before (λ q. is_at q (place_of places x)) p (list_of m x) t).0 in
           let p_lt = is_programme m is p x on_list in
-          let low : slice_index bars p < slice_index (map length m.orders) p = omega (arith, out, position_le m is p x on_list, ceiling_is m p) in
-          let full : length (demanded m bars p) ≡ slice_index m.seats p = full_below (market_system m) (market_is_lawful m is) bars greatest p low in
+          let low : slice_index bars p < slice_index (map length m.orders) p = omega
+          (arith, out, position_le m is p x on_list, ceiling_is m p) in
+          let full : length (demanded m bars p) ≡ slice_index m.seats p = full_below (market_system m) (market_is_lawful m is) bars
+          greatest p low in
           or_from (nat_lt (length (holders places p)) (slice_index m.seats p))
           (list_any (λ y. nat_lt (position_of m p x) (position_of m p y)) (holders places p))
           (le-ltb (length (holders places p)) (slice_index m.seats p) (omega (arith, held p p_lt, full)))

@@ -25,7 +25,8 @@ pub list_distinct : (n : ℕ) (xs : List ℕ) → is_list_below n xs ≡ true �
 list_distinct n xs t = distinct_from xs (and_parts (is_distinct xs) (list_all (λ p. nat_lt p n) xs) t).0
 
 pub list_below : (n : ℕ) (xs : List ℕ) (q : ℕ) → is_list_below n xs ≡ true → is_among q xs ≡ true → q < n
-list_below n xs q t among = ltb-true q n (one_of_all (λ p. nat_lt p n) q xs (and_parts (is_distinct xs) (list_all (λ p. nat_lt p n) xs) t).1 among)
+list_below n xs q t among = ltb-true q n
+    (one_of_all (λ p. nat_lt p n) q xs (and_parts (is_distinct xs) (list_all (λ p. nat_lt p n) xs) t).1 among)
 
 pub last_differs : (a b : Bool) → b ≡ false → (a || (b || false)) ≡ a
 last_differs true b e = refl
@@ -54,7 +55,8 @@ stamped_none stamp stamps older =
       is_list = refl;
     }
 
-pub stamped_more : (n stamp : ℕ) (xs stamps : List ℕ) (k : ℕ) → k < length xs → get_or xs k 0 < n → (slice_index stamps (get_or xs k 0) ≡ stamp → ⊥)
+pub stamped_more : (n stamp : ℕ) (xs stamps : List ℕ) (k : ℕ) → k < length xs → get_or xs k 0 < n
+    → (slice_index stamps (get_or xs k 0) ≡ stamp → ⊥)
     → AreStamped n stamp (take k xs) stamps → AreStamped n stamp (take (k + 1) xs) (set stamps (get_or xs k 0) stamp)
 stamped_more n stamp xs stamps k lt below fresh so =
     let p : ℕ = get_or xs k 0 in
@@ -66,13 +68,18 @@ stamped_more n stamp xs stamps k lt below fresh so =
     subst P (sym (take_more xs k 0 lt)) (record {
       as_many = length-set stamps p stamp ∙ so.as_many;
       up_to = λ q q_lt.
-          elim (at_set stamps p stamp q p_lt) [ inl here ↦ omega (arith, here.1) | inr there ↦ omega (arith, there, so.up_to q (omega (arith, q_lt, length-set stamps p stamp))) ];
+          elim (at_set stamps p stamp q p_lt) [
+            | inl here ↦ omega (arith, here.1)
+            | inr there ↦ omega
+                (arith, there, so.up_to q (omega (arith, q_lt, length-set stamps p stamp)))
+          ];
       bear = λ q q_lt.
           elim (cases_eq q p) [
             | inl here ↦
                 let now : slice_index (set stamps p stamp) q ≡ stamp = get_or-set_at stamps p q stamp 0 here p_lt in
                 eq-eqb (slice_index (set stamps p stamp) q) stamp now
-                ∙ sym (list_any-append (nat_eq q) front (p ∷ []) ∙ or_right (is_among q front) (is_among q (p ∷ [])) (or_left (nat_eq q p) false (eq-eqb q p here)))
+                ∙ sym (list_any-append (nat_eq q) front (p ∷ [])
+                ∙ or_right (is_among q front) (is_among q (p ∷ [])) (or_left (nat_eq q p) false (eq-eqb q p here)))
             | inr other ↦
                 let now : slice_index (set stamps p stamp) q ≡ slice_index stamps q =
                 elim (at_set stamps p stamp q p_lt) [ inl here ↦ absurd (other here.0) | inr there ↦ there ] in
@@ -87,13 +94,16 @@ stamped_more n stamp xs stamps k lt below fresh so =
 
 -- a number out of range, or one that bears the stamp already, shows that it is no list
 pub out_of_range : (n : ℕ) (xs : List ℕ) (k : ℕ) → k < length xs → n ≤ get_or xs k 0 → is_list_below n xs ≡ false
-out_of_range n xs k lt past = false_from_ne_true (is_list_below n xs) (λ t. omega (arith, past, list_below n xs (get_or xs k 0) t (among_at xs k lt)))
+out_of_range n xs k lt past = false_from_ne_true (is_list_below n xs)
+    (λ t. omega (arith, past, list_below n xs (get_or xs k 0) t (among_at xs k lt)))
 
-pub stands_twice : (n stamp : ℕ) (xs stamps : List ℕ) (k : ℕ) → k < length xs → get_or xs k 0 < n → slice_index stamps (get_or xs k 0) ≡ stamp
+pub stands_twice : (n stamp : ℕ) (xs stamps : List ℕ) (k : ℕ) → k < length xs → get_or xs k 0 < n
+    → slice_index stamps (get_or xs k 0) ≡ stamp
     → AreStamped n stamp (take k xs) stamps → is_list_below n xs ≡ false
 stands_twice n stamp xs stamps k lt below bears so =
     let p : ℕ = get_or xs k 0 in
-    let before : is_among p (take k xs) ≡ true = sym (so.bear p (omega (arith, below, so.as_many))) ∙ eq-eqb (slice_index stamps p) stamp bears in
+    let before : is_among p (take k xs) ≡ true = sym (so.bear p (omega (arith, below, so.as_many)))
+    ∙ eq-eqb (slice_index stamps p) stamp bears in
     false_from_ne_true (is_list_below n xs) (λ t.
     let apart = list_distinct n xs t in
     let (j, (j_lt, j_at)) = earlier p xs k (omega (arith, lt)) before in

@@ -19,7 +19,8 @@ module _ (d : DossierRows) (valid : IsValid d) (orders : List CallOrder) (are : 
   bar_each bars greatest =
       greatest.fits.under_ceilings.as_many ∙ length-map (market_of d orders).orders length ∙ orders_long d valid orders are
 
-  pub places_there : (places : List (Option ℕ)) → IsStable (market_of d orders) places → All (λ place. ForSome place (λ p. p < length d.programmes)) places
+  pub places_there : (places : List (Option ℕ)) → IsStable (market_of d orders) places
+      → All (λ place. ForSome place (λ p. p < length d.programmes)) places
   places_there places stable = λ k e lt p at.
       let listed = stable.matching.listed k p (get_or_default places k None e lt ∙ at) in
       omega (arith, is_programme (market_of d orders) (market_stands d valid orders are) p k listed, orders_long d valid orders are)

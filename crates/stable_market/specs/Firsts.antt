@@ -28,7 +28,8 @@ range_has q a (suc n) le lt =
     elim (cases_eq q a) [
       | inl same ↦ or_left (nat_eq q a) (is_among q (range_with_len (a + 1) n)) (eq-eqb q a same)
       | inr other ↦
-          or_right (nat_eq q a) (is_among q (range_with_len (a + 1) n)) (range_has q (a + 1) n (omega (arith, le, other)) (omega (arith, lt)))
+          or_right (nat_eq q a) (is_among q (range_with_len (a + 1) n))
+          (range_has q (a + 1) n (omega (arith, le, other)) (omega (arith, lt)))
     ]
 
 -- what holds of all holds of one
@@ -40,6 +41,13 @@ one_of_all t q (x ∷ xs) all among =
       | inl here ↦ ap t (eqb-true q x here) ∙ parts.0
       | inr later ↦ one_of_all t q xs parts.1 later
     ]
+
+-- and where each of them passes, all do
+pub all_of : (t : ℕ → Bool) (xs : List ℕ) → ((q : ℕ) → is_among q xs ≡ true → t q ≡ true) → list_all t xs ≡ true
+all_of t [] each = refl
+all_of t (x ∷ xs) each =
+    rw (each x (or_left (nat_eq x x) (is_among x xs) (eq-eqb x x refl)))
+    (all_of t xs (λ q among. each q (or_right (nat_eq q x) (is_among q xs) among)))
 
 -- where each fails, none passes
 pub none_of : (t : ℕ → Bool) (xs : List ℕ) → ((q : ℕ) → is_among q xs ≡ true → t q ≡ false) → list_any t xs ≡ false
@@ -124,7 +132,8 @@ found_at t place (x ∷ xs) fails passes =
           let same = at_place x place here in
           rw ((passes x same).1) (sym same)
       | inr other ↦
-          let first : t x ≡ false = fails x (rw (before_no u x xs other) (or_left (nat_eq x x) (is_among x (before_first u xs)) (eq-eqb x x refl))) in
+          let first : t x ≡ false = fails x
+          (rw (before_no u x xs other) (or_left (nat_eq x x) (is_among x (before_first u xs)) (eq-eqb x x refl))) in
           rw first (found_at t place xs
           (λ q among. fails q (rw (before_no u x xs other) (or_right (nat_eq q x) (is_among q (before_first u xs)) among)))
           (λ p is.
@@ -140,15 +149,18 @@ found_at t place (x ∷ xs) fails passes =
     ]
 
 -- the first place of a list that passes
-pub position_found : {X : Type 0} (test : X → Bool) (xs : List X) (i : ℕ) (d : X) → i < length xs → ((k : ℕ) → k < i → test (get_or xs k d) ≡ false)
+pub position_found : {X : Type 0} (test : X → Bool) (xs : List X) (i : ℕ) (d : X) → i < length xs
+    → ((k : ℕ) → k < i → test (get_or xs k d) ≡ false)
     → test (get_or xs i d) ≡ true → position test xs ≡ Some i
 position_found test xs i d lt fails passes =
     let first : position_or_len test xs ≡ i = position_or_len_is test xs i d (omega (arith, lt)) fails (λ h. passes) in
     let P : ℕ → Type 0 = λ k. cond (nat_lt k (length xs)) (Some k) None ≡ Some i in
     subst P (sym first) (rw (lt-ltb i (length xs) lt) refl)
 
-pub position_none : {X : Type 0} (test : X → Bool) (xs : List X) (d : X) → ((k : ℕ) → k < length xs → test (get_or xs k d) ≡ false) → position test xs ≡ None
+pub position_none : {X : Type 0} (test : X → Bool) (xs : List X) (d : X) → ((k : ℕ) → k < length xs → test (get_or xs k d) ≡ false)
+    → position test xs ≡ None
 position_none test xs d fails =
-    let none : position_or_len test xs ≡ length xs = position_or_len_is test xs (length xs) d (omega arith) fails (λ h. absurd (omega (arith, h))) in
+    let none : position_or_len test xs ≡ length xs = position_or_len_is test xs (length xs) d (omega arith) fails
+    (λ h. absurd (omega (arith, h))) in
     let P : ℕ → Type 0 = λ k. cond (nat_lt k (length xs)) (Some k) None ≡ None in
     subst P (sym none) (rw (le-ltb (length xs) (length xs) (omega arith)) refl)

@@ -75,11 +75,17 @@ market_is_lawful m is =
       to_bar = λ bars p r under lt h.
           let parts = demanded_parts m bars p r (list_any-from_Contains nat_eq_equiv r (demanded m bars p) h) in
           let p_lt : p < length m.orders = omega (arith, lt, under.as_many, length-map m.orders length) in
-          omega (arith, best_is_within m bars (candidate_at m p r) p parts.2, position_at m p r (order_distinct m is p p_lt) parts.0 parts.1);
+          omega (
+            arith,
+            best_is_within m bars (candidate_at m p r) p parts.2,
+            position_at m p r (order_distinct m is p p_lt) parts.0
+                parts.1,
+          );
       stay_demanded = λ lower upper p r below under lt h le.
           let parts = demanded_parts m upper p r (list_any-from_Contains nat_eq_equiv r (demanded m upper p) h) in
           let p_lt : p < length m.orders = omega (arith, lt, below.as_many, under.as_many, length-map m.orders length) in
           let at = position_at m p r (order_distinct m is p p_lt) parts.0 parts.1 in
           Contains-from_any eqb-true r (demanded m lower p)
-          (demanded_from m lower p r parts.0 parts.1 (best_stays m lower upper (candidate_at m p r) p below parts.2 (omega (arith, le, at))));
+          (demanded_from m lower p r parts.0 parts.1
+          (best_stays m lower upper (candidate_at m p r) p below parts.2 (omega (arith, le, at))));
     }

@@ -13,11 +13,13 @@ MarketsAreLawful = (m : MarketRows) → IsMarket m → IsLawful (market_system m
 
 -- the greatest bars give a stable matching
 abbrev pub GreatestBarsAreStable : Type 0
-GreatestBarsAreStable = (m : MarketRows) (bars : List ℕ) → IsMarket m → IsGreatest (market_system m) bars → IsStable m (matched_under m bars)
+GreatestBarsAreStable = (m : MarketRows) (bars : List ℕ) → IsMarket m → IsGreatest (market_system m) bars
+    → IsStable m (matched_under m bars)
 
 -- and no stable matching is better for anyone
 abbrev pub GreatestBarsAreBest : Type 0
-GreatestBarsAreBest = (m : MarketRows) (bars : List ℕ) → IsMarket m → IsGreatest (market_system m) bars → IsBestForAll m (matched_under m bars)
+GreatestBarsAreBest = (m : MarketRows) (bars : List ℕ) → IsMarket m → IsGreatest (market_system m) bars
+    → IsBestForAll m (matched_under m bars)
 
 -- whichever programme falls first, each candidate has the same place
 abbrev pub TheSameWhicheverFallsFirst : Type 0
@@ -42,4 +44,15 @@ ThereIsABest = (m : MarketRows) → IsMarket m → (places : List (Option ℕ)) 
 
 -- the same candidates have a place in all stable matchings, and each programme as many
 abbrev pub TheSameHavePlaces : Type 0
-TheSameHavePlaces = (m : MarketRows) (one other : List (Option ℕ)) → IsMarket m → IsStable m one → IsStable m other → HaveSamePlaced m one other
+TheSameHavePlaces = (m : MarketRows) (one other : List (Option ℕ)) → IsMarket m → IsStable m one → IsStable m other
+    → HaveSamePlaced m one other
+
+-- and no two are best for all
+abbrev pub TheBestIsOne : Type 0
+TheBestIsOne =
+    (m : MarketRows) (one other : List (Option ℕ))
+    → IsStable m one
+    → IsBestForAll m one
+    → IsStable m other
+    → IsBestForAll m other
+    → one ≡ other

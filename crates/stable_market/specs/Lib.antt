@@ -17,4 +17,5 @@ pub mod Solving
 pub mod Stamps
 pub mod Standing
 pub mod Text
+pub mod Truth
 pub mod Worked

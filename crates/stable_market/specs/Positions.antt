@@ -20,7 +20,8 @@ first_place x (y ∷ ys) t =
       | inl here ↦ rw here (omega arith)
       | inr later ↦
           let rest : position_or_len (nat_eq x) ys < length ys = first_place x ys later in
-          elim (nat_eq x y) as (λ b. cond (not b) (1 + position_or_len (nat_eq x) ys) 0 < suc (length ys)) [ true ↦ omega arith | false ↦ omega arith ]
+          elim (nat_eq x y) as (λ b. cond (not b) (1 + position_or_len (nat_eq x) ys) 0 < suc (length ys))
+          [ true ↦ omega arith | false ↦ omega arith ]
     ]
 
 pub length_before : (u : ℕ → Bool) (xs : List ℕ) → length (before_first u xs) ≡ position_or_len u xs
@@ -46,7 +47,8 @@ only_place xs i apart lt =
       | inr (inl before) ↦
           absurd (false≢true (sym (apart_from_distinct nat_eq xs j i 0 apart before lt) ∙ eq-eqb (get_or xs j 0) (get_or xs i 0) same))
       | inr (inr after) ↦
-          absurd (false≢true (sym (apart_from_distinct nat_eq xs i j 0 apart after j_lt) ∙ eq-eqb (get_or xs i 0) (get_or xs j 0) (sym same)))
+          absurd (false≢true (sym (apart_from_distinct nat_eq xs i j 0 apart after j_lt)
+          ∙ eq-eqb (get_or xs i 0) (get_or xs j 0) (sym same)))
     ]
 
 pub distinct_from : (xs : List ℕ) → is_distinct xs ≡ true → IsDistinct nat_eq xs
@@ -55,9 +57,11 @@ distinct_from xs t = IsDistinct-from_count nat_eq_equiv xs (eqb-true (length (di
 module _ (m : MarketRows) (is : IsMarket m) where
   -- the parts of what an order is
   order_tests : (p : ℕ) → p < length m.orders
-      → (is_distinct (order_of m p) ≡ true) × (list_all (lists_it m p) (order_of m p) ≡ true) × (list_all (λ x. is_among x (order_of m p)) (listers m p) ≡ true)
+      → (is_distinct (order_of m p) ≡ true) × (list_all (lists_it m p) (order_of m p) ≡ true) ×
+      (list_all (λ x. is_among x (order_of m p)) (listers m p) ≡ true)
   order_tests p lt =
-      let first = and_parts (is_distinct (order_of m p) && list_all (lists_it m p) (order_of m p)) (list_all (λ x. is_among x (order_of m p)) (listers m p)) (is.orders p lt) in
+      let first = and_parts (is_distinct (order_of m p) && list_all (lists_it m p) (order_of m p))
+      (list_all (λ x. is_among x (order_of m p)) (listers m p)) (is.orders p lt) in
       let second = and_parts (is_distinct (order_of m p)) (list_all (lists_it m p) (order_of m p)) first.0 in
       (second.0, second.1, first.1)
 
@@ -75,14 +79,17 @@ module _ (m : MarketRows) (is : IsMarket m) where
   -- and names programmes of the market
   pub is_programme : (p x : ℕ) → lists_it m p x ≡ true → p < length m.orders
   is_programme p x t =
-      let both = and_parts (is_distinct (list_of m x)) (list_all (λ q. nat_lt q (length m.orders)) (list_of m x)) (is.lists x (is_candidate p x t)) in
+      let both = and_parts (is_distinct (list_of m x)) (list_all (λ q. nat_lt q (length m.orders)) (list_of m x))
+      (is.lists x (is_candidate p x t)) in
       ltb-true p (length m.orders) (one_of_all (λ q. nat_lt q (length m.orders)) p (list_of m x) both.1 t)
 
   -- who lists a programme is in its order
   pub in_order : (p x : ℕ) → lists_it m p x ≡ true → is_among x (order_of m p) ≡ true
   in_order p x t =
-      let within : is_among x (range_with_len 0 (length m.lists)) ≡ true = range_has x 0 (length m.lists) (omega arith) (omega (arith, is_candidate p x t)) in
-      let lister : is_among x (listers m p) ≡ true = among_filter (lists_it m p) x (range_with_len 0 (length m.lists)) ∙ rw (within, t) refl in
+      let within : is_among x (range_with_len 0 (length m.lists)) ≡ true = range_has x 0 (length m.lists) (omega arith)
+      (omega (arith, is_candidate p x t)) in
+      let lister : is_among x (listers m p) ≡ true = among_filter (lists_it m p) x (range_with_len 0 (length m.lists))
+      ∙ rw (within, t) refl in
       one_of_all (λ y. is_among y (order_of m p)) x (listers m p) (order_tests p (is_programme p x t)).2 lister
 
   -- and nobody else is
@@ -94,6 +101,7 @@ pub position_is : (m : MarketRows) (p x : ℕ) → position_of m p x ≡ positio
 position_is m p x = ap (λ n. n + 1) (length_before (nat_eq x) (order_of m p))
 
 -- the candidate at a position stands there
-pub position_at : (m : MarketRows) (p r : ℕ) → IsDistinct nat_eq (order_of m p) → 1 ≤ r → r ≤ length (order_of m p) → position_of m p (candidate_at m p r) ≡ r
+pub position_at : (m : MarketRows) (p r : ℕ) → IsDistinct nat_eq (order_of m p) → 1 ≤ r → r ≤ length (order_of m p)
+    → position_of m p (candidate_at m p r) ≡ r
 position_at m p r apart one le =
     omega (arith, position_is m p (candidate_at m p r), only_place (order_of m p) (r - 1) apart (omega (arith, one, le)))

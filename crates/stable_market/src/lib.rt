@@ -34,4 +34,8 @@ pub use solution::{Solved, solve};
 pub use text::market_text;
 
 #[cfg(test)]
+mod fitting;
+#[cfg(test)]
+mod matchings;
+#[cfg(test)]
 mod tests;

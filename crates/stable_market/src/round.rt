@@ -1,9 +1,10 @@
 //! A market as a system of falling bars.
-ghost use Rattle.std.specs.Prelude.{ℕ, ◌≡◌, ◌<◌, ◌≤◌, length, map, filter, nat_le, slice_get, slice_index, ◌-◌, All, IfOk};
+ghost use Rattle.std.specs.Prelude.{ℕ, ◌≡◌, ◌<◌, ◌≤◌, length, map, filter, nat_le, slice_get, slice_index, ◌-◌, All, IfOk, IsOk};
 ghost use Rattle.stable_market.specs.Markets.{IsMarket, order_of, candidate_at};
 ghost use Rattle.stable_market.specs.Matchings.{IsMatching};
 ghost use Rattle.stable_market.specs.Bars.{demanded, market_system, offered, place_code};
 ghost use Rattle.stable_market.specs.Rounds.{IsRound, held_to};
+ghost use Rattle.bar_law.specs.Overfilled.{rank_over};
 
 use crate::market::Market;
 use crate::ranked::Ranked;
@@ -150,7 +151,12 @@ impl Falling for MarketRound<'_> {
         self.bars[i as usize]
     }
 
-    fn over(&self, _alloc: Global, i: u32) -> Result<Option<u32>, OutOfMemory> {
+    fn over(&self, _alloc: Global, i: u32) -> Result<Option<u32>, OutOfMemory>
+        requires { i < length (market_system self.now.market).ceilings }
+        ensures over { IfOk result (λ over. over ≡
+            rank_over (market_system self.now.market) self.now.bars.items i) }
+        ensures always { IsOk result }
+    {
         let bar = self.bars[i as usize];
         Ok(first_over(self.market.market(), bar, &self.seating, i))
     }

@@ -17,5 +17,6 @@ overflow_cast-candidate c =
 pub loop-candidate-preserved : goal.loop-candidate-preserved
 loop-candidate-preserved c =
     let k : ℕ = c.loop-candidate.candidate in
-    lasts_more c.args.market.now c.args.places.now k c.loop-candidate.lasts.items c.note_last.new.lasts.items (place_of c.args.places.now k) refl
+    lasts_more c.args.market.now c.args.places.now k c.loop-candidate.lasts.items c.note_last.new.lasts.items
+    (place_of c.args.places.now k) refl
     (λ p e. c.requires.within k p e) c.loop-candidate.invariant c.note_last.ensures

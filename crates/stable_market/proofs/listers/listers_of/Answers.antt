@@ -12,4 +12,5 @@ loop-place-preserved c =
     let read : c.as_slice.result.now ≡ get_or lists k [] =
     c.as_slice.ensures ∙ c.index-lists-place.is ∙ get_or_default lists k c.index-lists-place.result [] c.loop-place-test.true in
     let P : List ℕ → Type 0 = λ xs. ArePutIn (λ p. is_among p xs) (λ p. k) c.loop-place.rows.items c.put_in_rows.new.rows.items in
-    listers_more lists c.args.count k c.loop-place.rows.items c.put_in_rows.new.rows.items c.loop-place.invariant (subst P read c.in_ok-put_in_rows.ensures)
+    listers_more lists c.args.count k c.loop-place.rows.items c.put_in_rows.new.rows.items c.loop-place.invariant
+    (subst P read c.in_ok-put_in_rows.ensures)

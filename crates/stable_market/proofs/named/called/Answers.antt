@@ -17,11 +17,13 @@ loop-candidate-preserved c =
     let who : ℕ = get_or order i 0 in
     let n : ℕ = c.number_of-number.result in
     let before : List ℕ = filter t (map f (take i order)) in
-    let more = called_more t f order i who c.is_in.result c.loop-candidate-test.true refl (c.is_in.ensures ∙ ap t c.number_of-number.ensures) in
+    let more = called_more t f order i who c.is_in.result c.loop-candidate-test.true refl
+    (c.is_in.ensures ∙ ap t c.number_of-number.ensures) in
     elim c.if-is_in.branch [
       | then-is_in+in_ok-push w ↦
           let same : filter t (map f (take (i + 1) order)) ≡ before ++ f who ∷ [] = rw w.if-is_in.true at more in
-          ap (λ (v : Vec ℕ Global). v.items) w.numbers-is ∙ w.in_ok-push.ensures.items ∙ ap (λ (xs : List ℕ). xs ++ n ∷ []) c.loop-candidate.invariant
+          ap (λ (v : Vec ℕ Global). v.items) w.numbers-is ∙ w.in_ok-push.ensures.items
+          ∙ ap (λ (xs : List ℕ). xs ++ n ∷ []) c.loop-candidate.invariant
           ∙ ap (λ k. before ++ k ∷ []) c.number_of-number.ensures ∙ sym same
       | else-is_in w ↦
           let same : filter t (map f (take (i + 1) order)) ≡ before ++ [] = rw w.if-is_in.false at more in

@@ -5,4 +5,5 @@ use Rattle.stable_market.proofs.named.called.Given as goal
 
 abbrev pub invariant-loop-candidate : goal.invariant-loop-candidate
 invariant-loop-candidate l =
-    l.numbers.items ≡ filter (λ x. is_among x l.listers) (map (λ c. position_or_len (nat_eq c) l.names.keys) (take l.candidate-index l.order))
+    l.numbers.items ≡ filter (λ x. is_among x l.listers)
+    (map (λ c. position_or_len (nat_eq c) l.names.keys) (take l.candidate-index l.order))

@@ -18,9 +18,11 @@ invariant_of-market c =
     c.in_ok-wishes.ensures ∙ ap (filter counts) c.as_slice.ensures ∙ ap (λ (e : DossierRows). filter counts e.wishes) c.dossier.view_is in
     let names : c.in_ok-names.names.keys ≡ named rows = c.in_ok-names.ensures ∙ ap named c.as_slice-2.ensures.value in
     let lists : c.in_ok-lists.lists.items ≡ map (λ k. by_preference (own rows k)) c.in_ok-names.names.keys =
-    c.in_ok-lists.ensures ∙ ap (λ (ws : List Wish). map (λ k. by_preference (own ws k)) c.in_ok-names.names.keys) c.as_slice-3.ensures.value in
+    c.in_ok-lists.ensures ∙ ap (λ (ws : List Wish). map (λ k. by_preference (own ws k)) c.in_ok-names.names.keys)
+    c.as_slice-3.ensures.value in
     subst IsSmallMarket
-    (sym (market_is d orders rows c.in_ok-names.names.keys c.in_ok-lists.lists.items c.in_ok-orders.orders.items c.in_ok-seats.seats.items wishes names lists c.in_ok-orders.ensures c.in_ok-seats.ensures))
+    (sym (market_is d orders rows c.in_ok-names.names.keys c.in_ok-lists.lists.items c.in_ok-orders.orders.items c.in_ok-seats.seats.items
+    wishes names lists c.in_ok-orders.ensures c.in_ok-seats.ensures))
     (record { valid = market_stands d valid orders c.requires; small = market_small d valid orders c.requires })
 
 pub returns-clause-market : goal.returns-clause-market
@@ -32,5 +34,7 @@ returns-clause-market c =
     c.in_ok-wishes.ensures ∙ ap (filter counts) c.as_slice.ensures ∙ ap (λ (e : DossierRows). filter counts e.wishes) c.dossier.view_is in
     let names : c.in_ok-names.names.keys ≡ named rows = c.in_ok-names.ensures ∙ ap named c.as_slice-2.ensures.value in
     let lists : c.in_ok-lists.lists.items ≡ map (λ k. by_preference (own rows k)) c.in_ok-names.names.keys =
-    c.in_ok-lists.ensures ∙ ap (λ (ws : List Wish). map (λ k. by_preference (own ws k)) c.in_ok-names.names.keys) c.as_slice-3.ensures.value in
-    market_is d orders rows c.in_ok-names.names.keys c.in_ok-lists.lists.items c.in_ok-orders.orders.items c.in_ok-seats.seats.items wishes names lists c.in_ok-orders.ensures c.in_ok-seats.ensures
+    c.in_ok-lists.ensures ∙ ap (λ (ws : List Wish). map (λ k. by_preference (own ws k)) c.in_ok-names.names.keys)
+    c.as_slice-3.ensures.value in
+    market_is d orders rows c.in_ok-names.names.keys c.in_ok-lists.lists.items c.in_ok-orders.orders.items c.in_ok-seats.seats.items wishes
+    names lists c.in_ok-orders.ensures c.in_ok-seats.ensures

@@ -22,8 +22,10 @@ pub listers_of-requires-clause-lists : goal.listers_of-requires-clause-lists
 listers_of-requires-clause-lists c =
     let d = c.args.dossier.now in
     let valid = (let P : DossierRows → Type 0 = IsValid in subst P c.dossier.view_is c.dossier.invariant) in
-    let n_is : c.len-count.result ≡ length d.programmes = c.len-count.ensures ∙ ap (λ (e : DossierRows). length e.programmes) c.dossier.view_is in
-    subst (AreLists c.len-count.result) (sym c.requires.lists) (are_lists d valid c.args.orders.now.orders c.requires.orders c.len-count.result n_is)
+    let n_is : c.len-count.result ≡ length d.programmes = c.len-count.ensures
+    ∙ ap (λ (e : DossierRows). length e.programmes) c.dossier.view_is in
+    subst (AreLists c.len-count.result) (sym c.requires.lists)
+    (are_lists d valid c.args.orders.now.orders c.requires.orders c.len-count.result n_is)
 
 pub order_of-order-requires-clause-orders : goal.order_of-order-requires-clause-orders
 order_of-order-requires-clause-orders c =
@@ -44,7 +46,8 @@ called-requires-clause-rises c =
     let lists : List (List ℕ) = c.args.lists.now in
     let n : ℕ = c.len-count.result in
     let p : ℕ = c.loop-programme.programme in
-    let row = row_is lists n (length lists) p c.in_ok-rows.rows.items c.index.result.now c.in_ok-rows.ensures c.loop-programme-test.true c.index.ensures in
+    let row = row_is lists n (length lists) p c.in_ok-rows.rows.items c.index.result.now c.in_ok-rows.ensures c.loop-programme-test.true
+    c.index.ensures in
     subst IsStrictlyIncreasing (sym (c.as_slice-listers.ensures.value ∙ row)) (listers_rise lists p (length lists))
 
 pub loop-programme-preserved : goal.loop-programme-preserved
@@ -56,13 +59,16 @@ loop-programme-preserved c =
     let n : ℕ = c.len-count.result in
     let p : ℕ = c.loop-programme.programme in
     let called : ℕ → List ℕ = λ q. called_in ws q (order_of d orders q) in
-    let row = row_is lists n (length lists) p c.in_ok-rows.rows.items c.index.result.now c.in_ok-rows.ensures c.loop-programme-test.true c.index.ensures in
+    let row = row_is lists n (length lists) p c.in_ok-rows.rows.items c.index.result.now c.in_ok-rows.ensures c.loop-programme-test.true
+    c.index.ensures in
     let listers : c.as_slice-listers.result.now ≡ naming (lists_in ws) p (length (lists_in ws)) =
     c.as_slice-listers.ensures.value ∙ row ∙ ap (λ (ls : List (List ℕ)). naming ls p (length ls)) c.requires.lists in
     let numbers : c.in_ok-numbers.numbers ≡ called p =
     c.in_ok-numbers.ensures
-    ∙ ap (λ (ks : List ℕ). filter (λ x. is_among x c.as_slice-listers.result.now) (map (λ k. position_or_len (nat_eq k) ks) c.order_of-order.result.now)) c.requires.names
-    ∙ ap (λ (o : List ℕ). filter (λ x. is_among x c.as_slice-listers.result.now) (map (λ k. position_or_len (nat_eq k) (named ws)) o)) c.order_of-order.ensures
+    ∙ ap (λ (ks : List ℕ). filter (λ x. is_among x c.as_slice-listers.result.now)
+    (map (λ k. position_or_len (nat_eq k) ks) c.order_of-order.result.now)) c.requires.names
+    ∙ ap (λ (o : List ℕ). filter (λ x. is_among x c.as_slice-listers.result.now) (map (λ k. position_or_len (nat_eq k) (named ws)) o))
+    c.order_of-order.ensures
     ∙ called_by_listers ws p (order_of d orders p) c.as_slice-listers.result.now listers in
     c.in_ok-push.ensures.items ∙ ap (λ (xs : List (List ℕ)). xs ++ c.in_ok-numbers.numbers ∷ []) c.loop-programme.invariant
     ∙ ap (λ (xs : List ℕ). map called (range_with_len 0 p) ++ xs ∷ []) numbers

@@ -6,7 +6,8 @@ use Rattle.stable_market.proofs.orders.first_bad_order.Goals as goal
 pub has_all_of-requires-clause-within : goal.has_all_of-requires-clause-within
 has_all_of-requires-clause-within c =
     let m : MarketRows = record { lists = c.args.lists.now; orders = c.args.orders.now; seats = [] } in
-    let row = row_read m c.loop-order.order-index c.loop-order.stamp c.in_ok-rows.rows.items c.index.result.now c.as_slice-listers.result.now
+    let row = row_read m c.loop-order.order-index c.loop-order.stamp c.in_ok-rows.rows.items c.index.result.now
+    c.as_slice-listers.result.now
     c.loop-order.invariant.stamp_is c.loop-order-test.true c.in_ok-rows.ensures c.index.ensures c.as_slice-listers.ensures.value in
     row_within m (length c.loop-order.stamps) c.loop-order.order-index c.as_slice-listers.result.now row c.loop-order.invariant.as_many
 
@@ -17,8 +18,10 @@ returns-then-not-has_all_of c =
     let row = row_read m k c.loop-order.stamp c.in_ok-rows.rows.items c.index.result.now c.as_slice-listers.result.now
     c.loop-order.invariant.stamp_is c.loop-order-test.true c.in_ok-rows.ensures c.index.ensures c.as_slice-listers.ensures.value in
     let order = order_read m k c.order-item.result c.as_slice.result.now c.loop-order-test.true c.order-item.is c.as_slice.ensures in
-    let told = told_now m (length c.loop-order.stamps) k c.as_slice-listers.result.now c.as_slice.result.now c.has_all_of.result row order c.has_all_of.ensures.all in
-    sym (orders_found m k c.loop-order.stamp c.loop-order.stamps c.has_all_of.result c.loop-order-test.true c.loop-order.invariant told c.if-not-has_all_of.true)
+    let told = told_now m (length c.loop-order.stamps) k c.as_slice-listers.result.now c.as_slice.result.now c.has_all_of.result row order
+    c.has_all_of.ensures.all in
+    sym (orders_found m k c.loop-order.stamp c.loop-order.stamps c.has_all_of.result c.loop-order-test.true c.loop-order.invariant told
+    c.if-not-has_all_of.true)
 
 pub loop-order-preserved : goal.loop-order-preserved
 loop-order-preserved c =
@@ -27,11 +30,14 @@ loop-order-preserved c =
     let row = row_read m k c.loop-order.stamp c.in_ok-rows.rows.items c.index.result.now c.as_slice-listers.result.now
     c.loop-order.invariant.stamp_is c.loop-order-test.true c.in_ok-rows.ensures c.index.ensures c.as_slice-listers.ensures.value in
     let order = order_read m k c.order-item.result c.as_slice.result.now c.loop-order-test.true c.order-item.is c.as_slice.ensures in
-    let told = told_now m (length c.loop-order.stamps) k c.as_slice-listers.result.now c.as_slice.result.now c.has_all_of.result row order c.has_all_of.ensures.all in
-    orders_more m k c.loop-order.stamp c.loop-order.stamps c.has_all_of.new.stamps c.has_all_of.result c.loop-order-test.true c.loop-order.invariant
+    let told = told_now m (length c.loop-order.stamps) k c.as_slice-listers.result.now c.as_slice.result.now c.has_all_of.result row order
+    c.has_all_of.ensures.all in
+    orders_more m k c.loop-order.stamp c.loop-order.stamps c.has_all_of.new.stamps c.has_all_of.result c.loop-order-test.true
+    c.loop-order.invariant
     c.has_all_of.ensures.as_many c.has_all_of.ensures.up_to told c.if-not-has_all_of.false
 
 pub returns : goal.returns
 returns c =
     let m : MarketRows = record { lists = c.args.lists.now; orders = c.args.orders.now; seats = [] } in
-    sym (orders_none m c.loop-order.order-index c.loop-order.stamp c.loop-order.stamps (omega (arith, c.loop-order-test.false)) c.loop-order.invariant)
+    sym (orders_none m c.loop-order.order-index c.loop-order.stamp c.loop-order.stamps (omega (arith, c.loop-order-test.false))
+    c.loop-order.invariant)

@@ -9,4 +9,5 @@ loop-name-preserved c =
     let i = c.loop-name.name in
     ap (map (λ r. r.items)) c.in_ok-push.ensures.items
     ∙ map-append (λ r. r.items) c.loop-name.rows.items (c.new.result ∷ [])
-    ∙ rw (c.loop-name.invariant, c.new.ensures.items, take_more ks i 0 (omega arith)) (sym (map-append (own []) (take i ks) (get_or ks i 0 ∷ [])))
+    ∙ rw (c.loop-name.invariant, c.new.ensures.items, take_more ks i 0 (omega arith))
+    (sym (map-append (own []) (take i ks) (get_or ks i 0 ∷ [])))

@@ -6,7 +6,9 @@ pub returns-in-Some-clause-laid : goal.returns-in-Some-clause-laid
 returns-in-Some-clause-laid c before e =
     let wish = c.args.wish in
     let ks = c.args.names.now.keys in
-    c.in_ok-add.ensures.added ∙ rw e (lay before wish ks c.in-Some.place c.len.ensures.unique (is_at wish.candidate ks c.in-Some.place (sym c.get_index_of.ensures.index ∙ c.in-Some.is)))
+    c.in_ok-add.ensures.added ∙ rw e
+    (lay before wish ks c.in-Some.place c.len.ensures.unique
+    (is_at wish.candidate ks c.in-Some.place (sym c.get_index_of.ensures.index ∙ c.in-Some.is)))
 
 pub returns-clause-laid : goal.returns-clause-laid
 returns-clause-laid c before e =

@@ -20,8 +20,10 @@ returns-then-left-seats-2 c =
     let y_is : y ≡ get_or order k 0 = (let e : bar - c.loop-passed.passed - 1 ≡ k = omega (arith, here) in ap (λ i. get_or order i 0) e) in
     let k_lt : k < length order = omega (arith, here, c.requires.bar, ap length c.order-order.ensures.order, c.loop-passed-test.true) in
     let y_lt : y < length m.lists = omega (arith, y_is, c.order-order.ensures.within k 0 k_lt) in
-    let place_is : c.index.result.now ≡ place_of places y = c.index.ensures ∙ get_or_default places y c.index.result.now None (omega (arith, y_lt, c.requires.places)) in
-    let held : is_held m places p (k + 1) ≡ true = held_is m places p k y order c.index.result.now c.order-order.ensures.order y_is place_is ∙ sym c.is_at.ensures ∙ c.if-is_at.true in
+    let place_is : c.index.result.now ≡ place_of places y = c.index.ensures
+    ∙ get_or_default places y c.index.result.now None (omega (arith, y_lt, c.requires.places)) in
+    let held : is_held m places p (k + 1) ≡ true = held_is m places p k y order c.index.result.now c.order-order.ensures.order y_is
+    place_is ∙ sym c.is_at.ensures ∙ c.if-is_at.true in
     let long : length (held_to m places p k) ≡ slice_index c.args.seating.now.filling.seats p =
     omega (
       arith,
@@ -46,9 +48,12 @@ loop-passed-preserved c =
     let y_is : y ≡ get_or order k 0 = (let e : bar - c.loop-passed.passed - 1 ≡ k = omega (arith, here) in ap (λ i. get_or order i 0) e) in
     let k_lt : k < length order = omega (arith, here, c.requires.bar, ap length c.order-order.ensures.order, c.loop-passed-test.true) in
     let y_lt : y < length m.lists = omega (arith, y_is, c.order-order.ensures.within k 0 k_lt) in
-    let place_is : c.index.result.now ≡ place_of places y = c.index.ensures ∙ get_or_default places y c.index.result.now None (omega (arith, y_lt, c.requires.places)) in
-    let asked : is_held m places p (k + 1) ≡ c.is_at.result = held_is m places p k y order c.index.result.now c.order-order.ensures.order y_is place_is ∙ sym c.is_at.ensures in
-    let was : c.loop-passed.left ≡ length (held_to m places p (k + 1)) = c.loop-passed.invariant.0 ∙ ap (λ i. length (held_to m places p i)) here in
+    let place_is : c.index.result.now ≡ place_of places y = c.index.ensures
+    ∙ get_or_default places y c.index.result.now None (omega (arith, y_lt, c.requires.places)) in
+    let asked : is_held m places p (k + 1) ≡ c.is_at.result = held_is m places p k y order c.index.result.now c.order-order.ensures.order
+    y_is place_is ∙ sym c.is_at.ensures in
+    let was : c.loop-passed.left ≡ length (held_to m places p (k + 1)) = c.loop-passed.invariant.0
+    ∙ ap (λ i. length (held_to m places p i)) here in
     elim c.if-is_at.branch [
       | then-is_at+else-left-seats-2 w ↦ (
         omega (arith, w.left-is, was, one_less m places p k (asked ∙ w.if-is_at.true)),

@@ -34,5 +34,6 @@ put_place-requires-clause-within c =
     let is = subst P c.market.ensures c.stands.ensures.market in
     λ p e.
     let best : best_within m c.args.bars.now x ≡ Some p =
-    sym c.first_within-stand.ensures.best ∙ ap (λ (r : MarketRows). slice_get (list_of r x) s) (sym c.market-2.ensures) ∙ sym c.place_at-place.ensures ∙ e in
+    sym c.first_within-stand.ensures.best ∙ ap (λ (r : MarketRows). slice_get (list_of r x) s) (sym c.market-2.ensures)
+    ∙ sym c.place_at-place.ensures ∙ e in
     omega (arith, is_programme m is p x (best_is_listed m c.args.bars.now x p best), c.requires.counts.one_each)

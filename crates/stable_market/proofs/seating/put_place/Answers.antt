@@ -20,7 +20,8 @@ count_in-requires-clause-few c =
     omega (
       arith,
       ap (λ (f : Fill). slice_index f.counts p) c.put.ensures,
-      put_few (length counts) c.args.seating.now.places.items counts c.args.had (c.count-left.result - 1) p c.requires.counts c.requires.had_within
+      put_few (length counts) c.args.seating.now.places.items counts c.args.had (c.count-left.result - 1) p c.requires.counts
+          c.requires.had_within
           (c.requires.within p e) (omega (arith, c.count-left.ensures)),
       c.requires.few,
     )

@@ -31,7 +31,8 @@ counts_of-requires-clause-within c =
     let places_are : c.deref-2.result.now ≡ matched_under m bars =
     c.deref-2.ensures.value ∙ c.in_ok-places.ensures ∙ ap (λ (r : MarketRows). matched_under r bars) c.market-2.ensures in
     λ x p at.
-    let best : best_within m bars x ≡ Some p = sym (place_under m bars x) ∙ ap (λ (ps : List (Option ℕ)). place_of ps x) (sym places_are) ∙ at in
+    let best : best_within m bars x ≡ Some p = sym (place_under m bars x) ∙ ap (λ (ps : List (Option ℕ)). place_of ps x) (sym places_are)
+    ∙ at in
     omega (arith, is_programme m is p x (best_is_listed m bars x p best), ap (λ (r : MarketRows). length r.orders) c.market-3.ensures)
 
 pub returns : goal.returns
@@ -40,11 +41,13 @@ returns c =
     let bars = c.args.bars.now in
     let P : MarketRows → Type 0 = IsMarket in
     let is = subst P c.market.ensures c.stands.ensures.market in
-    let places_are : c.in_ok-places.places.items ≡ matched_under m bars = c.in_ok-places.ensures ∙ ap (λ (r : MarketRows). matched_under r bars) c.market-2.ensures in
+    let places_are : c.in_ok-places.places.items ≡ matched_under m bars = c.in_ok-places.ensures
+    ∙ ap (λ (r : MarketRows). matched_under r bars) c.market-2.ensures in
     let Q : ℕ → List (Option ℕ) → Type 0 = λ n ps. AreCounts n ps c.in_ok-counts.counts.items in
     let counts =
     subst (λ n. Q n c.in_ok-places.places.items) (ap (λ (r : MarketRows). length r.orders) c.market-3.ensures)
     (subst (Q (length c.market-3.result.now.orders)) c.deref-2.ensures.value c.in_ok-counts.ensures) in
-    round_from m is bars c.in_ok-stands.stands.items c.in_ok-places.places.items c.in_ok-filling.filling c.in_ok-counts.counts.items c.all_seats.result.now
+    round_from m is bars c.in_ok-stands.stands.items c.in_ok-places.places.items c.in_ok-filling.filling c.in_ok-counts.counts.items
+    c.all_seats.result.now
     c.requires.bars c.requires.under c.in_ok-stands.ensures places_are c.in_ok-filling.ensures
     (c.all_seats.ensures ∙ ap (λ (r : MarketRows). r.seats) c.market-4.ensures) counts

@@ -32,7 +32,8 @@ move_on-requires-clause-beyond c =
     c.index-2.ensures ∙ get_or_default places y c.index-2.result.now None (omega (arith, y_lt, round.seated.one_place_each)) in
     let holds : is_at p (place_of places y) ≡ true = ap (is_at p) (sym place_is) ∙ sym c.is_at.ensures ∙ c.if-is_at.true in
     let low_is : c.deref.result.now ≡ set bars p (slice_index bars p - 1) = c.deref.ensures.value ∙ ap (λ n. set bars p (n - 1)) bar_is in
-    (entry_left m bars stands places c.args.seating.now.filling round p c.requires.programme c.requires.above c.deref.result.now low_is y y_is y_lt holds).1
+    (entry_left m bars stands places c.args.seating.now.filling round p c.requires.programme c.requires.above c.deref.result.now low_is y
+    y_is y_lt holds).1
 
 pub returns-then-is_at-clause-round : goal.returns-then-is_at-clause-round
 returns-then-is_at-clause-round c =
@@ -61,8 +62,10 @@ returns-then-is_at-clause-round c =
     let new = c.move_on.new.seating in
     let P : List ℕ → Type 0 = λ bs. IsRound m bs new.stands.items new.places.items new.filling in
     subst P c.deref.ensures.value
-    (moves_on m bars stands places c.args.seating.now.filling round p c.requires.programme c.requires.above c.deref.result.now low_is y y_is y_lt
-    new.stands.items new.places.items new.filling c.move_on.ensures.stand c.move_on.ensures.stands c.move_on.ensures.places c.move_on.ensures.seats c.move_on.ensures.counts)
+    (moves_on m bars stands places c.args.seating.now.filling round p c.requires.programme c.requires.above c.deref.result.now low_is y
+    y_is y_lt
+    new.stands.items new.places.items new.filling c.move_on.ensures.stand c.move_on.ensures.stands c.move_on.ensures.places
+    c.move_on.ensures.seats c.move_on.ensures.counts)
 
 pub returns-else-is_at-clause-round : goal.returns-else-is_at-clause-round
 returns-else-is_at-clause-round c =
@@ -88,5 +91,6 @@ returns-else-is_at-clause-round c =
     let place_is : c.index-2.result.now ≡ place_of places y =
     c.index-2.ensures ∙ get_or_default places y c.index-2.result.now None (omega (arith, y_lt, round.seated.one_place_each)) in
     let away : is_at p (place_of places y) ≡ false = ap (is_at p) (sym place_is) ∙ sym c.is_at.ensures ∙ c.if-is_at.false in
-    nobody_moves m bars stands places c.args.seating.now.filling round p c.requires.programme c.requires.above (set bars p (c.index.result.now - 1))
+    nobody_moves m bars stands places c.args.seating.now.filling round p c.requires.programme c.requires.above
+    (set bars p (c.index.result.now - 1))
     (ap (λ n. set bars p (n - 1)) bar_is) y y_is y_lt away

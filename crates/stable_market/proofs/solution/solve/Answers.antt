@@ -6,7 +6,8 @@ use Rattle.stable_market.proofs.solution.solve.Goals as goal
 
 pub returns-clause-led : goal.returns-clause-led
 returns-clause-led g c =
-    led _ (market_system c.args.market.now) _ _ _ _ _ c.in_ok-round.ensures.system c.in_ok-greatest.ensures.run c.in_ok-greatest.ensures.chosen
+    led _ (market_system c.args.market.now) _ _ _ _ _ c.in_ok-round.ensures.system c.in_ok-greatest.ensures.run
+    c.in_ok-greatest.ensures.chosen
     c.in_ok-greatest.ensures.told (c.solved_by.ensures.bars ∙ c.in_ok-greatest.ensures.bars)
 
 pub returns-in_err-round-clause-early : goal.returns-in_err-round-clause-early

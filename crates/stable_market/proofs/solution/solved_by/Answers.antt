@@ -9,4 +9,5 @@ returns-clause-places c =
     let bars : List ℕ = c.args.round.bars.items in
     let found = c.into_parts-bars.result in
     codes_fix found.1.items (matched_under m found.0.items)
-    (c.into_parts-bars.ensures.places ∙ ap (λ (f : List ℕ → List ℕ). f bars) c.requires ∙ ap (offered m) (sym c.into_parts-bars.ensures.bars))
+    (c.into_parts-bars.ensures.places ∙ ap (λ (f : List ℕ → List ℕ). f bars) c.requires
+    ∙ ap (offered m) (sym c.into_parts-bars.ensures.bars))

@@ -19,16 +19,20 @@ loop-programme-preserved c =
     let front : List ℕ = filter t (range_with_len 0 k) in
     let count_is : c.index.result.now ≡ slice_index counts k = c.index.ensures ∙ get_or_default counts k c.index.result.now 0 lt in
     let seats_is : c.index-in-loop-programme.result.now ≡ slice_index seats k =
-    c.index-in-loop-programme.ensures ∙ get_or_default seats k c.index-in-loop-programme.result.now 0 (omega (arith, lt, c.in_ok-seats.ensures.len, c.requires.seats)) in
+    c.index-in-loop-programme.ensures
+    ∙ get_or_default seats k c.index-in-loop-programme.result.now 0 (omega (arith, lt, c.in_ok-seats.ensures.len, c.requires.seats)) in
     elim c.if-index.branch [
       | then-index+in_ok-push w ↦
-          let passes : t k ≡ true = lt-ltb (slice_index seats k) (slice_index counts k) (omega (arith, w.if-index.true, count_is, seats_is)) in (
-            ap (λ (v : Vec ℕ Global). v.items) w.overfilled-is ∙ w.in_ok-push.ensures.items ∙ ap (λ (xs : List ℕ). xs ++ k ∷ []) c.loop-programme.invariant.0
+          let passes : t k ≡ true = lt-ltb (slice_index seats k) (slice_index counts k)
+          (omega (arith, w.if-index.true, count_is, seats_is)) in (
+            ap (λ (v : Vec ℕ Global). v.items) w.overfilled-is ∙ w.in_ok-push.ensures.items
+                ∙ ap (λ (xs : List ℕ). xs ++ k ∷ []) c.loop-programme.invariant.0
                 ∙ sym (kept_more t k ∙ ap (λ b. front ++ cond b (k ∷ []) []) passes),
             rw w.overfilled-is (omega (arith, c.loop-programme.invariant.1, w.in_ok-push.ensures.capacity)),
           )
       | else-index w ↦
-          let fails : t k ≡ false = le-ltb (slice_index seats k) (slice_index counts k) (omega (arith, w.if-index.false, count_is, seats_is)) in (
+          let fails : t k ≡ false = le-ltb (slice_index seats k) (slice_index counts k)
+          (omega (arith, w.if-index.false, count_is, seats_is)) in (
             ap (λ (v : Vec ℕ Global). v.items) w.overfilled-is ∙ c.loop-programme.invariant.0
                 ∙ sym (kept_more t k ∙ ap (λ b. front ++ cond b (k ∷ []) []) fails ∙ append-nil front),
             rw w.overfilled-is c.loop-programme.invariant.1,

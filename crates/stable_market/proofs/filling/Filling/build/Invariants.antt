@@ -6,4 +6,5 @@ use Rattle.stable_market.proofs.filling.Filling.build.Given as goal
 
 abbrev pub invariant-loop-programme : goal.invariant-loop-programme
 invariant-loop-programme l =
-    (l.overfilled.items ≡ filter (is_over l.seats.items l.counts.items) (range_with_len 0 l.programme)) × (length l.counts.items ≤ vec_capacity l.overfilled)
+    (l.overfilled.items ≡ filter (is_over l.seats.items l.counts.items) (range_with_len 0 l.programme)) ×
+    (length l.counts.items ≤ vec_capacity l.overfilled)

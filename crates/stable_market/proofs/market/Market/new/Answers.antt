@@ -16,9 +16,11 @@ returns-in-Some-2-clause-fault c =
     let orders : List (List ℕ) = (rows_of c.args.lists.items c.args.orders.items c.args.seats.items).orders in
     let long : length orders ≡ length c.args.orders.items = length-map c.args.orders.items (λ v. v.items) in (
       omega (arith, long, c.if-len.false, c.len.ensures, c.len-2.ensures),
-      no_bad_list c.len-programmes.result lists c.deref.result.now orders c.args.seats.items (c.len-programmes.ensures ∙ sym c.deref-3.ensures.len ∙ ap length (c.deref-3.ensures.value ∙ c.in_ok-orders.ensures))
+      no_bad_list c.len-programmes.result lists c.deref.result.now orders c.args.seats.items
+          (c.len-programmes.ensures ∙ sym c.deref-3.ensures.len ∙ ap length (c.deref-3.ensures.value ∙ c.in_ok-orders.ensures))
           (c.deref.ensures.value ∙ c.in_ok-lists.ensures) (sym c.in_ok-candidate.ensures ∙ c.in_default.is),
-      bad_order_is (Some c.in-Some-2.programme) lists c.deref-2.result.now orders c.deref-3.result.now c.args.seats.items (c.deref-2.ensures.value ∙ c.in_ok-lists.ensures)
+      bad_order_is (Some c.in-Some-2.programme) lists c.deref-2.result.now orders c.deref-3.result.now c.args.seats.items
+          (c.deref-2.ensures.value ∙ c.in_ok-lists.ensures)
           (c.deref-3.ensures.value ∙ c.in_ok-orders.ensures) (sym c.in_ok-programme.ensures ∙ c.in-Some-2.is),
     )
 
@@ -26,25 +28,38 @@ pub returns-clause-stands : goal.returns-clause-stands
 returns-clause-stands c =
     let lists : List (List ℕ) = c.in_ok-lists.lists.items in
     let orders : List (List ℕ) = c.in_ok-orders.orders.items in
-    let long : length orders ≡ length c.args.orders.items = ap length c.in_ok-orders.ensures ∙ length-map c.args.orders.items (λ v. v.items) in
+    let long : length orders ≡ length c.args.orders.items = ap length c.in_ok-orders.ensures
+    ∙ length-map c.args.orders.items (λ v. v.items) in
     market_stands (record { lists = lists; orders = orders; seats = c.args.seats.items })
     (omega (arith, long, c.if-len.false, c.len.ensures, c.len-2.ensures))
-    (no_bad_list c.len-programmes.result lists c.deref.result.now orders c.args.seats.items (c.len-programmes.ensures ∙ sym c.deref-3.ensures.len ∙ ap length c.deref-3.ensures.value) c.deref.ensures.value (sym c.in_ok-candidate.ensures ∙ c.in_default.is))
-    (bad_order_is None lists c.deref-2.result.now orders c.deref-3.result.now c.args.seats.items c.deref-2.ensures.value c.deref-3.ensures.value
+    (no_bad_list c.len-programmes.result lists c.deref.result.now orders c.args.seats.items
+    (c.len-programmes.ensures ∙ sym c.deref-3.ensures.len ∙ ap length c.deref-3.ensures.value) c.deref.ensures.value
+    (sym c.in_ok-candidate.ensures ∙ c.in_default.is))
+    (bad_order_is None lists c.deref-2.result.now orders c.deref-3.result.now c.args.seats.items c.deref-2.ensures.value
+    c.deref-3.ensures.value
     (sym c.in_ok-programme.ensures ∙ c.in_default-2.is))
 
 pub invariant_of-result : goal.invariant_of-result
 invariant_of-result c =
     let lists : List (List ℕ) = c.in_ok-lists.lists.items in
     let orders : List (List ℕ) = c.in_ok-orders.orders.items in
-    let lists_long : length lists ≡ length c.args.lists.items = ap length c.in_ok-lists.ensures ∙ length-map c.args.lists.items (λ v. v.items) in
-    let long : length orders ≡ length c.args.orders.items = ap length c.in_ok-orders.ensures ∙ length-map c.args.orders.items (λ v. v.items) in
+    let lists_long : length lists ≡ length c.args.lists.items = ap length c.in_ok-lists.ensures
+    ∙ length-map c.args.lists.items (λ v. v.items) in
+    let long : length orders ≡ length c.args.orders.items = ap length c.in_ok-orders.ensures
+    ∙ length-map c.args.orders.items (λ v. v.items) in
     record {
       valid =
           market_stands (record { lists = lists; orders = orders; seats = c.args.seats.items })
           (omega (arith, long, c.if-len.false, c.len.ensures, c.len-2.ensures))
-          (no_bad_list c.len-programmes.result lists c.deref.result.now orders c.args.seats.items (c.len-programmes.ensures ∙ sym c.deref-3.ensures.len ∙ ap length c.deref-3.ensures.value) c.deref.ensures.value (sym c.in_ok-candidate.ensures ∙ c.in_default.is))
-          (bad_order_is None lists c.deref-2.result.now orders c.deref-3.result.now c.args.seats.items c.deref-2.ensures.value c.deref-3.ensures.value
+          (no_bad_list c.len-programmes.result lists c.deref.result.now orders c.args.seats.items
+          (c.len-programmes.ensures ∙ sym c.deref-3.ensures.len ∙ ap length c.deref-3.ensures.value) c.deref.ensures.value
+          (sym c.in_ok-candidate.ensures ∙ c.in_default.is))
+          (bad_order_is None lists c.deref-2.result.now orders c.deref-3.result.now c.args.seats.items c.deref-2.ensures.value
+          c.deref-3.ensures.value
           (sym c.in_ok-programme.ensures ∙ c.in_default-2.is));
-      small = record { candidates = omega (arith, lists_long, c.requires.candidates); programmes = omega (arith, long, c.requires.programmes) };
+      small = record {
+        candidates = omega (arith, lists_long, c.requires.candidates);
+        programmes = omega
+            (arith, long, c.requires.programmes);
+      };
     }

@@ -15,10 +15,12 @@ returns c =
     let places = r.seating.places.items in
     let e : ℕ = c.least-end.result in
     let i_lt : i < length r.market.orders = omega (arith, c.requires, length-map r.market.orders length) in
-    let bar_is : c.index.result.now ≡ slice_index bars i = c.index.ensures ∙ get_or_default bars i c.index.result.now 0 (omega (arith, i_lt, r.round.seated.one_bar_each)) in
+    let bar_is : c.index.result.now ≡ slice_index bars i = c.index.ensures
+    ∙ get_or_default bars i c.index.result.now 0 (omega (arith, i_lt, r.round.seated.one_bar_each)) in
     let asked : filter (λ (h : ℕ). nat_le h c.args.upto) (demanded r.market bars i) ≡ held_to r.market places i e =
     demanded_upto r.market r.round.valid bars r.seating.stands.items places r.seating.filling r.round i i_lt c.args.upto e
-    c.least-end.ensures.within (omega (arith, bar_is, c.least-end.ensures.low)) (λ h past le. omega (arith, bar_is, c.least-end.ensures.past h past le)) in
+    c.least-end.ensures.within (omega (arith, bar_is, c.least-end.ensures.low))
+    (λ h past le. omega (arith, bar_is, c.least-end.ensures.past h past le)) in
     let P : List ℕ → Type 0 = λ ks. IfOk c.names_within.result (λ v. v.items ≡ ks) in
     subst P (
     ap (λ (ps : List (Option ℕ)). map (candidate_at c.market.result.now i) (held_to c.market.result.now ps i e)) c.deref.ensures.value

@@ -14,21 +14,24 @@ first_over-requires-clause-count c =
     let bars : List ℕ = r.bars.items in
     let places = r.seating.places.items in
     let i_lt : i < length r.market.orders = omega (arith, c.requires, length-map r.market.orders length) in
-    let bar_is : c.index-bar.result.now ≡ slice_index bars i = c.index-bar.ensures ∙ get_or_default bars i c.index-bar.result.now 0 (omega (arith, i_lt, r.round.seated.one_bar_each)) in
+    let bar_is : c.index-bar.result.now ≡ slice_index bars i = c.index-bar.ensures
+    ∙ get_or_default bars i c.index-bar.result.now 0 (omega (arith, i_lt, r.round.seated.one_bar_each)) in
     counted_held r.market r.round.valid bars r.seating.stands.items places r.seating.filling r.round i i_lt
     ∙ ap (λ (b : ℕ). length (held_to r.market places i b)) (sym bar_is)
     ∙ ap (λ (m : MarketRows). length (held_to m places i c.index-bar.result.now)) (sym c.market.ensures)
 
-pub returns : goal.returns
-returns c =
+pub returns-clause-over : goal.returns-clause-over
+returns-clause-over c =
     let r = c.args.self.now in
     let i : ℕ = c.args.i in
     let bars : List ℕ = r.bars.items in
     let places = r.seating.places.items in
     let i_lt : i < length r.market.orders = omega (arith, c.requires, length-map r.market.orders length) in
-    let bar_is : c.index-bar.result.now ≡ slice_index bars i = c.index-bar.ensures ∙ get_or_default bars i c.index-bar.result.now 0 (omega (arith, i_lt, r.round.seated.one_bar_each)) in
+    let bar_is : c.index-bar.result.now ≡ slice_index bars i = c.index-bar.ensures
+    ∙ get_or_default bars i c.index-bar.result.now 0 (omega (arith, i_lt, r.round.seated.one_bar_each)) in
     c.first_over.ensures
-    ∙ ap (λ (m : MarketRows). slice_get (held_to m places i c.index-bar.result.now) (slice_index r.seating.filling.seats i)) c.market.ensures
+    ∙ ap (λ (m : MarketRows). slice_get (held_to m places i c.index-bar.result.now) (slice_index r.seating.filling.seats i))
+    c.market.ensures
     ∙ ap (λ (b : ℕ). slice_get (held_to r.market places i b) (slice_index r.seating.filling.seats i)) bar_is
     ∙ ap (λ (xs : List ℕ). slice_get xs (slice_index r.seating.filling.seats i))
     (sym (demanded_are_held r.market r.round.valid bars r.seating.stands.items places r.seating.filling r.round i i_lt))

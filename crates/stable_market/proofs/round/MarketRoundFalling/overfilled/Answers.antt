@@ -7,4 +7,5 @@ pub returns : goal.returns
 returns c =
     let r = c.args.self.now in
     let P : List ℕ → Type 0 = λ ks. IfOk c.overfilled.result (λ v. v.items ≡ ks) in
-    subst P (overfilled_are r.market r.bars.items r.seating.stands.items r.seating.places.items r.seating.filling r.round) c.overfilled.ensures
+    subst P (overfilled_are r.market r.bars.items r.seating.stands.items r.seating.places.items r.seating.filling r.round)
+    c.overfilled.ensures
