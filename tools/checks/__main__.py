@@ -26,7 +26,7 @@ def topics(program: str) -> dict[str, list[Checks]]:
         "killing": list(killing.CHECKS),
         "rounds": [partial(rounds.check_small_rounds, program=program), partial(rounds.check_finds, program=program),
                    partial(rounds.check_unknown_modes, program=program),
-                   partial(rounds.check_stopped, program=program)],
+                   rounds.check_endless, partial(rounds.check_stopped, program=program)],
         "script": [script.check_script],
         "exporting": [exporting.check_round_trips, partial(exporting.check_acceptance, program=program)],
         "days": [partial(days.check_seven_days, program=program), days.check_answers_that_do_not_fit,
