@@ -120,13 +120,14 @@ def put(files: Files, folder: Path) -> None:
 def watch(words: tuple[str, ...], folder: Path, longest: float, by: str | None = None,
           environment: dict[str, str] | None = None, user: int | None = None) -> Watched:
     """Runs the program, or another one, in the folder, as another user where one is named; a run that takes more than
-    the seconds of a processor, or many times as long by the clock, is stopped."""
+    the seconds of a processor (unless it is another user's), or many times as long by the clock, is stopped."""
     with tempfile.TemporaryFile() as output:
         child = subprocess.Popen([by or binary(), *words], cwd=folder, stdin=subprocess.DEVNULL, stdout=output,
                                  stderr=subprocess.DEVNULL, env={**os.environ, **(environment or {})},
                                  start_new_session=True, user=user, extra_groups=None if user is None else ())
-        bound = math.ceil(longest) + 1
-        resource.prlimit(child.pid, resource.RLIMIT_CPU, (bound, bound))
+        if user is None:
+            bound = math.ceil(longest) + 1
+            resource.prlimit(child.pid, resource.RLIMIT_CPU, (bound, bound))
         usage = wait_for(child.pid, PATIENCE * longest)
         output.seek(0)
         text = output.read()
