@@ -112,9 +112,11 @@ def read_cell(text: str, column: Column, dates: DateOrder | None) -> Value:
 
 def _test_letters(text: str) -> None:
     """Refuses what stands in the place of a value, and letters by which two texts differ that look alike."""
-    hidden = next((letter for letter in text if not (letter.isprintable() or letter.isspace())), None)
-    if hidden is not None:
-        raise Unclear(f"{shown(text)} has a letter that cannot be seen (U+{ord(hidden):04X}).", "enter the cell anew.")
+    if not text.isprintable():
+        hidden = next((letter for letter in text if not (letter.isprintable() or letter.isspace())), None)
+        if hidden is not None:
+            raise Unclear(f"{shown(text)} has a letter that cannot be seen (U+{ord(hidden):04X}).",
+                          "enter the cell anew.")
     if ERROR.fullmatch(text):
         raise Unclear(f"{shown(text)} is an error of the spreadsheet.", "mend the formula, and export the sheet again.")
     if text.startswith("="):
