@@ -9,7 +9,7 @@ from functools import partial
 
 from dossier.program import program
 
-from . import days, disks, exporting, hostile, killing, rounds, script, stored
+from . import days, disks, exporting, hostile, killing, rounds, script, sheets, stored
 from .harness import EXAMPLES, Tally, until_told
 
 Checks = Callable[[Tally], None]
@@ -21,17 +21,19 @@ def topics(program: str) -> dict[str, list[Checks]]:
         "stored": [stored.check_prepare, stored.check_leave_out, stored.check_encodings, stored.check_ids,
                    stored.check_next_day, partial(stored.check_in_words, program=program),
                    partial(stored.check_sample, program=program)],
-        "hostile": [hostile.check_words, hostile.check_folders, hostile.check_broken_dossiers, hostile.check_lines],
+        "sheets": [sheets.check_sheets, sheets.check_states, sheets.check_flags],
+        "hostile": [hostile.check_words, hostile.check_folders, hostile.check_names,
+                    hostile.check_broken_dossiers, hostile.check_lines],
         "disks": [disks.check_full_devices, disks.check_small_disks],
         "killing": list(killing.CHECKS),
         "rounds": [partial(rounds.check_small_rounds, program=program), partial(rounds.check_finds, program=program),
                    partial(rounds.check_unknown_modes, program=program),
-                   partial(rounds.check_stopped, program=program)],
+                   rounds.check_endless, partial(rounds.check_stopped, program=program)],
         "script": [script.check_script],
         "exporting": [exporting.check_round_trips, partial(exporting.check_acceptance, program=program)],
         "days": [partial(days.check_seven_days, program=program), days.check_answers_that_do_not_fit,
-                 days.check_stopped_days, days.check_changes_after_a_stop, days.check_killed_while_running,
-                 days.check_full_disk],
+                 days.check_stopped_days, days.check_changes_after_a_stop, days.check_days_anew,
+                 days.check_rights, days.check_killed_while_running, days.check_full_disk],
     }
 
 

@@ -205,6 +205,54 @@ def is_kept(tally: Tally, name: str, folder: Path, changed: bytes) -> bool:
     return True
 
 
+def restored(folder: Path) -> Path:
+    """A dossier whose first day was made, with the files of before that day put back."""
+    shutil.copytree(EXAMPLES / "lycee/slots", folder)
+    run(TOOLS / "next_day", folder)
+    for path in (folder / "days/day-001/before").iterdir():
+        shutil.copy(path, folder)
+    (folder / campaign.CALENDAR).unlink()
+    return folder
+
+
+def check_days_anew(tally: Tally) -> None:
+    """Who puts the slots back and corrects one of the others gets no day of before the correction."""
+    tally.begin("next_day, a day that is made anew")
+    with scratch() as place:
+        folder = restored(place / "same")
+        tally.equal("nothing is changed", run(TOOLS / "next_day", folder).status, 0)
+        for name in campaign.LASTING:
+            folder = restored(place / name)
+            (folder / name).write_text((folder / name).read_text() + "\n")
+            before = contents(folder)
+            ended = run(TOOLS / "next_day", folder)
+            tally.check(f"{name}: it is said", ended.status == 3 and f"{name} changed" in ended.complaint, ended)
+            tally.equal(f"{name}: nothing has changed", contents(folder), before)
+            shutil.rmtree(folder / "days/day-001")
+            tally.equal(f"{name}: the day is made", run(TOOLS / "next_day", folder).status, 0)
+        folder = restored(place / "dated")
+        ended = run(TOOLS / "next_day", folder, "--start", "2026-06-02", "--term", "1")
+        tally.check("other deadlines", ended.status == 3 and "the dates changed" in ended.complaint, ended)
+
+
+def check_rights(tally: Tally) -> None:
+    """What others may not read stays so, and a folder that is made is open to whom the user's mask lets in."""
+    tally.begin("next_day, rights")
+    with scratch() as place:
+        folder = place / "dossier"
+        shutil.copytree(EXAMPLES / "lycee/slots", folder)
+        (folder / "state.csv").chmod(0o600)
+        mask = os.umask(0o027)
+        tally.equal("the day is made", run(TOOLS / "next_day", folder).status, 0)
+        os.umask(mask)
+        tally.equal("the state", (folder / "state.csv").stat().st_mode & 0o777, 0o600)
+        tally.equal("the record", (folder / "days/day-001").stat().st_mode & 0o777, 0o750)
+        (folder / "answers.csv").unlink()
+        (folder / "answers.csv").mkdir()
+        ended = run(TOOLS / "next_day", folder)
+        tally.check("a slot that cannot be read", ended.status == 3 and "answers.csv" in ended.complaint, ended)
+
+
 def check_killed_while_running(tally: Tally) -> None:
     tally.begin("next_day, killed while the program runs; two calls at once")
     with scratch() as place:

@@ -6,14 +6,15 @@ from pathlib import Path
 from .harness import DATA, EXAMPLES, TOOLS, Ended, Tally, contents, run, scratch
 
 BLANK = EXAMPLES / "blank"
-
+LONG_NAME = "x" * 300
 
 BAD_NUMBERS = ("abc", "1 000", "0", "1000001", "-5", "1e3", "", "12.0", "99999999999999999999")
 BAD_WORDS = (
     ("prepare",), ("prepare", "one"), ("prepare", "a", "b", "c"), ("prepare", "a", "b", "--dates", "year-first"),
-    ("prepare", "a", "b", "--date", "day-first"),
+    ("prepare", "a", "b", "--date", "day-first"), ("prepare", "", "b"), ("prepare", "a", ""), ("next_day", ""),
     ("next_day",), ("next_day", "a", "b"), ("next_day", "a", "--start", "2026-06-02"), ("next_day", "a", "--term", "1"),
-    *(("next_day", "a", "--start", date, "--term", "1") for date in ("2026-02-30", "20260602", "1900-06-02", "soon")),
+    *(("next_day", "a", "--start", date, "--term", "1")
+      for date in ("2026-02-30", "20260602", "2026-W10-1", "1900-06-02", "soon")),
     *(("next_day", "a", "--start", "2026-06-02", "--term", term) for term in ("367", "-1", "")),
     ("in_words", "de"), ("in_words", "en", "fr"), ("in_words", "--help"),
     ("write_sample.sh",), ("write_sample.sh", "5"), ("write_sample.sh", "5", "x", "2", "y"),
@@ -48,6 +49,9 @@ def check_folders(tally: Tally) -> None:
         refused(tally, "prepare: the new folder is taken", run(prepare, BLANK, "taken", folder=folder), 3)
         refused(tally, "prepare: a file is in its place", run(prepare, BLANK, "file", folder=folder), 3)
         refused(tally, "prepare: its parent is missing", run(prepare, BLANK, "none/new", folder=folder), 3)
+        refused(tally, "prepare: a long name", run(prepare, LONG_NAME, "new", folder=folder), 3)
+        refused(tally, "prepare: a long name for what is new", run(prepare, BLANK, LONG_NAME, folder=folder), 3)
+        refused(tally, "next_day: a long name", run(next_day, LONG_NAME, folder=folder), 3)
         refused(tally, "prepare: no export", run(prepare, make(folder / "empty"), "new", folder=folder), 1)
         refused(tally, "next_day: no folder", run(next_day, "none", folder=folder), 3)
         refused(tally, "next_day: a file", run(next_day, "file", folder=folder), 3)
@@ -57,6 +61,24 @@ def check_folders(tally: Tally) -> None:
         refused(tally, "write_sample.sh: below a file", run(sample, "5", "file/new", folder=folder), 1)
         tally.equal("what was there is as before", contents(folder), {"taken/groups.csv": b"mine\n", "file": b"mine\n"})
         tally.equal("a folder whose name looks like an option", run(sample, "5", "-v", folder=folder).status, 0)
+
+
+def check_names(tally: Tally) -> None:
+    """Names that a terminal cannot show are no reason to end oddly; files of a system are passed over."""
+    tally.begin("names of files that are odd")
+    with scratch() as folder:
+        exports = folder / "exports"
+        shutil.copytree(BLANK, exports)
+        (exports / "wishes.csv").rename(exports / "vœux.csv")
+        for name in ("~$groups.csv", "._groups.csv", ".hidden.csv"):
+            (exports / name).write_bytes(b"\0\1")
+        for number, encoding in enumerate(("ascii", "latin-1", "utf-8")):
+            ended = run(TOOLS / "prepare", "exports", f"new-{number}", folder=folder,
+                        environment={"PYTHONIOENCODING": encoding})
+            tally.check(f"a terminal of {encoding}", (ended.status, ended.complaint) == (0, ""), ended)
+            tally.equal(f"a terminal of {encoding}: slots", contents(folder / f"new-{number}"), contents(BLANK))
+        (folder / "link").symlink_to("nowhere")
+        refused(tally, "a link to nothing", run(TOOLS / "prepare", "exports", "link", folder=folder), 3)
 
 
 def make(folder: Path) -> Path:

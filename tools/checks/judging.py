@@ -56,12 +56,12 @@ def records(data: bytes) -> int:
 
 def fault(job: Job, ended: Watched) -> str | None:
     """What is wrong with how a run ended."""
+    if ended.seconds > LONGEST:
+        return f"took {ended.seconds:.1f} s of a processor"
     if ended.status < 0:
-        return f"ended by the signal {-ended.status} after {ended.seconds:.1f} s"
+        return f"ended by the signal {-ended.status} after {ended.seconds:.1f} s of a processor"
     if ended.status not in OF_INPUT:
         return f"status {ended.status}"
-    if ended.seconds > LONGEST:
-        return f"took {ended.seconds:.1f} s"
     if ended.memory > MOST_MEMORY:
         return f"took {ended.memory >> 20} MB"
     return fault_of_text(job, ended.status, Lines.of(ended.text))

@@ -245,8 +245,8 @@ def words_round(modes: list[Mode], worked: list[Job], asked: argparse.Namespace)
 def arguments() -> argparse.ArgumentParser:
     words = argparse.ArgumentParser(
         prog="mutate.sh", description="Runs mutated slots of the worked dossiers, a line a mode. A run must end within "
-        f"{LONGEST:.0f} s with a status of its input, and a line that names a slot and a row must name one that is "
-        f"there. A mode that shows something {MOST_FOUND} times is left.",
+        f"{LONGEST:.0f} s of a processor with a status of its input, and a line that names a slot and a row must name "
+        f"one that is there. A mode that shows something {MOST_FOUND} times is left.",
         epilog="Status: 0 nothing found, 1 something found, 2 bad words.")
     words.add_argument("modes", nargs="*", metavar="MODE", help=f"{', '.join(MODES)}; all where none is named")
     words.add_argument("--cuts", action="store_true",

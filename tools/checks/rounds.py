@@ -31,6 +31,12 @@ FINDS = {
     "check": "status 6, and `not a chain row 1 reason 3`", "explain": "ended by the signal 11",
     "beds": "done, with the line", "envy": "2 lines beside the status 1", "market": "market does not read state",
 }
+SPINS = """#!/bin/sh
+# A program that ends at its first two starts, and at the third works on for good.
+echo >> "$STARTS"
+[ "$(wc -l < "$STARTS")" -lt 3 ] || while :; do :; done
+echo "order 1: 11"
+"""
 WITHOUT_MODES = """#!/bin/sh
 case $1 in order) exec "$PROGRAM" "$@" ;; esac
 echo "bad words"
@@ -95,6 +101,18 @@ def check_finds(tally: Tally, program: str) -> None:
         tally.check("it stops early", b"chain: stopped early\n" in ended.output, ended)
         if shutil.which("cc"):
             check_careless(tally, folder)
+
+
+def check_endless(tally: Tally) -> None:
+    """A run that takes too long is found by its own processor time, so that a busy machine fails none."""
+    tally.begin("mutate.sh, a program that does not end")
+    with scratch() as folder:
+        spins = executable(folder / "spins", SPINS)
+        # Before the first mutated run it is asked whether it is there, and whether it has the mode.
+        ended = call("mutate.sh", spins, folder, "order", "--number", "1", STARTS=str(folder / "starts"))
+        # A machine that is too busy to give it five seconds comes to the longest wait first.
+        is_found = re.search(rb"FOUND order 1: (took [5-9]\.\d s of a processor|ended by the signal 9 )", ended.output)
+        tally.check("it is found", ended.status == 1 and bool(is_found), ended)
 
 
 def check_stopped(tally: Tally, program: str) -> None:

@@ -1,5 +1,6 @@
 """Runs for the hostile rounds: dossiers with the words that they are run with, and a run that is watched."""
 
+import math
 import os
 import resource
 import select
@@ -7,7 +8,6 @@ import shutil
 import signal
 import subprocess
 import tempfile
-import time
 from collections.abc import Iterator
 from dataclasses import dataclass
 from pathlib import Path
@@ -20,6 +20,8 @@ CASES = TOP / "crates/worked_runs/data"
 SLOTS = ("groups", "programmes", "schools", "rankings", "boarding", "wishes", "state", "ceilings", "answers", "chain")
 BAD_WORDS = 2
 LONGEST_START = 60.0
+# A busy machine gives a run its seconds of a processor late.
+PATIENCE = 12
 MARKS = {"{cr}": "\r", "{bom}": "\ufeff", "{cut}": ""}
 Files = dict[str, bytes]
 
@@ -92,7 +94,8 @@ def all_jobs() -> list[Job]:
 
 @dataclass(frozen=True)
 class Watched:
-    """How a run ended: its status (below 0 a signal), its text, the seconds and the bytes that it took."""
+    """How a run ended: its status (below 0 a signal), its text, the seconds of a processor and the bytes that it
+    took."""
 
     status: int
     text: bytes
@@ -116,18 +119,20 @@ def put(files: Files, folder: Path) -> None:
 
 def watch(words: tuple[str, ...], folder: Path, longest: float, by: str | None = None,
           environment: dict[str, str] | None = None, user: int | None = None) -> Watched:
-    """Runs the program, or another one, in the folder, as another user where one is named; a run that goes on for too
-    long is stopped."""
-    began = time.monotonic()
+    """Runs the program, or another one, in the folder, as another user where one is named; a run that takes more than
+    the seconds of a processor (unless it is another user's), or many times as long by the clock, is stopped."""
     with tempfile.TemporaryFile() as output:
-        child = subprocess.Popen([by or program(), *words], cwd=folder, stdin=subprocess.DEVNULL, stdout=output,
+        child = subprocess.Popen([by or binary(), *words], cwd=folder, stdin=subprocess.DEVNULL, stdout=output,
                                  stderr=subprocess.DEVNULL, env={**os.environ, **(environment or {})},
                                  start_new_session=True, user=user, extra_groups=None if user is None else ())
-        usage = wait_for(child.pid, longest)
+        if user is None:
+            bound = math.ceil(longest) + 1
+            resource.prlimit(child.pid, resource.RLIMIT_CPU, (bound, bound))
+        usage = wait_for(child.pid, PATIENCE * longest)
         output.seek(0)
         text = output.read()
     child.returncode = os.waitstatus_to_exitcode(usage[0])
-    return Watched(child.returncode, text, time.monotonic() - began, usage[1].ru_maxrss * 1024)
+    return Watched(child.returncode, text, usage[1].ru_utime + usage[1].ru_stime, usage[1].ru_maxrss * 1024)
 
 
 def wait_for(child: int, longest: float) -> tuple[int, resource.struct_rusage]:

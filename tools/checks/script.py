@@ -157,8 +157,10 @@ def check_long_builds(tally: Tally) -> None:
             tally.check("its end is not held up", time.monotonic() - begun < 20)
         told = os.read(ours, 1000).decode().splitlines()
         os.close(ours)
-        expected = ["parcours: building the program", "parcours: building for 1 s", "parcours: building for 2 s"]
+        # A busy machine may need some seconds more.
+        expected = ["parcours: building the program", *(f"parcours: building for {s} s" for s in range(1, len(told)))]
         tally.equal("the terminal", sorted(told), sorted(expected))
+        tally.check("the terminal, how often", len(told) > 2, told)
 
 
 def check_real_program(tally: Tally, script: Path) -> None:

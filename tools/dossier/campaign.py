@@ -2,13 +2,15 @@
 
 The nine slots of the folder are always those of the coming day, which the program runs as its day 1. A day's
 record is made in a folder of its own, `days/day-003`, which appears as a whole when the program has ended well: it
-holds the report, and the files that change as they were before and as they are after. Only then the files change,
-each through a temporary one, `campaign.csv` with the number of the coming day last. So a day that was stopped has
-either no record, and nothing has changed, or a whole one, from which the next call ends it.
+holds the report, the files that change as they were before and as they are after, and the checksums of the slots that
+do not change. Only then the files change, each through a temporary one, `campaign.csv` with the number of the coming
+day last. So a day that was stopped has either no record, and nothing has changed, or a whole one, from which the next
+call ends it.
 """
 
 import csv
 import fcntl
+import hashlib
 import os
 import re
 import shutil
@@ -21,10 +23,13 @@ from pathlib import Path
 from . import program
 from .dating import Calendar, next_answers, next_ceilings
 from .faults import shown
-from .writing import replace_file, settle, write_file
+from .slots import SLOTS
+from .writing import open_mode, replace_file, settle, write_file
 
 CALENDAR = "campaign.csv"
 CHANGING = ("state.csv", "answers.csv", "ceilings.csv")
+LASTING = tuple(slot.file for slot in SLOTS if slot.file not in CHANGING)
+CHECKSUMS = "slots.sha256"
 STAGING = ".day-"
 FINAL = b"final\n"
 REFUSAL = re.compile(rb"refused (?P<slot>[a-z]+) row (?P<row>[0-9]+) reason .*")
@@ -43,18 +48,43 @@ Files = dict[str, bytes]
 
 @dataclass(frozen=True)
 class Record:
-    """A day as it is kept: its report, and the files that change, before and after."""
+    """A day as it is kept: its report, the files that change, before and after, and what the others add up to."""
 
     report: bytes
+    checksums: bytes
     before: Files
     after: Files
 
 
 def read_files(folder: Path) -> Files:
     """The files that change from day to day, as they are; the calendar may not be there yet."""
-    files = {name: (folder / name).read_bytes() for name in CHANGING}
-    calendar = folder / CALENDAR
-    return files | ({CALENDAR: calendar.read_bytes()} if calendar.exists() else {})
+    try:
+        files = {name: (folder / name).read_bytes() for name in CHANGING}
+        calendar = folder / CALENDAR
+        return files | ({CALENDAR: calendar.read_bytes()} if calendar.exists() else {})
+    except OSError as error:
+        raise unread(error) from None
+
+
+def unread(error: OSError) -> Stopped:
+    return Stopped(program.READ_FAULT, f"{error.filename}: {error.strerror}; see that it is there and may be read, and "
+                                       "call again.")
+
+
+def checksum(slot: Path) -> str:
+    found = hashlib.sha256()
+    with open(slot, "rb") as file:
+        while block := file.read(1 << 20):
+            found.update(block)
+    return found.hexdigest()
+
+
+def checksums(folder: Path) -> bytes:
+    """A line for each slot that does not change from day to day, as `sha256sum` writes it."""
+    try:
+        return "".join(f"{checksum(folder / name)}  {name}\n" for name in LASTING).encode()
+    except OSError as error:
+        raise unread(error) from None
 
 
 def calendar_of(files: Files, asked: Calendar) -> Calendar:
@@ -119,7 +149,7 @@ def run_day(folder: Path, calendar: Calendar, output: Path) -> bytes:
     return report
 
 
-def record_of(report: bytes, before: Files, calendar: Calendar) -> Record:
+def record_of(report: bytes, sums: bytes, before: Files, calendar: Calendar) -> Record:
     """The record of a day from the program's text: the state after `final`, all else dated anew."""
     head, final, state = report.partition(b"\n" + FINAL)
     if not final:
@@ -131,11 +161,12 @@ def record_of(report: bytes, before: Files, calendar: Calendar) -> Record:
         "ceilings.csv": next_ceilings(before["ceilings.csv"]),
         CALENDAR: calendar.next().to_bytes(),
     }
-    return Record(numbered + final + state, before, after)
+    return Record(numbered + final + state, sums, before, after)
 
 
 def write_record(folder: Path, record: Record) -> None:
     write_file(folder / "report.txt", record.report)
+    write_file(folder / CHECKSUMS, record.checksums)
     for part, files in (("before", record.before), ("after", record.after)):
         (folder / part).mkdir()
         for name, data in files.items():
@@ -148,7 +179,21 @@ def read_record(folder: Path) -> Record:
     def part(name: str) -> Files:
         return {path.name: path.read_bytes() for path in (folder / name).iterdir()}
 
-    return Record((folder / "report.txt").read_bytes(), part("before"), part("after"))
+    report, sums = ((folder / name).read_bytes() for name in ("report.txt", CHECKSUMS))
+    return Record(report, sums, part("before"), part("after"))
+
+
+def found_record(folder: Path, kept: Path, calendar: Calendar | None) -> Record:
+    """The record that is there of the coming day, which must be of the slots as they are, and of this calendar."""
+    record = read_record(kept)
+    then = record.checksums.splitlines()
+    changed = [line.split()[-1].decode() for line in checksums(folder).splitlines() if line not in then]
+    if calendar and record.after[CALENDAR] != calendar.next().to_bytes():
+        changed.append("the dates")
+    if changed:
+        raise Stopped(program.READ_FAULT, f"{kept} is there already, and since then {', '.join(changed)} changed; put "
+                                          f"back what {kept / 'before'} has, delete {kept}, and call again.")
+    return record
 
 
 def take_over(folder: Path, kept: Path, record: Record) -> None:
@@ -156,8 +201,9 @@ def take_over(folder: Path, kept: Path, record: Record) -> None:
     now = read_files(folder)
     changed = [name for name in CHANGING if now[name] not in (record.before[name], record.after[name])]
     if changed:
-        raise Stopped(program.READ_FAULT, f"{', '.join(changed)}: changed since the day was stopped half way; put "
-                                          f"back what {kept / 'before'} has, call again, and then make the change.")
+        raise Stopped(program.READ_FAULT, f"{', '.join(changed)}: changed since {kept} was made; put back what "
+                                          f"{kept / 'before'} has. Then call again, and make the change for the day "
+                                          f"after; or delete {kept}, and make the change: the day is made anew.")
     for name in (*CHANGING, CALENDAR):
         if now.get(name) != record.after[name]:
             replace_file(folder / name, record.after[name])
@@ -181,24 +227,29 @@ def next_day(folder: Path, asked: Calendar) -> str:
         for stale in days.glob(f"{STAGING}*"):
             shutil.rmtree(stale)
         kept = days / f"day-{calendar.day:03}"
-        if not kept.exists():
-            make_record(folder, files, calendar, kept)
-        record = read_record(kept)
+        if kept.exists():
+            is_dated = CALENDAR in files or asked.today is not None
+            record = found_record(folder, kept, calendar if is_dated else None)
+        else:
+            record = make_record(folder, files, calendar, kept)
         take_over(folder, kept, record)
         return told(calendar, record.report, kept)
 
 
-def make_record(folder: Path, files: Files, calendar: Calendar, kept: Path) -> None:
+def make_record(folder: Path, files: Files, calendar: Calendar, kept: Path) -> Record:
     """Runs the day, and puts its record in its place."""
     staging = Path(tempfile.mkdtemp(prefix=STAGING, dir=kept.parent))
     try:
-        staging.chmod(0o755)
+        staging.chmod(open_mode())
+        sums = checksums(folder)
         report = run_day(folder, calendar, staging / "report.txt")
-        if read_files(folder) != files:
+        if (read_files(folder), checksums(folder)) != (files, sums):
             raise Stopped(program.READ_FAULT, "a file of the dossier changed while the day was run; the day is not "
                                               "made, call again.")
-        write_record(staging, record_of(report, files, calendar))
+        record = record_of(report, sums, files, calendar)
+        write_record(staging, record)
         os.rename(staging, kept)
         settle(kept.parent)
+        return record
     finally:
         shutil.rmtree(staging, ignore_errors=True)

@@ -16,13 +16,16 @@ BLANK_NUMBER = re.compile(rf"[0-9]{{1,3}}(?:[{BLANKS}][0-9]{{3}})+")
 WHOLE_TAIL = re.compile(r"(.*[0-9])[.,]0{1,2}", re.DOTALL)
 THOUSANDS_OR_DECIMALS = re.compile(r"[0-9]{1,3}(?:[.,][0-9]{3})+")
 DIGITS_LOST = re.compile(r"[0-9]+(?:[.,][0-9]+)?[eE][+-][0-9]+")
-NUMBER_LIKE = re.compile(rf"[+-]?[0-9][0-9.,{BLANKS}]*|[+-][0-9.,{BLANKS}]+|[.,][0-9]+")
+NUMBER_LIKE = re.compile(rf"[+-]?[0-9][0-9.,'’{BLANKS}]*|[+-][0-9.,'’{BLANKS}]+|[.,'’][0-9]+")
+MOST_DIGITS = 1000
+ERROR = re.compile(r"#.*|Err:[0-9]+", re.DOTALL)
 MONTH = "(?:jan|feb|fev|mar|apr|avr|may|mai|jun|juin|jul|juil|aug|aou|sep|oct|nov|dec)[a-z]{0,6}"
 NAMED_DATE = re.compile(rf"[0-9]{{1,2}} {MONTH}\.?(?: [0-9]{{2,4}})?|{MONTH}\.? [0-9]{{2}}")
 NUMBERED_DATE = re.compile(r"[0-9]{4}[-/](?:0?[1-9]|1[0-2])[-/](?:[0-2]?[0-9]|3[01])"
                            r"|(?:[0-2]?[0-9]|3[01])[-/.](?:[0-2]?[0-9]|3[01])[-/.](?:[0-9]{2}|[0-9]{4})")
-ISO_DATE = re.compile(r"([0-9]{4})-([0-9]{2})-([0-9]{2})(?:[ T]00:00(?::00)?)?")
-PARTED_DATE = re.compile(r"([0-9]{1,2})[-/.]([0-9]{1,2})[-/.]([0-9]{4})")
+MIDNIGHT = r"(?:[ T]00:00(?::00)?)?"
+ISO_DATE = re.compile(rf"([0-9]{{4}})-([0-9]{{2}})-([0-9]{{2}}){MIDNIGHT}")
+PARTED_DATE = re.compile(rf"([0-9]{{1,2}})[-/.]([0-9]{{1,2}})[-/.]([0-9]{{4}}){MIDNIGHT}")
 EARLIEST_YEAR, LATEST_YEAR = 1900, 2299
 
 FLAGS = {
@@ -89,9 +92,7 @@ def read_cell(text: str, column: Column, dates: DateOrder | None) -> Value:
     trimmed = text.strip(BLANKS + "\r\n")
     if trimmed == "":
         return _empty(column)
-    if trimmed.startswith("#"):
-        raise Unclear(f"{shown(trimmed)} is an error of the spreadsheet.",
-                      "mend the formula, and export the sheet again.")
+    _test_letters(trimmed)
     match column.content:
         case Content.ID | Content.TARGET:
             return read_id(trimmed)
@@ -107,6 +108,19 @@ def read_cell(text: str, column: Column, dates: DateOrder | None) -> Value:
             return read_word(trimmed, ANSWERS)
         case Content.DATE:
             return read_date(trimmed, dates)
+
+
+def _test_letters(text: str) -> None:
+    """Refuses what stands in the place of a value, and letters by which two texts differ that look alike."""
+    if not text.isprintable():
+        hidden = next((letter for letter in text if not (letter.isprintable() or letter.isspace())), None)
+        if hidden is not None:
+            raise Unclear(f"{shown(text)} has a letter that cannot be seen (U+{ord(hidden):04X}).",
+                          "enter the cell anew.")
+    if ERROR.fullmatch(text):
+        raise Unclear(f"{shown(text)} is an error of the spreadsheet.", "mend the formula, and export the sheet again.")
+    if text.startswith("="):
+        raise Unclear(f"{shown(text)} is a formula and no value.", "export the sheet again with its values.")
 
 
 def _empty(column: Column) -> Value:
@@ -127,8 +141,8 @@ def read_number(text: str) -> int:
                       "write the number without points and commas.")
     tail = WHOLE_TAIL.fullmatch(text)
     whole = tail.group(1) if tail else text
-    if PLAIN_NUMBER.fullmatch(whole):
-        return int(whole)
+    if PLAIN_NUMBER.fullmatch(whole) and len(whole.lstrip("0")) <= MOST_DIGITS:
+        return int(whole.lstrip("0") or "0")
     if BLANK_NUMBER.fullmatch(whole):
         return int("".join(letter for letter in whole if letter not in BLANKS))
     raise Unclear(f"{shown(text)} is not a whole number from 0 on.", "write the number with digits alone.")

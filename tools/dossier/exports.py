@@ -13,6 +13,7 @@ SEPARATORS = {";": "semicolons", ",": "commas", "\t": "tabs", "|": "bars"}
 MARKS = ((b"\xef\xbb\xbf", "utf-8", "UTF-8"), (b"\xff\xfe", "utf-16-le", "UTF-16"),
          (b"\xfe\xff", "utf-16-be", "UTF-16"))
 SAVE_AS_UTF_8 = "save the sheet again as CSV in UTF-8."
+WORKBOOKS = (b"PK\x03\x04", b"\xd0\xcf\x11\xe0")
 
 
 class Unreadable(Exception):
@@ -47,7 +48,7 @@ class Export:
 
 def fold(text: str) -> str:
     """A word without capitals, accents and kinds of blanks, by which words are compared."""
-    joined = text.replace("œ", "oe").replace("Œ", "oe").replace("_", " ").replace("-", " ")
+    joined = text.replace("œ", "oe").replace("Œ", "oe").replace("_", " ").replace("-", " ").replace("’", "'")
     parted = unicodedata.normalize("NFKD", joined)
     plain = "".join(letter for letter in parted if not unicodedata.combining(letter))
     return " ".join(plain.casefold().replace("(", " ").replace(")", " ").split())
@@ -55,6 +56,8 @@ def fold(text: str) -> str:
 
 def decodings(data: bytes) -> list[tuple[str, str]]:
     """The texts that an export's bytes may stand for, each with the name of its encoding."""
+    if data.startswith(WORKBOOKS):
+        raise Unreadable("it is a workbook under the name of an export.", SAVE_AS_UTF_8)
     for mark, codec, encoding in MARKS:
         if data.startswith(mark):
             readings = [(_decoded(data[len(mark):], codec, encoding), encoding)]
@@ -63,6 +66,8 @@ def decodings(data: bytes) -> list[tuple[str, str]]:
         readings = _unmarked_decodings(data)
     if any("\0" in text for text, _ in readings):
         raise Unreadable("it has zero bytes and is no text.", SAVE_AS_UTF_8)
+    if any(text.startswith("\ufeff") for text, _ in readings):
+        raise Unreadable("it begins with two byte order marks.", SAVE_AS_UTF_8)
     return readings
 
 
@@ -223,8 +228,9 @@ def _differing_header(slot: Slot, names: tuple[str, ...], leave_out: frozenset[s
 
 def whole_rows(export: Export, faults: Faults) -> list[Row]:
     """The rows with a cell for each column and nothing beside them; the others are faults."""
-    width = len(export.first_row.cells)
-    unnamed = [place for place in export.header.left_out if not export.first_row.cells[place].strip()]
+    named = [place for place, name in enumerate(export.first_row.cells) if fold(name)]
+    width = named[-1] + 1
+    unnamed = set(range(width)).difference(named)
     whole = []
     for row in export.rows:
         if len(row.cells) < width:

@@ -1,6 +1,8 @@
 """The words of `next_day`, and its messages."""
 
 import argparse
+import os
+import re
 import sys
 from datetime import date
 from pathlib import Path
@@ -8,15 +10,16 @@ from pathlib import Path
 from . import program
 from .campaign import CALENDAR, Stopped, next_day
 from .dating import Calendar
-from .writing import Told, say, stop_cleanly
+from .writing import Told, is_folder, named_folder, say, stop_cleanly
 
 FIRST_YEAR, LAST_YEAR = 1901, 2298
 LONGEST_TERM = 366
+PLAIN_DATE = re.compile(r"[0-9]{4}-[0-9]{2}-[0-9]{2}")
 
 
 def start_date(text: str) -> date:
     found = date.fromisoformat(text)
-    if len(text) != 10 or text[4] != "-" or not FIRST_YEAR <= found.year <= LAST_YEAR:
+    if not PLAIN_DATE.fullmatch(text) or not FIRST_YEAR <= found.year <= LAST_YEAR:
         raise ValueError(text)
     return found
 
@@ -34,7 +37,7 @@ def words() -> argparse.ArgumentParser:
                     "slots those of the day after. A day that was stopped half way is ended, and no other is begun.",
         epilog="Status: 0 the day is made; otherwise nothing is lost, and the status is the program's, or 2 for bad "
                "words, 3 where the folder cannot be read, 4 where it cannot be written.")
-    parser.add_argument("folder", type=Path, metavar="FOLDER", help="the folder of the nine slots")
+    parser.add_argument("folder", type=named_folder, metavar="FOLDER", help="the folder of the nine slots")
     parser.add_argument("--start", type=start_date, metavar="DATE",
                         help="the date of day 1, when the campaign begins with deadlines")
     parser.add_argument("--term", type=term_of_days, metavar="N",
@@ -45,7 +48,7 @@ def words() -> argparse.ArgumentParser:
 def go_on(folder: Path) -> str:
     """What to do after a stop, which may have come when the day was made already."""
     coming = folder / CALENDAR
-    day = f"{coming} says which day is coming" if coming.exists() else "day 1 is coming still"
+    day = f"{coming} says which day is coming" if os.path.exists(coming) else "day 1 is coming still"
     return f"Nothing is lost: {day}, and the next call makes it."
 
 
@@ -54,7 +57,7 @@ def main(arguments: list[str]) -> int:
     given = parser.parse_args(arguments)
     if (given.start is None) != (given.term is None):
         parser.error("--start and --term are given together or not at all")
-    if not given.folder.is_dir():
+    if not is_folder(given.folder):
         print(f"next_day: there is no folder {given.folder}; name the folder of the dossier.", file=sys.stderr)
         return program.READ_FAULT
     try:

@@ -1,6 +1,7 @@
 """From nine spreadsheet exports to the nine slots of a dossier, or to all of their faults."""
 
 import argparse
+import os
 import sys
 from pathlib import Path
 
@@ -11,7 +12,7 @@ from .numbering import Numbers, number_ids, thing_of
 from .relations import Relations
 from .slots import SLOTS, Column
 from .tables import Choices, Entry, Exports, Table, read_folder
-from .writing import Told, csv_bytes, say, stop_cleanly, write_folder
+from .writing import Told, csv_bytes, is_folder, named_folder, say, stop_cleanly, write_folder
 
 DONE, FAULTY, BAD_WORDS, NOT_WRITTEN = range(4)
 TABLE_BACK = "ids.csv"
@@ -23,8 +24,8 @@ def words() -> argparse.ArgumentParser:
         description="Reads nine spreadsheet exports (.csv, .tsv, .txt) of a folder as they come, and writes the nine "
                     "slots of a dossier to a new folder. All faults are listed at once, and then nothing is written.",
         epilog="Status: 0 written, 1 faults, 2 bad words, 3 not read or not written.")
-    parser.add_argument("exports", type=Path, help="the folder of the exports")
-    parser.add_argument("folder", type=Path, help="the new folder for the slots")
+    parser.add_argument("exports", type=named_folder, help="the folder of the exports")
+    parser.add_argument("folder", type=named_folder, help="the new folder for the slots")
     parser.add_argument("--dates", type=DateOrder, choices=list(DateOrder), metavar="day-first|month-first",
                         help="how dates such as 02/06/2025 are to be read")
     parser.add_argument("--leave-out", action="append", default=[], metavar="COLUMN",
@@ -96,16 +97,19 @@ def prepare(source: Path, folder: Path, choices: Choices) -> int:
 
 def left(folder: Path) -> str:
     """What there is of a new folder after a stop, which may have come when all of it was written."""
-    return "the dossier is written whole." if folder.exists() else "nothing is written."
+    return "the dossier is written whole." if os.path.exists(folder) else "nothing is written."
 
 
 def main(arguments: list[str]) -> int:
     given = words().parse_args(arguments)
-    if not given.exports.is_dir():
+    if not is_folder(given.exports):
         print(f"prepare: there is no folder {given.exports}; name the folder of the exports.", file=sys.stderr)
         return NOT_WRITTEN
-    if given.folder.exists():
+    if os.path.lexists(given.folder):
         print(f"prepare: {given.folder} is there already; name a new folder.", file=sys.stderr)
+        return NOT_WRITTEN
+    if not is_folder(given.folder.parent):
+        print(f"prepare: there is no folder {given.folder.parent}; make it first.", file=sys.stderr)
         return NOT_WRITTEN
     try:
         stop_cleanly()

@@ -9,6 +9,8 @@ from .faults import Faults, Row
 from .slots import MOST_ROWS, SLOTS, Column, Slot
 
 EXPORT_ENDINGS = (".csv", ".tsv", ".txt")
+# Files with such names are not the user's: a system's own, and those that say that a sheet is open.
+HIDDEN = (".", "~$")
 WORKBOOK_ENDINGS = (".xlsx", ".xls", ".xlsm", ".ods", ".numbers")
 
 
@@ -59,13 +61,15 @@ def read_folder(folder: Path, choices: Choices, faults: Faults) -> Exports:
     """Reads all exports of a folder, one for each slot."""
     exports = Exports()
     for path in sorted(folder.iterdir()):
+        if path.name.startswith(HIDDEN):
+            continue
         ending = path.suffix.lower()
         if ending in WORKBOOK_ENDINGS:
             faults.in_file(path.name, "it is a workbook, not an export.",
                            "save each of its sheets as CSV, and take it out of the folder.")
         elif ending in EXPORT_ENDINGS and path.is_file():
             _take_in(path, choices, exports, faults)
-        elif not path.name.startswith("."):
+        else:
             exports.passed_over.append(path.name)
     missing = [slot for slot in SLOTS if slot.name not in exports.tables]
     if missing:

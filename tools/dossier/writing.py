@@ -1,5 +1,6 @@
 """Writing files so that each is there as a whole, or not at all."""
 
+import argparse
 import csv
 import io
 import os
@@ -29,6 +30,13 @@ def write_file(path: Path, data: bytes) -> None:
         os.fsync(file.fileno())
 
 
+def open_mode() -> int:
+    """The rights that a new folder has here: all those that the user's mask leaves."""
+    mask = os.umask(0o077)
+    os.umask(mask)
+    return 0o777 & ~mask
+
+
 def settle(folder: Path) -> None:
     """Answers when the disk has the names in the folder."""
     handle = os.open(folder, os.O_RDONLY)
@@ -39,10 +47,12 @@ def settle(folder: Path) -> None:
 
 
 def replace_file(path: Path, data: bytes) -> None:
-    """Puts a file in the place of another, which is there until the new one is whole."""
+    """Puts a file in the place of another, which is there until the new one is whole, with the same rights."""
     fresh = path.with_name(f".{path.name}.new")
     try:
         write_file(fresh, data)
+        if path.exists():
+            shutil.copymode(path, fresh)
         os.replace(fresh, path)
     except BaseException:
         fresh.unlink(missing_ok=True)
@@ -54,7 +64,7 @@ def write_folder(folder: Path, files: Mapping[str, bytes]) -> None:
     """Makes a folder with these files; it appears when all of them are whole."""
     fresh = Path(tempfile.mkdtemp(prefix=f".{folder.name}.", dir=folder.parent))
     try:
-        fresh.chmod(0o755)
+        fresh.chmod(open_mode())
         for name, data in files.items():
             write_file(fresh / name, data)
         settle(fresh)
@@ -63,6 +73,21 @@ def write_folder(folder: Path, files: Mapping[str, bytes]) -> None:
         shutil.rmtree(fresh, ignore_errors=True)
         raise
     settle(folder.parent)
+
+
+def named_folder(text: str) -> Path:
+    """A folder as a word names it; an empty word names none."""
+    if not text:
+        raise argparse.ArgumentTypeError("the name of a folder is empty")
+    return Path(text)
+
+
+def is_folder(path: Path) -> bool:
+    """Whether there is a folder that may be looked into."""
+    try:
+        return path.is_dir()
+    except OSError:
+        return False
 
 
 class Told(KeyboardInterrupt):
@@ -86,6 +111,8 @@ def stop_cleanly() -> None:
 def say(tool: str, text: str) -> None:
     """Says on standard output what was done. It is done even where this cannot be said."""
     try:
+        if isinstance(sys.stdout, io.TextIOWrapper):
+            sys.stdout.reconfigure(errors="backslashreplace")
         print(text, flush=True)
     except OSError as error:
         os.dup2(os.open(os.devnull, os.O_WRONLY), sys.stdout.fileno())
