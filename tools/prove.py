@@ -1,11 +1,13 @@
 #!/usr/bin/env python3
 """prove.py CRATE: proves and builds the libraries that a crate stands on, as many side by side as there
-are processors and memory for, and prints a line as each is proved. Those with the longest way up to the
-crate go first; where few can go on, each gets more processors. What is built and unchanged is kept."""
+are processors and memory for, and prints a line as each is proved. The one with the longest way up to
+the crate goes first and may use all processors; the others have what it leaves. What is built and
+unchanged is kept."""
 import os
+import queue
 import shutil
 import sys
-from concurrent.futures import FIRST_COMPLETED, ThreadPoolExecutor, wait
+import threading
 
 sys.dont_write_bytecode = True
 sys.path.insert(0, os.path.dirname(os.path.realpath(shutil.which("rt") or "/opt/rattle/bin/rt")))
@@ -31,11 +33,19 @@ def way_up(crate, crates):
     return lines(crate) + max((way_up(it, crates) for it in crates if crate in it.deps), default=0)
 
 
-def build(crate, jobs):
-    """Whether a library is proved and built; what the check said stands in its out/."""
-    os.makedirs(f"{crate.folder}/out", exist_ok=True)
-    with open(f"{crate.folder}/out/proved.log", "w") as crate.out:
-        return crate.build_rlib(["--jobs", str(jobs)], anew=False) == 0
+def build(crate, jobs, niceness, ended):
+    """Proves and builds a library, and gives way to others the more, the greater its niceness is; what the
+    check said stands in its out/. Puts the crate and whether it is proved into a queue."""
+    own = os.getpriority(os.PRIO_PROCESS, 0)
+    # What a thread starts is as nice as the thread.
+    os.setpriority(os.PRIO_PROCESS, threading.get_native_id(), min(own + niceness, 19))
+    is_proved = False
+    try:
+        os.makedirs(f"{crate.folder}/out", exist_ok=True)
+        with open(f"{crate.folder}/out/proved.log", "w") as crate.out:
+            is_proved = crate.build_rlib(["--jobs", str(jobs)], anew=False) == 0
+    finally:
+        ended.put((crate, is_proved))
 
 
 def say(text):
@@ -44,25 +54,25 @@ def say(text):
 
 def prove(crates, width):
     """Proves the crates and returns those that failed."""
-    left = sorted((it for it in crates if not it.is_built()), key=lambda it: -way_up(it, crates))
-    count, running, failed = len(crates), {}, []
+    up = {it: way_up(it, crates) for it in crates}
+    left = sorted((it for it in crates if not it.is_built()), key=lambda it: -up[it])
+    count, running, failed, ended = len(crates), set(), [], queue.SimpleQueue()
     proved = {it for it in crates if it not in left}
-    with ThreadPoolExecutor(width) as pool:
-        while (left and not failed) or running:
-            ready = [it for it in left if not failed and proved.issuperset(it.deps)]
-            idle = width - sum(jobs for _, jobs in running.values())
-            for at, crate in enumerate(ready[:idle]):
-                jobs = max(1, idle // (len(ready) - at))
-                idle -= jobs
-                left.remove(crate)
-                running[pool.submit(build, crate, jobs)] = crate, jobs
-            for it in wait(running, return_when=FIRST_COMPLETED).done:
-                crate, _ = running.pop(it)
-                if it.result():
-                    proved.add(crate)
-                    say(f"proved {len(proved)} of {count}: {crate.name}")
-                else:
-                    failed.append(crate)
+    while (left and not failed) or running:
+        ready = [it for it in left if not failed and proved.issuperset(it.deps)]
+        first = max([*ready, *running], key=up.get)
+        for crate in ready[: width - len(running)]:
+            jobs, niceness = (width, 0) if crate is first else (min(2, width), 5)
+            threading.Thread(target=build, args=(crate, jobs, niceness, ended)).start()
+            left.remove(crate)
+            running.add(crate)
+        crate, is_proved = ended.get()
+        running.remove(crate)
+        if is_proved:
+            proved.add(crate)
+            say(f"proved {len(proved)} of {count}: {crate.name}")
+        else:
+            failed.append(crate)
     return failed
 
 
@@ -73,7 +83,7 @@ def main(folder):
     width = lanes()
     new = [it for it in crates if not it.is_built()]
     chain = max((way_up(it, new) for it in new), default=0)
-    minutes = max(chain, sum(map(lines, new)) / width) / LINES_A_MINUTE
+    minutes = max(chain / 2, sum(map(lines, new)) / width) / LINES_A_MINUTE
     say(f"{len(new)} of {len(crates)} libraries are to be proved, which takes about {minutes:.0f} minutes")
     failed = prove(crates, width)
     for crate in failed:
