@@ -14,7 +14,7 @@ sys.path.insert(0, os.path.dirname(os.path.realpath(shutil.which("rt") or "/opt/
 import rtlib  # noqa: E402 (the kit's own library, beside its command rt)
 
 A_CHECK = 3_000_000_000  # bytes that a check may take
-LINES_A_MINUTE = 800  # of code, definitions and proofs, checked on one processor: measured, and rough
+LINES_A_MINUTE = 650  # of code, definitions and proofs, checked on one processor: measured, and rough
 
 
 def lanes():
