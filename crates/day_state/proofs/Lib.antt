@@ -17,3 +17,4 @@ pub mod Bundled
 pub mod Independence
 pub mod Lapsing
 pub mod FittingLists
+pub mod SameMarks

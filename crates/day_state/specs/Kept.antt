@@ -1,5 +1,5 @@
 -- What is kept beside the marks: an index of the candidates, and the numbers of those who are live.
-use Rattle.std.specs.Prelude.{◌≡◌, ℕ, ◌+◌, ◌-◌, ◌≤◌, ◌<◌, Bool, false, cond, ◌&&◌, nat_lt, List, map, length, filter, Option, Some, None, ◌==◌, slice_get, slice_index, slice_range, slice_set, unwrap_or, All}
+use Rattle.std.specs.Prelude.{◌≡◌, ℕ, ◌+◌, ◌-◌, ◌≤◌, ◌<◌, Bool, false, cond, ◌&&◌, List, map, length, filter, Option, Some, None, ◌==◌, slice_get, slice_index, slice_range, slice_set, unwrap_or, All}
 use Rattle.std.specs.List.{list_any, range_with_len}
 use Rattle.std.specs.List.Sorted.{IsNonDecreasingBy}
 use Rattle.admit_core.specs.declared.dossier.Wish.{Wish}
@@ -7,11 +7,15 @@ use Rattle.admit_core.specs.declared.state.Status.TheVariants.{Waiting}
 use Rattle.admit_core.specs.declared.state.Mark.{Mark}
 use Rattle.day_state.specs.declared.index.Span.{Span}
 use Rattle.admit_core.specs.DossierRows.{DossierRows, candidates_of}
-use Rattle.admit_core.specs.State.{State, entries, is_live, has_school, holds_seat, holds_bed}
+use Rattle.admit_core.specs.State.{State, entries, is_live, status_number, has_school, holds_seat, holds_bed}
 
 -- a wish that waits from the start
 abbrev pub waiting_mark : Mark
 waiting_mark = record { status = Waiting; stamp = record { day = 0; pass = 0 } }
+
+-- two marks are the same
+abbrev pub is_same_mark : Mark → Mark → Bool
+is_same_mark m n = (status_number m.status == status_number n.status) && ((m.stamp.day == n.stamp.day) && (m.stamp.pass == n.stamp.pass))
 
 -- the mark and the wish at a place
 abbrev pub mark_in : List Mark → ℕ → Mark
@@ -48,10 +52,6 @@ has_seat_there s place = holds_seat s (wish_in s.dossier.wishes place).candidate
 
 abbrev pub has_bed_there : State → ℕ → Bool
 has_bed_there s place = holds_one (in_school (wish_in s.dossier.wishes place).school) s (wish_in s.dossier.wishes place).candidate
-
--- the wish at a place is live, and ranked by its candidate
-abbrev pub is_live_and_ranked : State → ℕ → Bool
-is_live_and_ranked s k = nat_lt 0 (wish_in s.dossier.wishes k).preference && is_live (mark_in s.marks k)
 
 -- the state of a dossier with these marks
 abbrev pub state_of : DossierRows → List Mark → State

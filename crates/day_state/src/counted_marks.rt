@@ -13,8 +13,8 @@ ghost use Rattle.day_state.specs.Kept.{mark_in, wish_in, lives_at, in_school, ho
 use crate::bundles::{Bundles, Sites};
 use crate::counts::{copy_counts, recount, recount_some, zeros};
 use crate::mark::{
-    OwnChange, better, changed_by, live_preference, lives_in_programme, lives_in_school, lost,
-    wish_at,
+    OwnChange, better, changed_by, is_same_mark, live_preference, lives_in_programme,
+    lives_in_school, lost, wish_at,
 };
 use admit_core::{Dossier, Freed, Mark, OutOfMemory, Stamp, Status, Wish};
 use std::alloc::Global;
@@ -207,7 +207,7 @@ impl<'d> CountedMarks<'d> {
         let mut freed = NOTHING_FREED;
         for place in own {
             let mark = changed_by(change, wish_at(wishes, *place), self.mark(*place), stamp);
-            freed = freed_in_all(freed, self.set_mark(*place, mark));
+            freed = freed_in_all(freed, self.set_other(*place, mark));
         }
         freed
     }
@@ -224,6 +224,18 @@ impl<'d> CountedMarks<'d> {
             None => NOTHING_FREED,
             Some(best) => self.change_own(own, candidate, OwnChange::TakeBest(best), stamp),
         }
+    }
+
+    /// Gives a wish a mark, where it has another one, and counts what its candidate frees.
+    fn set_other(&mut self, wish: u32, mark: Mark) -> Freed
+        requires { wish < length self.old.marks }
+        ensures state { self.new ≡ with_mark_at self.old wish mark }
+        ensures freed { result ≡ freed_by self.old self.new (candidate_of self.old.dossier wish) }
+    {
+        if is_same_mark(self.mark(wish), mark) {
+            return NOTHING_FREED;
+        }
+        self.set_mark(wish, mark)
     }
 
     /// Gives a wish a mark, and counts what its candidate frees.

@@ -10,7 +10,7 @@ ghost use Rattle.admit_core.specs.Days.{first_evening};
 ghost use Rattle.admit_core.specs.Validity.{IsTarget};
 ghost use Rattle.admit_core.specs.Lapses.{lapse};
 ghost use Rattle.admit_core.specs.AutoAnswer.{auto_one, freed_by};
-ghost use Rattle.day_state.specs.Kept.{mark_in, wish_in, holds_bed_in, is_live_and_ranked, IsIndex};
+ghost use Rattle.day_state.specs.Kept.{mark_in, wish_in, holds_bed_in, IsIndex};
 ghost use Rattle.day_state.specs.Along.{change_along};
 ghost use Rattle.day_state.specs.Lapsing.{lapsed};
 ghost use Rattle.day_state.specs.Laws.{AreOwn, OwnFit};
@@ -18,7 +18,7 @@ ghost use Rattle.day_state.specs.Applied.{answered, after_fitting, after_fitting
 
 use crate::counted_marks::CountedMarks;
 use crate::index::{CandidateIndex, candidate_at};
-use crate::mark::{OwnChange, changed_to, first_mark, lapses, wish_at};
+use crate::mark::{OwnChange, changed_to, first_mark, lapses};
 use admit_core::{Answer, AnswerKind, Dossier, Freed, Mark, OutOfMemory, Stamp, Status, Terms};
 use std::alloc::Global;
 use std::marker::Model;
@@ -320,16 +320,6 @@ impl<'d> DayState<'d> {
             }
         }
         Ok(())
-    }
-
-    /// Whether a wish is live, and ranked by its candidate: they are answered for then.
-    pub fn is_live_and_ranked(&self, wish: u32) -> bool
-        requires { wish < length self.now.dossier.wishes }
-        ensures { result ≡ is_live_and_ranked self.now wish }
-    {
-        let dossier = self.live.dossier();
-        let named = wish_at(dossier.wishes.as_slice(), wish);
-        named.preference > 0 && self.live.mark(wish).is_live()
     }
 
     /// Answers for a candidate, where they rank their wishes and one of them is live: the best live

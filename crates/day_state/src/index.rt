@@ -8,7 +8,7 @@ ghost use Rattle.admit_core.specs.OwnWishes.{own_places};
 ghost use Rattle.day_state.specs.Kept.{candidate_in, IsIndex, IsSpan, AreSpans};
 
 use admit_core::{Dossier, OutOfMemory, Wish};
-use std::alloc::{AllocError, AllocFailed, Global};
+use std::alloc::{AllocError, Global};
 use std::marker::Model;
 
 /// Where in an order by candidate the wishes of one candidate begin and end.
@@ -89,10 +89,10 @@ pub fn candidate_at(wishes: &[Wish], place: u32) -> u32
 }
 
 /// The places below a count, ascending.
-fn places(alloc: Global, count: u32) -> Result<Vec<u32>, AllocFailed<u32>>
+fn places(alloc: Global, count: u32) -> Result<Vec<u32>, OutOfMemory>
     ensures { IfOk result (λ v. v.items ≡ range_with_len 0 count) }
 {
-    let mut places = Vec::new(alloc);
+    let mut places = Vec::with_capacity(alloc, count as usize)?;
     for place in 0..count {
         places.push(place)?;
     }

@@ -6,7 +6,7 @@ ghost use Rattle.admit_core.specs.Days.{first_mark};
 ghost use Rattle.admit_core.specs.Lapses.{lapses, offer_day};
 ghost use Rattle.day_state.specs.Along.{changed_by};
 ghost use Rattle.day_state.specs.Best.{better, live_preference};
-ghost use Rattle.day_state.specs.Kept.{mark_in, wish_in, lives_at, in_school, one_if};
+ghost use Rattle.day_state.specs.Kept.{is_same_mark, mark_in, wish_in, lives_at, in_school, one_if};
 
 use admit_core::{Mark, Stamp, Status, Terms, Wish};
 
@@ -19,6 +19,15 @@ pub fn changed_to(mark: Mark, status: Status, stamp: Stamp) -> Mark
     } else {
         Mark { status, stamp }
     }
+}
+
+/// Whether two marks are the same.
+pub fn is_same_mark(one: Mark, other: Mark) -> bool
+    ensures { result ≡ is_same_mark one other }
+{
+    one.status == other.status
+        && one.stamp.day == other.stamp.day
+        && one.stamp.pass == other.stamp.pass
 }
 
 /// The day of a wish's offer: its stamp's, or the one that it came in with.

@@ -1,17 +1,16 @@
 -- The links of the programmes stay right where one wish is closed.
-use Rattle.std.proofs.Common.{ℕ, ◌+◌, ◌≤◌, ◌<◌, ◌≡◌, Bool, true, false, not, ◌&&◌, ◌||◌, List, [], ◌∷◌, map, length, inl, inr, refl, sym, ◌∙◌, ap, arith, nat_eq, nat_lt, filter, zero, suc, get_or, drop, Option, Some, zip, add-one, option_map, unwrap_or, drop-cons, subst}
+use Rattle.std.proofs.Common.{ℕ, ◌+◌, ◌≤◌, ◌<◌, ◌≡◌, Bool, true, false, ◌&&◌, ◌||◌, List, [], ◌∷◌, map, length, inl, inr, refl, sym, ◌∙◌, ap, arith, nat_eq, nat_lt, filter, zero, suc, get_or, drop, Option, Some, zip, add-one, option_map, unwrap_or, drop-cons, subst}
 use Rattle.std.proofs.Math.ListN.{set}
 use Rattle.std.specs.Prelude.{slice_index, slice_get}
-use Rattle.std.specs.List.{list_any, enumerate_from, range_with_len, All, AllByRecursion}
-use Rattle.std.proofs.lemmas.Bool.{cases_Bool, and_left, or_cases, or_left, or_right, eqb-false, ne_eqb, eq-eqb}
-use Rattle.std.proofs.lemmas.List.{get_or_read, set-get_or, length-set, get_or-map, length-map}
+use Rattle.std.specs.List.{list_any, enumerate_from, range_with_len, AllByRecursion}
+use Rattle.std.proofs.lemmas.Bool.{cases_Bool, or_cases, or_left, or_right, eqb-false, ne_eqb, eq-eqb}
+use Rattle.std.proofs.lemmas.List.{get_or_read, length-set, get_or-map, length-map}
 use Rattle.std.proofs.lemmas.List.FromFn.{get_or-map-range_with_len, length-map-range_with_len, get_or-range_with_len, length-range_with_len}
-use Rattle.std.proofs.lemmas.List.Elements.{All-from_recursion}
 use Rattle.std.proofs.lemmas.Option.{slice_get_within}
 use Rattle.admit_core.specs.declared.dossier.Wish.{Wish}
 use Rattle.admit_core.specs.declared.state.Mark.{Mark}
 use Rattle.admit_core.specs.declared.ranking.CallOrder.{CallOrder}
-use Rattle.admit_core.specs.State.{State, entries, holds_seat, seats_left}
+use Rattle.admit_core.specs.State.{State, entries, seats_left}
 use Rattle.admit_core.specs.Proposals.{needs_no_seat}
 use Rattle.day_state.specs.Kept.{wish_in}
 use Rattle.linked_demand.specs.Line.{LineRow, is_reached}
@@ -74,7 +73,7 @@ length_entries (w ∷ ws) [] e = e
 length_entries (w ∷ ws) (m ∷ ms) e = ap suc (length_entries ws ms (omega arith))
 
 -- fewer flags find fewer
-fewer : {X : Type 0} (q : X × Bool → Bool) → ((x : X) → q (x, false) ≡ false) → (xs : List X) (ys : List Bool) (i : ℕ)
+pub fewer : {X : Type 0} (q : X × Bool → Bool) → ((x : X) → q (x, false) ≡ false) → (xs : List X) (ys : List Bool) (i : ℕ)
     → list_any q (zip xs (set ys i false)) ≡ true → list_any q (zip xs ys) ≡ true
 fewer q h [] ys i t = t
 fewer q h (x ∷ xs) [] i t = t
@@ -155,22 +154,12 @@ module _ {s : State} {orders : List CallOrder} {opens : List Bool} {lines : List
       ∙ get_or-map (claim_of s.dossier w.programme) (line_of s.dossier orders w.programme) place 0 [] at.within
       ∙ ap (claim_of s.dossier w.programme) at.here
 
-  pub claim_below : All (λ v. v < length opens) (claim_of s.dossier w.programme w.candidate)
-  claim_below =
-      All-from_recursion (λ v. v < length opens) (claim_of s.dossier w.programme w.candidate)
-      (places_below (λ (x : ℕ × Wish). (nat_eq x.1.candidate w.candidate) && (nat_eq x.1.programme w.programme)) s.dossier.wishes 0 (length opens)
-      (omega (arith, k.links.opens_each)))
-
-  pub any_right : list_any (λ v. get_or (set opens i false) v false) (claim_of s.dossier w.programme w.candidate)
-      ≡ list_any (is_flagged_in w.programme w.candidate) (flagged s (set opens i false))
-  any_right = claim_flagged s (set opens i false) w.programme w.candidate (omega (arith, length-set opens i false, k.links.opens_each)) k.links.marks_each
-
   -- the line that is read is that of the programme
   pub line_right : (line : LineRow) → line ≡ get_or lines w.programme line → line ≡ seat_row s orders opens w.programme
   line_right line read = read_range (seat_row s orders opens) (length s.dossier.programmes) w.programme lines line k.links.lines_are programme_within read
 
   -- the links with the flag cleared and the lines right for it
-  links_with : (after : List LineRow) → after ≡ map (seat_row s orders (set opens i false)) (range_with_len 0 (length s.dossier.programmes))
+  pub links_with : (after : List LineRow) → after ≡ map (seat_row s orders (set opens i false)) (range_with_len 0 (length s.dossier.programmes))
       → IsLinked s orders (set opens i false) after claims places sure
   links_with after is =
       record {
@@ -186,7 +175,7 @@ module _ {s : State} {orders : List CallOrder} {opens : List Bool} {lines : List
       }
 
   -- only the line of the wish's programme may change
-  lines_set : (new : LineRow) → new ≡ seat_row s orders (set opens i false) w.programme
+  pub lines_set : (new : LineRow) → new ≡ seat_row s orders (set opens i false) w.programme
       → set lines w.programme new ≡ map (seat_row s orders (set opens i false)) (range_with_len 0 (length s.dossier.programmes))
   lines_set new is =
       let n = length s.dossier.programmes in
@@ -206,53 +195,8 @@ module _ {s : State} {orders : List CallOrder} {opens : List Bool} {lines : List
       ap (λ (flags : List Bool). let r : LineRow = record { flags = flags; quota = seats_left s w.programme } in r)
       (row_own s opens i w k.mark k.at.here orders place at)
 
-  -- no other wish of the claim is open: its place is cleared
-  pub links_cleared : (place : ℕ) → IsSeatPlace s.dossier orders w place → (line new : LineRow) → line ≡ get_or lines w.programme line
-      → new ≡ record line { flags = set line.flags place false }
-      → list_any (λ v. get_or (set opens i false) v false) (claim_of s.dossier w.programme w.candidate) ≡ false
-      → IsLinked s orders (set opens i false) (set lines w.programme new) claims places sure
-  links_cleared place at line new read is none =
-      let wants : wants_by s (set opens i false) w.programme w.candidate ≡ false =
-      and_left (list_any (is_flagged_in w.programme w.candidate) (flagged s (set opens i false))) (not (holds_seat s w.candidate w.programme)) (sym any_right ∙ none) in
-      let row : seat_row s orders (set opens i false) w.programme ≡ record { flags = set (seat_row s orders opens w.programme).flags place false; quota = seats_left s w.programme } =
-      rw wants at (row_is place at) in
-      links_with (set lines w.programme new) (lines_set new (is ∙ rw (line_right line read) (sym row)))
-
-  -- another wish of the claim is open: its line stays
-  pub row_kept : (place : ℕ) → IsSeatPlace s.dossier orders w place
-      → list_any (λ v. get_or (set opens i false) v false) (claim_of s.dossier w.programme w.candidate) ≡ true
-      → seat_row s orders (set opens i false) w.programme ≡ seat_row s orders opens w.programme
-  row_kept place at some =
-      let p = w.programme in
-      let c = w.candidate in
-      let line = line_of s.dossier orders p in
-      let old = wants_by s opens p in
-      let new = wants_by s (set opens i false) p in
-      let found : list_any (is_flagged_in p c) (flagged s (set opens i false)) ≡ true = sym any_right ∙ some in
-      let before : list_any (is_flagged_in p c) (flagged s opens) ≡ true =
-      fewer (is_flagged_in p c) (λ e. refl) (entries s) opens i found in
-      let same : new c ≡ old c = rw (found, before) refl in
-      let flag : get_or (map old line) place false ≡ old c = get_or-map old line place 0 false at.within ∙ ap old at.here in
-      let flags : set (map old line) place (new c) ≡ map old line = rw (same, ← flag) (set-get_or (map old line) place false) in
-      row_is place at ∙ ap (λ (fs : List Bool). let r : LineRow = record { flags = fs; quota = seats_left s p } in r) flags
-
-  pub links_kept : (place : ℕ) → IsSeatPlace s.dossier orders w place
-      → list_any (λ v. get_or (set opens i false) v false) (claim_of s.dossier w.programme w.candidate) ≡ true
-      → IsLinked s orders (set opens i false) lines claims places sure
-  links_kept place at some =
-      let p = w.programme in
-      let row = row_kept place at some in
-      let stands : get_or lines p (seat_row s orders opens p) ≡ seat_row s orders opens p =
-      rw k.links.lines_are (get_or-map-range_with_len (seat_row s orders opens) 0 (length s.dossier.programmes) p p (seat_row s orders opens p) programme_within (omega arith)) in
-      let kept : set lines p (seat_row s orders opens p) ≡ lines =
-      ap (λ (r : LineRow). set lines p r) (sym stands) ∙ set-get_or lines p (seat_row s orders opens p) in
-      links_with lines (sym kept ∙ lines_set (seat_row s orders opens p) (sym row))
-
   pub claims_each : length claims ≡ length s.dossier.programmes
   claims_each = ap length k.links.claims_are ∙ length-map-range_with_len (λ p. map (claim_of s.dossier p) (line_of s.dossier orders p)) 0 (length s.dossier.programmes)
-
-  pub lines_each : length lines ≡ length s.dossier.programmes
-  lines_each = ap length k.links.lines_are ∙ length-map-range_with_len (seat_row s orders opens) 0 (length s.dossier.programmes)
 
   -- the row that is read has the place
   pub row_within : (place : ℕ) → IsSeatPlace s.dossier orders w place → (row : List (List ℕ)) → row ≡ get_or claims w.programme row → place < length row
@@ -260,18 +204,6 @@ module _ {s : State} {orders : List CallOrder} {opens : List Bool} {lines : List
       let row_is : row ≡ map (claim_of s.dossier w.programme) (line_of s.dossier orders w.programme) =
       read_range (λ p. map (claim_of s.dossier p) (line_of s.dossier orders p)) (length s.dossier.programmes) w.programme claims row k.links.claims_are programme_within read in
       omega (arith, at.within, ap length row_is, length-map (line_of s.dossier orders w.programme) (claim_of s.dossier w.programme))
-
-  -- the line that is read has the place
-  pub line_within : (place : ℕ) → IsSeatPlace s.dossier orders w place → (line : LineRow) → line ≡ get_or lines w.programme line → place < length line.flags
-  line_within place at line read =
-      omega (arith, at.within, ap (λ (r : LineRow). length r.flags) (line_right line read), length-map (line_of s.dossier orders w.programme) (wants_by s opens w.programme))
-
-  pub below_for : (claim : List ℕ) → claim ≡ claim_of s.dossier w.programme w.candidate → (n : ℕ) → n ≡ length opens → All (λ v. v < n) claim
-  below_for claim is n each = rw (is, each) claim_below
-
-  pub any_is : (claim : List ℕ) → claim ≡ claim_of s.dossier w.programme w.candidate → (flags : List Bool) → flags ≡ set opens i false → (found b : Bool)
-      → found ≡ list_any (λ v. get_or flags v false) claim → found ≡ b → list_any (λ v. get_or (set opens i false) v false) (claim_of s.dossier w.programme w.candidate) ≡ b
-  any_is claim is flags set_is found b by at = rw (← is, ← set_is) (sym by ∙ at)
 
 pub any_at : {X : Type 0} (q : X → Bool) (xs : List X) (i : ℕ) (x : X) → slice_get xs i ≡ Some x → q x ≡ true → list_any q xs ≡ true
 any_at q [] i x at t = absurd (omega (arith, slice_get_within [] i x at))

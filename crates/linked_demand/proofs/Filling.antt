@@ -1,6 +1,6 @@
 -- The rows that are filled by place and put in order by rank are those of the schools.
-use Rattle.std.proofs.Common.{ℕ, zero, suc, ◌+◌, ◌≤◌, ◌<◌, ◌≡◌, Bool, true, not, ◌&&◌, List, [], ◌∷◌, map, length, take, get_or, inl, inr, refl, sym, ◌∙◌, ap, arith, nat_eq, nat_le, filter, Option, Some, None, unwrap_or, zip, subst, zero-add, Vec}
-use Rattle.std.specs.Prelude.{slice_get, slice_index, All}
+use Rattle.std.proofs.Common.{ℕ, zero, suc, ◌+◌, ◌≤◌, ◌<◌, ◌≡◌, Bool, true, not, ◌&&◌, List, [], ◌∷◌, map, length, get_or, inl, inr, refl, sym, ◌∙◌, ap, arith, nat_eq, nat_le, filter, Option, Some, None, unwrap_or, zip, subst, zero-add, Vec}
+use Rattle.std.specs.Prelude.{slice_get, slice_index, All, is_some}
 use Rattle.std.specs.List.{list_any, range_with_len}
 use Rattle.std.specs.List.Sorted.{IsPermutation, IsNonDecreasingBy, IsStableByKey}
 use Rattle.std.specs.Ordering.{nat_cmp}
@@ -15,6 +15,7 @@ use Rattle.std.proofs.lemmas.List.Sorted.{list_any-IsPermutation, All-permutatio
 use Rattle.std.proofs.lemmas.Option.{slice_get_within, slice_get_read, unwrap_or-slice_get}
 use Rattle.admit_core.specs.declared.dossier.Wish.{Wish}
 use Rattle.admit_core.specs.declared.state.Mark.{Mark}
+use Rattle.admit_core.specs.DossierRows.{DossierRows}
 use Rattle.admit_core.specs.Lists.{is_among}
 use Rattle.admit_core.specs.State.{State, is_waiting, holds_bed, is_school}
 use Rattle.admit_core.proofs.Tests.{Ascends}
@@ -23,9 +24,11 @@ use Rattle.day_state.proofs.Ordering.{stable_own}
 use Rattle.linked_demand.specs.declared.rows.RowWish.{RowWish}
 use Rattle.linked_demand.specs.Rows.{WaitsFor, IsRow, AreRows}
 use Rattle.linked_demand.specs.Filled.{row_school, is_in_row, row_wish, row_by_place, AreFilled}
-use Rattle.linked_demand.specs.Keyed.{IsPutIn, AreRowsOf}
+use Rattle.linked_demand.specs.Seats.{boards_at, boarders_of}
+use Rattle.linked_demand.specs.Keyed.{AreRowsOf}
 use Rattle.linked_demand.proofs.Closing.{wish_of}
-use Rattle.linked_demand.proofs.Keyed.{rows_more}
+use Rattle.linked_demand.proofs.Lining.{filter_twice}
+use Rattle.linked_demand.proofs.Opens.{filter_same}
 use Rattle.linked_demand.proofs.PlaceOrder.{InPlaceOrder, in_order_from, in_place_order, ascends-filter, ascends-range}
 use Rattle.linked_demand.proofs.RoundFalls.{get_set_here, get_set_other}
 
@@ -246,14 +249,30 @@ sorted_all s bars n rows are le = record {
   each = λ h row at. are.done h row (omega (arith, le, slice_get_within rows h row at)) at;
 }
 
--- one more wish, put into the row of its school
-pub filled_more : (s : State) (bars : List ℕ) (place : ℕ) (school : Option ℕ) (x : RowWish) (rows new : List (Vec RowWish Global)) → place < length s.dossier.wishes
-    → school ≡ row_school s bars (wish_in s.dossier.wishes place) (mark_in s.marks place) (wish_in s.dossier.wishes place).school → x ≡ row_wish s.dossier.wishes place
-    → AreRowsOf (row_wish s.dossier.wishes) (is_in_row s bars) (length s.dossier.schools) (take place (range_with_len 0 (length s.dossier.wishes))) rows → IsPutIn (is_school school) x rows new
-    → AreRowsOf (row_wish s.dossier.wishes) (is_in_row s bars) (length s.dossier.schools) (take (place + 1) (range_with_len 0 (length s.dossier.wishes))) new
-filled_more s bars place school x rows new lt school_is x_is filled put =
+-- a wish in a row has a school
+row_boards : (s : State) (bars : List ℕ) (w : Wish) (m : Mark) (h : ℕ) (o : Option ℕ) → (is_some o && is_school (row_school s bars w m o) h) ≡ is_school (row_school s bars w m o) h
+row_boards s bars w m h None = refl
+row_boards s bars w m h (Some school) = refl
+
+-- the wishes with a school are in their order all that stand in rows
+pub filled_all : (s : State) (bars : List ℕ) (rows : List (Vec RowWish Global)) → AreRowsOf (row_wish s.dossier.wishes) (is_in_row s bars) (length s.dossier.schools) (boarders_of s.dossier) rows
+    → AreFilled s bars rows
+filled_all s bars rows are =
     let ws = s.dossier.wishes in
-    let n = length ws in
-    let here : get_or (range_with_len 0 n) place 0 ≡ place = get_or-range_with_len 0 n place 0 lt ∙ zero-add place in
-    rows_more (row_wish ws) (is_in_row s bars) (length s.dossier.schools) (range_with_len 0 n) place (is_school school) x rows new (omega (arith, lt, length-range_with_len 0 n))
-    (λ h. ap (λ (o : Option ℕ). is_school o h) school_is ∙ ap (is_in_row s bars h) (sym here)) (x_is ∙ ap (row_wish ws) (sym here)) filled put
+    let range = range_with_len 0 (length ws) in
+    record {
+      one_each = are.one_each;
+      each = λ h row at.
+          are.each h row at
+          ∙ ap (map (row_wish ws))
+          (filter_twice (is_in_row s bars h) (boards_at s.dossier) range
+          ∙ filter_same (λ k. boards_at s.dossier k && is_in_row s bars h k) (is_in_row s bars h) (λ k. row_boards s bars (wish_in ws k) (mark_in s.marks k) h (wish_in ws k).school) range);
+    }
+
+-- they are places of wishes
+pub boarders_within : (d : DossierRows) (boarders : List ℕ) → boarders ≡ boarders_of d → All (λ k. k < length d.wishes) boarders
+boarders_within d boarders is =
+    let n = length d.wishes in
+    let P = λ (ks : List ℕ). All (λ k. k < n) ks in
+    subst P (sym is)
+    (All-filter (boards_at d) (λ k. k < n) (range_with_len 0 n) (λ j e j_lt. omega (arith, get_or-range_with_len 0 n j e (omega (arith, j_lt, length-range_with_len 0 n)), j_lt, length-range_with_len 0 n)))

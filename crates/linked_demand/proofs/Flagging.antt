@@ -1,4 +1,4 @@
--- Who wants a seat and who needs none, read of flags by place.
+-- Who wants a seat and who needs none, by place.
 use Rattle.std.proofs.Common.{ℕ, suc, ◌+◌, ◌<◌, ◌≡◌, Bool, true, false, not, ◌&&◌, ◌||◌, List, [], ◌∷◌, ◌++◌, map, length, get_or, take, inl, inr, refl, sym, ◌∙◌, ap, arith, nat_eq, filter, Some, subst}
 use Rattle.std.specs.Prelude.{slice_get, All}
 use Rattle.std.specs.List.{list_any, enumerate_from, range_with_len, AllByRecursion}
@@ -15,6 +15,7 @@ use Rattle.linked_demand.specs.Line.{LineRow}
 use Rattle.linked_demand.specs.Links.{claim_of, IsLinked}
 use Rattle.linked_demand.specs.Opens.{wants_by, line_of, seat_row, wanting_at, sure_at}
 use Rattle.linked_demand.specs.Seats.{IsLineup}
+use Rattle.linked_demand.specs.Wants.{wants_along, seat_rows, reach_in, IsReached}
 use Rattle.linked_demand.proofs.Closing.{claim_flagged, read_range}
 use Rattle.linked_demand.proofs.Lining.{claim_within}
 use Rattle.linked_demand.proofs.Opens.{map_same}
@@ -54,38 +55,28 @@ all_placed P t (w ∷ ws) a h =
     ]
 
 module _ (s : State) (orders : List CallOrder) (opens : List Bool) (long : length opens ≡ length s.dossier.wishes) (marks : length s.marks ≡ length s.dossier.wishes) where
-  abbrev wanting : List Bool
-  wanting = map (wanting_at s opens) (range_with_len 0 (length s.dossier.wishes))
-
-  -- a candidate wants a seat where a wish of their claim is flagged
-  wants_claim : (p c : ℕ) → list_any (λ k. get_or wanting k false) (claim_of s.dossier p c) ≡ wants_by s opens p c
+  -- a candidate wants a seat where a wish of their claim does
+  pub wants_claim : (p c : ℕ) → list_any (wanting_at s opens) (claim_of s.dossier p c) ≡ wants_by s opens p c
   wants_claim p c =
       let ws = s.dossier.wishes in
       let t = λ (w : Wish). (nat_eq w.candidate c) && (nat_eq w.programme p) in
-      any_scaled (λ k. get_or wanting k false) (λ k. get_or opens k false) (not (holds_seat s c p)) (claim_of s.dossier p c)
-      (all_placed (λ k. get_or wanting k false ≡ (get_or opens k false && not (holds_seat s c p))) t ws 0 (λ j w at passes.
+      any_scaled (wanting_at s opens) (λ k. get_or opens k false) (not (holds_seat s c p)) (claim_of s.dossier p c)
+      (all_placed (λ k. wanting_at s opens k ≡ (get_or opens k false && not (holds_seat s c p))) t ws 0 (λ j w at passes.
       let parts = and_parts (nat_eq w.candidate c) (nat_eq w.programme p) passes in
       let j_is : 0 + j ≡ j = omega arith in
-      let P = λ (k : ℕ). get_or wanting k false ≡ (get_or opens k false && not (holds_seat s c p)) in
+      let P = λ (k : ℕ). wanting_at s opens k ≡ (get_or opens k false && not (holds_seat s c p)) in
       subst P (sym j_is)
-      (get_or-map-range_with_len (wanting_at s opens) 0 (length ws) j j false (slice_get_within ws j w at) j_is
-      ∙ ap (λ (v : Wish). get_or opens j false && not (holds_seat s v.candidate v.programme)) (wish_in_is ws j w at)
+      (ap (λ (v : Wish). get_or opens j false && not (holds_seat s v.candidate v.programme)) (wish_in_is ws j w at)
       ∙ ap (λ x. get_or opens j false && not (holds_seat s x w.programme)) (eqb-true w.candidate c parts.0)
       ∙ ap (λ x. get_or opens j false && not (holds_seat s c x)) (eqb-true w.programme p parts.1))))
       ∙ ap (λ b. b && not (holds_seat s c p)) (claim_flagged s opens p c long marks)
 
-  -- the line of a programme, as its claims and the flags tell it
-  pub line_right : (p : ℕ) (flags wants : List Bool) (row : List (List ℕ)) → flags ≡ wanting → row ≡ map (claim_of s.dossier p) (line_of s.dossier orders p)
-      → wants ≡ map (λ claim. list_any (λ k. get_or flags k false) claim) row → wants ≡ map (wants_by s opens p) (line_of s.dossier orders p)
-  line_right p flags wants row flags_are row_is are =
-      are
-      ∙ ap (λ (fs : List Bool). map (λ (claim : List ℕ). list_any (λ k. get_or fs k false) claim) row) flags_are
-      ∙ ap (map (λ (claim : List ℕ). list_any (λ k. get_or wanting k false) claim)) row_is
-      ∙ map-map (λ (claim : List ℕ). list_any (λ k. get_or wanting k false) claim) (claim_of s.dossier p) (line_of s.dossier orders p)
-      ∙ map_same (λ c. list_any (λ k. get_or wanting k false) (claim_of s.dossier p c)) (wants_by s opens p) (λ c. wants_claim p c) (line_of s.dossier orders p)
-
-pub wanting_each : (s : State) (opens : List Bool) → length (map (wanting_at s opens) (range_with_len 0 (length s.dossier.wishes))) ≡ length s.dossier.wishes
-wanting_each s opens = length-map-range_with_len (wanting_at s opens) 0 (length s.dossier.wishes)
+  -- who of a programme's line wants a seat, as the claims tell it
+  pub wants_right : (p : ℕ) (row : List (List ℕ)) → row ≡ map (claim_of s.dossier p) (line_of s.dossier orders p) → wants_along s opens row ≡ map (wants_by s opens p) (line_of s.dossier orders p)
+  wants_right p row row_is =
+      ap (map (list_any (wanting_at s opens))) row_is
+      ∙ map-map (list_any (wanting_at s opens)) (claim_of s.dossier p) (line_of s.dossier orders p)
+      ∙ map_same (λ c. list_any (wanting_at s opens) (claim_of s.dossier p c)) (wants_by s opens p) (λ c. wants_claim p c) (line_of s.dossier orders p)
 
 pub claims_each : {d : DossierRows} {orders : List CallOrder} {claims : List (List (List ℕ))} {places : List ℕ} {early : List Bool} → IsLineup d orders claims places early
     → length claims ≡ length d.programmes
@@ -106,7 +97,7 @@ row_within d orders p n row is n_is j lt =
     subst P (sym (ap (λ (r : List (List ℕ)). get_or r j []) is ∙ get_or-map (claim_of d p) line j 0 [] in_line)) (claim_within d p (get_or line j 0) n n_is)
 
 -- the links of a lineup with its lines and the flags of those who need no seat
-pub linked : (s : State) (orders : List CallOrder) (opens : List Bool) (lines : List LineRow) (claims : List (List (List ℕ))) (places : List ℕ) (early sure : List Bool) (n : ℕ)
+linked : (s : State) (orders : List CallOrder) (opens : List Bool) (lines : List LineRow) (claims : List (List (List ℕ))) (places : List ℕ) (early sure : List Bool) (n : ℕ)
     → length s.marks ≡ length s.dossier.wishes → length opens ≡ length s.dossier.wishes → IsLineup s.dossier orders claims places early
     → n ≡ length s.dossier.programmes → lines ≡ map (seat_row s orders opens) (range_with_len 0 n)
     → sure ≡ map (sure_at s early) (range_with_len 0 (length s.dossier.wishes))
@@ -127,4 +118,20 @@ linked s orders opens lines claims places early sure n marks long lineup n_is li
           ∙ get_or-map-range_with_len (sure_at s early) 0 (length ws) i i false (slice_get_within ws i w at) (omega arith)
           ∙ ap (λ (v : Wish). holds_seat s v.candidate v.programme || get_or early i false) (wish_in_is ws i w at)
           ∙ ap (λ b. holds_seat s w.candidate w.programme || b) (lineup.early_are i w at);
+    }
+
+-- how far the seats reach of all programmes up to one
+pub all_reached : (s : State) (orders : List CallOrder) (opens : List Bool) (reached : List ℕ) (claims : List (List (List ℕ))) (places : List ℕ) (early sure : List Bool) (n : ℕ)
+    → length s.marks ≡ length s.dossier.wishes → length opens ≡ length s.dossier.wishes → IsLineup s.dossier orders claims places early
+    → n ≡ length s.dossier.programmes → reached ≡ map (λ p. reach_in (seat_row s orders opens p)) (range_with_len 0 n)
+    → sure ≡ map (sure_at s early) (range_with_len 0 (length s.dossier.wishes))
+    → IsReached s orders opens reached claims places sure
+all_reached s orders opens reached claims places early sure n marks long lineup n_is reached_are sure_are =
+    let count = length s.dossier.programmes in
+    record {
+      links = linked s orders opens (seat_rows s orders opens) claims places early sure count marks long lineup refl refl sure_are;
+      reached_are =
+          reached_are
+          ∙ ap (λ k. map (λ p. reach_in (seat_row s orders opens p)) (range_with_len 0 k)) n_is
+          ∙ sym (map-map reach_in (seat_row s orders opens) (range_with_len 0 count));
     }

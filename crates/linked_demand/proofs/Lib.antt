@@ -12,6 +12,7 @@ pub mod Filling
 pub mod Flagging
 pub mod Keeping
 pub mod Keyed
+pub mod Leaving
 pub mod Lining
 pub mod Lowered
 pub mod Marked
@@ -31,3 +32,4 @@ pub mod Staying
 pub mod Telling
 pub mod TickLaw
 pub mod Ticking
+pub mod Walking

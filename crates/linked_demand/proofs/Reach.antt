@@ -41,15 +41,6 @@ reach_behind (suc quota) (true ∷ flags) (suc k) b h = omega (arith, reach_behi
 reach_behind (suc quota) (false ∷ flags) zero b h = absurd (omega arith)
 reach_behind (suc quota) (false ∷ flags) (suc k) b h = omega (arith, reach_behind (suc quota) flags k b (omega arith))
 
--- clearing a place that is not set changes no reach
-pub reach_unset : (quota : ℕ) (flags : List Bool) (k : ℕ) → get_or flags k false ≡ false → reach quota (set flags k false) ≡ reach quota flags
-reach_unset zero flags k t = refl
-reach_unset (suc quota) [] k t = refl
-reach_unset (suc quota) (true ∷ flags) zero t = cc
-reach_unset (suc quota) (true ∷ flags) (suc k) t = omega (arith, reach_unset quota flags k t)
-reach_unset (suc quota) (false ∷ flags) zero t = refl
-reach_unset (suc quota) (false ∷ flags) (suc k) t = omega (arith, reach_unset (suc quota) flags k t)
-
 pub reach_within : (quota : ℕ) (flags : List Bool) → reach quota flags ≤ length flags
 reach_within zero flags = omega arith
 reach_within (suc quota) [] = omega arith
@@ -90,7 +81,7 @@ reached_by_count quota flags k within =
     ]
 
 -- the same, for the fields of a line
-pub is_reached_by : (row : LineRow) (quota : ℕ) (flags : List Bool) (reached k : ℕ) → record { flags = flags; quota = quota } ≡ row
+is_reached_by : (row : LineRow) (quota : ℕ) (flags : List Bool) (reached k : ℕ) → record { flags = flags; quota = quota } ≡ row
     → reached ≡ reach quota flags → k < length row.flags → nat_lt k reached ≡ is_reached row k
 is_reached_by row quota flags reached k same by within =
     rw (← same, by) (reached_by_count quota flags k (rw (← same) at within))
@@ -197,3 +188,10 @@ pub walked_unset : (quota : ℕ) (flags : List Bool) (i left : ℕ) → i < leng
     → reach quota flags ≡ i + reach left (drop i flags) → reach quota flags ≡ (i + 1) + reach left (drop (i + 1) flags)
 walked_unset quota flags i left lt at some so_far =
     omega (arith, so_far, ap (reach left) (split_at flags i false lt at), walk_unset left (drop (i + 1) flags) some)
+
+-- the next that is set, from a place that is set, and from one that is not
+pub next_found : (flags : List Bool) (i : ℕ) → i < length flags → get_or flags i false ≡ true → i + next (drop i flags) ≡ i + 1
+next_found flags i lt at = omega (arith, ap next (split_at flags i true lt at))
+
+pub next_passed : (flags : List Bool) (i : ℕ) → i < length flags → get_or flags i false ≡ false → (i + 1) + next (drop (i + 1) flags) ≡ i + next (drop i flags)
+next_passed flags i lt at = omega (arith, ap next (split_at flags i false lt at))

@@ -1,29 +1,26 @@
 -- What one closing counts and marks.
-use Rattle.std.proofs.Common.{ℕ, ◌+◌, ◌<◌, ◌≡◌, Bool, true, false, not, ◌&&◌, List, [], map, length, refl, sym, ◌∙◌, ap, arith, get_or, Option, Some, None, count_by, subst, nat_eq}
+use Rattle.std.proofs.Common.{ℕ, ◌+◌, ◌<◌, ◌≡◌, Bool, true, false, not, ◌&&◌, List, length, refl, sym, ◌∙◌, ap, arith, get_or, Some, count_by, subst, nat_eq}
 use Rattle.std.specs.Prelude.{slice_get, All}
 use Rattle.std.proofs.Math.ListN.{set}
-use Rattle.std.specs.List.{list_any, enumerate_from}
-use Rattle.std.proofs.lemmas.Bool.{and_left, and_parts}
-use Rattle.std.proofs.lemmas.List.{get_or-map, length-map}
+use Rattle.std.specs.List.{enumerate_from}
+use Rattle.std.proofs.lemmas.Bool.{and_parts}
 use Rattle.std.proofs.lemmas.List.Elements.{All-from_recursion}
 use Rattle.admit_core.specs.declared.dossier.Wish.{Wish}
 use Rattle.admit_core.specs.declared.state.Mark.{Mark}
 use Rattle.admit_core.specs.declared.ranking.CallOrder.{CallOrder}
 use Rattle.admit_core.specs.Lists.{is_among}
-use Rattle.admit_core.specs.State.{State, entries, is_waiting, holds_seat, seats_left}
+use Rattle.admit_core.specs.State.{State, entries, is_waiting}
 use Rattle.admit_core.specs.Proposals.{is_open, is_behind_bar}
 use Rattle.day_state.specs.Kept.{wish_in}
-use Rattle.linked_demand.specs.Line.{LineRow, is_reached, is_answer}
-use Rattle.linked_demand.specs.Opens.{flagged, is_flagged_in, wants_by, line_of, seat_row}
-use Rattle.linked_demand.specs.Links.{LinksRow, IsSeatPlace, claim_of}
+use Rattle.linked_demand.specs.Line.{LineRow}
+use Rattle.linked_demand.specs.Links.{LinksRow, claim_of}
 use Rattle.linked_demand.specs.Demand.{is_proposed_at}
 use Rattle.linked_demand.specs.Marks.{is_new, is_fresh, MarksSchools}
-use Rattle.linked_demand.proofs.Closing.{Closes, wish_of, line_right, row_is, row_kept, any_right, read_range, programme_within, places_below}
+use Rattle.linked_demand.proofs.Closing.{Closes, wish_of, places_below}
 use Rattle.linked_demand.proofs.Counting.{count_claim, count_entries, count_nothing}
 use Rattle.linked_demand.proofs.Filling.{entry_is}
 use Rattle.linked_demand.proofs.Lining.{among_claim}
 use Rattle.linked_demand.proofs.Marking.{marks_nothing, marks_weaker}
-use Rattle.linked_demand.proofs.Moving.{newly_some, newly_none, and_not_same}
 
 -- the links before and after a wish is closed
 abbrev before : State → List CallOrder → List Bool → LinksRow
@@ -32,77 +29,11 @@ before s orders opens = record { state = s; orders = orders; opens = opens }
 abbrev newly : State → List CallOrder → List Bool → ℕ → ℕ → Bool
 newly s orders opens i j = is_proposed_at (before s orders (set opens i false)) j && not (is_proposed_at (before s orders opens) j)
 
-module _ {s : State} {orders : List CallOrder} {opens : List Bool} {lines : List LineRow} {claims : List (List (List ℕ))} {places : List ℕ} {sure : List Bool} {i : ℕ} {w : Wish}
-    (k : Closes s orders opens lines claims places sure i w) (place : ℕ) (at : IsSeatPlace s.dossier orders w place)
-    (none : list_any (λ v. get_or (set opens i false) v false) (claim_of s.dossier w.programme w.candidate) ≡ false)
-    (line new : LineRow) (read : line ≡ get_or lines w.programme line) (is : new ≡ record line { flags = set line.flags place false }) where
-  new_right : new ≡ seat_row s orders (set opens i false) w.programme
-  new_right =
-      let wants : wants_by s (set opens i false) w.programme w.candidate ≡ false =
-      and_left (list_any (is_flagged_in w.programme w.candidate) (flagged s (set opens i false))) (not (holds_seat s w.candidate w.programme)) (sym (any_right k) ∙ none) in
-      let row : seat_row s orders (set opens i false) w.programme ≡ record { flags = set (seat_row s orders opens w.programme).flags place false; quota = seats_left s w.programme } =
-      rw wants at (row_is k place at) in
-      is ∙ rw (line_right k line read) (sym row)
-
-  fresh_right : (answer : Option ℕ)
-      → ((j : ℕ) → j < length line.flags → get_or new.flags j false ≡ true → (is_reached new j && not (is_reached line j)) ≡ is_answer answer j)
-      → (j : ℕ) → j < length (line_of s.dossier orders w.programme) → get_or (seat_row s orders (set opens i false) w.programme).flags j false ≡ true
-      → (is_reached (seat_row s orders (set opens i false) w.programme) j && not (is_reached (seat_row s orders opens w.programme) j)) ≡ is_answer answer j
-  fresh_right answer fresh =
-      let old_is = line_right k line read in
-      let P = λ (a : LineRow) (b : LineRow). (j : ℕ) → j < length a.flags → get_or b.flags j false ≡ true → (is_reached b j && not (is_reached a j)) ≡ is_answer answer j in
-      let one = subst (λ (a : LineRow). P a new) old_is fresh in
-      let two = subst (λ (b : LineRow). P (seat_row s orders opens w.programme) b) new_right one in
-      λ j lt t. two j (omega (arith, lt, length-map (line_of s.dossier orders w.programme) (wants_by s opens w.programme))) t
-
-  pub new_none : (answer : Option ℕ) → answer ≡ None
-      → ((j : ℕ) → j < length line.flags → get_or new.flags j false ≡ true → (is_reached new j && not (is_reached line j)) ≡ is_answer answer j)
-      → (j : ℕ) (e : Wish × Mark) → slice_get (entries s) j ≡ Some e → newly s orders opens i j ≡ false
-  new_none answer is_none fresh = newly_none k answer (fresh_right answer fresh) is_none
-
-  pub new_some : (answer : Option ℕ) (next : ℕ) → answer ≡ Some next → next < length line.flags
-      → ((j : ℕ) → j < length line.flags → get_or new.flags j false ≡ true → (is_reached new j && not (is_reached line j)) ≡ is_answer answer j)
-      → (j : ℕ) (e : Wish × Mark) → slice_get (entries s) j ≡ Some e → newly s orders opens i j
-      ≡ ((is_waiting e.1 && (nat_eq e.0.candidate (get_or (line_of s.dossier orders w.programme) next 0)) && (nat_eq e.0.programme w.programme))
-      && (get_or (set opens i false) j false && not (get_or sure j false)))
-  new_some answer next is_some lt fresh =
-      newly_some k answer (fresh_right answer fresh) next is_some
-      (omega (arith, lt, ap (λ (r : LineRow). length r.flags) (line_right k line read), length-map (line_of s.dossier orders w.programme) (wants_by s opens w.programme)))
-
-module _ {s : State} {orders : List CallOrder} {opens : List Bool} {lines : List LineRow} {claims : List (List (List ℕ))} {places : List ℕ} {sure : List Bool} {i : ℕ} {w : Wish}
-    (k : Closes s orders opens lines claims places sure i w) (next : ℕ) (line : LineRow) (read : line ≡ get_or lines w.programme line) (lt : next < length line.flags) where
-  next_in_line : next < length (line_of s.dossier orders w.programme)
-  next_in_line = omega (arith, lt, ap (λ (r : LineRow). length r.flags) (line_right k line read), length-map (line_of s.dossier orders w.programme) (wants_by s opens w.programme))
-
-  row_read : (row : List (List ℕ)) → row ≡ get_or claims w.programme row → row ≡ map (claim_of s.dossier w.programme) (line_of s.dossier orders w.programme)
-  row_read row got = read_range (λ p. map (claim_of s.dossier p) (line_of s.dossier orders p)) (length s.dossier.programmes) w.programme claims row k.links.claims_are (programme_within k) got
-
-  pub next_in_row : (row : List (List ℕ)) → row ≡ get_or claims w.programme row → next < length row
-  next_in_row row got = omega (arith, next_in_line, ap length (row_read row got), length-map (line_of s.dossier orders w.programme) (claim_of s.dossier w.programme))
-
-  pub next_claim : (row : List (List ℕ)) → row ≡ get_or claims w.programme row → (claim : List ℕ) → claim ≡ get_or row next []
-      → claim ≡ claim_of s.dossier w.programme (get_or (line_of s.dossier orders w.programme) next 0)
-  next_claim row got claim claim_got =
-      claim_got
-      ∙ ap (λ (r : List (List ℕ)). get_or r next []) (row_read row got)
-      ∙ get_or-map (claim_of s.dossier w.programme) (line_of s.dossier orders w.programme) next 0 [] next_in_line
-
 pub claim_fits : {s : State} {orders : List CallOrder} {opens : List Bool} {lines : List LineRow} {claims : List (List (List ℕ))} {places : List ℕ} {sure : List Bool} {i : ℕ} {w : Wish}
     → Closes s orders opens lines claims places sure i w → (p c : ℕ) (claim : List ℕ) → claim ≡ claim_of s.dossier p c → (n : ℕ) → n ≡ length s.dossier.wishes → All (λ v. v < n) claim
 claim_fits {s} k p c claim is n each =
     rw is (All-from_recursion (λ v. v < n) (claim_of s.dossier p c)
     (places_below (λ (x : ℕ × Wish). (nat_eq x.1.candidate c) && (nat_eq x.1.programme p)) s.dossier.wishes 0 n (omega (arith, each))))
-
--- where another wish of the claim is open, nothing becomes proposed
-pub new_kept : {s : State} {orders : List CallOrder} {opens : List Bool} {lines : List LineRow} {claims : List (List (List ℕ))} {places : List ℕ} {sure : List Bool} {i : ℕ} {w : Wish}
-    → (k : Closes s orders opens lines claims places sure i w) → (place : ℕ) → IsSeatPlace s.dossier orders w place
-    → list_any (λ v. get_or (set opens i false) v false) (claim_of s.dossier w.programme w.candidate) ≡ true
-    → (j : ℕ) (e : Wish × Mark) → slice_get (entries s) j ≡ Some e → newly s orders opens i j ≡ false
-new_kept {s} {orders} {opens} {lines} {claims} {places} {sure} {i} {w} k place at some =
-    let row : seat_row s orders (set opens i false) w.programme ≡ seat_row s orders opens w.programme = row_kept k place at some in
-    newly_none k None (λ j lt t.
-    let P = λ (r : LineRow). (is_reached r j && not (is_reached (seat_row s orders opens w.programme) j)) ≡ false in
-    subst P (sym row) (and_not_same (is_reached (seat_row s orders opens w.programme) j))) refl
 
 -- what a closing counts and marks, as the call says it
 pub record Told (seen new : LinksRow) (bars : List ℕ) (count after : ℕ) (old now : List Bool) : Type 0 where

@@ -12,3 +12,4 @@ pub mod Rounds
 pub mod Rows
 pub mod Seats
 pub mod Ticks
+pub mod Wants

@@ -1,5 +1,5 @@
 -- What is known of the wishes of a dossier while the programmes are gone through one after another.
-use Rattle.std.specs.Prelude.{◌≡◌, ℕ, ◌<◌, Bool, true, false, ◌&&◌, ◌||◌, ◌==◌, List, length, map, nat_eq, nat_lt, nat_le, ◌+◌, Some, slice_get, slice_index, slice_index_or, if◌then◌else◌}
+use Rattle.std.specs.Prelude.{◌≡◌, ℕ, ◌<◌, Bool, true, false, ◌&&◌, ◌||◌, ◌==◌, List, length, map, filter, is_some, nat_eq, nat_lt, nat_le, ◌+◌, Some, slice_get, slice_index, slice_index_or, if◌then◌else◌}
 use Rattle.std.specs.List.{range_with_len, before_first}
 use Rattle.day_state.specs.Kept.{wish_in}
 use Rattle.admit_core.specs.declared.dossier.Wish.{Wish}
@@ -13,6 +13,14 @@ use Rattle.linked_demand.specs.Opens.{line_of}
 -- the wish at a place is for the programme
 abbrev pub applies_at : DossierRows → ℕ → ℕ → Bool
 applies_at d p k = (wish_in d.wishes k).programme == p
+
+-- the wish at a place has a school
+abbrev pub boards_at : DossierRows → ℕ → Bool
+boards_at d k = is_some (wish_in d.wishes k).school
+
+-- the wishes with a school, by place
+abbrev pub boarders_of : DossierRows → List ℕ
+boarders_of d = filter (boards_at d) (range_with_len 0 (length d.wishes))
 
 -- some places of a list hold a value, and the others what they held
 pub record PutAt (X : Type 0) (d : X) (ks : List ℕ) (x : X) (old new : List X) : Type 0 where

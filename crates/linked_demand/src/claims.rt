@@ -1,6 +1,5 @@
 //! The claims of those who wish for a programme: each candidate's wishes for it.
-ghost use Rattle.std.specs.Prelude.{◌≡◌, ◌<◌, ◌≤◌, ◌^◌, ◌&&◌, [], not, true, false, nat_lt, nat_le, length, map, All, IfOk, slice_index_or};
-ghost use Rattle.std.specs.List.{list_any};
+ghost use Rattle.std.specs.Prelude.{◌≡◌, ◌<◌, ◌≤◌, ◌^◌, ◌&&◌, [], true, false, nat_lt, nat_le, length, map, All, IfOk, slice_index_or};
 ghost use Rattle.std.specs.List.Sorted.{IsNonDecreasingBy, IsPartitionPoint};
 ghost use Rattle.day_state.specs.Kept.{candidate_in};
 ghost use Rattle.linked_demand.specs.Claims.{IsWithin, part_of, IsSpanOf};
@@ -71,14 +70,6 @@ pub fn span_of(candidates: &[u32], candidate: u32) -> Span
         from: from as u32,
         to: to as u32,
     }
-}
-
-/// Whether a wish of a claim is open.
-pub fn any_open(claim: &[u32], opens: &[bool]) -> bool
-    requires { All (λ v. v < length opens.now) claim.now }
-    ensures { result ≡ list_any (λ v. slice_index_or opens.now v false) claim.now }
-{
-    claim.iter().any(|wish| opens[*wish as usize])
 }
 
 /// The claims of those who stand in a line, by place: spans of the list of the wishes.

@@ -1,5 +1,5 @@
 //! The rows of the schools.
-ghost use Rattle.std.specs.Prelude.{◌≡◌, ◌<◌, length, map, IfOk, OnOk};
+ghost use Rattle.std.specs.Prelude.{◌≡◌, ◌<◌, length, map, All, IfOk, OnOk};
 ghost use Rattle.std.specs.Option.{ForSome};
 ghost use Rattle.std.specs.List.{range_with_len};
 ghost use Rattle.std.specs.List.Sorted.{IsPermutation, IsNonDecreasingBy, IsStableByKey};
@@ -9,9 +9,9 @@ ghost use Rattle.day_state.specs.Kept.{mark_in, wish_in};
 ghost use Rattle.linked_demand.specs.Filled.{row_school, AreFilled};
 ghost use Rattle.linked_demand.specs.Keyed.{IsPutIn};
 ghost use Rattle.linked_demand.specs.Rows.{AreRows};
+ghost use Rattle.linked_demand.specs.Seats.{boarders_of};
 
 use crate::rows::{RowWish, empty_rows, put_in};
-use crate::wishes::wish_count;
 use admit_core::OutOfMemory;
 use day_state::DayState;
 use demand::{mark_at, wish_at};
@@ -52,21 +52,23 @@ fn put_in_school(
     }
 }
 
-/// The rows of the schools, each in order by place.
+/// The rows of the schools, each in order by place. Only the wishes with a school are asked.
 fn rows_by_place(
     alloc: Global,
     state: &DayState<'_>,
+    boarders: &[u32],
     bars: &[u32],
 ) -> Result<Vec<Vec<RowWish>>, OutOfMemory>
-    requires { length bars.now ≡ length state.now.dossier.schools }
+    requires boarders { boarders.now ≡ boarders_of state.now.dossier }
+    requires within { All (λ k. k < length state.now.dossier.wishes) boarders.now }
+    requires bars { length bars.now ≡ length state.now.dossier.schools }
     ensures { IfOk result (λ v. AreFilled state.now bars.now v.items) }
 {
     let mut rows = empty_rows(alloc, bars.len())?;
-    let count = wish_count(state);
-    for place in 0..count {
-        let school = row_school(state, bars, place);
-        let rank = wish_at(state, place).board_rank;
-        put_in_school(&mut rows, school, RowWish { rank, wish: place })?;
+    for place in boarders {
+        let school = row_school(state, bars, *place);
+        let rank = wish_at(state, *place).board_rank;
+        put_in_school(&mut rows, school, RowWish { rank, wish: *place })?;
     }
     Ok(rows)
 }
@@ -81,17 +83,19 @@ fn sort_row(row: &mut Vec<RowWish>) -> Result<(), AllocError>
     Ok(())
 }
 
-/// The rows of the schools up to their bars.
+/// The rows of the schools up to their bars, of the wishes with a school.
 pub fn rows_of(
     alloc: Global,
     state: &DayState<'_>,
+    boarders: &[u32],
     bars: &[u32],
 ) -> Result<Vec<Vec<RowWish>>, OutOfMemory>
-    requires { length bars.now ≡ length state.now.dossier.schools }
+    requires boarders { boarders.now ≡ boarders_of state.now.dossier }
+    requires bars { length bars.now ≡ length state.now.dossier.schools }
     ensures { IfOk result (λ v. AreRows state.now bars.now v.items) }
 {
     let _ = state.marks(); // one for each wish
-    let mut rows = rows_by_place(alloc, state, bars)?;
+    let mut rows = rows_by_place(alloc, state, boarders, bars)?;
     for school in 0..rows.len() {
         sort_row(&mut rows[school])?;
     }

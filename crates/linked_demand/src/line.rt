@@ -1,108 +1,103 @@
-//! A line of places, some of them set, of which the first ones are reached.
-ghost use Rattle.std.specs.Prelude.{◌≡◌, ℕ, ◌+◌, ◌<◌, ◌≤◌, ◌&&◌, ◌||◌, length, drop, slice_index, slice_set, slice_index_or, true, false, not, IfSome};
-ghost use Rattle.linked_demand.specs.Line.{LineRow, is_reached, reach, next, is_answer, last_new};
+//! The line of those who wish for a programme, of which the first ones are reached: while fewer than
+//! the seats that are left want one before them. Who wants a seat is asked as far as the seats go.
+ghost use Rattle.std.specs.Prelude.{◌≡◌, ◌+◌, ◌<◌, ◌≤◌, ◌&&◌, drop, length, not, nat_lt, All, IfSome};
+ghost use Rattle.std.specs.List.{list_any};
+ghost use Rattle.linked_demand.specs.Line.{next, reach, last_new};
+ghost use Rattle.linked_demand.specs.Opens.{wanting_at};
+ghost use Rattle.linked_demand.specs.Wants.{wants_along, AreBelow};
 
-use std::marker::Model;
+use crate::claims::Claims;
+use day_state::DayState;
 
-/// How many places there are up to the first that is set from a place on, with it; or all of them.
-fn next_set(flags: &[bool], from: usize) -> usize
-    requires { from ≤ length flags.now }
-    ensures place { result ≡ from + next (drop from flags.now) }
-    ensures within { result ≤ length flags.now }
+/// Whether the wish at a place is open, by its flag, and its candidate is not live in its programme.
+fn is_wanting(state: &DayState<'_>, opens: &[bool], place: u32) -> bool
+    requires place { place < length state.now.dossier.wishes }
+    requires opens { length opens.now ≡ length state.now.dossier.wishes }
+    ensures { result ≡ wanting_at state.now opens.now place }
 {
+    opens[place as usize] && !state.is_live_in_its_programme(place)
+}
+
+/// Whether one with this claim wants a seat.
+pub fn wants_seat(state: &DayState<'_>, opens: &[bool], claim: &[u32]) -> bool
+    requires claim { All (λ k. k < length state.now.dossier.wishes) claim.now }
+    requires opens { length opens.now ≡ length state.now.dossier.wishes }
+    ensures { result ≡ list_any (wanting_at state.now opens.now) claim.now }
+{
+    claim.iter().any(|place| is_wanting(state, opens, *place))
+}
+
+/// How many places of a line are reached: those with fewer who want a seat before them than there are
+/// seats.
+pub fn reach_of(state: &DayState<'_>, opens: &[bool], claims: &Claims, seats: usize) -> usize
+    requires claims { AreBelow (length state.now.dossier.wishes) claims.now }
+    requires opens { length opens.now ≡ length state.now.dossier.wishes }
+    ensures { result ≡ reach seats (wants_along state.now opens.now claims.now) }
+{
+    let mut left = seats;
+    let count = claims.count();
+    for place in 0..count {
+        if left == 0 {
+            return place;
+        }
+        if wants_seat(state, opens, claims.at(place)) {
+            left -= 1;
+        }
+    }
+    count
+}
+
+/// How many places there are up to the first one from a place on who wants a seat, with it; or all of
+/// them.
+pub fn next_wanting(state: &DayState<'_>, opens: &[bool], claims: &Claims, from: usize) -> usize
+    requires from { from ≤ length claims.now }
+    requires claims { AreBelow (length state.now.dossier.wishes) claims.now }
+    requires opens { length opens.now ≡ length state.now.dossier.wishes }
+    ensures place { result ≡ from + next (drop from (wants_along state.now opens.now claims.now)) }
+    ensures within { result ≤ length claims.now }
+{
+    let count = claims.count();
     let mut at = from;
-    while at < flags.len() {
+    while at < count {
         at += 1;
-        if flags[at - 1] {
+        if wants_seat(state, opens, claims.at(at - 1)) {
             return at;
         }
     }
     at
 }
 
-/// How many places from the front on have fewer than the quota set before them.
-fn reach(flags: &[bool], quota: usize) -> usize
-    ensures { result ≡ reach quota flags.now }
+/// The last place that is reached, where it was not reached before and wants a seat.
+pub fn last_wanting(
+    state: &DayState<'_>,
+    opens: &[bool],
+    claims: &Claims,
+    before: usize,
+    reached: usize,
+) -> Option<usize>
+    requires reached { reached ≤ length claims.now }
+    requires claims { AreBelow (length state.now.dossier.wishes) claims.now }
+    requires opens { length opens.now ≡ length state.now.dossier.wishes }
+    ensures answer { result ≡ last_new (wants_along state.now opens.now claims.now) before reached }
+    ensures within { IfSome result (λ n. n < length claims.now) }
 {
-    let mut left = quota;
-    for (place, flag) in flags.iter().enumerate() {
-        if left == 0 {
-            return place;
-        }
-        if *flag {
-            left -= 1;
-        }
-    }
-    flags.len()
-}
-
-/// The last place that is reached, where it was not reached before and is set.
-fn last_new(flags: &[bool], before: usize, reached: usize) -> Option<usize>
-    requires { reached ≤ length flags.now }
-    ensures answer { result ≡ last_new flags.now before reached }
-    ensures within { IfSome result (λ n. n < length flags.now) }
-{
-    if before < reached && flags[reached - 1] {
+    if before < reached && wants_seat(state, opens, claims.at(reached - 1)) {
         Some(reached - 1)
     } else {
         None
     }
 }
 
-/// Places in order, some of them set. A place is reached while fewer than the quota are set before it.
-#[derive(Drop)]
-pub struct Line {
-    flags: Vec<bool>,
-    quota: usize,
-    reached: usize,
+/// Whether one who is reached wants no seat any more.
+pub fn leaves_seat(wanted: bool, wants: bool, place: usize, reached: usize) -> bool
+    ensures { result ≡ (wanted && (not wants && nat_lt place reached)) }
+{
+    wanted && (!wants && place < reached)
 }
 
-impl Model for Line {
-    ghost use Rattle.std.specs.Prelude.{◌≡◌};
-    ghost use Rattle.linked_demand.specs.Line.{LineRow, reach};
-
-    ghost Value = { LineRow };
-
-    ghost view = { λ l. record { flags = l.flags.items; quota = l.quota } };
-
-    ghost invariant = { λ l. l.reached ≡ reach l.quota l.flags.items };
-}
-
-impl Line {
-    /// The line of these places.
-    pub fn new(flags: Vec<bool>, quota: usize) -> Line
-        ensures { result ≡ record { flags = flags.items; quota = quota } }
-    {
-        let reached = reach(&flags, quota);
-        Line {
-            flags,
-            quota,
-            reached,
-        }
-    }
-
-    /// Whether a place is reached.
-    pub fn is_reached(&self, place: usize) -> bool
-        requires { place < length self.now.flags }
-        ensures { result ≡ is_reached self.now place }
-    {
-        place < self.reached
-    }
-
-    /// Clears a place. Where one more place that is set is reached now, it is the answer.
-    pub fn clear(&mut self, place: usize) -> Option<usize>
-        requires { place < length self.old.flags }
-        ensures row { self.new ≡ record self.old { flags = slice_set self.old.flags place false } }
-        ensures place { IfSome result (λ n. n < length self.old.flags) }
-        ensures fresh { (j : ℕ) → j < length self.old.flags → slice_index_or self.new.flags j false ≡ true → (is_reached self.new j && not (is_reached self.old j)) ≡ is_answer result j }
-    {
-        let was_set = self.flags[place];
-        self.flags[place] = false;
-        if !was_set || place >= self.reached {
-            return None;
-        }
-        let before = self.reached;
-        self.reached = next_set(&self.flags, before);
-        last_new(&self.flags, before, self.reached)
-    }
+/// Whether a place is one of the first ones that are reached.
+pub fn is_reached(place: usize, reached: usize) -> bool
+    ensures { result ≡ nat_lt place reached }
+{
+    place < reached
 }

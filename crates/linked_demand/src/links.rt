@@ -1,5 +1,5 @@
 //! Who is served in each programme while wishes are closed.
-ghost use Rattle.std.specs.Prelude.{◌≡◌, ℕ, ◌+◌, ◌<◌, ◌&&◌, ◌||◌, false, length, slice_set, slice_index_or, count_by, IfOk};
+ghost use Rattle.std.specs.Prelude.{◌≡◌, ◌+◌, ◌<◌, ◌&&◌, ◌||◌, false, length, slice_set, slice_index_or, count_by, IfOk};
 ghost use Rattle.std.specs.List.{enumerate_from};
 ghost use Rattle.admit_core.specs.State.{entries};
 ghost use Rattle.linked_demand.specs.Marks.{is_new, MarksSchools};
@@ -10,9 +10,8 @@ ghost use Rattle.admit_core.specs.declared.state.Mark.{Mark};
 ghost use Rattle.linked_demand.specs.Links.{LinksRow, WaitsAt};
 ghost use Rattle.linked_demand.specs.Demand.{is_proposed_at};
 
-use crate::claims::any_open;
 use crate::fresh::note_fresh;
-use crate::line::Line;
+use crate::line::{is_reached, last_wanting, leaves_seat, next_wanting, wants_seat};
 use crate::lineup::Lineup;
 use crate::marks::Marks;
 use crate::seats::seats_of;
@@ -31,10 +30,10 @@ fn open_flags(alloc: Global, state: &DayState<'_>, bars: &[u32]) -> Result<Vec<b
     ensures one_each { IfOk result (λ v. length v.items ≡ length state.now.dossier.wishes) }
 {
     let _ = state.marks(); // one for each wish
-    let mut flags = Vec::new(alloc);
     let count = wish_count(state);
+    let mut flags = Vec::with_capacity(alloc, count as usize)?;
     for place in 0..count {
-        flags.push(is_open(state, bars, place))?;
+        flags.push_reserved(is_open(state, bars, place));
     }
     Ok(flags)
 }
@@ -46,25 +45,26 @@ fn is_served(open: bool, sure: bool, reached: bool) -> bool
     open && (sure || reached)
 }
 
-/// For each programme the line of those who wait for it, while wishes are closed.
+/// How far the seats of each programme reach along its line, while wishes are closed.
 #[derive(Drop)]
 pub struct SeatLinks<'a, 'd> {
     state: &'a DayState<'d>,
     orders: &'a CallOrders,
     opens: Vec<bool>,
     lineup: &'a Lineup,
-    lines: Vec<Line>,
+    reached: Vec<usize>,
     sure: Vec<bool>,
 }
 
 impl<'a, 'd> Model for SeatLinks<'a, 'd> {
-    ghost use Rattle.linked_demand.specs.Links.{LinksRow, IsLinked};
+    ghost use Rattle.linked_demand.specs.Links.{LinksRow};
+    ghost use Rattle.linked_demand.specs.Wants.{IsReached};
 
     ghost Value = { LinksRow };
 
     ghost view = { λ l. record { state = l.state.now; orders = l.orders.now.orders; opens = l.opens.items } };
 
-    ghost invariant = { λ l. IsLinked l.state.now l.orders.now.orders l.opens.items l.lines.items l.lineup.now.claims.items l.lineup.now.places.items l.sure.items };
+    ghost invariant = { λ l. IsReached l.state.now l.orders.now.orders l.opens.items l.reached.items l.lineup.now.claims.items l.lineup.now.places.items l.sure.items };
 }
 
 impl<'a, 'd> SeatLinks<'a, 'd> {
@@ -87,7 +87,7 @@ impl<'a, 'd> SeatLinks<'a, 'd> {
             orders,
             opens,
             lineup,
-            lines: seats.lines,
+            reached: seats.reached,
             sure: seats.sure,
         })
     }
@@ -111,19 +111,22 @@ impl<'a, 'd> SeatLinks<'a, 'd> {
         let lineup = self.lineup;
         let programme = wish_at(self.state, wish).programme as usize;
         let place = lineup.places[wish as usize];
-        self.opens[wish as usize] = false;
         let claims = &lineup.claims[programme];
         let claim = claims.at(place);
-        if !any_open(claim, &self.opens) {
-            if let Some(next) = self.lines[programme].clear(place) {
-                let claims = &lineup.claims[programme];
-                let claim = claims.at(next);
+        let wanted = wants_seat(self.state, &self.opens, claim);
+        self.opens[wish as usize] = false;
+        let wants = wants_seat(self.state, &self.opens, claim);
+        let before = self.reached[programme];
+        if leaves_seat(wanted, wants, place, before) {
+            let now = next_wanting(self.state, &self.opens, claims, before);
+            self.reached[programme] = now;
+            if let Some(next) = last_wanting(self.state, &self.opens, claims, before, now) {
                 note_fresh(
                     self.state,
                     bars,
                     &self.opens,
                     &self.sure,
-                    claim,
+                    claims.at(next),
                     marked,
                     steps,
                 );
@@ -156,7 +159,7 @@ impl<'a, 'd> SeatLinks<'a, 'd> {
         let place = lineup.places[wish as usize];
         let open = self.opens[wish as usize];
         let sure = self.sure[wish as usize];
-        let reached = self.lines[programme].is_reached(place);
+        let reached = is_reached(place, self.reached[programme]);
         is_served(open, sure, reached)
     }
 }

@@ -1,6 +1,9 @@
 use Rattle.std.proofs.Common.{arith}
-use Rattle.linked_demand.proofs.Filling.{sorted_none, sorted_more, sorted_all}
+use Rattle.linked_demand.proofs.Filling.{boarders_within, sorted_none, sorted_more, sorted_all}
 use Rattle.linked_demand.proofs.fill.rows_of.Goals as goal
+
+pub rows_by_place-requires-clause-within : goal.rows_by_place-requires-clause-within
+rows_by_place-requires-clause-within c = boarders_within c.args.state.now.dossier c.args.boarders.now c.requires.boarders
 
 pub loop-school-init : goal.loop-school-init
 loop-school-init c = sorted_none c.args.state.now c.args.bars.now c.in_ok-rows.rows.items c.in_ok-rows.ensures

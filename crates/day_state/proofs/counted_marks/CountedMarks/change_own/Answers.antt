@@ -31,8 +31,8 @@ wish_at-requires c =
     let wishes : c.as_slice-wishes.result.now ≡ c.args.self.now.dossier.wishes = c.as_slice-wishes.ensures ∙ ap (λ (d : DossierRows). d.wishes) (c.dossier.view_is ∙ same) in
     rw wishes (omega (arith, place.0, long, c.loop-place.invariant.on_way.long))
 
-pub set_mark-requires : goal.set_mark-requires
-set_mark-requires c =
+pub set_other-requires : goal.set_other-requires
+set_other-requires c =
     let f = changed_by c.args.change c.args.stamp in
     let long : length c.args.self.now.marks ≡ length c.args.self.now.dossier.wishes = subst IsWhole c.self.view_is c.self.invariant.kept.marks in
     let place = on_way_place f c.args.self.now c.loop-place.self c.args.own.now c.args.candidate c.loop-place.place-index long c.requires c.loop-place.invariant.on_way c.loop-place-test.true in
@@ -45,12 +45,12 @@ freed_in_all-freed-requires-clause-seats c =
     let wishes : c.as_slice-wishes.result.now ≡ c.loop-place.self.dossier.wishes =
     c.as_slice-wishes.ensures ∙ ap (λ (d : DossierRows). d.wishes) (c.dossier.view_is ∙ same ∙ sym c.loop-place.invariant.on_way.dossier) in
     let valid : IsValid c.args.self.now.dossier = subst IsValid (c.dossier.view_is ∙ same) c.dossier.invariant in
-    let step : IsStep c.args.change c.args.stamp c.loop-place.self c.set_mark.new.self (slice_index c.args.own.now c.loop-place.place-index) c.changed_by-mark.result c.set_mark.result = record {
+    let step : IsStep c.args.change c.args.stamp c.loop-place.self c.set_other.new.self (slice_index c.args.own.now c.loop-place.place-index) c.changed_by-mark.result c.set_other.result = record {
       mark = c.changed_by-mark.ensures ∙ rw (c.wish_at.ensures, c.mark.ensures, wishes) refl;
-      state = c.set_mark.ensures.state;
-      freed = c.set_mark.ensures.freed;
+      state = c.set_other.ensures.state;
+      freed = c.set_other.ensures.freed;
     } in
-    (counted_step c.args.change c.args.stamp c.args.candidate c.args.own.now c.args.self.now c.loop-place.self c.set_mark.new.self c.loop-place.freed c.set_mark.result c.loop-place.place-index c.changed_by-mark.result valid long c.requires c.loop-place.invariant c.loop-place-test.true step).seats_fit
+    (counted_step c.args.change c.args.stamp c.args.candidate c.args.own.now c.args.self.now c.loop-place.self c.set_other.new.self c.loop-place.freed c.set_other.result c.loop-place.place-index c.changed_by-mark.result valid long c.requires c.loop-place.invariant c.loop-place-test.true step).seats_fit
 
 pub freed_in_all-freed-requires-clause-beds : goal.freed_in_all-freed-requires-clause-beds
 freed_in_all-freed-requires-clause-beds c =
@@ -59,12 +59,12 @@ freed_in_all-freed-requires-clause-beds c =
     let wishes : c.as_slice-wishes.result.now ≡ c.loop-place.self.dossier.wishes =
     c.as_slice-wishes.ensures ∙ ap (λ (d : DossierRows). d.wishes) (c.dossier.view_is ∙ same ∙ sym c.loop-place.invariant.on_way.dossier) in
     let valid : IsValid c.args.self.now.dossier = subst IsValid (c.dossier.view_is ∙ same) c.dossier.invariant in
-    let step : IsStep c.args.change c.args.stamp c.loop-place.self c.set_mark.new.self (slice_index c.args.own.now c.loop-place.place-index) c.changed_by-mark.result c.set_mark.result = record {
+    let step : IsStep c.args.change c.args.stamp c.loop-place.self c.set_other.new.self (slice_index c.args.own.now c.loop-place.place-index) c.changed_by-mark.result c.set_other.result = record {
       mark = c.changed_by-mark.ensures ∙ rw (c.wish_at.ensures, c.mark.ensures, wishes) refl;
-      state = c.set_mark.ensures.state;
-      freed = c.set_mark.ensures.freed;
+      state = c.set_other.ensures.state;
+      freed = c.set_other.ensures.freed;
     } in
-    (counted_step c.args.change c.args.stamp c.args.candidate c.args.own.now c.args.self.now c.loop-place.self c.set_mark.new.self c.loop-place.freed c.set_mark.result c.loop-place.place-index c.changed_by-mark.result valid long c.requires c.loop-place.invariant c.loop-place-test.true step).beds_fit
+    (counted_step c.args.change c.args.stamp c.args.candidate c.args.own.now c.args.self.now c.loop-place.self c.set_other.new.self c.loop-place.freed c.set_other.result c.loop-place.place-index c.changed_by-mark.result valid long c.requires c.loop-place.invariant c.loop-place-test.true step).beds_fit
 
 pub loop-place-preserved : goal.loop-place-preserved
 loop-place-preserved c =
@@ -73,12 +73,12 @@ loop-place-preserved c =
     let wishes : c.as_slice-wishes.result.now ≡ c.loop-place.self.dossier.wishes =
     c.as_slice-wishes.ensures ∙ ap (λ (d : DossierRows). d.wishes) (c.dossier.view_is ∙ same ∙ sym c.loop-place.invariant.on_way.dossier) in
     let valid : IsValid c.args.self.now.dossier = subst IsValid (c.dossier.view_is ∙ same) c.dossier.invariant in
-    let step : IsStep c.args.change c.args.stamp c.loop-place.self c.set_mark.new.self (slice_index c.args.own.now c.loop-place.place-index) c.changed_by-mark.result c.set_mark.result = record {
+    let step : IsStep c.args.change c.args.stamp c.loop-place.self c.set_other.new.self (slice_index c.args.own.now c.loop-place.place-index) c.changed_by-mark.result c.set_other.result = record {
       mark = c.changed_by-mark.ensures ∙ rw (c.wish_at.ensures, c.mark.ensures, wishes) refl;
-      state = c.set_mark.ensures.state;
-      freed = c.set_mark.ensures.freed;
+      state = c.set_other.ensures.state;
+      freed = c.set_other.ensures.freed;
     } in
-    rw c.freed_in_all-freed.ensures (changing_more c.args.change c.args.stamp c.args.candidate c.args.own.now c.args.self.now c.loop-place.self c.set_mark.new.self c.loop-place.freed c.set_mark.result c.loop-place.place-index c.changed_by-mark.result valid long c.requires c.loop-place.invariant c.loop-place-test.true step)
+    rw c.freed_in_all-freed.ensures (changing_more c.args.change c.args.stamp c.args.candidate c.args.own.now c.args.self.now c.loop-place.self c.set_other.new.self c.loop-place.freed c.set_other.result c.loop-place.place-index c.changed_by-mark.result valid long c.requires c.loop-place.invariant c.loop-place-test.true step)
 
 pub returns-clause-state : goal.returns-clause-state
 returns-clause-state c =

@@ -19,6 +19,10 @@ loop-programme-preserved c =
 
 pub returns : goal.returns
 returns c =
-    built_all c.args.state.now.dossier c.args.orders.now.orders c.loop-programme.programme c.loop-programme.claims.items c.loop-programme.places.items c.loop-programme.early.items
-    (omega (arith, c.loop-programme-test.false, c.loop-programme.auto.programme-end, c.programme_count-programmes.ensures.count))
-    (λ k lt. omega (arith, c.programme_count-programmes.ensures.each k lt, c.programme_count-programmes.ensures.count)) c.loop-programme.invariant.built
+    record {
+      lines =
+          built_all c.args.state.now.dossier c.args.orders.now.orders c.loop-programme.programme c.loop-programme.claims.items c.loop-programme.places.items c.loop-programme.early.items
+          (omega (arith, c.loop-programme-test.false, c.loop-programme.auto.programme-end, c.programme_count-programmes.ensures.count))
+          (λ k lt. omega (arith, c.programme_count-programmes.ensures.each k lt, c.programme_count-programmes.ensures.count)) c.loop-programme.invariant.built;
+      boarders = c.in_ok-boarders.ensures;
+    }

@@ -1,0 +1,29 @@
+-- Who of a line wants a seat, as the claims and the flags of open wishes tell it.
+use Rattle.std.specs.Prelude.{◌≡◌, ℕ, ◌<◌, Bool, List, [], length, map, All, slice_index_or}
+use Rattle.std.specs.List.{list_any, range_with_len}
+use Rattle.admit_core.specs.declared.ranking.CallOrder.{CallOrder}
+use Rattle.admit_core.specs.State.{State}
+use Rattle.linked_demand.specs.Line.{LineRow, reach}
+use Rattle.linked_demand.specs.Links.{IsLinked}
+use Rattle.linked_demand.specs.Opens.{seat_row, wanting_at}
+
+-- one who has a claim wants a seat by one of its wishes
+abbrev pub wants_along : State → List Bool → List (List ℕ) → List Bool
+wants_along s opens claims = map (list_any (wanting_at s opens)) claims
+
+-- the wishes of the claims are places below a number
+abbrev pub AreBelow : ℕ → List (List ℕ) → Type 0
+AreBelow n claims = (j : ℕ) → j < length claims → All (λ k. k < n) (slice_index_or claims j [])
+
+-- the lines of all programmes
+abbrev pub seat_rows : State → List CallOrder → List Bool → List LineRow
+seat_rows s orders opens = map (seat_row s orders opens) (range_with_len 0 (length s.dossier.programmes))
+
+-- how many places of a line are reached
+abbrev pub reach_in : LineRow → ℕ
+reach_in row = reach row.quota row.flags
+
+-- for each programme it is known how many places of its line are reached
+pub record IsReached (s : State) (orders : List CallOrder) (opens : List Bool) (reached : List ℕ) (claims : List (List (List ℕ))) (places : List ℕ) (sure : List Bool) : Type 0 where
+  pub links : IsLinked s orders opens (seat_rows s orders opens) claims places sure
+  pub reached_are : reached ≡ map reach_in (seat_rows s orders opens)
