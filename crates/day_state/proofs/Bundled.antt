@@ -1,11 +1,14 @@
 -- How many wishes of a bundle are live, and what that tells of its candidate.
-use Rattle.std.proofs.Common.{ℕ, ◌+◌, ◌-◌, ◌≤◌, ◌<◌, ◌≡◌, Bool, true, false, ◌&&◌, List, [], ◌∷◌, length, set, replicate, inl, inr, refl, sym, ◌∙◌, ap, arith, filter, Option, Some, None, zero, suc}
+use Rattle.std.proofs.Common.{ℕ, ◌+◌, ◌-◌, ◌≤◌, ◌<◌, ◌≡◌, Bool, true, false, ◌&&◌, List, [], ◌∷◌, length, map, set, replicate, inl, inr, refl, sym, ◌∙◌, ap, arith, filter, Option, Some, None, zero, suc}
 use Rattle.std.specs.Prelude.{slice_index, ◌==◌, nat_lt}
 use Rattle.std.specs.Option.{ForSome}
 use Rattle.std.specs.List.{list_any, range_with_len}
-use Rattle.std.proofs.lemmas.Bool.{cases_Bool, cases_eq, ne_eqb, eq-eqb, lt-ltb, and_right}
+use Rattle.std.specs.Cmp.{both_ways}
+use Rattle.std.proofs.lemmas.Bool.{cases_Bool, cases_eq, ne_eqb, eqb-true, eq-eqb, lt-ltb, and_parts, and_right, false≢true}
 use Rattle.std.proofs.lemmas.Option.{unwrap_or-slice_get}
-use Rattle.std.proofs.lemmas.List.{length-set, length-replicate, get_or-replicate, get_or-set_same, get_or-set_other}
+use Rattle.std.proofs.lemmas.List.{length-map, length-set, length-replicate, get_or-replicate, get_or-set_same, get_or-set_other, get_or_default}
+use Rattle.std.proofs.Math.ListN.{get_or-map}
+use Rattle.std.proofs.lemmas.List.Folds.{list_any_at, Any-from_list_any}
 use Rattle.std.proofs.lemmas.List.Sums.{length-filter, count_by-le-length}
 use Rattle.std.proofs.lemmas.List.FromFn.{length-range_with_len}
 use Rattle.admit_core.specs.declared.dossier.Wish.{Wish}
@@ -15,9 +18,13 @@ use Rattle.admit_core.specs.State.{State, entries, is_live, with_mark_at}
 use Rattle.admit_core.specs.Validity.{IsValid}
 use Rattle.day_state.specs.declared.bundles.Sites.{Sites}
 use Rattle.day_state.specs.declared.bundles.Sites.TheVariants.{Programmes, Schools}
+use Rattle.day_state.specs.declared.numbers.Number.{Number}
+use Rattle.day_state.specs.declared.numbers.Number.TheVariants.{NoSite}
 use Rattle.day_state.specs.Kept.{mark_in, wish_in, waiting_mark, holds_one, holds_bed_in, in_school, one_if, recount, recount_some, has_seat_there, has_bed_there, state_of}
-use Rattle.day_state.specs.Bundles.{site_of, is_same, number_in, has_live, live_in_bundle, AreBundles, AreLiveCounts, IsBundled, KeepsCounts}
+use Rattle.day_state.specs.Bundles.{site_of, is_same, number_in, bundles_of, is_shared, rank_of, number_of, number_at, count_of, all_numbers, shared_in_all, has_live, live_in_bundle, AreLiveCounts, IsBundled, KeepsCounts}
 use Rattle.day_state.proofs.Counting.{here_step, there_step}
+use Rattle.day_state.proofs.Numbering.{range_at, bundles_are}
+use Rattle.day_state.proofs.Sharing.{alone_first, rank_within, rank_apart, count_parts}
 use Rattle.day_state.proofs.Places.{any_same, any-map, entry_in, entries_by_place}
 use Rattle.day_state.proofs.Along.{mark_in-set_same, mark_in-set_other}
 use Rattle.day_state.proofs.Change.{Fits, kept_changed}
@@ -93,29 +100,47 @@ live_elsewhere : (ms : List Mark) (numbers : List (Option ℕ)) (b k : ℕ) (m :
 live_elsewhere ms numbers b k m lt other =
     omega (arith, live_turned ms numbers b k m lt, elsewhere (is_live (mark_in ms k)) (number_in numbers k) b other, elsewhere (is_live m) (number_in numbers k) b other)
 
--- the counts after a change of one mark
-counts_turned : (ms : List Mark) (numbers : List (Option ℕ)) (live : List ℕ) (k : ℕ) (m : Mark) (o : Option ℕ) → AreLiveCounts ms numbers live → k < length ms
-    → number_in numbers k ≡ o → ForSome o (λ b. b < length ms) → AreLiveCounts (set ms k m) numbers (recount_some live o (is_live (mark_in ms k)) (is_live m))
-counts_turned ms numbers live k m None are lt is within = record {
-  as_long = are.as_long ∙ sym (length-set ms k m);
-  each = λ b b_lt. are.each b (omega (arith, length-set ms k m)) ∙ sym (live_elsewhere ms numbers b k m lt (λ e. let none = sym is ∙ e in cc));
+-- the counts where the mark is of another bundle than each of those that are counted
+counts_stay : (ms : List Mark) (bundles : List (Option ℕ)) (live : List ℕ) (k : ℕ) (m : Mark) → AreLiveCounts ms bundles live → k < length ms
+    → ((b : ℕ) → is_shared bundles b ≡ true → number_in bundles k ≡ Some b → ⊥) → AreLiveCounts (set ms k m) bundles live
+counts_stay ms bundles live k m are lt other = record {
+  as_long = are.as_long;
+  each = λ b b_lt shared. are.each b b_lt shared ∙ sym (live_elsewhere ms bundles b k m lt (other b shared));
 }
-counts_turned ms numbers live k m (Some c) are lt is within =
-    let next = slice_index live c + one_if (is_live m) - one_if (is_live (mark_in ms k)) in
-    let c_in : c < length ms = within c refl in
-    record {
-      as_long = length-set live c next ∙ are.as_long ∙ sym (length-set ms k m);
-      each = λ b b_lt. elim (cases_eq b c) [
-        | inl same ↦
-            rw same
-            (get_or-set_same live c next 0 (omega (arith, are.as_long, c_in))
-            ∙ (omega (arith, live_here ms numbers c k m lt is, are.each c c_in)))
-        | inr other ↦
-            get_or-set_other live c b next 0 other
-            ∙ are.each b (omega (arith, length-set ms k m))
-            ∙ sym (live_elsewhere ms numbers b k m lt (λ e. let both = sym is ∙ e in other (cc)))
-      ];
-    }
+
+-- the counts after a change of one mark
+counts_turned : (ms : List Mark) (bundles : List (Option ℕ)) (live : List ℕ) (k : ℕ) (m : Mark) (o : Option ℕ) → AreLiveCounts ms bundles live → k < length ms
+    → number_in bundles k ≡ o → ForSome o (λ b. b < length bundles)
+    → AreLiveCounts (set ms k m) bundles (recount_some live (count_of (number_of bundles o)) (is_live (mark_in ms k)) (is_live m))
+counts_turned ms bundles live k m None are lt is within = counts_stay ms bundles live k m are lt (λ b shared e. let none = sym is ∙ e in cc)
+counts_turned ms bundles live k m (Some c) are lt is within =
+    elim (cases_Bool (is_shared bundles c)) [
+      | inr alone ↦
+          rw alone
+          (counts_stay ms bundles live k m are lt (λ b shared e.
+          let both : Some c ≡ Some b = sym is ∙ e in
+          let same : c ≡ b = (cc) in
+          false≢true (sym alone ∙ (rw same shared))))
+      | inl c_shared ↦
+          let r = rank_of bundles c in
+          let next = slice_index live r + one_if (is_live m) - one_if (is_live (mark_in ms k)) in
+          let c_in : c < length bundles = within c refl in
+          let r_in : r < length live = omega (arith, are.as_long, rank_within bundles c c_shared c_in) in
+          rw c_shared
+          (record {
+            as_long = length-set live r next ∙ are.as_long;
+            each = λ b b_lt shared. elim (cases_eq b c) [
+              | inl same ↦
+                  rw same
+                  (get_or-set_same live r next 0 r_in
+                  ∙ (omega (arith, live_here ms bundles c k m lt is, are.each c c_in c_shared)))
+              | inr other ↦
+                  get_or-set_other live r (rank_of bundles b) next 0 (rank_apart bundles b c shared c_shared b_lt c_in other)
+                  ∙ are.each b b_lt shared
+                  ∙ sym (live_elsewhere ms bundles b k m lt (λ e. let both = sym is ∙ e in other (cc)))
+            ];
+          })
+    ]
 
 count_most : (ms : List Mark) (numbers : List (Option ℕ)) (b : ℕ) → live_in_bundle ms numbers b ≤ length ms
 count_most ms numbers b =
@@ -126,61 +151,126 @@ one_most : (b : Bool) → one_if b ≤ 1
 one_most true = omega arith
 one_most false = omega arith
 
-pub bundled_more : (sites : Sites) (s : State) (numbers : List (Option ℕ)) (live : List ℕ) (k : ℕ) (m : Mark) → length s.marks ≡ length s.dossier.wishes → k < length s.marks
-    → IsBundled sites s numbers live
-    → IsBundled sites (with_mark_at s k m) numbers (recount_some live (number_in numbers k) (is_live (mark_in s.marks k)) (is_live m))
-bundled_more sites s numbers live k m long lt bundled = record {
-  bundles = bundled.bundles;
-  counts = counts_turned s.marks numbers live k m (number_in numbers k) bundled.counts lt refl (λ b e. omega (arith, long, bundled.bundles.within k (omega arith) b e));
-}
+-- the number of a wish's bundle
+number_is : (sites : Sites) (s : State) (numbers : List Number) (live : List ℕ) (k : ℕ) → IsBundled sites s numbers live
+    → number_at numbers k ≡ number_of (bundles_of sites s.dossier.wishes) (number_in (bundles_of sites s.dossier.wishes) k)
+number_is sites s numbers live k bundled =
+    let bundles = bundles_of sites s.dossier.wishes in
+    rw bundled.numbered
+    (unwrap_or-slice_get (map (number_of bundles) bundles) k NoSite
+    ∙ get_or-map (number_of bundles) bundles k None
+    ∙ ap (number_of bundles) (sym (unwrap_or-slice_get bundles k None)))
 
--- the count of a wish's bundle, before its mark becomes m
-pub bundle_fits : (sites : Sites) (s : State) (numbers : List (Option ℕ)) (live : List ℕ) (k : ℕ) (m : Mark) → length s.marks ≡ length s.dossier.wishes → k < length s.marks
-    → length s.dossier.wishes ≤ 16000000 → IsBundled sites s numbers live
-    → ForSome (number_in numbers k) (λ b. Fits live (length s.marks) b (is_live (mark_in s.marks k)) (is_live m))
-bundle_fits sites s numbers live k m long lt short bundled b e =
-    let b_in : b < length s.marks = omega (arith, long, bundled.bundles.within k (omega arith) b e) in
-    let is = bundled.counts.each b b_in in
+pub bundled_more : (sites : Sites) (s : State) (numbers : List Number) (live : List ℕ) (k : ℕ) (m : Mark) → length s.marks ≡ length s.dossier.wishes → k < length s.marks
+    → IsBundled sites s numbers live
+    → IsBundled sites (with_mark_at s k m) numbers (recount_some live (count_of (number_at numbers k)) (is_live (mark_in s.marks k)) (is_live m))
+bundled_more sites s numbers live k m long lt bundled =
+    let ws = s.dossier.wishes in
+    let are = bundles_are sites ws in
     record {
-      place = omega (arith, bundled.counts.as_long);
-      comes = omega (arith, is, count_most s.marks numbers b, one_most (is_live m), long);
-      goes = omega (arith, is, live_here s.marks numbers b k m lt e);
+      numbered = bundled.numbered;
+      counts = rw (number_is sites s numbers live k bundled)
+          (counts_turned s.marks (bundles_of sites ws) live k m (number_in (bundles_of sites ws) k) bundled.counts lt refl (λ b e. omega (arith, are.as_long, are.within k (omega arith) b e)));
     }
 
-bundle_any : (ms : List Mark) (numbers : List (Option ℕ)) (live : List ℕ) (o : Option ℕ) → AreLiveCounts ms numbers live → ForSome o (λ b. b < length ms)
-    → has_live live o ≡ list_any (λ j. is_live (mark_in ms j) && is_same o (number_in numbers j)) (range_with_len 0 (length ms))
-bundle_any ms numbers live None are within = sym (never (λ j. is_live (mark_in ms j) && false) (λ j. and_right (is_live (mark_in ms j)) false refl) (range_with_len 0 (length ms)))
-bundle_any ms numbers live (Some b) are within =
-    ap (nat_lt 0) (are.each b (within b refl)) ∙ any_counts (counts_in ms numbers b) (range_with_len 0 (length ms))
+-- the count of a wish's bundle, before its mark becomes m
+pub bundle_fits : (sites : Sites) (s : State) (numbers : List Number) (live : List ℕ) (k : ℕ) (m : Mark) → length s.marks ≡ length s.dossier.wishes → k < length s.marks
+    → length s.dossier.wishes ≤ 16000000 → IsBundled sites s numbers live
+    → ForSome (count_of (number_at numbers k)) (λ n. Fits live (length s.marks) n (is_live (mark_in s.marks k)) (is_live m))
+bundle_fits sites s numbers live k m long lt short bundled n e =
+    let bundles = bundles_of sites s.dossier.wishes in
+    let bundles_are_so = bundles_are sites s.dossier.wishes in
+    let parts = count_parts bundles (number_in bundles k) n (rw (number_is sites s numbers live k bundled) at e) in
+    let b = parts.0 in
+    let b_in : b < length bundles = omega (arith, bundles_are_so.as_long, bundles_are_so.within k (omega arith) b parts.1) in
+    let is = bundled.counts.each b b_in parts.2 in
+    rw (← parts.3)
+    (record {
+      place = omega (arith, bundled.counts.as_long, rank_within bundles b parts.2 b_in);
+      comes = omega (arith, is, count_most s.marks bundles b, one_most (is_live m), long);
+      goes = omega (arith, is, live_here s.marks bundles b k m lt parts.1);
+    })
+
+same_some : (o : Option ℕ) (b : ℕ) → is_same (Some b) o ≡ true → o ≡ Some b
+same_some None b e = absurd (cc)
+same_some (Some c) b e = rw (eqb-true c b e) refl
+
+pub numbers_long : (sites : Sites) (s : State) (numbers : List Number) (live : List ℕ) → IsBundled sites s numbers live → length numbers ≡ length s.dossier.wishes
+numbers_long sites s numbers live bundled =
+    let bundles = bundles_of sites s.dossier.wishes in
+    ap length bundled.numbered ∙ length-map bundles (number_of bundles) ∙ (bundles_are sites s.dossier.wishes).as_long
+
+-- a wish's bundle has a place among the counts, where it has a number
+pub number_within : (sites : Sites) (s : State) (numbers : List Number) (live : List ℕ) (k : ℕ) → length s.marks ≡ length s.dossier.wishes → k < length s.marks
+    → IsBundled sites s numbers live → ForSome (count_of (number_at numbers k)) (λ n. n < length live)
+number_within sites s numbers live k long lt bundled n e =
+    let bundles = bundles_of sites s.dossier.wishes in
+    let bundles_are_so = bundles_are sites s.dossier.wishes in
+    let parts = count_parts bundles (number_in bundles k) n (rw (number_is sites s numbers live k bundled) at e) in
+    let b_in : parts.0 < length bundles = omega (arith, bundles_are_so.as_long, bundles_are_so.within k (omega arith) parts.0 parts.1) in
+    omega (arith, parts.3, bundled.counts.as_long, rank_within bundles parts.0 parts.2 b_in)
+
+-- where a wish is alone, its own mark tells whether one of its bundle is live
+alone_any : (ms : List Mark) (bundles : List (Option ℕ)) (k b : ℕ) → k < length ms → length bundles ≡ length ms → is_shared bundles b ≡ false → number_in bundles k ≡ Some b
+    → is_live (mark_in ms k) ≡ list_any (counts_in ms bundles b) (range_with_len 0 (length ms))
+alone_any ms bundles k b lt long none is =
+    let n = length ms in
+    let q = counts_in ms bundles b in
+    both_ways (is_live (mark_in ms k)) (list_any q (range_with_len 0 n))
+    (λ lives.
+    let here : q (slice_index (range_with_len 0 n) k) ≡ true = rw (range_at n k 0 lt, lives, is) (eq-eqb b b refl) in
+    list_any_at q (range_with_len 0 n) k 0 (omega (arith, lt, length-range_with_len 0 n)) here)
+    (λ some.
+    let (j, x, within, at, passes) = Any-from_list_any q (range_with_len 0 n) some in
+    let j_lt : j < n = omega (arith, within, length-range_with_len 0 n) in
+    let same : x ≡ j = sym (get_or_default (range_with_len 0 n) j 0 x within ∙ at) ∙ range_at n j 0 j_lt in
+    let parts = and_parts (is_live (mark_in ms x)) (is_same (Some b) (number_in bundles x)) passes in
+    let x_is : number_in bundles x ≡ Some b = same_some (number_in bundles x) b parts.1 in
+    let x_here : x ≡ b = alone_first bundles b x none (omega (arith, same, j_lt, long)) x_is in
+    let k_here : k ≡ b = alone_first bundles b k none (omega (arith, long)) is in
+    rw (k_here, ← x_here) parts.0)
+
+bundle_any : (ms : List Mark) (bundles : List (Option ℕ)) (live : List ℕ) (k : ℕ) (o : Option ℕ) → AreLiveCounts ms bundles live → length bundles ≡ length ms → k < length ms
+    → number_in bundles k ≡ o → ForSome o (λ b. b < length ms)
+    → has_live live (number_of bundles o) (is_live (mark_in ms k)) ≡ list_any (λ j. is_live (mark_in ms j) && is_same o (number_in bundles j)) (range_with_len 0 (length ms))
+bundle_any ms bundles live k None are long lt is within = sym (never (λ j. is_live (mark_in ms j) && false) (λ j. and_right (is_live (mark_in ms j)) false refl) (range_with_len 0 (length ms)))
+bundle_any ms bundles live k (Some b) are long lt is within =
+    elim (cases_Bool (is_shared bundles b)) [
+      | inl shared ↦ rw shared (ap (nat_lt 0) (are.each b (omega (arith, within b refl, long)) shared) ∙ any_counts (counts_in ms bundles b) (range_with_len 0 (length ms)))
+      | inr none ↦ rw none (alone_any ms bundles k b lt long none is)
+    ]
 
 and_turn : (live own test : Bool) → (live && (own && test)) ≡ ((live && own) && test)
 and_turn true own test = refl
 and_turn false own test = refl
 
 -- a bundle has a live wish where its candidate is live at its site
-has_live_is : (sites : Sites) (s : State) (numbers : List (Option ℕ)) (live : List ℕ) (k : ℕ) → length s.marks ≡ length s.dossier.wishes → k < length s.marks
+has_live_is : (sites : Sites) (s : State) (numbers : List Number) (live : List ℕ) (k : ℕ) → length s.marks ≡ length s.dossier.wishes → k < length s.marks
     → IsBundled sites s numbers live
     → let w = wish_in s.dossier.wishes k in
-    has_live live (number_in numbers k) ≡ holds_one (λ v. is_same (site_of sites w) (site_of sites v)) s w.candidate
+    has_live live (number_at numbers k) (is_live (mark_in s.marks k)) ≡ holds_one (λ v. is_same (site_of sites w) (site_of sites v)) s w.candidate
 has_live_is sites s numbers live k long lt bundled =
     let ws = s.dossier.wishes in
     let ms = s.marks in
     let w = wish_in ws k in
-    let o = number_in numbers k in
+    let bundles = bundles_of sites ws in
+    let bundles_are_so = bundles_are sites ws in
+    let o = number_in bundles k in
     let test = λ (v : Wish). is_same (site_of sites w) (site_of sites v) in
     let holds = λ (e : Wish × Mark). is_live e.1 && (e.0.candidate == w.candidate) && test e.0 in
     let k_in : k < length ws = omega arith in
-    bundle_any ms numbers live o bundled.counts (λ b e. omega (arith, long, bundled.bundles.within k k_in b e))
-    ∙ any_in_range (λ j. is_live (mark_in ms j) && is_same o (number_in numbers j)) (λ j. holds (entry_in s j)) 0 (length ms)
+    ap (λ n. has_live live n (is_live (mark_in ms k))) (number_is sites s numbers live k bundled)
+    ∙ bundle_any ms bundles live k o bundled.counts (bundles_are_so.as_long ∙ sym long) lt refl (λ b e. omega (arith, long, bundles_are_so.within k k_in b e))
+    ∙ any_in_range (λ j. is_live (mark_in ms j) && is_same o (number_in bundles j)) (λ j. holds (entry_in s j)) 0 (length ms)
     (λ j j_lt.
     let j_in : j < length ws = omega arith in
-    ap (λ t. is_live (mark_in ms j) && t) (bundled.bundles.shared k j k_in j_in) ∙ and_turn (is_live (mark_in ms j)) ((wish_in ws j).candidate == w.candidate) (test (wish_in ws j)))
+    ap (λ t. is_live (mark_in ms j) && t) (bundles_are_so.shared k j k_in j_in) ∙ and_turn (is_live (mark_in ms j)) ((wish_in ws j).candidate == w.candidate) (test (wish_in ws j)))
     ∙ ap (λ n. list_any (λ j. holds (entry_in s j)) (range_with_len 0 n)) long
     ∙ sym (any-map holds (entry_in s) (range_with_len 0 (length ws)))
     ∙ ap (list_any holds) (sym (entries_by_place s long))
 
-pub has_seat_is : (s : State) (numbers : List (Option ℕ)) (live : List ℕ) (k : ℕ) → length s.marks ≡ length s.dossier.wishes → k < length s.marks
-    → IsBundled Programmes s numbers live → has_live live (number_in numbers k) ≡ has_seat_there s k
+pub has_seat_is : (s : State) (numbers : List Number) (live : List ℕ) (k : ℕ) → length s.marks ≡ length s.dossier.wishes → k < length s.marks
+    → IsBundled Programmes s numbers live → has_live live (number_at numbers k) (is_live (mark_in s.marks k)) ≡ has_seat_there s k
 has_seat_is s numbers live k long lt bundled = has_live_is Programmes s numbers live k long lt bundled
 
 in_school_is : (o : Option ℕ) (w : Wish) → is_same o w.school ≡ in_school o w
@@ -191,8 +281,8 @@ in_any_school : (s : State) (c : ℕ) (o : Option ℕ) → holds_one (in_school 
 in_any_school s c None = never (λ (e : Wish × Mark). is_live e.1 && (e.0.candidate == c) && false) (λ e. and_right (is_live e.1 && (e.0.candidate == c)) false refl) (entries s)
 in_any_school s c (Some h) = refl
 
-pub has_bed_is : (s : State) (numbers : List (Option ℕ)) (live : List ℕ) (k : ℕ) → length s.marks ≡ length s.dossier.wishes → k < length s.marks
-    → IsBundled Schools s numbers live → has_live live (number_in numbers k) ≡ has_bed_there s k
+pub has_bed_is : (s : State) (numbers : List Number) (live : List ℕ) (k : ℕ) → length s.marks ≡ length s.dossier.wishes → k < length s.marks
+    → IsBundled Schools s numbers live → has_live live (number_at numbers k) (is_live (mark_in s.marks k)) ≡ has_bed_there s k
 has_bed_is s numbers live k long lt bundled =
     let w = wish_in s.dossier.wishes k in
     has_live_is Schools s numbers live k long lt bundled
@@ -201,9 +291,9 @@ has_bed_is s numbers live k long lt bundled =
     (λ e. ap (λ t. (is_live e.1 && (e.0.candidate == w.candidate)) && t) (in_school_is w.school e.0)) (entries s)
 
 -- the same where the school is given by cases
-pub holds_bed_is : (s : State) (numbers : List (Option ℕ)) (live : List ℕ) (k : ℕ) → length s.marks ≡ length s.dossier.wishes → k < length s.marks
+pub holds_bed_is : (s : State) (numbers : List Number) (live : List ℕ) (k : ℕ) → length s.marks ≡ length s.dossier.wishes → k < length s.marks
     → IsBundled Schools s numbers live
-    → has_live live (number_in numbers k) ≡ holds_bed_in s (wish_in s.dossier.wishes k).candidate (wish_in s.dossier.wishes k).school
+    → has_live live (number_at numbers k) (is_live (mark_in s.marks k)) ≡ holds_bed_in s (wish_in s.dossier.wishes k).candidate (wish_in s.dossier.wishes k).school
 holds_bed_is s numbers live k long lt bundled =
     let w = wish_in s.dossier.wishes k in
     has_bed_is s numbers live k long lt bundled ∙ in_any_school s w.candidate w.school
@@ -215,37 +305,41 @@ no_live_in n numbers b a (suc l) le =
     rw waits (no_live_in n numbers b (a + 1) l (omega arith))
 
 -- where all wishes wait no bundle has a live one
-bundled_waiting : (sites : Sites) (d : DossierRows) (numbers : List (Option ℕ)) → AreBundles sites d.wishes numbers
-    → IsBundled sites (state_of d (replicate (length d.wishes) waiting_mark)) numbers (replicate (length d.wishes) 0)
-bundled_waiting sites d numbers bundles =
+bundled_waiting : (sites : Sites) (d : DossierRows)
+    → IsBundled sites (state_of d (replicate (length d.wishes) waiting_mark)) (all_numbers sites d.wishes) (replicate (shared_in_all sites d.wishes) 0)
+bundled_waiting sites d =
     let n = length d.wishes in
+    let bundles = bundles_of sites d.wishes in
+    let as_long = (bundles_are sites d.wishes).as_long in
     let long : length (replicate n waiting_mark) ≡ n = length-replicate n waiting_mark in
     record {
-      bundles = bundles;
+      numbered = refl;
       counts = record {
-        as_long = length-replicate n 0 ∙ sym long;
-        each = λ b lt. get_or-replicate n b 0 0 (omega arith) ∙ rw long (sym (no_live_in n numbers b 0 n (omega arith)));
+        as_long = length-replicate (shared_in_all sites d.wishes) 0;
+        each = λ b lt shared.
+            get_or-replicate (shared_in_all sites d.wishes) (rank_of bundles b) 0 0 (rank_within bundles b shared lt) ∙ rw long (sym (no_live_in n bundles b 0 n (omega arith)));
       };
     }
 
-pub keeps_waiting : (d : DossierRows) (of_programmes of_schools : List (Option ℕ)) → AreBundles Programmes d.wishes of_programmes → AreBundles Schools d.wishes of_schools
+pub keeps_waiting : (d : DossierRows)
     → let n = length d.wishes in
-    KeepsCounts (state_of d (replicate n waiting_mark)) (replicate (length d.programmes) 0) (replicate (length d.schools) 0) of_programmes (replicate n 0) of_schools (replicate n 0)
-keeps_waiting d of_programmes of_schools programmes schools = record {
+    KeepsCounts (state_of d (replicate n waiting_mark)) (replicate (length d.programmes) 0) (replicate (length d.schools) 0) (all_numbers Programmes d.wishes)
+    (replicate (shared_in_all Programmes d.wishes) 0) (all_numbers Schools d.wishes) (replicate (shared_in_all Schools d.wishes) 0)
+keeps_waiting d = record {
   kept = kept_waiting d;
-  programmes = bundled_waiting Programmes d of_programmes programmes;
-  schools = bundled_waiting Schools d of_schools schools;
+  programmes = bundled_waiting Programmes d;
+  schools = bundled_waiting Schools d;
 }
 
 -- all counts after a change of one mark
-pub keeps_changed : (d : DossierRows) (marks : List Mark) (seats beds : List ℕ) (of_programmes : List (Option ℕ)) (in_programmes : List ℕ) (of_schools : List (Option ℕ)) (in_schools : List ℕ) (wish : ℕ) (m : Mark)
+pub keeps_changed : (d : DossierRows) (marks : List Mark) (seats beds : List ℕ) (of_programmes : List Number) (in_programmes : List ℕ) (of_schools : List Number) (in_schools : List ℕ) (wish : ℕ) (m : Mark)
     → IsValid d → KeepsCounts (state_of d marks) seats beds of_programmes in_programmes of_schools in_schools → wish < length marks
     → let s = state_of d marks in let new = with_mark_at s wish m in
     KeepsCounts new
     (recount seats (wish_in d.wishes wish).programme (has_seat_there s wish) (has_seat_there new wish))
     (recount_some beds (wish_in d.wishes wish).school (has_bed_there s wish) (has_bed_there new wish))
-    of_programmes (recount_some in_programmes (number_in of_programmes wish) (is_live (mark_in marks wish)) (is_live m))
-    of_schools (recount_some in_schools (number_in of_schools wish) (is_live (mark_in marks wish)) (is_live m))
+    of_programmes (recount_some in_programmes (count_of (number_at of_programmes wish)) (is_live (mark_in marks wish)) (is_live m))
+    of_schools (recount_some in_schools (count_of (number_at of_schools wish)) (is_live (mark_in marks wish)) (is_live m))
 keeps_changed d marks seats beds of_programmes in_programmes of_schools in_schools wish m valid keeps lt = record {
   kept = kept_changed d marks seats beds wish m valid keeps.kept lt;
   programmes = bundled_more Programmes (state_of d marks) of_programmes in_programmes wish m keeps.kept.marks lt keeps.programmes;
@@ -253,31 +347,31 @@ keeps_changed d marks seats beds of_programmes in_programmes of_schools in_schoo
 }
 
 -- a turn of the bundle in a programme tells whether the candidate was live there, and is
-pub seat_turned : (d : DossierRows) (marks : List Mark) (seats beds : List ℕ) (of_programmes : List (Option ℕ)) (in_programmes : List ℕ) (of_schools : List (Option ℕ)) (in_schools : List ℕ) (wish : ℕ) (m : Mark) (was lives had has : Bool) (after : List ℕ)
+pub seat_turned : (d : DossierRows) (marks : List Mark) (seats beds : List ℕ) (of_programmes : List Number) (in_programmes : List ℕ) (of_schools : List Number) (in_schools : List ℕ) (wish : ℕ) (m : Mark) (was lives had has : Bool) (after : List ℕ)
     → KeepsCounts (state_of d marks) seats beds of_programmes in_programmes of_schools in_schools → wish < length marks
-    → was ≡ is_live (mark_in marks wish) → lives ≡ is_live m → after ≡ recount_some in_programmes (number_in of_programmes wish) was lives
-    → had ≡ has_live in_programmes (number_in of_programmes wish) → has ≡ has_live after (number_in of_programmes wish)
+    → was ≡ is_live (mark_in marks wish) → lives ≡ is_live m → after ≡ recount_some in_programmes (count_of (number_at of_programmes wish)) was lives
+    → had ≡ has_live in_programmes (number_at of_programmes wish) was → has ≡ has_live after (number_at of_programmes wish) lives
     → (had ≡ has_seat_there (state_of d marks) wish) × (has ≡ has_seat_there (with_mark_at (state_of d marks) wish m) wish)
 seat_turned d marks seats beds of_programmes in_programmes of_schools in_schools wish m was lives had has after keeps lt was_is lives_is after_is had_is has_is =
     let s = state_of d marks in
     let long = keeps.kept.marks in
     let more = bundled_more Programmes s of_programmes in_programmes wish m long lt keeps.programmes in
-    let after_is_so : after ≡ recount_some in_programmes (number_in of_programmes wish) (is_live (mark_in marks wish)) (is_live m) = rw (← was_is, ← lives_is) after_is in (
-      had_is ∙ has_seat_is s of_programmes in_programmes wish long lt keeps.programmes,
-      has_is ∙ rw after_is_so (has_seat_is (with_mark_at s wish m) of_programmes (recount_some in_programmes (number_in of_programmes wish) (is_live (mark_in marks wish)) (is_live m)) wish (length-set marks wish m ∙ long) (omega (arith, length-set marks wish m)) more),
+    let after_is_so : after ≡ recount_some in_programmes (count_of (number_at of_programmes wish)) (is_live (mark_in marks wish)) (is_live m) = rw (← was_is, ← lives_is) after_is in (
+      had_is ∙ rw was_is (has_seat_is s of_programmes in_programmes wish long lt keeps.programmes),
+      has_is ∙ rw (after_is_so, lives_is) (ap (λ n. has_live (recount_some in_programmes (count_of (number_at of_programmes wish)) (is_live (mark_in marks wish)) (is_live m)) (number_at of_programmes wish) (is_live n)) (sym (mark_in-set_same marks wish m lt)) ∙ has_seat_is (with_mark_at s wish m) of_programmes (recount_some in_programmes (count_of (number_at of_programmes wish)) (is_live (mark_in marks wish)) (is_live m)) wish (length-set marks wish m ∙ long) (omega (arith, length-set marks wish m)) more),
     )
 
 -- the same in a school
-pub bed_turned : (d : DossierRows) (marks : List Mark) (seats beds : List ℕ) (of_programmes : List (Option ℕ)) (in_programmes : List ℕ) (of_schools : List (Option ℕ)) (in_schools : List ℕ) (wish : ℕ) (m : Mark) (was lives had has : Bool) (after : List ℕ)
+pub bed_turned : (d : DossierRows) (marks : List Mark) (seats beds : List ℕ) (of_programmes : List Number) (in_programmes : List ℕ) (of_schools : List Number) (in_schools : List ℕ) (wish : ℕ) (m : Mark) (was lives had has : Bool) (after : List ℕ)
     → KeepsCounts (state_of d marks) seats beds of_programmes in_programmes of_schools in_schools → wish < length marks
-    → was ≡ is_live (mark_in marks wish) → lives ≡ is_live m → after ≡ recount_some in_schools (number_in of_schools wish) was lives
-    → had ≡ has_live in_schools (number_in of_schools wish) → has ≡ has_live after (number_in of_schools wish)
+    → was ≡ is_live (mark_in marks wish) → lives ≡ is_live m → after ≡ recount_some in_schools (count_of (number_at of_schools wish)) was lives
+    → had ≡ has_live in_schools (number_at of_schools wish) was → has ≡ has_live after (number_at of_schools wish) lives
     → (had ≡ has_bed_there (state_of d marks) wish) × (has ≡ has_bed_there (with_mark_at (state_of d marks) wish m) wish)
 bed_turned d marks seats beds of_programmes in_programmes of_schools in_schools wish m was lives had has after keeps lt was_is lives_is after_is had_is has_is =
     let s = state_of d marks in
     let long = keeps.kept.marks in
     let more = bundled_more Schools s of_schools in_schools wish m long lt keeps.schools in
-    let after_is_so : after ≡ recount_some in_schools (number_in of_schools wish) (is_live (mark_in marks wish)) (is_live m) = rw (← was_is, ← lives_is) after_is in (
-      had_is ∙ has_bed_is s of_schools in_schools wish long lt keeps.schools,
-      has_is ∙ rw after_is_so (has_bed_is (with_mark_at s wish m) of_schools (recount_some in_schools (number_in of_schools wish) (is_live (mark_in marks wish)) (is_live m)) wish (length-set marks wish m ∙ long) (omega (arith, length-set marks wish m)) more),
+    let after_is_so : after ≡ recount_some in_schools (count_of (number_at of_schools wish)) (is_live (mark_in marks wish)) (is_live m) = rw (← was_is, ← lives_is) after_is in (
+      had_is ∙ rw was_is (has_bed_is s of_schools in_schools wish long lt keeps.schools),
+      has_is ∙ rw (after_is_so, lives_is) (ap (λ n. has_live (recount_some in_schools (count_of (number_at of_schools wish)) (is_live (mark_in marks wish)) (is_live m)) (number_at of_schools wish) (is_live n)) (sym (mark_in-set_same marks wish m lt)) ∙ has_bed_is (with_mark_at s wish m) of_schools (recount_some in_schools (count_of (number_at of_schools wish)) (is_live (mark_in marks wish)) (is_live m)) wish (length-set marks wish m ∙ long) (omega (arith, length-set marks wish m)) more),
     )

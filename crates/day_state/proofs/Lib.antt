@@ -5,6 +5,7 @@ pub mod Change
 pub mod Ordering
 pub mod Along
 pub mod Numbering
+pub mod Sharing
 pub mod Lost
 pub mod Freeing
 pub mod Changing

@@ -1,5 +1,5 @@
--- The numbers of bundles, as a walk in the order of the candidates gives them: each is the first place of its bundle.
-use Rattle.std.proofs.Common.{ℕ, ◌+◌, ◌≤◌, ◌<◌, ◌≡◌, Bool, true, false, ◌&&◌, List, [], ◌∷◌, length, set, replicate, inl, inr, refl, sym, ◌∙◌, ap, arith, nat_eq, filter, map, Option, Some, None, zero, suc}
+-- The first wishes of bundles, as a walk in the order of the candidates finds them.
+use Rattle.std.proofs.Common.{ℕ, ◌+◌, ◌≤◌, ◌<◌, ◌≡◌, Bool, true, false, ◌&&◌, List, [], ◌∷◌, length, get_or, set, replicate, inl, inr, refl, sym, ◌∙◌, ap, arith, nat_eq, filter, Option, Some, None, zero, suc}
 use Rattle.std.specs.Prelude.{slice_index, ◌==◌, All}
 use Rattle.std.specs.Option.{ForSome}
 use Rattle.std.specs.List.{find, list_any, range_with_len}
@@ -8,11 +8,12 @@ use Rattle.std.proofs.lemmas.Bool.{cases_Bool, cases_eq, eqb-true, eq-eqb, and_p
 use Rattle.std.proofs.lemmas.Option.{unwrap_or-slice_get}
 use Rattle.std.proofs.lemmas.List.{length-set, length-replicate, get_or-replicate, get_or-set_same, get_or-set_other, get_or_default, ext_get_or}
 use Rattle.std.proofs.lemmas.List.Folds.{list_any_at, Any-from_list_any}
+use Rattle.std.proofs.lemmas.List.FromFn.{length-range_with_len, get_or-range_with_len, length-map-range_with_len, get_or-map-range_with_len}
 use Rattle.admit_core.specs.declared.dossier.Wish.{Wish}
 use Rattle.admit_core.proofs.NextCalls.{find_passes}
 use Rattle.day_state.specs.declared.bundles.Sites.{Sites}
 use Rattle.day_state.specs.Kept.{candidate_in, wish_in, IsIndex}
-use Rattle.day_state.specs.Bundles.{site_of, is_same, together, number_in, joined, bundle_there, noted, unpacked, bundle_of, AreBundles}
+use Rattle.day_state.specs.Bundles.{site_of, is_same, together, number_in, joined, bundle_there, noted, bundle_of, bundles_of}
 use Rattle.day_state.proofs.Places.{candidate_in as candidate_there, any-filter}
 use Rattle.day_state.proofs.Along.{among-filter}
 
@@ -266,9 +267,9 @@ place_of ws order k index lt =
     let same = eqb-true k x (and_parts (q x) (nat_eq k x) passes).1 in
     (j, within, get_or_default order j 0 x within ∙ at ∙ sym same)
 
-bundles_shared : (sites : Sites) (ws : List Wish) (order : List ℕ) (j k : ℕ) → IsIndex ws order → k < length ws
+bundles_shared : (sites : Sites) (ws : List Wish) (order : List ℕ) (j k : ℕ) → ((i : ℕ) × (i < length order) × (slice_index order i ≡ k))
     → is_same (first_in sites ws order j) (first_in sites ws order k) ≡ together sites (wish_in ws j) (wish_in ws k)
-bundles_shared sites ws order j k index lt =
+bundles_shared sites ws order j k place =
     let v = wish_in ws j in
     let w = wish_in ws k in
     let p = λ (x : ℕ). together sites v (wish_in ws x) in
@@ -281,7 +282,6 @@ bundles_shared sites ws order j k index lt =
     together_from sites v w one.1 (sym other.0 ∙ one.0) one.2 (other.2 ∙ sym other.3 ∙ one.3))
     (λ t.
     let parts = together_parts sites v w t in
-    let place = place_of ws order k index lt in
     let here : p (slice_index order place.0) ≡ true = rw place.2 t in
     let found = find_has p order (list_any_at p order place.0 0 place.1 here) in
     let also : find q order ≡ Some found.0 = sym (find_alike p q (λ x. alike sites v w (wish_in ws x) parts.1 parts.0 parts.2 parts.3) order) ∙ found.1 in
@@ -307,29 +307,44 @@ first_is sites ws order k index =
     eq-eqb (candidate_in ws x) c (candidate_there ws x ∙ (together_parts sites (wish_in ws k) (wish_in ws x) t).0 ∙ sym (candidate_there ws k)) in
     sym (find_among p q weaker order) ∙ ap (find p) (index.own c) ∙ find_among p q weaker (range_with_len 0 (length ws))
 
--- the numbers follow from the wishes
-pub same_numbers : (sites : Sites) (ws : List Wish) (ns ms : List (Option ℕ)) → AreBundles sites ws ns → AreBundles sites ws ms → ns ≡ ms
-same_numbers sites ws ns ms one other =
-    ext_get_or None ns ms (one.as_long ∙ sym other.as_long)
-    (λ k lt.
-    let here : k < length ws = omega (arith, lt, one.as_long) in
-    sym (unwrap_or-slice_get ns k None) ∙ one.first k here ∙ sym (other.first k here) ∙ unwrap_or-slice_get ms k None)
+-- a list of the wishes' bundles, two of which are the same exactly where the wishes are together
+pub record AreBundles (sites : Sites) (ws : List Wish) (bundles : List (Option ℕ)) : Type 0 where
+  pub as_long : length bundles ≡ length ws
+  pub first : (k : ℕ) → k < length ws → number_in bundles k ≡ bundle_of sites ws k
+  pub within : (k : ℕ) → k < length ws → ForSome (number_in bundles k) (λ b. b < length ws)
+  pub shared : (j k : ℕ) → j < length ws → k < length ws → is_same (number_in bundles j) (number_in bundles k) ≡ together sites (wish_in ws j) (wish_in ws k)
 
--- at the end all wishes have their numbers
-pub walked_all : (sites : Sites) (ws : List Wish) (order : List ℕ) (count : ℕ) (last numbers : List (Option ℕ)) (i : ℕ) → IsIndex ws order → length order ≤ i
-    → IsWalked sites ws order count last numbers i → AreBundles sites ws numbers
-walked_all sites ws order count last numbers i index le walk =
-    let is : (k : ℕ) → k < length ws → number_in numbers k ≡ first_in sites ws order k = λ k lt.
-    let place = place_of ws order k index lt in
-    rw place.2 at (walk.walked place.0 (omega (arith, place.1))) in
+pub range_at : (n k d : ℕ) → k < n → get_or (range_with_len 0 n) k d ≡ k
+range_at n k d lt = get_or-range_with_len 0 n k d lt ∙ omega arith
+
+below_all : (n : ℕ) → All (λ k. k < n) (range_with_len 0 n)
+below_all n i d lt =
+    let i_lt : i < n = omega (arith, lt, length-range_with_len 0 n) in
+    rw (range_at n i d i_lt) i_lt
+
+bundle_in : (sites : Sites) (ws : List Wish) (k : ℕ) → k < length ws → number_in (bundles_of sites ws) k ≡ bundle_of sites ws k
+bundle_in sites ws k lt =
+    unwrap_or-slice_get (bundles_of sites ws) k None ∙ get_or-map-range_with_len (bundle_of sites ws) 0 (length ws) k k None lt (omega arith)
+
+pub bundles_are : (sites : Sites) (ws : List Wish) → AreBundles sites ws (bundles_of sites ws)
+bundles_are sites ws =
+    let n = length ws in
     record {
-      as_long = walk.long;
-      first = λ k lt. is k lt ∙ first_is sites ws order k index;
-      within = λ k lt b e. find_within (λ x. together sites (wish_in ws k) (wish_in ws x)) order (length ws) b index.within (sym (is k lt) ∙ e);
-      shared = λ j k j_lt k_lt. rw (is j j_lt, is k k_lt) (bundles_shared sites ws order j k index k_lt);
+      as_long = length-map-range_with_len (bundle_of sites ws) 0 n;
+      first = bundle_in sites ws;
+      within = λ k lt b e. find_within (λ x. together sites (wish_in ws k) (wish_in ws x)) (range_with_len 0 n) n b (below_all n) (sym (bundle_in sites ws k lt) ∙ e);
+      shared = λ j k j_lt k_lt.
+          rw (bundle_in sites ws j j_lt, bundle_in sites ws k k_lt)
+          (bundles_shared sites ws (range_with_len 0 n) j k (k, omega (arith, k_lt, length-range_with_len 0 n), range_at n k 0 k_lt));
     }
 
--- no number is packed in each place of a fresh list
-pub none_unpacked : (n : ℕ) → map unpacked (replicate n 4294967295) ≡ replicate n None
-none_unpacked zero = refl
-none_unpacked (suc n) = ap (λ (ns : List (Option ℕ)). None ∷ ns) (none_unpacked n)
+-- at the end all wishes have their bundles
+pub walked_all : (sites : Sites) (ws : List Wish) (order : List ℕ) (count : ℕ) (last numbers : List (Option ℕ)) (i : ℕ) → IsIndex ws order → length order ≤ i
+    → IsWalked sites ws order count last numbers i → numbers ≡ bundles_of sites ws
+walked_all sites ws order count last numbers i index le walk =
+    ext_get_or None numbers (bundles_of sites ws) (walk.long ∙ sym (length-map-range_with_len (bundle_of sites ws) 0 (length ws)))
+    (λ k lt.
+    let here : k < length ws = omega (arith, lt, walk.long) in
+    let place = place_of ws order k index here in
+    let is : number_in numbers k ≡ first_in sites ws order k = rw place.2 at (walk.walked place.0 (omega (arith, place.1))) in
+    sym (unwrap_or-slice_get numbers k None) ∙ is ∙ first_is sites ws order k index ∙ sym (bundle_in sites ws k here) ∙ unwrap_or-slice_get (bundles_of sites ws) k None)

@@ -1,12 +1,13 @@
 -- Bundles: the wishes of one candidate in one programme, or in one school.
-use Rattle.std.specs.Prelude.{◌≡◌, ℕ, ◌<◌, Bool, false, ◌&&◌, nat_lt, List, length, filter, Option, Some, None, ◌==◌, slice_get, slice_index, slice_set, unwrap_or, if◌then◌else◌}
-use Rattle.std.specs.Option.{ForSome}
-use Rattle.std.specs.List.{find, range_with_len}
+use Rattle.std.specs.Prelude.{◌≡◌, ℕ, ◌<◌, Bool, true, false, not, ◌&&◌, nat_lt, List, length, map, filter, take, Option, Some, None, ◌==◌, slice_get, slice_index, slice_set, unwrap_or, if◌then◌else◌}
+use Rattle.std.specs.List.{find, list_any, range_with_len}
 use Rattle.admit_core.specs.declared.dossier.Wish.{Wish}
 use Rattle.admit_core.specs.declared.state.Mark.{Mark}
 use Rattle.admit_core.specs.State.{State, is_live, is_school}
 use Rattle.day_state.specs.declared.bundles.Sites.{Sites}
 use Rattle.day_state.specs.declared.bundles.Sites.TheVariants.{Programmes, Schools}
+use Rattle.day_state.specs.declared.numbers.Number.{Number}
+use Rattle.day_state.specs.declared.numbers.Number.TheVariants.{NoSite, Alone, Shared}
 use Rattle.day_state.specs.Kept.{mark_in, wish_in, IsKept}
 
 -- the programme of a wish, or its school
@@ -27,46 +28,86 @@ together sites v w = (w.candidate == v.candidate) && is_same (site_of sites v) (
 abbrev pub number_in : List (Option ℕ) → ℕ → Option ℕ
 number_in ns k = unwrap_or (slice_get ns k) None
 
--- what a packed number stands for
-abbrev pub unpacked : ℕ → Option ℕ
-unpacked n = if n == 4294967295 then None else Some n
-
 -- the first wish that is together with the one at a place
 abbrev pub bundle_of : Sites → List Wish → ℕ → Option ℕ
 bundle_of sites ws k = find (λ j. together sites (wish_in ws k) (wish_in ws j)) (range_with_len 0 (length ws))
 
--- each wish with a site has the first place of its bundle as its number, which two wishes share exactly where they are together
-pub record AreBundles (sites : Sites) (ws : List Wish) (numbers : List (Option ℕ)) : Type 0 where
-  pub as_long : length numbers ≡ length ws
-  pub first : (k : ℕ) → k < length ws → number_in numbers k ≡ bundle_of sites ws k
-  pub within : (k : ℕ) → k < length ws → ForSome (number_in numbers k) (λ b. b < length ws)
-  pub shared : (j k : ℕ) → j < length ws → k < length ws → is_same (number_in numbers j) (number_in numbers k) ≡ together sites (wish_in ws j) (wish_in ws k)
+-- of each wish the first one of its bundle, by which the bundle is known
+abbrev pub bundles_of : Sites → List Wish → List (Option ℕ)
+bundles_of sites ws = map (bundle_of sites ws) (range_with_len 0 (length ws))
+
+-- the wish at k is in the bundle that begins at b, and is not its first
+abbrev pub is_later : List (Option ℕ) → ℕ → ℕ → Bool
+is_later bundles b k = not (k == b) && is_same (Some b) (number_in bundles k)
+
+-- a bundle of two wishes or more begins at a place
+abbrev pub is_shared : List (Option ℕ) → ℕ → Bool
+is_shared bundles b = list_any (is_later bundles b) (range_with_len 0 (length bundles))
+
+abbrev pub shared_flags : List (Option ℕ) → List Bool
+shared_flags bundles = map (is_shared bundles) (range_with_len 0 (length bundles))
+
+-- how many of the first k flags are true
+abbrev pub true_before : List Bool → ℕ → ℕ
+true_before flags k = length (filter (λ b. b) (take k flags))
+
+-- the number of a bundle of two wishes or more: how many of them begin before it
+abbrev pub rank_of : List (Option ℕ) → ℕ → ℕ
+rank_of bundles b = true_before (shared_flags bundles) b
+
+-- what is noted of a wish's bundle
+abbrev pub number_of : List (Option ℕ) → Option ℕ → Number
+number_of bundles None = NoSite
+number_of bundles (Some b) = if is_shared bundles b then Shared (rank_of bundles b) else Alone
+
+abbrev pub all_numbers : Sites → List Wish → List Number
+all_numbers sites ws = map (number_of (bundles_of sites ws)) (bundles_of sites ws)
+
+-- how many bundles have two wishes or more
+abbrev pub shared_in_all : Sites → List Wish → ℕ
+shared_in_all sites ws = rank_of (bundles_of sites ws) (length (bundles_of sites ws))
+
+-- what a packed number stands for
+abbrev pub unpacked : ℕ → Number
+unpacked n = if n == 4294967295 then NoSite else if n == 4294967294 then Alone else Shared n
+
+-- the number at a place
+abbrev pub number_at : List Number → ℕ → Number
+number_at ns k = unwrap_or (slice_get ns k) NoSite
+
+-- the number of a bundle that has one
+abbrev pub count_of : Number → Option ℕ
+count_of NoSite = None
+count_of Alone = None
+count_of (Shared n) = Some n
 
 -- how many live wishes a bundle has
 abbrev pub live_in_bundle : List Mark → List (Option ℕ) → ℕ → ℕ
 live_in_bundle ms numbers b = length (filter (λ k. is_live (mark_in ms k) && is_same (Some b) (number_in numbers k)) (range_with_len 0 (length ms)))
 
-pub record AreLiveCounts (ms : List Mark) (numbers : List (Option ℕ)) (live : List ℕ) : Type 0 where
-  pub as_long : length live ≡ length ms
-  pub each : (b : ℕ) → b < length ms → slice_index live b ≡ live_in_bundle ms numbers b
+-- each bundle of two wishes or more has its count
+pub record AreLiveCounts (ms : List Mark) (bundles : List (Option ℕ)) (live : List ℕ) : Type 0 where
+  pub as_long : length live ≡ rank_of bundles (length bundles)
+  pub each : (b : ℕ) → b < length bundles → is_shared bundles b ≡ true → slice_index live (rank_of bundles b) ≡ live_in_bundle ms bundles b
 
 -- the bundles of a state's wishes, with their counts
-pub record IsBundled (sites : Sites) (s : State) (numbers : List (Option ℕ)) (live : List ℕ) : Type 0 where
-  pub bundles : AreBundles sites s.dossier.wishes numbers
-  pub counts : AreLiveCounts s.marks numbers live
+pub record IsBundled (sites : Sites) (s : State) (numbers : List Number) (live : List ℕ) : Type 0 where
+  pub numbered : numbers ≡ all_numbers sites s.dossier.wishes
+  pub counts : AreLiveCounts s.marks (bundles_of sites s.dossier.wishes) live
 
 -- all that is kept beside the marks: the numbers of candidates by site, and the bundles
-pub record KeepsCounts (s : State) (seats beds : List ℕ) (of_programmes : List (Option ℕ)) (in_programmes : List ℕ) (of_schools : List (Option ℕ)) (in_schools : List ℕ) : Type 0 where
+pub record KeepsCounts (s : State) (seats beds : List ℕ) (of_programmes : List Number) (in_programmes : List ℕ) (of_schools : List Number) (in_schools : List ℕ) : Type 0 where
   pub kept : IsKept s seats beds
   pub programmes : IsBundled Programmes s of_programmes in_programmes
   pub schools : IsBundled Schools s of_schools in_schools
 
--- a bundle has a live wish
-abbrev pub has_live : List ℕ → Option ℕ → Bool
-has_live live None = false
-has_live live (Some b) = nat_lt 0 (slice_index live b)
+-- a bundle has a live wish; where it has no number, the wish's own mark tells it
+abbrev pub has_live : List ℕ → Number → Bool → Bool
+has_live live NoSite lives = false
+has_live live Alone lives = lives
+has_live live (Shared n) lives = nat_lt 0 (slice_index live n)
 
--- the number of a bundle to which the wish at a place belongs, where `found` is that of the candidate who came last to its site
+-- the first wish of a bundle to which the wish at a place belongs, where `found` is that of the candidate who came last to its site
 abbrev pub joined : List Wish → Option ℕ → ℕ → ℕ
 joined ws None place = place
 joined ws (Some found) place = if (wish_in ws found).candidate == (wish_in ws place).candidate then found else place
@@ -79,3 +120,17 @@ bundle_there ws last (Some site) place = Some (joined ws (number_in last site) p
 abbrev pub noted : List (Option ℕ) → Option ℕ → Option ℕ → List (Option ℕ)
 noted last None number = last
 noted last (Some site) number = slice_set last site number
+
+-- the flags once the wish at k is known to belong to a bundle
+abbrev pub with_later : List Bool → Option ℕ → ℕ → List Bool
+with_later flags None k = flags
+with_later flags (Some b) k = if b == k then flags else slice_set flags b true
+
+-- the flag at a place
+abbrev pub flag_in : List Bool → ℕ → Bool
+flag_in flags b = unwrap_or (slice_get flags b) false
+
+-- what flags and ranks tell of a bundle
+abbrev pub numbered : List Bool → List ℕ → Option ℕ → Number
+numbered flags ranks None = NoSite
+numbered flags ranks (Some b) = if flag_in flags b then Shared (slice_index ranks b) else Alone

@@ -169,7 +169,8 @@ impl<'d> CountedMarks<'d> {
         requires { wish < length self.now.marks }
         ensures { result ≡ has_seat_there self.now wish }
     {
-        self.in_programmes.is_live(wish)
+        let lives = self.mark(wish).is_live();
+        self.in_programmes.is_live(wish, lives)
     }
 
     /// Whether a wish's candidate is live in its school.
@@ -177,7 +178,8 @@ impl<'d> CountedMarks<'d> {
         requires { wish < length self.now.marks }
         ensures { result ≡ holds_bed_in self.now (wish_in self.now.dossier.wishes wish).candidate (wish_in self.now.dossier.wishes wish).school }
     {
-        self.in_schools.is_live(wish)
+        let lives = self.mark(wish).is_live();
+        self.in_schools.is_live(wish, lives)
     }
 
     /// The preference number of a candidate's best live wish, where they rank their wishes, whose

@@ -1,81 +1,101 @@
 //! The numbers of bundles, in four bytes a wish.
-ghost use Rattle.std.specs.Prelude.{◌≡◌, ◌<◌, length, IfOk, replicate, slice_set, None};
+ghost use Rattle.std.specs.Prelude.{◌≡◌, ◌<◌, ◌++◌, [], ◌∷◌, length, IfOk, OnOk};
 ghost use Rattle.std.specs.Option.{ForSome};
-ghost use Rattle.day_state.specs.Bundles.{number_in, unpacked};
+ghost use Rattle.day_state.specs.Bundles.{number_at, count_of, unpacked};
 
 use admit_core::OutOfMemory;
 use std::alloc::Global;
 use std::marker::Model;
 
-/// What stands for no number.
-const NO_NUMBER: u32 = 4_294_967_295;
+/// What stands for no site.
+const NO_SITE: u32 = 4_294_967_295;
 
-/// Of each wish the number of its bundle, where it has one.
+/// What stands for a wish that is alone in its bundle.
+const ALONE: u32 = 4_294_967_294;
+
+/// The bundle of a wish: none without a site, the wish alone, or one of more wishes, with its
+/// number.
+#[derive(Clone, Copy)]
+pub enum Number {
+    NoSite,
+    Alone,
+    Shared(u32),
+}
+
+impl Number {
+    /// The number of a bundle of two wishes or more.
+    pub fn count(self) -> Option<u32>
+        ensures { result ≡ count_of self }
+    {
+        match self {
+            Number::NoSite | Number::Alone => None,
+            Number::Shared(number) => Some(number),
+        }
+    }
+}
+
+/// Of each wish the number of its bundle.
 #[derive(Drop)]
 pub struct Numbers {
     packed: Vec<u32>,
 }
 
 impl Model for Numbers {
-    ghost use Rattle.std.specs.Prelude.{ℕ, List, Option, map};
+    ghost use Rattle.std.specs.Prelude.{List, map};
+    ghost use Rattle.day_state.specs.declared.numbers.Number.{Number};
     ghost use Rattle.day_state.specs.Bundles.{unpacked};
 
-    ghost Value = { List (Option ℕ) };
+    ghost Value = { List Number };
 
     ghost view = { λ n. map unpacked n.packed.items };
 }
 
 impl Numbers {
-    /// So many wishes, none of which has a number.
-    pub fn none(alloc: Global, count: usize) -> Result<Numbers, OutOfMemory>
-        ensures { IfOk result (λ n. n ≡ replicate count None) }
+    /// No number yet, with room for so many.
+    pub fn with_capacity(alloc: Global, count: usize) -> Result<Numbers, OutOfMemory>
+        ensures { IfOk result (λ n. n ≡ []) }
     {
-        let packed = none_packed(alloc, count)?;
+        let packed = Vec::with_capacity(alloc, count)?;
         Ok(Numbers { packed })
     }
 
     /// The number of a wish.
-    pub fn get(&self, wish: u32) -> Option<u32>
+    pub fn get(&self, wish: u32) -> Number
         requires { wish < length self.now }
-        ensures { result ≡ number_in self.now wish }
+        ensures { result ≡ number_at self.now wish }
     {
         unpacked(self.packed[wish as usize])
     }
 
-    /// Gives a wish a number, or none.
-    pub fn put(&mut self, wish: u32, number: Option<u32>)
-        requires place { wish < length self.old }
-        requires number { ForSome number (λ b. b < 4294967295) }
-        ensures { self.new ≡ slice_set self.old wish number }
+    /// Gives the next wish its number.
+    pub fn push(&mut self, number: Number) -> Result<(), OutOfMemory>
+        requires { ForSome (count_of number) (λ n. n < 4294967294) }
+        ensures { OnOk result (self.new ≡ self.old ++ number ∷ []) }
     {
-        self.packed[wish as usize] = packed(number);
+        self.packed.push(packed(number))?;
+        Ok(())
     }
 }
 
-fn none_packed(alloc: Global, count: usize) -> Result<Vec<u32>, OutOfMemory>
-    ensures { IfOk result (λ v. v.items ≡ replicate count 4294967295) }
-{
-    Ok(vec![in alloc; NO_NUMBER; count]?)
-}
-
-/// What stands for a number, or for none.
-fn packed(number: Option<u32>) -> u32
-    requires { ForSome number (λ b. b < 4294967295) }
+/// What stands for a number.
+fn packed(number: Number) -> u32
+    requires { ForSome (count_of number) (λ n. n < 4294967294) }
     ensures { unpacked result ≡ number }
 {
     match number {
-        None => NO_NUMBER,
-        Some(number) => number,
+        Number::NoSite => NO_SITE,
+        Number::Alone => ALONE,
+        Number::Shared(number) => number,
     }
 }
 
-/// The number that is stood for, or none.
-fn unpacked(number: u32) -> Option<u32>
-    ensures { result ≡ unpacked number }
+/// The number that is stood for.
+fn unpacked(packed: u32) -> Number
+    ensures { result ≡ unpacked packed }
 {
-    if number == NO_NUMBER {
-        None
-    } else {
-        Some(number)
+    match packed {
+        NO_SITE => Number::NoSite,
+        ALONE => Number::Alone,
+        number => Number::Shared(number),
     }
 }

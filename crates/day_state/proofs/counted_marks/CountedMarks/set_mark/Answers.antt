@@ -1,12 +1,32 @@
-use Rattle.std.proofs.Common.{◌≡◌, ◌<◌, ◌∙◌, ap, sym, subst, length}
+use Rattle.std.proofs.Common.{◌≡◌, ◌<◌, ◌∙◌, ap, sym, subst, arith, length}
 use Rattle.admit_core.specs.DossierRows.{DossierRows}
 use Rattle.admit_core.specs.State.{is_live}
 use Rattle.admit_core.specs.Validity.{IsValid}
 use Rattle.day_state.specs.declared.bundles.Sites.TheVariants.{Programmes, Schools}
 use Rattle.day_state.specs.Kept.{mark_in, state_of}
 use Rattle.day_state.proofs.Change.{seat_ready, bed_ready, freed_changed, mark_read}
-use Rattle.day_state.proofs.Bundled.{bundle_fits, keeps_changed, seat_turned, bed_turned}
+use Rattle.day_state.proofs.Bundled.{numbers_long, number_within, bundle_fits, keeps_changed, seat_turned, bed_turned}
 use Rattle.day_state.proofs.counted_marks.CountedMarks.set_mark.Goals as goal
+
+pub turn-seat-requires-clause-place : goal.turn-seat-requires-clause-place
+turn-seat-requires-clause-place c =
+    let in_range : c.args.wish < length c.self.inside.marks.items = rw (sym c.self.view_is) at c.requires in
+    omega (arith, c.self.invariant.kept.marks, numbers_long Programmes (state_of c.self.inside.dossier.now c.self.inside.marks.items) c.self.inside.in_programmes.numbers.value c.self.inside.in_programmes.live.items c.self.invariant.programmes)
+
+pub turn-seat-requires-clause-number : goal.turn-seat-requires-clause-number
+turn-seat-requires-clause-number c =
+    let in_range : c.args.wish < length c.self.inside.marks.items = rw (sym c.self.view_is) at c.requires in
+    number_within Programmes (state_of c.self.inside.dossier.now c.self.inside.marks.items) c.self.inside.in_programmes.numbers.value c.self.inside.in_programmes.live.items c.args.wish c.self.invariant.kept.marks in_range c.self.invariant.programmes
+
+pub turn-bed-requires-clause-place : goal.turn-bed-requires-clause-place
+turn-bed-requires-clause-place c =
+    let in_range : c.args.wish < length c.self.inside.marks.items = rw (sym c.self.view_is) at c.requires in
+    omega (arith, c.self.invariant.kept.marks, numbers_long Schools (state_of c.self.inside.dossier.now c.self.inside.marks.items) c.self.inside.in_schools.numbers.value c.self.inside.in_schools.live.items c.self.invariant.schools)
+
+pub turn-bed-requires-clause-number : goal.turn-bed-requires-clause-number
+turn-bed-requires-clause-number c =
+    let in_range : c.args.wish < length c.self.inside.marks.items = rw (sym c.self.view_is) at c.requires in
+    number_within Schools (state_of c.self.inside.dossier.now c.self.inside.marks.items) c.self.inside.in_schools.numbers.value c.self.inside.in_schools.live.items c.args.wish c.self.invariant.kept.marks in_range c.self.invariant.schools
 
 pub turn-seat-requires-clause-comes : goal.turn-seat-requires-clause-comes
 turn-seat-requires-clause-comes c =

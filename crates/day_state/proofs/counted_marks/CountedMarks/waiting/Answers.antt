@@ -1,7 +1,5 @@
 use Rattle.std.proofs.Common.{◌≡◌, ◌∙◌, ap, length}
 use Rattle.admit_core.specs.DossierRows.{DossierRows}
-use Rattle.day_state.specs.declared.bundles.Sites.TheVariants.{Programmes, Schools}
-use Rattle.day_state.specs.Bundles.{AreBundles}
 use Rattle.day_state.proofs.Bundled.{keeps_waiting}
 use Rattle.day_state.proofs.counted_marks.CountedMarks.waiting.Goals as goal
 
@@ -11,7 +9,5 @@ invariant_of-result c =
     let wishes : c.as_slice-wishes.result.now ≡ d.wishes = c.as_slice-wishes.ensures ∙ ap (λ (d : DossierRows). d.wishes) c.dossier.view_is in
     let programmes : c.len-programmes.result ≡ length d.programmes = c.len-programmes.ensures ∙ ap (λ (d : DossierRows). length d.programmes) c.dossier.view_is in
     let schools : c.len-schools.result ≡ length d.schools = c.len-schools.ensures ∙ ap (λ (d : DossierRows). length d.schools) c.dossier.view_is in
-    let in_programmes : AreBundles Programmes d.wishes c.in_ok-in_programmes.in_programmes.numbers.value = rw wishes at c.in_ok-in_programmes.ensures.numbers in
-    let in_schools : AreBundles Schools d.wishes c.in_ok-in_schools.in_schools.numbers.value = rw wishes at c.in_ok-in_schools.ensures.numbers in
-    rw (c.in_ok-marks.ensures, c.in_ok-seats.ensures, c.in_ok-beds.ensures, c.in_ok-in_programmes.ensures.live, c.in_ok-in_schools.ensures.live, wishes, programmes, schools)
-    (keeps_waiting d c.in_ok-in_programmes.in_programmes.numbers.value c.in_ok-in_schools.in_schools.numbers.value in_programmes in_schools)
+    rw (c.in_ok-marks.ensures, c.in_ok-seats.ensures, c.in_ok-beds.ensures, c.in_ok-in_programmes.ensures.live, c.in_ok-in_schools.ensures.live, c.in_ok-in_programmes.ensures.numbers, c.in_ok-in_schools.ensures.numbers, wishes, programmes, schools)
+    (keeps_waiting d)

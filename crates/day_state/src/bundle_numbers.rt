@@ -1,0 +1,188 @@
+//! The walks that number the bundles of a dossier's wishes.
+ghost use Rattle.std.specs.Prelude.{◌≡◌, ℕ, ◌+◌, ◌<◌, ◌^◌, map, length, slice_set, IfOk, replicate, false, None};
+ghost use Rattle.std.specs.Option.{ForSome};
+ghost use Rattle.std.specs.List.{range_with_len};
+ghost use Rattle.day_state.specs.Bundles.{site_of, number_in, bundles_of, joined, bundle_there, noted, shared_flags, with_later, true_before, flag_in, number_of, numbered};
+ghost use Rattle.day_state.specs.Kept.{wish_in, IsIndex};
+
+use crate::bundles::Sites;
+use crate::mark::{counted, wish_at};
+use crate::numbers::{Number, Numbers};
+use admit_core::{OutOfMemory, Wish};
+use std::alloc::Global;
+
+/// The programme of a wish, or its school.
+fn site_of(sites: Sites, wish: Wish) -> Option<u32>
+    ensures { result ≡ site_of sites wish }
+{
+    match sites {
+        Sites::Programmes => Some(wish.programme),
+        Sites::Schools => wish.school,
+    }
+}
+
+/// The first wish of each wish's bundle, which is the first one in an order by candidate.
+pub fn firsts_of(
+    alloc: Global,
+    sites: Sites,
+    wishes: &[Wish],
+    order: &[u32],
+    count: usize,
+) -> Result<Vec<Option<u32>>, OutOfMemory>
+    requires order { IsIndex wishes.now order.now }
+    requires sites { (k : ℕ) → k < length wishes.now → ForSome (site_of sites (wish_in wishes.now k)) (λ h. h < count) }
+    ensures { IfOk result (λ v. v.items ≡ bundles_of sites wishes.now) }
+{
+    let mut last = no_numbers(alloc, count)?;
+    let mut firsts = no_numbers(alloc, wishes.len())?;
+    for place in order {
+        let site = site_of(sites, wish_at(wishes, *place));
+        let first = bundle_there(wishes, last.as_slice(), site, *place);
+        note(&mut last, site, first);
+        set_first(&mut firsts, *place, first);
+    }
+    Ok(firsts)
+}
+
+fn set_first(firsts: &mut Vec<Option<u32>>, place: u32, first: Option<u32>)
+    requires { place < length firsts.old.items }
+    ensures { firsts.new.items ≡ slice_set firsts.old.items place first }
+{
+    firsts[place as usize] = first;
+}
+
+fn first_at(firsts: &[Option<u32>], place: u32) -> Option<u32>
+    requires { place < length firsts.now }
+    ensures { result ≡ number_in firsts.now place }
+{
+    firsts[place as usize]
+}
+
+fn no_numbers(alloc: Global, count: usize) -> Result<Vec<Option<u32>>, OutOfMemory>
+    ensures { IfOk result (λ v. v.items ≡ replicate count None) }
+{
+    Ok(vec![in alloc; None; count]?)
+}
+
+/// The number of a wish's bundle, where it has a site; `last` has for each site the bundle that
+/// came last there.
+fn bundle_there(wishes: &[Wish], last: &[Option<u32>], site: Option<u32>, place: u32) -> Option<u32>
+    requires place { place < length wishes.now }
+    requires site { ForSome site (λ h. h < length last.now) }
+    requires found { ForSome site (λ h. ForSome (number_in last.now h) (λ b. b < length wishes.now)) }
+    ensures { result ≡ bundle_there wishes.now last.now site place }
+{
+    match site {
+        None => None,
+        Some(site) => Some(joined(wishes, last[site as usize], place)),
+    }
+}
+
+/// The bundle that was found, where it is of the same candidate, and else a new one.
+fn joined(wishes: &[Wish], found: Option<u32>, place: u32) -> u32
+    requires place { place < length wishes.now }
+    requires found { ForSome found (λ b. b < length wishes.now) }
+    ensures { result ≡ joined wishes.now found place }
+{
+    match found {
+        Some(found) if wish_at(wishes, found).candidate == wish_at(wishes, place).candidate => {
+            found
+        }
+        _ => place,
+    }
+}
+
+/// Notes the bundle that came last to a site.
+fn note(last: &mut Vec<Option<u32>>, site: Option<u32>, number: Option<u32>)
+    requires { ForSome site (λ h. h < length last.old.items) }
+    ensures { last.new.items ≡ noted last.old.items site number }
+{
+    if let Some(site) = site {
+        last[site as usize] = number;
+    }
+}
+
+/// Whether the bundle that begins at a place has two wishes or more.
+pub fn shared_among(alloc: Global, firsts: &[Option<u32>]) -> Result<Vec<bool>, OutOfMemory>
+    requires few { length firsts.now < 2 ^ 31 }
+    requires within { (k : ℕ) → k < length firsts.now → ForSome (number_in firsts.now k) (λ b. b < length firsts.now) }
+    ensures { IfOk result (λ v. v.items ≡ shared_flags firsts.now) }
+{
+    let mut shared = no_flags(alloc, firsts.len())?;
+    for place in 0..firsts.len() as u32 {
+        note_later(&mut shared, first_at(firsts, place), place);
+    }
+    Ok(shared)
+}
+
+fn no_flags(alloc: Global, count: usize) -> Result<Vec<bool>, OutOfMemory>
+    ensures { IfOk result (λ v. v.items ≡ replicate count false) }
+{
+    Ok(vec![in alloc; false; count]?)
+}
+
+/// Flags a bundle to which a wish belongs that isn't its first.
+fn note_later(shared: &mut Vec<bool>, first: Option<u32>, place: u32)
+    requires { ForSome first (λ b. b < length shared.old.items) }
+    ensures { shared.new.items ≡ with_later shared.old.items first place }
+{
+    match first {
+        Some(first) if first != place => shared[first as usize] = true,
+        _ => {}
+    }
+}
+
+fn flag_at(flags: &[bool], place: u32) -> bool
+    requires { place < length flags.now }
+    ensures { result ≡ flag_in flags.now place }
+{
+    flags[place as usize]
+}
+
+/// How many flags before each place are true, and at the end how many there are.
+pub fn ranks_of(alloc: Global, flags: &[bool]) -> Result<Vec<u32>, OutOfMemory>
+    requires { length flags.now < 2 ^ 31 }
+    ensures { IfOk result (λ v. v.items ≡ map (true_before flags.now) (range_with_len 0 (length flags.now + 1))) }
+{
+    let mut ranks = Vec::with_capacity(alloc, flags.len() + 1)?;
+    let mut rank = 0;
+    for place in 0..flags.len() as u32 {
+        ranks.push(rank)?;
+        rank = counted(rank, false, flag_at(flags, place));
+    }
+    ranks.push(rank)?;
+    Ok(ranks)
+}
+
+/// The number of each wish's bundle.
+pub fn numbers_of(
+    alloc: Global,
+    firsts: &[Option<u32>],
+    shared: &[bool],
+    ranks: &[u32],
+) -> Result<Numbers, OutOfMemory>
+    requires few { length firsts.now < 2 ^ 31 }
+    requires within { (k : ℕ) → k < length firsts.now → ForSome (number_in firsts.now k) (λ b. b < length firsts.now) }
+    requires shared { shared.now ≡ shared_flags firsts.now }
+    requires ranks { ranks.now ≡ map (true_before shared.now) (range_with_len 0 (length shared.now + 1)) }
+    ensures { IfOk result (λ n. n ≡ map (number_of firsts.now) firsts.now) }
+{
+    let mut numbers = Numbers::with_capacity(alloc, firsts.len())?;
+    for place in 0..firsts.len() as u32 {
+        numbers.push(number_of(first_at(firsts, place), shared, ranks))?;
+    }
+    Ok(numbers)
+}
+
+/// The number of a bundle by the place of its first wish.
+fn number_of(first: Option<u32>, shared: &[bool], ranks: &[u32]) -> Number
+    requires shared { ForSome first (λ b. b < length shared.now) }
+    requires ranks { ForSome first (λ b. b < length ranks.now) }
+    ensures { result ≡ numbered shared.now ranks.now first }
+{
+    match first {
+        None => Number::NoSite,
+        Some(first) if shared[first as usize] => Number::Shared(ranks[first as usize]),
+        Some(_) => Number::Alone,
+    }
+}
