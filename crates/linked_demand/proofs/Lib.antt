@@ -1,5 +1,6 @@
 pub mod Answered
 pub mod Asked
+pub mod Askings
 pub mod Asking
 pub mod BarEach
 pub mod ClaimSpans

@@ -1,10 +1,11 @@
 //! Who is served in each programme while wishes are closed.
-ghost use Rattle.std.specs.Prelude.{◌≡◌, ◌+◌, ◌<◌, ◌&&◌, ◌||◌, false, length, slice_set, slice_index_or, count_by, IfOk};
+ghost use Rattle.std.specs.Prelude.{◌≡◌, ◌+◌, ◌<◌, ◌&&◌, false, length, map, All, slice_set, slice_index_or, count_by, IfOk};
 ghost use Rattle.std.specs.List.{enumerate_from};
-ghost use Rattle.admit_core.specs.State.{entries};
+ghost use Rattle.admit_core.specs.State.{entries, is_waiting};
 ghost use Rattle.linked_demand.specs.Marks.{is_new, MarksSchools};
 ghost use Rattle.linked_demand.specs.Lineups.{IsLineupOf};
 ghost use Rattle.linked_demand.specs.Opens.{opens_of};
+ghost use Rattle.linked_demand.specs.Seats.{boarders_of};
 ghost use Rattle.admit_core.specs.declared.dossier.Wish.{Wish};
 ghost use Rattle.admit_core.specs.declared.state.Mark.{Mark};
 ghost use Rattle.linked_demand.specs.Links.{LinksRow, WaitsAt};
@@ -14,35 +15,40 @@ use crate::fresh::note_fresh;
 use crate::line::{is_reached, last_wanting, leaves_seat, next_wanting, wants_seat};
 use crate::lineup::Lineup;
 use crate::marks::Marks;
-use crate::seats::seats_of;
-use crate::wishes::wish_count;
-use admit_core::{CallOrders, OutOfMemory, Steps};
+use crate::seats::{is_sure, seats_of};
+use admit_core::{CallOrders, Mark, OutOfMemory, Steps};
 use day_state::DayState;
 use demand::{is_open, wish_at};
 use std::alloc::Global;
 use std::marker::Model;
 use std::sync::ledger::Ledger;
 
-/// Whether each wish is open under bars, by place.
-fn open_flags(alloc: Global, state: &DayState<'_>, bars: &[u32]) -> Result<Vec<bool>, OutOfMemory>
-    requires { length bars.now ≡ length state.now.dossier.schools }
+/// Whether each of these marks waits.
+fn waiting_flags(alloc: Global, marks: &[Mark]) -> Result<Vec<bool>, OutOfMemory>
+    ensures { IfOk result (λ v. v.items ≡ map is_waiting marks.now) }
+{
+    Ok(marks.iter().map(|mark| mark.is_waiting()).collect(alloc)?)
+}
+
+/// Whether each wish is open under bars, by place. Of those that wait only the wishes with a school
+/// are asked for its bar.
+fn open_flags(
+    alloc: Global,
+    state: &DayState<'_>,
+    boarders: &[u32],
+    bars: &[u32],
+) -> Result<Vec<bool>, OutOfMemory>
+    requires boarders { boarders.now ≡ boarders_of state.now.dossier }
+    requires within { All (λ k. k < length state.now.dossier.wishes) boarders.now }
+    requires bars { length bars.now ≡ length state.now.dossier.schools }
     ensures flags { IfOk result (λ v. v.items ≡ opens_of state.now bars.now) }
     ensures one_each { IfOk result (λ v. length v.items ≡ length state.now.dossier.wishes) }
 {
-    let _ = state.marks(); // one for each wish
-    let count = wish_count(state);
-    let mut flags = Vec::with_capacity(alloc, count as usize)?;
-    for place in 0..count {
-        flags.push_reserved(is_open(state, bars, place));
+    let mut flags = waiting_flags(alloc, state.marks())?;
+    for place in boarders {
+        flags[*place as usize] = is_open(state, bars, *place);
     }
     Ok(flags)
-}
-
-/// Whether an open wish has a seat, by need of none or by its place.
-fn is_served(open: bool, sure: bool, reached: bool) -> bool
-    ensures { result ≡ («open» && (sure || reached)) }
-{
-    open && (sure || reached)
 }
 
 /// How far the seats of each programme reach along its line, while wishes are closed.
@@ -53,18 +59,18 @@ pub struct SeatLinks<'a, 'd> {
     opens: Vec<bool>,
     lineup: &'a Lineup,
     reached: Vec<usize>,
-    sure: Vec<bool>,
 }
 
 impl<'a, 'd> Model for SeatLinks<'a, 'd> {
     ghost use Rattle.linked_demand.specs.Links.{LinksRow};
+    ghost use Rattle.linked_demand.specs.Opens.{sure_flags};
     ghost use Rattle.linked_demand.specs.Wants.{IsReached};
 
     ghost Value = { LinksRow };
 
     ghost view = { λ l. record { state = l.state.now; orders = l.orders.now.orders; opens = l.opens.items } };
 
-    ghost invariant = { λ l. IsReached l.state.now l.orders.now.orders l.opens.items l.reached.items l.lineup.now.claims.items l.lineup.now.places.items l.sure.items };
+    ghost invariant = { λ l. IsReached l.state.now l.orders.now.orders l.opens.items l.reached.items l.lineup.now.claims.items l.lineup.now.places.items (sure_flags l.state.now l.lineup.now.early.items) };
 }
 
 impl<'a, 'd> SeatLinks<'a, 'd> {
@@ -80,15 +86,14 @@ impl<'a, 'd> SeatLinks<'a, 'd> {
         requires bars { length bars.now ≡ length state.now.dossier.schools }
         ensures { IfOk result (λ l. l ≡ record { state = state.now; orders = orders.now.orders; opens = opens_of state.now bars.now }) }
     {
-        let opens = open_flags(alloc, state, bars)?;
-        let seats = seats_of(alloc, state, orders, lineup, &opens)?;
+        let opens = open_flags(alloc, state, &lineup.boarders, bars)?;
+        let reached = seats_of(alloc, state, orders, lineup, &opens)?;
         Ok(SeatLinks {
             state,
             orders,
             opens,
             lineup,
-            reached: seats.reached,
-            sure: seats.sure,
+            reached,
         })
     }
 
@@ -125,7 +130,7 @@ impl<'a, 'd> SeatLinks<'a, 'd> {
                     self.state,
                     bars,
                     &self.opens,
-                    &self.sure,
+                    &lineup.early,
                     claims.at(next),
                     marked,
                     steps,
@@ -158,8 +163,7 @@ impl<'a, 'd> SeatLinks<'a, 'd> {
         let programme = wish_at(self.state, wish).programme as usize;
         let place = lineup.places[wish as usize];
         let open = self.opens[wish as usize];
-        let sure = self.sure[wish as usize];
         let reached = is_reached(place, self.reached[programme]);
-        is_served(open, sure, reached)
+        open && (reached || is_sure(self.state, &lineup.early, wish))
     }
 }

@@ -1,0 +1,6 @@
+use Rattle.std.proofs.Common.{◌∙◌}
+use Rattle.linked_demand.proofs.Filling.{boarders_within}
+use Rattle.linked_demand.proofs.links.SeatLinks.build.Goals as goal
+
+pub open_flags-requires-clause-within : goal.open_flags-requires-clause-within
+open_flags-requires-clause-within c = boarders_within c.args.state.now.dossier c.deref.result.now (c.deref.ensures.value ∙ c.requires.lineup.boarders)
