@@ -139,7 +139,7 @@ pub record IsAnswered (start now : State) (stamp : Stamp) (i : ℕ) (all : Freed
   pub beds : all.beds + beds_of_all start (auto_all start stamp) (later start.dossier i) ≡ beds_of_all start (auto_all start stamp) (wishers start.dossier)
 
 -- the candidate of a wish is among the wishes' candidates
-own_among : (ws : List Wish) (k : ℕ) → k < length ws → is_among (wish_in ws k).candidate (map (λ (w : Wish). w.candidate) ws) ≡ true
+pub own_among : (ws : List Wish) (k : ℕ) → k < length ws → is_among (wish_in ws k).candidate (map (λ (w : Wish). w.candidate) ws) ≡ true
 own_among [] k lt = absurd (omega arith)
 own_among (w ∷ ws) zero lt = or_left (nat_eq w.candidate w.candidate) (is_among w.candidate (map (λ (w : Wish). w.candidate) ws)) (eq-eqb w.candidate w.candidate refl)
 own_among (w ∷ ws) (suc k) lt =
@@ -254,7 +254,7 @@ room_here start now stamp i all so_far lt last =
 abbrev numbers : ℕ → ℕ → Freed
 numbers seats beds = record { seats = seats; beds = beds }
 
-same_numbers : (x y : Freed) → x.seats ≡ y.seats → x.beds ≡ y.beds → x ≡ y
+pub same_numbers : (x y : Freed) → x.seats ≡ y.seats → x.beds ≡ y.beds → x ≡ y
 same_numbers x y seats beds = let e : numbers x.seats x.beds ≡ numbers y.seats y.beds = rw (seats, beds) refl in e
 
 -- the dossier stays

@@ -55,7 +55,7 @@ count_or p q [] = omega arith
 count_or p q (k ∷ ks) =
     omega (arith, count-cons (λ k. p k || q k) k ks, count-cons p k ks, count-cons q k ks, one_or (p k) (q k), count_or p q ks)
 
-count_none : (q : ℕ → Bool) → ((k : ℕ) → q k ≡ false) → (ks : List ℕ) → count_by q ks ≡ 0
+pub count_none : (q : ℕ → Bool) → ((k : ℕ) → q k ≡ false) → (ks : List ℕ) → count_by q ks ≡ 0
 count_none q none [] = refl
 count_none q none (k ∷ ks) = let first = ap one (none k) in omega (arith, count-cons q k ks, first, count_none q none ks)
 

@@ -40,7 +40,7 @@ some_counted p xs some =
     ]
 
 -- an entry that passes stands at a place
-passing_place : (t : Wish × Mark → Bool) (ws : List Wish) (ms : List Mark) → list_any t (zip ws ms) ≡ true
+pub passing_place : (t : Wish × Mark → Bool) (ws : List Wish) (ms : List Mark) → list_any t (zip ws ms) ≡ true
     → (k : ℕ) × (k < length ws) × (k < length ms) × (t (wish_in ws k, mark_in ms k) ≡ true)
 passing_place t [] ms some = absurd (cc)
 passing_place t (w ∷ ws) [] some = absurd (cc)
@@ -51,7 +51,7 @@ passing_place t (w ∷ ws) (m ∷ ms) some =
     ]
 
 -- an entry at a place that passes is found
-place_passes : (t : Wish × Mark → Bool) (ws : List Wish) (ms : List Mark) (k : ℕ) → k < length ws → k < length ms → t (wish_in ws k, mark_in ms k) ≡ true
+pub place_passes : (t : Wish × Mark → Bool) (ws : List Wish) (ms : List Mark) (k : ℕ) → k < length ws → k < length ms → t (wish_in ws k, mark_in ms k) ≡ true
     → list_any t (zip ws ms) ≡ true
 place_passes t [] ms k lt lt_too here = absurd (omega arith)
 place_passes t (w ∷ ws) [] k lt lt_too here = absurd (omega arith)

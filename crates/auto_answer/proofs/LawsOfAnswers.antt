@@ -12,7 +12,7 @@ use Rattle.auto_answer.specs.Laws.{SameOwnMarks, OwnWishesDecide, MayBeExchanged
 use Rattle.auto_answer.proofs.Answering.{one_mark, turned, joined, one_other, one_both, one_as_all, all_both}
 
 -- the same own marks, by the two ways to say whose a wish is
-agrees : (c : ℕ) (s t : State) → length s.marks ≡ length s.dossier.wishes → length t.marks ≡ length t.dossier.wishes → SameOwnMarks c s t → Agrees c s t
+pub agrees : (c : ℕ) (s t : State) → length s.marks ≡ length s.dossier.wishes → length t.marks ≡ length t.dossier.wishes → SameOwnMarks c s t → Agrees c s t
 agrees c s t long long_too same = record {
   dossier = same.dossier;
   long = long;
@@ -20,7 +20,7 @@ agrees c s t long long_too same = record {
   same = λ k lt own. same.each k lt (candidate_in s.dossier.wishes k ∙ own);
 }
 
-same_own : (c : ℕ) (s t : State) → Agrees c s t → SameOwnMarks c s t
+pub same_own : (c : ℕ) (s t : State) → Agrees c s t → SameOwnMarks c s t
 same_own c s t a = record { dossier = a.dossier; each = λ k lt own. a.same k lt (sym (candidate_in s.dossier.wishes k) ∙ own) }
 
 pub own_wishes_decide : OwnWishesDecide
@@ -30,7 +30,7 @@ pub all_is_each_alone : AllIsEachAlone
 all_is_each_alone c s stamp long = same_own c (auto_one s c stamp) (auto_all s stamp) (one_as_all c s stamp long)
 
 -- states that agree for each candidate are one
-all_agree : (s t : State) → ((c : ℕ) → Agrees c s t) → s ≡ t
+pub all_agree : (s t : State) → ((c : ℕ) → Agrees c s t) → s ≡ t
 all_agree s t each =
     let a = each 0 in
     same_state s t (sym a.dossier) (same_marks s.marks t.marks (a.long ∙ sym a.long_too) (λ k lt. (each (who s k)).same k (omega (arith, a.long)) refl))

@@ -4,3 +4,5 @@ pub mod Bounds
 pub mod Answering
 pub mod LawsOfAnswers
 pub mod Freeing
+pub mod Again
+pub mod NewOffers

@@ -1,7 +1,9 @@
 -- Laws of automatic answers.
-use Rattle.std.specs.Prelude.{◌≡◌, ◌≢◌, ℕ, ◌<◌, true, false, length}
+use Rattle.std.specs.Prelude.{◌≡◌, ◌≢◌, ℕ, ◌<◌, List, map, true, false, length}
 use Rattle.admit_core.specs.declared.state.Stamp.{Stamp}
 use Rattle.admit_core.specs.declared.state.Status.TheVariants.{AutoRefused}
+use Rattle.admit_core.specs.DossierRows.{candidate_of}
+use Rattle.admit_core.specs.Lists.{is_among}
 use Rattle.admit_core.specs.State.{State, is_live}
 use Rattle.admit_core.specs.Answers.{mark_at, status_at, candidate_at}
 use Rattle.admit_core.specs.AutoAnswer.{auto_one, auto_all, freed}
@@ -31,6 +33,18 @@ MayBeExchanged =
 -- the automatic answers of all do to each candidate's wishes what their own alone does
 abbrev pub AllIsEachAlone : Type 0
 AllIsEachAlone = (c : ℕ) (s : State) (stamp : Stamp) → IsMarked s → SameOwnMarks c (auto_one s c stamp) (auto_all s stamp)
+
+-- who has been answered for is not answered for again
+abbrev pub OnceIsEnough : Type 0
+OnceIsEnough = (s : State) (stamp again : Stamp) → IsMarked s → auto_all (auto_all s stamp) again ≡ auto_all s stamp
+
+-- two states in which whoever has none of the wishes at these places has the same marks
+abbrev pub SameOthers : List ℕ → State → State → Type 0
+SameOthers places s t = (c : ℕ) → is_among c (map (candidate_of s.dossier) places) ≡ false → SameOwnMarks c s t
+
+-- automatic answers change nothing for whoever has none of the wishes at these places
+abbrev pub AreAnsweredBut : List ℕ → State → Stamp → Type 0
+AreAnsweredBut places s stamp = SameOthers places s (auto_all s stamp)
 
 -- a live wish that was automatically refused
 pub record IsRefusedAt (old new : State) (place : ℕ) : Type 0 where

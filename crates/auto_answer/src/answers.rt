@@ -1,11 +1,12 @@
 //! The automatic answers.
-ghost use Rattle.std.specs.Prelude.{◌≡◌, ◌<◌, ◌+◌, ◌^◌, length, not, drop, map, slice_get, filter, nat_eq, ◌==◌};
+ghost use Rattle.std.specs.Prelude.{◌≡◌, ◌<◌, ◌+◌, ◌^◌, All, length, not, drop, map, slice_get, filter, nat_eq, ◌==◌};
 ghost use Rattle.std.specs.List.{range_with_len};
 ghost use Rattle.admit_core.specs.AutoAnswer.{auto_one, auto_all, freed_by, freed};
 ghost use Rattle.admit_core.specs.DossierRows.{candidate_of};
 ghost use Rattle.admit_core.specs.Lists.{is_among};
 ghost use Rattle.admit_core.specs.OwnWishes.{own_places};
 ghost use Rattle.auto_answer.specs.LastWish.{wishers};
+ghost use Rattle.auto_answer.specs.Laws.{AreAnsweredBut};
 
 use admit_core::{Freed, Stamp};
 use day_state::DayState;
@@ -31,6 +32,26 @@ pub fn auto_all(state: &mut DayState<'_>, stamp: Stamp) -> Freed
             let own = state.answer_beside(place, stamp);
             all = together(all, own);
         }
+    }
+    all
+}
+
+/// Answers for the candidates of these wishes, where all others have been answered for.
+///
+/// Whoever has several wishes among them is answered for as often, which changes nothing after the
+/// first time.
+pub fn auto_some(state: &mut DayState<'_>, places: &[u32], stamp: Stamp) -> Freed
+    requires within { All (λ place. place < length state.old.dossier.wishes) places.now }
+    requires others { AreAnsweredBut places.now state.old stamp }
+    ensures state { state.new ≡ auto_all state.old stamp }
+    ensures freed { result ≡ freed state.old state.new }
+{
+    let _ = state.marks(); // one for each wish
+    let _ = state.dossier().wishes.len(); // at most 16,000,000
+    let mut all = Freed { seats: 0, beds: 0 };
+    for place in places {
+        let own = state.answer_beside(*place, stamp);
+        all = together(all, own);
     }
     all
 }

@@ -7,5 +7,5 @@
 mod answers;
 mod laws;
 
-pub use answers::{auto_all, auto_one};
+pub use answers::{auto_all, auto_one, auto_some};
 pub use laws::laws_of_automatic_answers;

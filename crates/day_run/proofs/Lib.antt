@@ -14,3 +14,5 @@ pub mod DayPlaces
 pub mod Stamps
 pub mod DayLaws
 pub mod DayEnds
+pub mod LaterPasses
+pub mod BesideChanges

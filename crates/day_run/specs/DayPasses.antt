@@ -5,6 +5,7 @@ use Rattle.admit_core.specs.declared.ranking.CallOrder.{CallOrder}
 use Rattle.admit_core.specs.declared.records.PassEnd.{PassEnd}
 use Rattle.admit_core.specs.declared.state.Stamp.{Stamp}
 use Rattle.admit_core.specs.State.{State, is_live, is_waiting}
+use Rattle.admit_core.specs.AutoAnswer.{auto_all}
 use Rattle.admit_core.specs.Boarding.{boarding}
 use Rattle.admit_core.specs.Days.{closing, offered}
 use Rattle.bar_law.specs.Runs.{schools_of}
@@ -21,6 +22,10 @@ last_opening orders day k s [] = s
 last_opening orders day k s (pass ∷ []) = s
 last_opening orders day k s (pass ∷ next ∷ rest) =
     last_opening orders day (k + 1) (closing s orders pass.pass.bars (record { day = day; pass = k })) (next ∷ rest)
+
+-- all have been answered for: automatic answers change nothing
+abbrev pub IsAnswered : State → Type 0
+IsAnswered s = (stamp : Stamp) → auto_all s stamp ≡ s
 
 -- how many wishes are live or wait
 abbrev pub open_wishes : State → ℕ

@@ -1,16 +1,20 @@
 //! The passes of a day.
 ghost use Rattle.std.specs.Prelude.{◌≡◌, ◌≤◌, ◌<◌, ◌+◌, ◌++◌, length, not, IfOk, OnErr, IsTrue};
 ghost use Rattle.admit_core.specs.CallOrder.{AreCallOrders};
+ghost use Rattle.admit_core.specs.AutoAnswer.{auto_all, freed};
 ghost use Rattle.admit_core.specs.Boarding.{boarding};
 ghost use Rattle.admit_core.specs.Days.{IsPassEnd, Passes, closing, frees_nothing};
 ghost use Rattle.bar_law.specs.Runs.{schools_of};
 ghost use Rattle.linked_demand.specs.Lineups.{IsLineupOf};
 ghost use Rattle.bar_fixpoint.specs.Chosen.{AreChosen};
-ghost use Rattle.day_run.specs.DayPasses.{AreChosenPasses, TellsMore, schools_of_passes, last_opening, open_wishes};
+ghost use Rattle.auto_answer.specs.Laws.{AreAnsweredBut, SameOthers};
+ghost use Rattle.day_run.specs.Changes.{answered_changes};
+ghost use Rattle.day_run.specs.DayPasses.{AreChosenPasses, IsAnswered, TellsMore, schools_of_passes, last_opening, open_wishes};
+ghost use Rattle.day_run.specs.DayPlaces.{AreWishesOf};
 
-use crate::changes::answered_changes;
-use admit_core::{CallOrders, Freed, OutOfMemory, PassEnd, Sequence, Stamp};
-use auto_answer::auto_all;
+use crate::changes::{answered_changes, changes_beside};
+use admit_core::{CallOrders, Change, Freed, OutOfMemory, PassEnd, Sequence, Stamp};
+use auto_answer::{auto_all, auto_some};
 use bar_fixpoint::Picker;
 use day_state::DayState;
 use linked_demand::Lineup;
@@ -73,7 +77,9 @@ fn frees_nothing(freed: Freed) -> bool
     freed.seats == 0 && freed.beds == 0
 }
 
-/// Makes a pass, and the automatic answers of all that follow it. The opening becomes that of the pass.
+/// Makes a pass, and the automatic answers that follow it. The opening becomes that of the pass.
+///
+/// A pass that is not the first of its day opens where all have been answered for.
 fn make_pass<'d>(
     alloc: Global,
     opening: &mut DayState<'d>,
@@ -88,12 +94,14 @@ fn make_pass<'d>(
     requires orders { AreCallOrders state.old.dossier.groups orders.now.orders }
     requires lineup { IsLineupOf state.old.dossier orders.now.orders lineup.now }
     requires ceilings { length ceilings.now ≡ length state.old.dossier.schools }
+    requires answered { 1 < stamp.pass → IsAnswered state.old }
 
     ensures end { IfOk result (λ end. IsPassEnd state.old orders.now.orders ceilings.now stamp end) }
     ensures state { IfOk result (λ end. state.new ≡ closing state.old orders.now.orders end.pass.bars stamp) }
     ensures opening { opening.new ≡ state.old }
     ensures fewer { IfOk result (λ end. IsTrue (not (frees_nothing end.freed)) → open_wishes state.new < open_wishes state.old) }
     ensures marks { IfOk result (λ _. length state.new.marks ≡ length state.new.dossier.wishes) }
+    ensures answered { IfOk result (λ _. IsAnswered state.new) }
 
     ensures told { IfOk result (λ end. told picker.new ≡ told picker.old ++ schools_of end.pass.falls) }
     ensures chosen { IfOk result (λ end. AreChosen (boarding state.old orders.now.orders ceilings.now) (choice picker.old) (told picker.old) ceilings.now end.pass.falls) }
@@ -105,11 +113,47 @@ fn make_pass<'d>(
     let _ = state.marks(); // one for each wish
     opening.set_from(state);
     let pass = pass(alloc, state, orders, lineup, ceilings, stamp, picker)?;
-    let freed = auto_all(state, stamp);
-    let autos = answered_changes(alloc, opening, state)?;
+    let freed = answer_after(state, pass.offers.as_slice(), stamp);
+    let autos = changes_after(alloc, opening, state, pass.offers.as_slice(), stamp)?;
     Ok(PassEnd {
         pass,
         autos: Sequence::from_vec(autos),
         freed,
     })
+}
+
+/// Answers for all after the first pass of a day, and after a later one for those with an offer: all
+/// others have been answered for.
+fn answer_after(state: &mut DayState<'_>, offers: &[u32], stamp: Stamp) -> Freed
+    requires within { AreWishesOf state.old.dossier offers.now }
+    requires others { 1 < stamp.pass → AreAnsweredBut offers.now state.old stamp }
+    ensures state { state.new ≡ auto_all state.old stamp }
+    ensures freed { result ≡ freed state.old state.new }
+{
+    if stamp.pass > 1 {
+        auto_some(state, offers, stamp)
+    } else {
+        auto_all(state, stamp)
+    }
+}
+
+/// What the automatic answers after a pass changed; after a later pass of a day that is looked for
+/// among the wishes of those with an offer.
+fn changes_after(
+    alloc: Global,
+    opening: &DayState<'_>,
+    closing: &DayState<'_>,
+    offers: &[u32],
+    stamp: Stamp,
+) -> Result<Vec<Change>, OutOfMemory>
+    requires same { closing.now.dossier ≡ opening.now.dossier }
+    requires within { AreWishesOf opening.now.dossier offers.now }
+    requires others { 1 < stamp.pass → SameOthers offers.now opening.now closing.now }
+    ensures { IfOk result (λ v. v.items ≡ answered_changes opening.now closing.now) }
+{
+    if stamp.pass > 1 {
+        changes_beside(alloc, opening, closing, offers)
+    } else {
+        answered_changes(alloc, opening, closing)
+    }
 }

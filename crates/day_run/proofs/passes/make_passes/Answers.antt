@@ -20,6 +20,7 @@ passes-init g c =
     record {
       so_far = so_far_none c.args.orders.now.orders c.args.ceilings.now c.args.day s c.new-ends.result.items c.new-ends.ensures.items long (open_at_most s long);
       opening = c.requires.same;
+      answered = λ later. absurd (omega arith);
       chosen = chosen_none c.args.orders.now.orders c.args.ceilings.now c.args.day 1 s (first.choice c.args.picker.now.1) (first.told c.args.picker.now.1) c.new-ends.result.items c.new-ends.ensures.items;
       told = sym (ap (λ l. first.told c.args.picker.now.1 ++ schools_of_passes l) c.new-ends.ensures.items ∙ append-nil (first.told c.args.picker.now.1));
       choice = refl;
@@ -35,6 +36,7 @@ passes-preserved g c =
       so_far = so_far_more c.args.orders.now.orders c.args.ceilings.now c.args.day c.passes.number c.args.state.now c.passes.state c.make_pass.new.state c.passes.ends.items c.push.new.self.items c.in_ok-end.end
           c.passes.invariant.so_far c.in_ok-end.ensures.end some c.in_ok-end.ensures.state (c.in_ok-end.ensures.fewer some) c.in_ok-end.ensures.marks c.in_ok-end.ensures.dossier c.in_ok-push.ensures.items;
       opening = ap (λ s. s.dossier) c.make_pass.ensures.opening ∙ c.passes.invariant.so_far.dossier;
+      answered = λ later. c.in_ok-end.ensures.answered;
       chosen =
           chosen_more c.args.orders.now.orders c.args.ceilings.now c.args.day c.passes.number c.args.state.now _ _ _ _ c.passes.ends.items c.push.new.self.items c.passes.state c.in_ok-end.end
           c.passes.invariant.so_far c.passes.invariant.chosen c.passes.invariant.told c.passes.invariant.choice c.in_ok-end.ensures.chosen c.in_ok-push.ensures.items;
@@ -81,3 +83,6 @@ pub make_pass-requires-clause-lineup : goal.make_pass-requires-clause-lineup
 make_pass-requires-clause-lineup g c =
     let P = λ (d : DossierRows). IsLineupOf d c.args.orders.now.orders c.args.lineup.now in
     subst P (sym c.passes.invariant.so_far.dossier) c.requires.lineup
+
+pub make_pass-requires-clause-answered : goal.make_pass-requires-clause-answered
+make_pass-requires-clause-answered g c = c.passes.invariant.answered

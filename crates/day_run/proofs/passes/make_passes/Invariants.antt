@@ -1,6 +1,6 @@
-use Rattle.std.proofs.Common.{◌≡◌, ◌++◌}
+use Rattle.std.proofs.Common.{◌≡◌, ◌<◌, ◌++◌}
 use Rattle.day_run.proofs.PassesSoFar.{SoFar}
-use Rattle.day_run.specs.DayPasses.{AreChosenPasses, open_wishes, schools_of_passes}
+use Rattle.day_run.specs.DayPasses.{AreChosenPasses, IsAnswered, open_wishes, schools_of_passes}
 use Rattle.day_run.proofs.passes.make_passes.Given as goal
 
 abbrev pub invariant-passes : goal.invariant-passes
@@ -10,6 +10,7 @@ invariant-passes g l =
     record {
       so_far : SoFar l.orders.orders l.ceilings l.day l.number l.fn.state l.state l.ends.items;
       opening : l.opening.dossier ≡ l.fn.state.dossier;
+      answered : 1 < l.number → IsAnswered l.state;
       chosen : AreChosenPasses l.orders.orders l.ceilings l.day 1 l.fn.state (first.choice l.fn.picker.now.1) (first.told l.fn.picker.now.1) l.ends.items;
       told : now.told l.picker.now.1 ≡ first.told l.fn.picker.now.1 ++ schools_of_passes l.ends.items;
       choice : now.choice l.picker.now.1 ≡ first.choice l.fn.picker.now.1;
