@@ -13,7 +13,7 @@ use Rattle.admit_core.specs.declared.dossier.Wish.{Wish}
 use Rattle.admit_core.proofs.NextCalls.{find_passes}
 use Rattle.day_state.specs.declared.bundles.Sites.{Sites}
 use Rattle.day_state.specs.Kept.{candidate_in, wish_in, IsIndex}
-use Rattle.day_state.specs.Bundles.{site_of, is_same, together, number_in, joined, bundle_there, noted, bundle_of, bundles_of}
+use Rattle.day_state.specs.Bundles.{site_of, is_same, together, number_in, joined, bundle_there, noted, bundle_of, bundles_of, AreWithin}
 use Rattle.day_state.proofs.Places.{candidate_in as candidate_there, any-filter}
 use Rattle.day_state.proofs.Along.{among-filter}
 
@@ -310,7 +310,6 @@ first_is sites ws order k index =
 -- a list of the wishes' bundles, two of which are the same exactly where the wishes are together
 pub record AreBundles (sites : Sites) (ws : List Wish) (bundles : List (Option ℕ)) : Type 0 where
   pub as_long : length bundles ≡ length ws
-  pub first : (k : ℕ) → k < length ws → number_in bundles k ≡ bundle_of sites ws k
   pub within : (k : ℕ) → k < length ws → ForSome (number_in bundles k) (λ b. b < length ws)
   pub shared : (j k : ℕ) → j < length ws → k < length ws → is_same (number_in bundles j) (number_in bundles k) ≡ together sites (wish_in ws j) (wish_in ws k)
 
@@ -331,12 +330,16 @@ bundles_are sites ws =
     let n = length ws in
     record {
       as_long = length-map-range_with_len (bundle_of sites ws) 0 n;
-      first = bundle_in sites ws;
       within = λ k lt b e. find_within (λ x. together sites (wish_in ws k) (wish_in ws x)) (range_with_len 0 n) n b (below_all n) (sym (bundle_in sites ws k lt) ∙ e);
       shared = λ j k j_lt k_lt.
           rw (bundle_in sites ws j j_lt, bundle_in sites ws k k_lt)
           (bundles_shared sites ws (range_with_len 0 n) j k (k, omega (arith, k_lt, length-range_with_len 0 n), range_at n k 0 k_lt));
     }
+
+pub bundles_within : (sites : Sites) (ws : List Wish) → AreWithin (bundles_of sites ws)
+bundles_within sites ws k lt b e =
+    let are = bundles_are sites ws in
+    omega (arith, are.as_long, are.within k (omega (arith, lt, are.as_long)) b e)
 
 -- at the end all wishes have their bundles
 pub walked_all : (sites : Sites) (ws : List Wish) (order : List ℕ) (count : ℕ) (last numbers : List (Option ℕ)) (i : ℕ) → IsIndex ws order → length order ≤ i

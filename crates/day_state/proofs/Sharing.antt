@@ -11,7 +11,7 @@ use Rattle.std.proofs.lemmas.List.Sums.{length-filter, count_by-le-length}
 use Rattle.std.proofs.lemmas.List.Folds.{list_any_at, list_any-append}
 use Rattle.std.proofs.lemmas.List.FromFn.{length-range_with_len, length-map-range_with_len, get_or-map-range_with_len, map-range_with_len_more}
 use Rattle.day_state.specs.Kept.{one_if}
-use Rattle.day_state.specs.Bundles.{is_same, number_in, is_later, is_shared, shared_flags, true_before, rank_of, with_later, number_of, numbered, count_of, flag_in}
+use Rattle.day_state.specs.Bundles.{is_same, number_in, is_later, is_shared, shared_flags, true_before, all_ranks, rank_of, with_later, number_of, numbered, count_of, flag_in}
 use Rattle.day_state.proofs.Numbering.{range_at}
 use Rattle.day_state.proofs.Ordering.{range_more}
 
@@ -176,15 +176,24 @@ count_parts bundles (Some b) n e =
       | inr alone ↦ absurd (let none = rw alone at e in cc)
     ]
 
+pub ranks_long : (bundles : List (Option ℕ)) → length (all_ranks (shared_flags bundles)) ≡ length bundles + 1
+ranks_long bundles =
+    let flags = shared_flags bundles in
+    length-map-range_with_len (true_before flags) 0 (length flags + 1) ∙ ap (λ n. n + 1) (flags_long bundles)
+
+pub rank_read : (bundles : List (Option ℕ)) (k : ℕ) → k ≤ length bundles → slice_index (all_ranks (shared_flags bundles)) k ≡ rank_of bundles k
+rank_read bundles k le =
+    let flags = shared_flags bundles in
+    get_or-map-range_with_len (true_before flags) 0 (length flags + 1) k k 0 (omega (arith, flags_long bundles)) (omega arith)
+
 -- what flags and ranks tell is the number
 pub numbered_is : (bundles : List (Option ℕ)) (shared : List Bool) (ranks : List ℕ) (o : Option ℕ) → shared ≡ shared_flags bundles
-    → ranks ≡ map (true_before shared) (range_with_len 0 (length shared + 1)) → ForSome o (λ b. b < length bundles) → numbered shared ranks o ≡ number_of bundles o
+    → ranks ≡ all_ranks shared → ForSome o (λ b. b < length bundles) → numbered shared ranks o ≡ number_of bundles o
 numbered_is bundles shared ranks None flags are within = refl
 numbered_is bundles shared ranks (Some b) flags are within =
     let lt = within b refl in
     let flag : flag_in (shared_flags bundles) b ≡ is_shared bundles b = unwrap_or-slice_get (shared_flags bundles) b false ∙ flag_is bundles b lt in
-    let rank : slice_index (map (true_before (shared_flags bundles)) (range_with_len 0 (length (shared_flags bundles) + 1))) b ≡ rank_of bundles b =
-    get_or-map-range_with_len (true_before (shared_flags bundles)) 0 (length (shared_flags bundles) + 1) b b 0 (omega (arith, lt, flags_long bundles)) (omega arith) in
+    let rank : slice_index (all_ranks (shared_flags bundles)) b ≡ rank_of bundles b = rank_read bundles b (omega arith) in
     rw (are, flags, flag, rank) refl
 
 -- a number is packed in four bytes beside what stands for none and for a wish alone

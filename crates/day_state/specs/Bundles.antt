@@ -1,5 +1,6 @@
 -- Bundles: the wishes of one candidate in one programme, or in one school.
-use Rattle.std.specs.Prelude.{◌≡◌, ℕ, ◌<◌, Bool, true, false, not, ◌&&◌, nat_lt, List, length, map, filter, take, Option, Some, None, ◌==◌, slice_get, slice_index, slice_set, unwrap_or, if◌then◌else◌}
+use Rattle.std.specs.Prelude.{◌≡◌, ℕ, ◌+◌, ◌<◌, Bool, true, false, not, ◌&&◌, nat_lt, List, length, map, filter, take, Option, Some, None, ◌==◌, slice_get, slice_index, slice_set, unwrap_or, if◌then◌else◌}
+use Rattle.std.specs.Option.{ForSome}
 use Rattle.std.specs.List.{find, list_any, range_with_len}
 use Rattle.admit_core.specs.declared.dossier.Wish.{Wish}
 use Rattle.admit_core.specs.declared.state.Mark.{Mark}
@@ -36,6 +37,10 @@ bundle_of sites ws k = find (λ j. together sites (wish_in ws k) (wish_in ws j))
 abbrev pub bundles_of : Sites → List Wish → List (Option ℕ)
 bundles_of sites ws = map (bundle_of sites ws) (range_with_len 0 (length ws))
 
+-- each bundle begins at a place
+abbrev pub AreWithin : List (Option ℕ) → Type 0
+AreWithin bundles = (k : ℕ) → k < length bundles → ForSome (number_in bundles k) (λ b. b < length bundles)
+
 -- the wish at k is in the bundle that begins at b, and is not its first
 abbrev pub is_later : List (Option ℕ) → ℕ → ℕ → Bool
 is_later bundles b k = not (k == b) && is_same (Some b) (number_in bundles k)
@@ -50,6 +55,10 @@ shared_flags bundles = map (is_shared bundles) (range_with_len 0 (length bundles
 -- how many of the first k flags are true
 abbrev pub true_before : List Bool → ℕ → ℕ
 true_before flags k = length (filter (λ b. b) (take k flags))
+
+-- that for each place, and for the end
+abbrev pub all_ranks : List Bool → List ℕ
+all_ranks flags = map (true_before flags) (range_with_len 0 (length flags + 1))
 
 -- the number of a bundle of two wishes or more: how many of them begin before it
 abbrev pub rank_of : List (Option ℕ) → ℕ → ℕ
@@ -80,6 +89,10 @@ abbrev pub count_of : Number → Option ℕ
 count_of NoSite = None
 count_of Alone = None
 count_of (Shared n) = Some n
+
+-- the number of the bundle of the wish at a place, where it has one
+abbrev pub count_at : List Number → ℕ → Option ℕ
+count_at ns k = count_of (number_at ns k)
 
 -- how many live wishes a bundle has
 abbrev pub live_in_bundle : List Mark → List (Option ℕ) → ℕ → ℕ

@@ -1,8 +1,7 @@
 //! The walks that number the bundles of a dossier's wishes.
-ghost use Rattle.std.specs.Prelude.{◌≡◌, ℕ, ◌+◌, ◌<◌, ◌^◌, map, length, slice_set, IfOk, replicate, false, None};
+ghost use Rattle.std.specs.Prelude.{◌≡◌, ℕ, ◌<◌, ◌^◌, map, length, slice_set, IfOk, replicate, false, None};
 ghost use Rattle.std.specs.Option.{ForSome};
-ghost use Rattle.std.specs.List.{range_with_len};
-ghost use Rattle.day_state.specs.Bundles.{site_of, number_in, bundles_of, joined, bundle_there, noted, shared_flags, with_later, true_before, flag_in, number_of, numbered};
+ghost use Rattle.day_state.specs.Bundles.{site_of, number_in, bundles_of, joined, bundle_there, noted, shared_flags, with_later, AreWithin, all_ranks, flag_in, number_of, numbered};
 ghost use Rattle.day_state.specs.Kept.{wish_in, IsIndex};
 
 use crate::bundles::Sites;
@@ -105,7 +104,7 @@ fn note(last: &mut Vec<Option<u32>>, site: Option<u32>, number: Option<u32>)
 /// Whether the bundle that begins at a place has two wishes or more.
 pub fn shared_among(alloc: Global, firsts: &[Option<u32>]) -> Result<Vec<bool>, OutOfMemory>
     requires few { length firsts.now < 2 ^ 31 }
-    requires within { (k : ℕ) → k < length firsts.now → ForSome (number_in firsts.now k) (λ b. b < length firsts.now) }
+    requires within { AreWithin firsts.now }
     ensures { IfOk result (λ v. v.items ≡ shared_flags firsts.now) }
 {
     let mut shared = no_flags(alloc, firsts.len())?;
@@ -142,7 +141,7 @@ fn flag_at(flags: &[bool], place: u32) -> bool
 /// How many flags before each place are true, and at the end how many there are.
 pub fn ranks_of(alloc: Global, flags: &[bool]) -> Result<Vec<u32>, OutOfMemory>
     requires { length flags.now < 2 ^ 31 }
-    ensures { IfOk result (λ v. v.items ≡ map (true_before flags.now) (range_with_len 0 (length flags.now + 1))) }
+    ensures { IfOk result (λ v. v.items ≡ all_ranks flags.now) }
 {
     let mut ranks = Vec::with_capacity(alloc, flags.len() + 1)?;
     let mut rank = 0;
@@ -162,9 +161,9 @@ pub fn numbers_of(
     ranks: &[u32],
 ) -> Result<Numbers, OutOfMemory>
     requires few { length firsts.now < 2 ^ 31 }
-    requires within { (k : ℕ) → k < length firsts.now → ForSome (number_in firsts.now k) (λ b. b < length firsts.now) }
+    requires within { AreWithin firsts.now }
     requires shared { shared.now ≡ shared_flags firsts.now }
-    requires ranks { ranks.now ≡ map (true_before shared.now) (range_with_len 0 (length shared.now + 1)) }
+    requires ranks { ranks.now ≡ all_ranks shared.now }
     ensures { IfOk result (λ n. n ≡ map (number_of firsts.now) firsts.now) }
 {
     let mut numbers = Numbers::with_capacity(alloc, firsts.len())?;

@@ -1,7 +1,7 @@
 //! Bundles: the wishes of one candidate in one programme, or in one school.
 ghost use Rattle.std.specs.Prelude.{◌≡◌, ℕ, ◌<◌, ◌≤◌, ◌+◌, ◌^◌, length, slice_index, IfOk, replicate};
 ghost use Rattle.std.specs.Option.{ForSome};
-ghost use Rattle.day_state.specs.Bundles.{site_of, number_at, count_of, all_numbers, shared_in_all, has_live};
+ghost use Rattle.day_state.specs.Bundles.{site_of, number_at, count_of, count_at, all_numbers, shared_in_all, has_live};
 ghost use Rattle.day_state.specs.Kept.{wish_in, one_if, recount_some, IsIndex};
 
 use crate::bundle_numbers::{firsts_of, numbers_of, ranks_of, shared_among};
@@ -89,7 +89,7 @@ impl Bundles {
     /// Whether one of a wish's bundle is live; `lives` tells it of the wish.
     pub fn is_live(&self, wish: u32, lives: bool) -> bool
         requires place { wish < length self.now.numbers.value }
-        requires number { ForSome (count_of (number_at self.now.numbers.value wish)) (λ n. n < length self.now.live.items) }
+        requires number { ForSome (count_at self.now.numbers.value wish) (λ n. n < length self.now.live.items) }
         ensures { result ≡ has_live self.now.live.items (number_at self.now.numbers.value wish) lives }
     {
         has_live(&self.live, self.numbers.get(wish), lives)
@@ -98,11 +98,11 @@ impl Bundles {
     /// Counts a wish anew that was live, or wasn't, and is live, or isn't.
     pub fn turn(&mut self, wish: u32, was_live: bool, lives: bool) -> Turn
         requires place { wish < length self.old.numbers.value }
-        requires number { ForSome (count_of (number_at self.old.numbers.value wish)) (λ n. n < length self.old.live.items) }
-        requires comes { ForSome (count_of (number_at self.old.numbers.value wish)) (λ n. slice_index self.old.live.items n + one_if lives < 2 ^ 32) }
-        requires goes { ForSome (count_of (number_at self.old.numbers.value wish)) (λ n. one_if was_live ≤ slice_index self.old.live.items n + one_if lives) }
+        requires number { ForSome (count_at self.old.numbers.value wish) (λ n. n < length self.old.live.items) }
+        requires comes { ForSome (count_at self.old.numbers.value wish) (λ n. slice_index self.old.live.items n + one_if lives < 2 ^ 32) }
+        requires goes { ForSome (count_at self.old.numbers.value wish) (λ n. one_if was_live ≤ slice_index self.old.live.items n + one_if lives) }
         ensures numbers { self.new.numbers.value ≡ self.old.numbers.value }
-        ensures live { self.new.live.items ≡ recount_some self.old.live.items (count_of (number_at self.old.numbers.value wish)) was_live lives }
+        ensures live { self.new.live.items ≡ recount_some self.old.live.items (count_at self.old.numbers.value wish) was_live lives }
         ensures had { result.had ≡ has_live self.old.live.items (number_at self.old.numbers.value wish) was_live }
         ensures has { result.has ≡ has_live self.new.live.items (number_at self.old.numbers.value wish) lives }
     {

@@ -1,9 +1,8 @@
-use Rattle.std.proofs.Common.{◌<◌, ◌+◌, ◌∙◌, map, length, sym, ap, arith, None}
+use Rattle.std.proofs.Common.{◌<◌, ◌∙◌, map, length, sym, ap, arith, None}
 use Rattle.std.proofs.lemmas.Option.{unwrap_or-slice_get}
 use Rattle.std.proofs.lemmas.List.{map_more, take_all}
-use Rattle.std.proofs.lemmas.List.FromFn.{length-map-range_with_len}
-use Rattle.day_state.specs.Bundles.{number_in, number_of, shared_flags, true_before}
-use Rattle.day_state.proofs.Sharing.{flags_long, numbered_is, packed_fits}
+use Rattle.day_state.specs.Bundles.{number_in, number_of}
+use Rattle.day_state.proofs.Sharing.{flags_long, ranks_long, numbered_is, packed_fits}
 use Rattle.day_state.proofs.bundle_numbers.numbers_of.Goals as goal
 
 pub number_of-requires-clause-shared : goal.number_of-requires-clause-shared
@@ -16,8 +15,7 @@ pub number_of-requires-clause-ranks : goal.number_of-requires-clause-ranks
 number_of-requires-clause-ranks c = λ b e.
     let k_in : c.loop-place.place < length c.args.firsts.now = omega arith in
     let b_in = c.requires.within c.loop-place.place k_in b (rw c.first_at.ensures at e) in
-    rw (c.requires.ranks, c.requires.shared)
-    (omega (arith, b_in, flags_long c.args.firsts.now, length-map-range_with_len (true_before (shared_flags c.args.firsts.now)) 0 (length (shared_flags c.args.firsts.now) + 1)))
+    rw (c.requires.ranks, c.requires.shared) (omega (arith, b_in, ranks_long c.args.firsts.now))
 
 pub push-requires : goal.push-requires
 push-requires c =
