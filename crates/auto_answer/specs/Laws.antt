@@ -36,11 +36,13 @@ AllIsEachAlone = (c : ℕ) (s : State) (stamp : Stamp) → IsMarked s → SameOw
 
 -- who has been answered for is not answered for again
 abbrev pub OnceIsEnough : Type 0
-OnceIsEnough = (s : State) (stamp again : Stamp) → IsMarked s → auto_all (auto_all s stamp) again ≡ auto_all s stamp
+OnceIsEnough =
+    (s : State) (stamp again : Stamp) → IsMarked s → auto_all (auto_all s stamp) again ≡ auto_all s stamp
 
 -- two states in which whoever has none of the wishes at these places has the same marks
 abbrev pub SameOthers : List ℕ → State → State → Type 0
-SameOthers places s t = (c : ℕ) → is_among c (map (candidate_of s.dossier) places) ≡ false → SameOwnMarks c s t
+SameOthers places s t =
+    (c : ℕ) → is_among c (map (candidate_of s.dossier) places) ≡ false → SameOwnMarks c s t
 
 -- automatic answers change nothing for whoever has none of the wishes at these places
 abbrev pub AreAnsweredBut : List ℕ → State → Stamp → Type 0

@@ -20,4 +20,5 @@ answered_changes opening closing =
 -- the places of all wishes of the candidates of these wishes, ascending
 abbrev pub wishes_beside : DossierRows → List ℕ → List ℕ
 wishes_beside d places =
-    filter (λ k. is_among (candidate_of d k) (map (candidate_of d) places)) (range_with_len 0 (length d.wishes))
+    let candidates = map (candidate_of d) places in
+    filter (λ k. is_among (candidate_of d k) candidates) (range_with_len 0 (length d.wishes))

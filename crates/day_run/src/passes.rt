@@ -122,8 +122,8 @@ fn make_pass<'d>(
     })
 }
 
-/// Answers for all after the first pass of a day, and after a later one for those with an offer: all
-/// others have been answered for.
+/// Answers for all after the first pass of a day, and after a later one for those with an offer:
+/// all others have been answered for.
 fn answer_after(state: &mut DayState<'_>, offers: &[u32], stamp: Stamp) -> Freed
     requires within { AreWishesOf state.old.dossier offers.now }
     requires others { 1 < stamp.pass → AreAnsweredBut offers.now state.old stamp }
