@@ -24,6 +24,7 @@ pub mod Scans
 pub mod SortedBy
 pub mod SortedLists
 pub mod TwiceWished
+pub mod Undated
 pub mod Valid
 pub mod ValidAnswers
 pub mod ValidItems

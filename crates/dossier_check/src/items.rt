@@ -3,14 +3,13 @@ ghost use Rattle.std.specs.Prelude.{◌≡◌, ◌<◌, ◌≤◌, ◌^◌, ℕ,
 ghost use Rattle.admit_core.specs.declared.tables.Tables.{Tables};
 ghost use Rattle.admit_core.specs.Relations.{wish_ids};
 ghost use Rattle.admit_core.specs.Standing.{place_of, programme_of_row, school_of_row, board_rank_of, wish_of_row, status_of_row, target_of, ceiling_of_row, answer_of_row};
-ghost use Rattle.dossier_check.specs.Dates.{dates_of};
 ghost use Rattle.dossier_check.specs.Keys.{AreKeysOf};
 
 use crate::noted::row_with;
 use crate::row_ids::RowIds;
 use admit_core::{
-    Answer, AnswerKind, CeilingChange, OutOfMemory, Programme, School, Since, StateRow, Status,
-    Tables, Wish, WishRow,
+    Answer, AnswerKind, CeilingChange, OutOfMemory, Programme, School, StateRow, Status, Tables,
+    Wish, WishRow,
 };
 use indexmap::IndexSet;
 use keyed_hash::Keyed;
@@ -119,32 +118,29 @@ pub(crate) fn wishes_of(
 }
 
 /// The row of a wish's status, where it has one.
-fn state_row_of(tables: &Tables, keys: &Keys, wish: &WishRow) -> Option<StateRow>
+pub(crate) fn state_row_of(tables: &Tables, keys: &Keys, wish: &WishRow) -> Option<StateRow>
     requires { AreKeysOf tables.now keys.now }
     ensures { result ≡ find (λ s. nat_eq wish.now.id s.wish) tables.now.state }
 {
     row_with(&keys.state, tables.state.as_slice(), wish.id)
 }
 
-/// The statuses of the wishes, of which one that no row names waits, and since when they have them.
+/// The statuses of the wishes, of which one that no row names waits.
 pub(crate) fn statuses_of(
     alloc: Global,
     tables: &Tables,
     keys: &Keys,
-) -> Result<(Vec<Status>, Vec<Option<Since>>), OutOfMemory>
+) -> Result<Vec<Status>, OutOfMemory>
     requires { AreKeysOf tables.now keys.now }
-    ensures statuses { IfOk result (λ made. made.0.items ≡ map (status_of_row tables.now) tables.now.wishes) }
-    ensures dates { IfOk result (λ made. made.1.items ≡ dates_of tables.now) }
+    ensures { IfOk result (λ statuses. statuses.items ≡ map (status_of_row tables.now) tables.now.wishes) }
 {
     let rows = tables.wishes.as_slice();
     let mut statuses = Vec::with_capacity(alloc, rows.len())?;
-    let mut dates = Vec::with_capacity(alloc, rows.len())?;
     for wish in rows {
         let row = state_row_of(tables, keys, wish);
         statuses.push(row.map_or(Status::Waiting, |row| row.status))?;
-        dates.push(row.and_then(|row| row.since))?;
     }
-    Ok((statuses, dates))
+    Ok(statuses)
 }
 
 /// The ceilings, with the places of their schools.

@@ -5,6 +5,7 @@
 #![tactic(auto)]
 
 mod answers;
+mod dates;
 mod day_falls;
 mod groups;
 mod hashing;
@@ -24,5 +25,6 @@ mod who_is_ranked;
 mod wished;
 mod wishes;
 
+pub use dates::Dates;
 pub use index::{Index, school_place, wish_place};
 pub use relations::{Checked, check};

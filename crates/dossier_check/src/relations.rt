@@ -12,6 +12,7 @@ ghost use Rattle.dossier_check.specs.Outcome.{AnswersFault, first_from_wishes};
 ghost use Rattle.dossier_check.specs.Seen.{boarded_pairs};
 
 use crate::answers::check_answers;
+use crate::dates::{Dates, dates_of};
 use crate::groups::rank_groups;
 use crate::hashing::hashing_of;
 use crate::index::Index;
@@ -24,18 +25,17 @@ use crate::slots::{check_boarding, check_ceilings, check_groups, check_programme
 use crate::state::check_state;
 use crate::who_is_ranked::WhoIsRanked;
 use crate::wishes::check_wishes;
-use admit_core::{Dossier, InFault, OutOfMemory, Ranked, Sequence, Since, Tables};
+use admit_core::{Dossier, InFault, OutOfMemory, Ranked, Sequence, Tables};
 use indexmap::IndexSet;
 use keyed_hash::Keyed;
 use std::alloc::Global;
 
-/// The dossier that tables stand for, the places of its ids, and since when each wish has its status,
-/// by the wishes' places.
+/// The dossier that tables stand for, the places of its ids, and since when each wish has its status.
 #[derive(Drop)]
 pub struct Checked {
     pub dossier: Dossier,
     pub index: Index,
-    pub dates: Sequence<Option<Since>>,
+    pub dates: Dates,
 }
 
 /// Tests the slots from the wishes on, and answers what the wishes and the statuses are found by.
@@ -101,36 +101,27 @@ fn check_slots(alloc: Global, tables: &Tables) -> Result<(Keys, Vec<Vec<Ranked>>
     Ok((keys, lists))
 }
 
-/// Makes the dossier that fault-free tables stand for, and the dates of its statuses.
+/// Makes the dossier that fault-free tables stand for.
 fn make_dossier(
     alloc: Global,
     tables: &Tables,
     keys: &Keys,
     lists: Vec<Vec<Ranked>>,
-) -> Result<(Dossier, Vec<Option<Since>>), OutOfMemory>
+) -> Result<Dossier, OutOfMemory>
     requires keys { AreKeysOf tables.now keys.now }
     requires lists { map (λ l. l.items) lists.items ≡ map (ranked_in tables.now.rankings) (group_ids tables.now) }
     requires valid { IsValid (dossier_of tables.now) }
-    ensures dossier { IfOk result (λ made. made.0 ≡ dossier_of tables.now) }
-    ensures dates { IfOk result (λ made. made.1.items ≡ dates_of tables.now) }
+    ensures { IfOk result (λ dossier. dossier ≡ dossier_of tables.now) }
 {
-    let groups = rank_groups(alloc, tables, lists)?;
-    let programmes = programmes_of(alloc, tables, keys)?;
-    let schools = schools_of(alloc, tables)?;
-    let wishes = wishes_of(alloc, tables, keys)?;
-    let (statuses, dates) = statuses_of(alloc, tables, keys)?;
-    let ceilings = ceilings_of(alloc, tables, keys)?;
-    let answers = answers_of(alloc, tables, keys)?;
-    let dossier = Dossier {
-        groups: Sequence::from_vec(groups),
-        programmes: Sequence::from_vec(programmes),
-        schools: Sequence::from_vec(schools),
-        wishes: Sequence::from_vec(wishes),
-        statuses: Sequence::from_vec(statuses),
-        ceilings: Sequence::from_vec(ceilings),
-        answers: Sequence::from_vec(answers),
-    };
-    Ok((dossier, dates))
+    Ok(Dossier {
+        groups: Sequence::from_vec(rank_groups(alloc, tables, lists)?),
+        programmes: Sequence::from_vec(programmes_of(alloc, tables, keys)?),
+        schools: Sequence::from_vec(schools_of(alloc, tables)?),
+        wishes: Sequence::from_vec(wishes_of(alloc, tables, keys)?),
+        statuses: Sequence::from_vec(statuses_of(alloc, tables, keys)?),
+        ceilings: Sequence::from_vec(ceilings_of(alloc, tables, keys)?),
+        answers: Sequence::from_vec(answers_of(alloc, tables, keys)?),
+    })
 }
 
 /// Checks the relations between the rows of tables: their first fault by slot, row and reason, or
@@ -144,7 +135,8 @@ pub fn check(alloc: Global, tables: &Tables) -> Result<Checked, InFault>
     ensures dates { IfOk result (λ checked. checked.dates ≡ dates_of tables.now) }
 {
     let (keys, lists) = check_slots(alloc, tables)?;
-    let (dossier, dates) = make_dossier(alloc, tables, &keys, lists)?;
+    let dossier = make_dossier(alloc, tables, &keys, lists)?;
+    let dates = dates_of(alloc, tables, &keys)?;
     let index = Index {
         wishes: keys.wishes,
         schools: keys.schools,
@@ -152,6 +144,6 @@ pub fn check(alloc: Global, tables: &Tables) -> Result<Checked, InFault>
     Ok(Checked {
         dossier,
         index,
-        dates: Sequence::from_vec(dates),
+        dates,
     })
 }

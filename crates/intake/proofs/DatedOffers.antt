@@ -1,6 +1,7 @@
 -- The dates that come of terms can be written.
-use Rattle.std.proofs.Common.{◌≡◌, ◌∙◌, ℕ, List, Option, None, Some, IfSome, arith, get_or, inl, inr, length}
-use Rattle.std.specs.Prelude.{ℤ, pos, ◌+ℤ◌, ◌-ℤ◌, ◌&&◌, nat_le}
+use Rattle.std.proofs.Common.{◌≡◌, ◌∙◌, ◌∷◌, ℕ, suc, List, Option, None, Some, IfSome, ap, arith, get_or, inl, inr, length, map, refl, sym}
+use Prim.Native.Nat.{zero}
+use Rattle.std.specs.Prelude.{ℤ, pos, ◌+ℤ◌, ◌-ℤ◌, ◌&&◌, nat_le, replicate}
 use Rattle.std.proofs.lemmas.Bool.{and_parts, cases_Bool, leb-true}
 use Rattle.std.proofs.lemmas.Int.{ints}
 use Rattle.std.proofs.lemmas.List.{length-map}
@@ -53,6 +54,14 @@ on_day start (Some number) is read = on_date start number read
 on_since : (start : ℤ) (since : Option Since) → IsStart start → IsRead (on start (since_day start since))
 on_since start None is = on_start start is
 on_since start (Some since) is = on_day start (date_number since) is (civil_read since.year since.month since.day)
+
+-- the days of wishes without a date
+days_of_none : (start : ℤ) (n : ℕ) → map (since_day start) (replicate n None) ≡ replicate n (pos 0)
+days_of_none start zero = refl
+days_of_none start (suc n) = ap (λ days. pos 0 ∷ days) (days_of_none start n)
+
+pub undated_days : (start : ℤ) (dates : List (Option Since)) → dates ≡ replicate (length dates) None → replicate (length dates) (pos 0) ≡ map (since_day start) dates
+undated_days start dates none = sym (ap (map (since_day start)) none ∙ days_of_none start (length dates))
 
 -- the terms of wishes with these dates
 dated_for : (d : DossierRows) (dates : List (Option Since)) (deadlines : Deadlines) → length dates ≡ length d.wishes → IsDeadlines deadlines → AreDatedFor d (dated_from dates deadlines)

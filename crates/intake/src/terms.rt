@@ -1,11 +1,12 @@
 //! The terms of offers, with the date of day 1.
-ghost use Rattle.std.specs.Prelude.{◌≡◌, IfOk, IfSome, map, option_map};
+ghost use Rattle.std.specs.Prelude.{◌≡◌, IfOk, IfSome, map, option_map, pos, replicate};
 ghost use Rattle.intake.specs.Dated.{AreDatedFor, dated_from, since_day, terms_from};
 ghost use Rattle.request.specs.Request.{IsDeadlines};
 
 use crate::input::Input;
 use admit_core::{OutOfMemory, Sequence, Since, Terms};
 use calendar::{Civil, civil_of, day_of};
+use dossier_check::Dates;
 use request::Deadlines;
 use std::alloc::{AllocError, Global};
 
@@ -29,22 +30,28 @@ fn since_day(start: Civil, since: Option<Since>) -> i32
     }
 }
 
+/// The days of a number of wishes without a date.
+fn no_days(alloc: Global, wishes: usize) -> Result<Vec<i32>, AllocError>
+    ensures { IfOk result (λ days. days.items ≡ replicate wishes (pos 0)) }
+{
+    vec![in alloc; 0; wishes]
+}
+
 /// The days of wishes with these dates, where day 1 has the date `start`.
-fn days_before(alloc: Global, dates: &[Option<Since>], start: Civil) -> Result<Vec<i32>, AllocError>
+fn days_before(alloc: Global, dates: &Dates, start: Civil) -> Result<Vec<i32>, AllocError>
     ensures { IfOk result (λ days. days.items ≡ map (since_day start) dates.now) }
 {
-    dates
-        .iter()
-        .map(|since| since_day(start, *since))
-        .collect(alloc)
+    match dates.as_slice() {
+        Some(dates) => dates
+            .iter()
+            .map(|since| since_day(start, *since))
+            .collect(alloc),
+        None => no_days(alloc, dates.len()),
+    }
 }
 
 /// The terms of the offers of wishes with these dates.
-fn terms_from(
-    alloc: Global,
-    dates: &[Option<Since>],
-    deadlines: Deadlines,
-) -> Result<Terms, OutOfMemory>
+fn terms_from(alloc: Global, dates: &Dates, deadlines: Deadlines) -> Result<Terms, OutOfMemory>
     ensures { IfOk result (λ terms. terms ≡ terms_from dates.now deadlines) }
 {
     Ok(Terms {
@@ -68,7 +75,7 @@ pub fn dated_terms(
         None => Ok(None),
         Some(deadlines) => Ok(Some(DatedTerms {
             start: deadlines.start,
-            terms: terms_from(alloc, input.dates.as_slice(), deadlines)?,
+            terms: terms_from(alloc, &input.dates, deadlines)?,
         })),
     }
 }

@@ -7,3 +7,6 @@ make_dossier-requires-clause-valid c = is_valid c.args.tables.now c.requires c.i
 
 pub returns-in_err-dossier-clause-fault : goal.returns-in_err-dossier-clause-fault
 returns-in_err-dossier-clause-fault c = out_of_memory _ _ c.from_residual-in_err-dossier.ensures.1
+
+pub returns-in_err-dates-clause-fault : goal.returns-in_err-dates-clause-fault
+returns-in_err-dates-clause-fault c = out_of_memory _ _ c.from_residual-in_err-dates.ensures.1

@@ -1,5 +1,3 @@
-use Rattle.std.proofs.Common.{◌∙◌, ap}
-use Rattle.intake.specs.Dated.{terms_from}
 use Rattle.intake.proofs.DatedOffers.{dated_some}
 use Rattle.intake.proofs.terms.dated_terms.Goals as goal
 
@@ -7,4 +5,4 @@ pub returns-in_ok-terms_from-in-Some-clause-dates : goal.returns-in_ok-terms_fro
 returns-in_ok-terms_from-in-Some-clause-dates c =
     dated_some c.args.input.now.dossier c.args.input.now.dates c.args.deadlines c.in-Some.deadlines c.in_ok-terms_from-in-Some.field-0
     c.args.input.now.one_each c.in-Some.is c.requires
-    (c.in_ok-terms_from-in-Some.ensures ∙ ap (λ dates. terms_from dates c.in-Some.deadlines) c.as_slice.ensures)
+    c.in_ok-terms_from-in-Some.ensures
