@@ -3,6 +3,7 @@ use Rattle.std.proofs.Common.{ℕ, zero, suc, ◌+◌, ◌≤◌, ◌<◌, ◌�
 use Rattle.std.specs.Prelude.{◌==◌, All}
 use Rattle.std.specs.List.{enumerate_from, range_with_len, flat_map, dedup, AllByRecursion}
 use Rattle.std.specs.List.Sorted.{IsStrictlyIncreasing, IsPermutation, IsSorted}
+use Rattle.std.specs.Cmp.{both_ways}
 use Rattle.std.specs.Ordering.{nat_cmp}
 use Rattle.std.proofs.lemmas.Bool.{cases_Bool, eqb-true, eq-eqb, false≢true}
 use Rattle.std.proofs.lemmas.Cmp.{nat_eq_equiv}
@@ -79,11 +80,6 @@ among_beside d places q =
     let t = λ (j : ℕ). is_among (candidate_of d j) (map (candidate_of d) places) in
     any-filter_same (nat_eq q) t (t q) (λ j e. ap t (sym (eqb-true q j e))) (range_with_len 0 (length d.wishes))
 
-same_truth : (a b : Bool) → (a ≡ true → b ≡ true) → (b ≡ true → a ≡ true) → a ≡ b
-same_truth true b to from = sym (to refl)
-same_truth false true to from = from refl
-same_truth false false to from = refl
-
 -- put in order, each once
 pub in_order : (d : DossierRows) (places own sorted once : List ℕ) → own ≡ flat_map (λ k. own_places d (candidate_of d k)) places
     → IsPermutation own sorted → IsSorted nat_cmp sorted → once ≡ dedup eqb sorted → once ≡ wishes_beside d places
@@ -97,7 +93,7 @@ in_order d places own sorted once own_is moved rises once_is =
   where
     once_among : (q : ℕ) → is_among q (dedup eqb sorted) ≡ is_among q sorted
     once_among q =
-        same_truth (is_among q (dedup eqb sorted)) (is_among q sorted)
+        both_ways (is_among q (dedup eqb sorted)) (is_among q sorted)
         (λ t. list_any-from_Contains nat_eq_equiv q sorted (Contains-from_dedup eqb sorted q (Contains-from_any eqb-true q (dedup eqb sorted) t)))
         (λ t. list_any-from_Contains nat_eq_equiv q (dedup eqb sorted) (Contains-dedup_nat sorted q (Contains-from_any eqb-true q sorted t)))
 

@@ -1,9 +1,7 @@
 -- A later pass of a day opens where all have been answered for: only those with an offer are answered for, and change.
-use Rattle.std.proofs.Common.{ℕ, ◌+◌, ◌<◌, ◌≡◌, true, false, List, [], ◌∷◌, map, length, inl, inr, refl, sym, ◌∙◌, ap, arith, nat_eq, subst}
+use Rattle.std.proofs.Common.{ℕ, ◌<◌, ◌≡◌, true, false, List, [], ◌∷◌, map, length, inl, inr, refl, sym, ◌∙◌, ap, nat_eq, subst}
 use Rattle.std.specs.Prelude.{All, if◌then◌else◌}
 use Rattle.std.proofs.lemmas.Bool.{cases_Bool, or_cases, or_left, or_right, eqb-true, eq-eqb, false≢true}
-use Rattle.std.proofs.lemmas.Option.{unwrap_or-slice_get}
-use Rattle.std.proofs.lemmas.Slice.Zip.{length-zip, get_or-zip}
 use Rattle.admit_core.specs.declared.ranking.CallOrder.{CallOrder}
 use Rattle.admit_core.specs.declared.dossier.Wish.{Wish}
 use Rattle.admit_core.specs.declared.state.Status.TheVariants.{Offered}
@@ -15,19 +13,20 @@ use Rattle.admit_core.specs.State.{State, entries, changed_to}
 use Rattle.admit_core.specs.Proposals.{is_proposed, proposed}
 use Rattle.admit_core.specs.AutoAnswer.{auto_all}
 use Rattle.admit_core.specs.Days.{offered, closing}
-use Rattle.day_state.specs.Kept.{mark_in, wish_in}
-use Rattle.day_state.proofs.Along.{mark_in-with_marks, length-with_marks}
+use Rattle.day_state.specs.Kept.{mark_in}
+use Rattle.day_state.specs.Along.{change_along}
+use Rattle.day_state.proofs.Along.{along_at, length-with_marks}
 use Rattle.day_state.proofs.Independence.{Agrees}
 use Rattle.day_state.proofs.Places.{candidate_in}
 use Rattle.auto_answer.specs.Laws.{SameOthers, AreAnsweredBut}
 use Rattle.auto_answer.proofs.Again.{answered_once}
 use Rattle.auto_answer.proofs.Answering.{turned, joined, all_both}
 use Rattle.auto_answer.proofs.LawsOfAnswers.{same_own}
-use Rattle.round.proofs.Offering.{among_places, proposed_are_wishes}
+use Rattle.round.proofs.Offering.{apart_places, offers_made, proposed_are_wishes}
 use Rattle.day_run.specs.DayPasses.{IsAnswered}
 
 -- the image of a member is a member of the images
-pub among_map : (f : ℕ → ℕ) (k : ℕ) (ks : List ℕ) → is_among k ks ≡ true → is_among (f k) (map f ks) ≡ true
+among_map : (f : ℕ → ℕ) (k : ℕ) (ks : List ℕ) → is_among k ks ≡ true → is_among (f k) (map f ks) ≡ true
 among_map f k [] some = some
 among_map f k (j ∷ ks) some =
     elim (or_cases (nat_eq k j) (is_among k ks) some) [
@@ -42,16 +41,6 @@ module _ (s : State) (orders : List CallOrder) (bars : List ℕ) (stamp : Stamp)
   abbrev offer : Wish → Mark → Mark
   offer w m = if is_proposed s orders bars w m then changed_to Offered stamp m else m
 
-  proposed_here : (k : ℕ) → k < length s.dossier.wishes → is_among k (proposed s orders bars) ≡ is_proposed s orders bars (wish_in s.dossier.wishes k) (mark_in s.marks k)
-  proposed_here k lt =
-      let ws = s.dossier.wishes in
-      let ms = s.marks in
-      let d : Wish × Mark = (wish_in [] 0, mark_in [] 0) in
-      let p = λ (e : Wish × Mark). is_proposed s orders bars e.0 e.1 in
-      (let named : 0 + k ≡ k = omega arith in rw named at (among_places p 0 k (entries s) d (omega (arith, length-zip ws ms, lt, long))))
-      ∙ ap p (get_or-zip ws ms k d lt (omega (arith, lt, long)))
-      ∙ rw (unwrap_or-slice_get ws k (wish_in [] 0), unwrap_or-slice_get ms k (mark_in [] 0)) refl
-
   -- whoever has no offer keeps their marks in the pass
   not_offered : (c : ℕ) → is_among c (map (candidate_of s.dossier) (proposed s orders bars)) ≡ false → Agrees c s after
   not_offered c none = record {
@@ -59,18 +48,22 @@ module _ (s : State) (orders : List CallOrder) (bars : List ℕ) (stamp : Stamp)
     long = long;
     long_too = length-with_marks offer s long ∙ long;
     same = λ k lt own.
-        let e = mark_in-with_marks offer s long k (omega (arith, lt, long)) in
-        elim (cases_Bool (is_proposed s orders bars (wish_in s.dossier.wishes k) (mark_in s.marks k))) [
+        let ks = proposed s orders bars in
+        let give = λ (w : Wish) (m : Mark). changed_to Offered stamp m in
+        elim (cases_Bool (is_among k ks)) [
           | inl made ↦
               let c_is : candidate_of s.dossier k ≡ c = candidate_in s.dossier.wishes k ∙ own in
-              let among = among_map (candidate_of s.dossier) k (proposed s orders bars) (proposed_here k lt ∙ made) in
-              absurd (false≢true (sym none ∙ rw c_is at among))
-          | inr other ↦ sym (e ∙ rw other refl)
+              absurd (false≢true (sym none ∙ rw c_is at (among_map (candidate_of s.dossier) k ks made)))
+          | inr other ↦
+              let within : All (λ j. j < length s.marks) ks = rw long (proposed_are_wishes s orders bars) in
+              let apart = apart_places (λ (e : Wish × Mark). is_proposed s orders bars e.0 e.1) 0 (entries s) in
+              let given : mark_in (change_along give ks s).marks k ≡ mark_in s.marks k = along_at give ks s apart within k ∙ rw other refl in
+              sym given ∙ ap (λ (t : State). mark_in t.marks k) (offers_made s orders bars stamp long)
         ];
   }
 
   -- and in the automatic answers that follow it
-  pub not_changed : IsAnswered s → (c : ℕ) → is_among c (map (candidate_of s.dossier) (proposed s orders bars)) ≡ false → Agrees c s (auto_all after stamp)
+  not_changed : IsAnswered s → (c : ℕ) → is_among c (map (candidate_of s.dossier) (proposed s orders bars)) ≡ false → Agrees c s (auto_all after stamp)
   not_changed answered c none =
       let both = all_both c s after stamp (not_offered c none) in
       subst (λ (t : State). Agrees c t (auto_all after stamp)) (answered stamp) both
