@@ -45,9 +45,6 @@ opens_by_place s bars n flags long are n_is =
     ∙ sym (map_twice g (entry_in s) (range_with_len 0 (length s.dossier.wishes)))
     ∙ ap (map g) (sym (entries_by_place s long))
 
-pub length-opens_of : (s : State) (bars : List ℕ) → length s.marks ≡ length s.dossier.wishes → length (opens_of s bars) ≡ length s.dossier.wishes
-length-opens_of s bars long = length-map (entries s) (λ (e : Wish × Mark). is_open s bars e.0 e.1) ∙ length_entries s.dossier.wishes s.marks long
-
 -- the proposed wishes, place by place
 pub proposed_by_place : (s : State) (orders : List CallOrder) (bars : List ℕ) → length s.marks ≡ length s.dossier.wishes
     → filter (λ k. is_proposed s orders bars (wish_in s.dossier.wishes k) (mark_in s.marks k)) (range_with_len 0 (length s.dossier.wishes)) ≡ proposed s orders bars
