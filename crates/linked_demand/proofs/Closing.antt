@@ -3,7 +3,7 @@ use Rattle.std.proofs.Common.{ℕ, ◌+◌, ◌≤◌, ◌<◌, ◌≡◌, Bool,
 use Rattle.std.proofs.Math.ListN.{set}
 use Rattle.std.specs.Prelude.{slice_index, slice_get}
 use Rattle.std.specs.List.{list_any, enumerate_from, range_with_len, AllByRecursion}
-use Rattle.std.proofs.lemmas.Bool.{cases_Bool, false≢true, or_cases, or_left, or_right, eqb-false, ne_eqb, eq-eqb}
+use Rattle.std.proofs.lemmas.Bool.{cases_Bool, or_cases, or_left, or_right, eqb-false, ne_eqb, eq-eqb}
 use Rattle.std.proofs.lemmas.List.{get_or_read, length-set, get_or-map, length-map}
 use Rattle.std.proofs.lemmas.List.FromFn.{get_or-map-range_with_len, length-map-range_with_len, get_or-range_with_len, length-range_with_len}
 use Rattle.std.proofs.lemmas.Option.{slice_get_within}
@@ -222,38 +222,25 @@ module _ {s : State} {orders : List CallOrder} {opens : List Bool} {lines : List
 
   -- what is read says whether the wish is proposed
   pub proposed_right : (place : ℕ) → IsSeatPlace s.dossier orders w place → (line : LineRow) → line ≡ get_or lines w.programme line
-      → (flag sure_flag reached : Bool) → flag ≡ get_or opens i flag → sure_flag ≡ get_or sure i false → reached ≡ is_reached line place
+      → (flag sure_flag reached : Bool) → flag ≡ get_or opens i flag → sure_flag ≡ get_or sure i sure_flag → reached ≡ is_reached line place
       → (flag && (sure_flag || reached)) ≡ is_proposed_by s orders opens w k.mark (get_or opens i false)
   proposed_right place at line read flag sure_flag reached flag_read sure_read by =
       let wish = wish_of s.dossier.wishes s.marks i w k.mark k.at.here in
       let lt = slice_get_within s.dossier.wishes i w wish in
       let flag_is : flag ≡ get_or opens i false = get_or_read opens i flag (omega (arith, lt, k.links.opens_each)) flag_read false in
-      let sure_is : sure_flag ≡ needs_no_seat s orders w = sure_read ∙ k.links.sure_are i w wish in
+      let sure_is : sure_flag ≡ needs_no_seat s orders w =
+      get_or_read sure i sure_flag (omega (arith, lt, k.links.sure_each)) sure_read false ∙ k.links.sure_are i w wish in
       let line_is = line_right k line read in
       let reach_is : reached ≡ nat_lt (ahead_by s orders opens w) (seats_left s w.programme) =
       by ∙ ap (λ (r : LineRow). is_reached r place) line_is ∙ reached_in_line s orders opens w place applies_in_programme at in
       rw (flag_is, sure_is, reach_is, k.at.waits) refl
-
--- an open wish that is reached has a seat
-pub served_reached : (flag sure reached : Bool) → flag ≡ true → reached ≡ true → reached ≡ (flag && (sure || reached))
-served_reached true true true flagged yet = refl
-served_reached true false true flagged yet = refl
-served_reached true sure false flagged yet = absurd (false≢true yet)
-served_reached false sure reached flagged yet = absurd (false≢true flagged)
-
--- one that is not has one where it needs none
-pub served_sure : (flag sure reached found : Bool) → flag ≡ true → reached ≡ false → found ≡ sure → found ≡ (flag && (sure || reached))
-served_sure true true false found flagged not_yet is = is
-served_sure true false false found flagged not_yet is = is
-served_sure true sure true found flagged not_yet is = absurd (false≢true (sym not_yet))
-served_sure false sure reached found flagged not_yet is = absurd (false≢true flagged)
 
 -- the same, as the call says it
 pub proposed_goal : {s : State} {orders : List CallOrder} {opens : List Bool} {lines : List LineRow} {claims : List (List (List ℕ))} {places : List ℕ} {sure : List Bool}
     → IsLinked s orders opens lines claims places sure → (row : LinksRow) → record { state = s; orders = orders; opens = opens } ≡ row
     → (i : ℕ) (w : Wish) (m : Mark) → WaitsAt row.state i w m → (v : Wish) → v ≡ wish_in s.dossier.wishes i
     → (place : ℕ) → place ≡ get_or places i place → (line : LineRow) → line ≡ get_or lines v.programme line → (flag sure_flag reached served : Bool)
-    → flag ≡ get_or opens i flag → sure_flag ≡ get_or sure i false → reached ≡ is_reached line place → served ≡ (flag && (sure_flag || reached))
+    → flag ≡ get_or opens i flag → sure_flag ≡ get_or sure i sure_flag → reached ≡ is_reached line place → served ≡ (flag && (sure_flag || reached))
     → served ≡ is_proposed_by row.state row.orders row.opens w m (get_or row.opens i false)
 proposed_goal {s} {orders} {opens} {lines} {claims} {places} {sure} links row is i w m waits v wish_read place place_read line line_read flag sure_flag reached served flag_read sure_read by served_is =
     let found = wish_there s.dossier.wishes i v (starts_within links row is i (w, m, waits)) wish_read in

@@ -1,5 +1,5 @@
 -- Who wants a seat and who needs none, by place.
-use Rattle.std.proofs.Common.{ℕ, suc, ◌+◌, ◌<◌, ◌≡◌, Bool, true, false, not, ◌&&◌, ◌||◌, List, [], ◌∷◌, ◌++◌, map, length, get_or, take, inl, inr, refl, sym, ◌∙◌, ap, arith, nat_eq, filter, Some, subst, zero-add}
+use Rattle.std.proofs.Common.{ℕ, suc, ◌+◌, ◌<◌, ◌≡◌, Bool, true, false, not, ◌&&◌, ◌||◌, List, [], ◌∷◌, ◌++◌, map, length, get_or, take, inl, inr, refl, sym, ◌∙◌, ap, arith, nat_eq, filter, Some, subst}
 use Rattle.std.specs.Prelude.{slice_get, All}
 use Rattle.std.specs.List.{list_any, enumerate_from, range_with_len, AllByRecursion}
 use Rattle.std.proofs.lemmas.Bool.{cases_Bool, and_parts, eqb-true}
@@ -11,10 +11,9 @@ use Rattle.admit_core.specs.declared.dossier.Wish.{Wish}
 use Rattle.admit_core.specs.declared.ranking.CallOrder.{CallOrder}
 use Rattle.admit_core.specs.DossierRows.{DossierRows}
 use Rattle.admit_core.specs.State.{State, holds_seat}
-use Rattle.day_state.specs.Kept.{has_seat_there}
 use Rattle.linked_demand.specs.Line.{LineRow}
 use Rattle.linked_demand.specs.Links.{claim_of, IsLinked}
-use Rattle.linked_demand.specs.Opens.{wants_by, line_of, seat_row, wanting_at, sure_at, sure_flags}
+use Rattle.linked_demand.specs.Opens.{wants_by, line_of, seat_row, wanting_at, sure_at}
 use Rattle.linked_demand.specs.Seats.{IsLineup}
 use Rattle.linked_demand.specs.Wants.{wants_along, seat_rows, reach_in, IsReached}
 use Rattle.linked_demand.proofs.Closing.{claim_flagged, read_range}
@@ -97,38 +96,13 @@ row_within d orders p n row is n_is j lt =
     let P = λ (ks : List ℕ). All (λ k. k < n) ks in
     subst P (sym (ap (λ (r : List (List ℕ)). get_or r j []) is ∙ get_or-map (claim_of d p) line j 0 [] in_line)) (claim_within d p (get_or line j 0) n n_is)
 
--- whether the wish at a place needs no seat
-sure_read : (s : State) (early : List Bool) (k : ℕ) → k < length early → get_or (sure_flags s early) k false ≡ sure_at s early k
-sure_read s early k lt = get_or-map-range_with_len (sure_at s early) 0 (length early) k k false lt (zero-add k)
-
-or_true : (a : Bool) → (a || true) ≡ true
-or_true true = refl
-or_true false = refl
-
-or_false : (a : Bool) → (a || false) ≡ a
-or_false true = refl
-or_false false = refl
-
--- it does where its candidate is called by the limit
-pub sure_early : (s : State) (early : List Bool) (k : ℕ) → k < length early → get_or early k false ≡ true → get_or early k false ≡ get_or (sure_flags s early) k false
-sure_early s early k lt called =
-    called ∙ sym (sure_read s early k lt ∙ ap (λ b. has_seat_there s k || b) called ∙ or_true (has_seat_there s k))
-
--- and else where they are live in the programme
-pub sure_live : (s : State) (early : List Bool) (k : ℕ) (lives : Bool) → k < length early → get_or early k false ≡ false → lives ≡ has_seat_there s k
-    → lives ≡ get_or (sure_flags s early) k false
-sure_live s early k lives lt called live =
-    live ∙ sym (sure_read s early k lt ∙ ap (λ b. has_seat_there s k || b) called ∙ or_false (has_seat_there s k))
-
-pub length-sure_flags : (s : State) (early : List Bool) → length (sure_flags s early) ≡ length early
-length-sure_flags s early = length-map-range_with_len (sure_at s early) 0 (length early)
-
 -- the links of a lineup with its lines and the flags of those who need no seat
-linked : (s : State) (orders : List CallOrder) (opens : List Bool) (lines : List LineRow) (claims : List (List (List ℕ))) (places : List ℕ) (early : List Bool) (n : ℕ)
+linked : (s : State) (orders : List CallOrder) (opens : List Bool) (lines : List LineRow) (claims : List (List (List ℕ))) (places : List ℕ) (early sure : List Bool) (n : ℕ)
     → length s.marks ≡ length s.dossier.wishes → length opens ≡ length s.dossier.wishes → IsLineup s.dossier orders claims places early
     → n ≡ length s.dossier.programmes → lines ≡ map (seat_row s orders opens) (range_with_len 0 n)
-    → IsLinked s orders opens lines claims places (sure_flags s early)
-linked s orders opens lines claims places early n marks long lineup n_is lines_are =
+    → sure ≡ map (sure_at s early) (range_with_len 0 (length s.dossier.wishes))
+    → IsLinked s orders opens lines claims places sure
+linked s orders opens lines claims places early sure n marks long lineup n_is lines_are sure_are =
     let ws = s.dossier.wishes in
     record {
       marks_each = marks;
@@ -138,22 +112,24 @@ linked s orders opens lines claims places early n marks long lineup n_is lines_a
       lines_are = lines_are ∙ ap (λ k. map (seat_row s orders opens) (range_with_len 0 k)) n_is;
       claims_are = lineup.claims_are;
       places_are = lineup.places_are;
-      sure_each = length-sure_flags s early ∙ lineup.early_each;
+      sure_each = ap length sure_are ∙ length-map-range_with_len (sure_at s early) 0 (length ws);
       sure_are = λ i w at.
-          sure_read s early i (omega (arith, slice_get_within ws i w at, lineup.early_each))
+          ap (λ (fs : List Bool). get_or fs i false) sure_are
+          ∙ get_or-map-range_with_len (sure_at s early) 0 (length ws) i i false (slice_get_within ws i w at) (omega arith)
           ∙ ap (λ (v : Wish). holds_seat s v.candidate v.programme || get_or early i false) (wish_in_is ws i w at)
           ∙ ap (λ b. holds_seat s w.candidate w.programme || b) (lineup.early_are i w at);
     }
 
 -- how far the seats reach of all programmes up to one
-pub all_reached : (s : State) (orders : List CallOrder) (opens : List Bool) (reached : List ℕ) (claims : List (List (List ℕ))) (places : List ℕ) (early : List Bool) (n : ℕ)
+pub all_reached : (s : State) (orders : List CallOrder) (opens : List Bool) (reached : List ℕ) (claims : List (List (List ℕ))) (places : List ℕ) (early sure : List Bool) (n : ℕ)
     → length s.marks ≡ length s.dossier.wishes → length opens ≡ length s.dossier.wishes → IsLineup s.dossier orders claims places early
     → n ≡ length s.dossier.programmes → reached ≡ map (λ p. reach_in (seat_row s orders opens p)) (range_with_len 0 n)
-    → IsReached s orders opens reached claims places (sure_flags s early)
-all_reached s orders opens reached claims places early n marks long lineup n_is reached_are =
+    → sure ≡ map (sure_at s early) (range_with_len 0 (length s.dossier.wishes))
+    → IsReached s orders opens reached claims places sure
+all_reached s orders opens reached claims places early sure n marks long lineup n_is reached_are sure_are =
     let count = length s.dossier.programmes in
     record {
-      links = linked s orders opens (seat_rows s orders opens) claims places early count marks long lineup refl refl;
+      links = linked s orders opens (seat_rows s orders opens) claims places early sure count marks long lineup refl refl sure_are;
       reached_are =
           reached_are
           ∙ ap (λ k. map (λ p. reach_in (seat_row s orders opens p)) (range_with_len 0 k)) n_is

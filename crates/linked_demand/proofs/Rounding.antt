@@ -4,7 +4,7 @@ use Rattle.std.specs.Prelude.{slice_get, slice_index, slice_set, Option, is_some
 use Rattle.std.specs.List.{enumerate_from, range_with_len}
 use Rattle.std.specs.declared.alloc.Global.{Global}
 use Rattle.std.proofs.lemmas.Bool.{and_parts}
-use Rattle.std.proofs.lemmas.List.{length-map, get_or_read}
+use Rattle.std.proofs.lemmas.List.{get_or_read}
 use Rattle.std.proofs.lemmas.List.FromFn.{get_or-map-range_with_len, length-map-range_with_len}
 use Rattle.admit_core.specs.declared.dossier.Wish.{Wish}
 use Rattle.admit_core.specs.declared.state.Mark.{Mark}
@@ -25,7 +25,7 @@ use Rattle.linked_demand.specs.Opens.{opens_of, is_proposed_by}
 use Rattle.linked_demand.specs.Rounds.{Round, IsRoundUnder, bar_each, is_proposed_in}
 use Rattle.linked_demand.specs.Demand.{is_proposed_at, over_at}
 use Rattle.linked_demand.proofs.BarEach.{bar_each_is, bar_each_set}
-use Rattle.linked_demand.proofs.Closing.{proposed_at_is, length_entries}
+use Rattle.linked_demand.proofs.Closing.{proposed_at_is}
 use Rattle.linked_demand.proofs.Falling.{flag_map}
 use Rattle.linked_demand.proofs.Filling.{entry_there}
 use Rattle.linked_demand.proofs.Lining.{numbered}
@@ -44,9 +44,6 @@ opens_by_place s bars n flags long are n_is =
     ∙ ap (λ k. map (λ j. is_open s bars (wish_in s.dossier.wishes j) (mark_in s.marks j)) (range_with_len 0 k)) n_is
     ∙ sym (map_twice g (entry_in s) (range_with_len 0 (length s.dossier.wishes)))
     ∙ ap (map g) (sym (entries_by_place s long))
-
-pub length-opens_of : (s : State) (bars : List ℕ) → length s.marks ≡ length s.dossier.wishes → length (opens_of s bars) ≡ length s.dossier.wishes
-length-opens_of s bars long = length-map (entries s) (λ (e : Wish × Mark). is_open s bars e.0 e.1) ∙ length_entries s.dossier.wishes s.marks long
 
 -- the proposed wishes, place by place
 pub proposed_by_place : (s : State) (orders : List CallOrder) (bars : List ℕ) → length s.marks ≡ length s.dossier.wishes

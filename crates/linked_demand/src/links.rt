@@ -1,5 +1,5 @@
 //! Who is served in each programme while wishes are closed.
-ghost use Rattle.std.specs.Prelude.{◌≡◌, ◌+◌, ◌<◌, ◌&&◌, false, length, map, All, slice_set, slice_index_or, count_by, IfOk};
+ghost use Rattle.std.specs.Prelude.{◌≡◌, ◌+◌, ◌<◌, ◌&&◌, ◌||◌, false, length, map, All, slice_set, slice_index_or, count_by, IfOk};
 ghost use Rattle.std.specs.List.{enumerate_from};
 ghost use Rattle.admit_core.specs.State.{entries, is_waiting};
 ghost use Rattle.linked_demand.specs.Marks.{is_new, MarksSchools};
@@ -15,7 +15,7 @@ use crate::fresh::note_fresh;
 use crate::line::{is_reached, last_wanting, leaves_seat, next_wanting, wants_seat};
 use crate::lineup::Lineup;
 use crate::marks::Marks;
-use crate::seats::{is_sure, seats_of};
+use crate::seats::seats_of;
 use admit_core::{CallOrders, Mark, OutOfMemory, Steps};
 use day_state::DayState;
 use demand::{is_open, wish_at};
@@ -51,6 +51,13 @@ fn open_flags(
     Ok(flags)
 }
 
+/// Whether an open wish has a seat, by need of none or by its place.
+fn is_served(open: bool, sure: bool, reached: bool) -> bool
+    ensures { result ≡ («open» && (sure || reached)) }
+{
+    open && (sure || reached)
+}
+
 /// How far the seats of each programme reach along its line, while wishes are closed.
 #[derive(Drop)]
 pub struct SeatLinks<'a, 'd> {
@@ -59,18 +66,18 @@ pub struct SeatLinks<'a, 'd> {
     opens: Vec<bool>,
     lineup: &'a Lineup,
     reached: Vec<usize>,
+    sure: Vec<bool>,
 }
 
 impl<'a, 'd> Model for SeatLinks<'a, 'd> {
     ghost use Rattle.linked_demand.specs.Links.{LinksRow};
-    ghost use Rattle.linked_demand.specs.Opens.{sure_flags};
     ghost use Rattle.linked_demand.specs.Wants.{IsReached};
 
     ghost Value = { LinksRow };
 
     ghost view = { λ l. record { state = l.state.now; orders = l.orders.now.orders; opens = l.opens.items } };
 
-    ghost invariant = { λ l. IsReached l.state.now l.orders.now.orders l.opens.items l.reached.items l.lineup.now.claims.items l.lineup.now.places.items (sure_flags l.state.now l.lineup.now.early.items) };
+    ghost invariant = { λ l. IsReached l.state.now l.orders.now.orders l.opens.items l.reached.items l.lineup.now.claims.items l.lineup.now.places.items l.sure.items };
 }
 
 impl<'a, 'd> SeatLinks<'a, 'd> {
@@ -87,13 +94,14 @@ impl<'a, 'd> SeatLinks<'a, 'd> {
         ensures { IfOk result (λ l. l ≡ record { state = state.now; orders = orders.now.orders; opens = opens_of state.now bars.now }) }
     {
         let opens = open_flags(alloc, state, &lineup.boarders, bars)?;
-        let reached = seats_of(alloc, state, orders, lineup, &opens)?;
+        let seats = seats_of(alloc, state, orders, lineup, &opens)?;
         Ok(SeatLinks {
             state,
             orders,
             opens,
             lineup,
-            reached,
+            reached: seats.reached,
+            sure: seats.sure,
         })
     }
 
@@ -130,7 +138,7 @@ impl<'a, 'd> SeatLinks<'a, 'd> {
                     self.state,
                     bars,
                     &self.opens,
-                    &lineup.early,
+                    &self.sure,
                     claims.at(next),
                     marked,
                     steps,
@@ -163,7 +171,8 @@ impl<'a, 'd> SeatLinks<'a, 'd> {
         let programme = wish_at(self.state, wish).programme as usize;
         let place = lineup.places[wish as usize];
         let open = self.opens[wish as usize];
+        let sure = self.sure[wish as usize];
         let reached = is_reached(place, self.reached[programme]);
-        open && (reached || is_sure(self.state, &lineup.early, wish))
+        is_served(open, sure, reached)
     }
 }

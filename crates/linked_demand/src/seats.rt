@@ -1,25 +1,55 @@
 //! Who has a seat while no wish is closed yet.
-ghost use Rattle.std.specs.Prelude.{◌≡◌, ◌<◌, false, length, IfOk, slice_index_or};
+ghost use Rattle.std.specs.Prelude.{◌≡◌, ◌<◌, false, length, map, ◌||◌, not, IfOk, slice_index_or};
+ghost use Rattle.std.specs.List.{range_with_len};
 ghost use Rattle.linked_demand.specs.Lineups.{IsLineupOf};
 ghost use Rattle.linked_demand.specs.Wants.{IsReached};
-ghost use Rattle.linked_demand.specs.Opens.{sure_flags};
+ghost use Rattle.linked_demand.specs.Opens.{sure_at};
 
 use crate::line::reach_of;
 use crate::lineup::Lineup;
+use crate::wishes::wish_count;
 use admit_core::{CallOrders, OutOfMemory};
 use day_state::DayState;
 use demand::programme_count;
 use std::alloc::Global;
 use vacancies::seats_left;
 
-/// Whether the wish at a place needs no seat: its candidate is called by the programme's limit, as the
-/// lineup's flags say, or is live in the programme.
-pub fn is_sure(state: &DayState<'_>, early: &[bool], place: u32) -> bool
-    requires place { place < length state.now.dossier.wishes }
-    requires early { length early.now ≡ length state.now.dossier.wishes }
-    ensures { result ≡ slice_index_or (sure_flags state.now early.now) place false }
+/// Whether a flag is set.
+fn is_set(flags: &[bool], place: u32) -> bool
+    requires { place < length flags.now }
+    ensures { result ≡ slice_index_or flags.now place false }
 {
-    early[place as usize] || state.is_live_in_its_programme(place)
+    flags[place as usize]
+}
+
+/// Whether a candidate needs no seat who is live in the programme or not, and is called by its limit or
+/// not.
+fn is_sure(is_live: bool, is_early: bool) -> bool
+    ensures { result ≡ (is_live || is_early) }
+{
+    is_live || is_early
+}
+
+/// Whether each wish needs no seat, by place.
+fn sure_flags(alloc: Global, state: &DayState<'_>, early: &[bool]) -> Result<Vec<bool>, OutOfMemory>
+    requires { length early.now ≡ length state.now.dossier.wishes }
+    ensures { IfOk result (λ v. v.items ≡ map (sure_at state.now early.now) (range_with_len 0 (length state.now.dossier.wishes))) }
+{
+    let count = wish_count(state);
+    let mut flags = Vec::with_capacity(alloc, count as usize)?;
+    for place in 0..count {
+        let is_live = state.is_live_in_its_programme(place);
+        let is_early = is_set(early, place);
+        flags.push(is_sure(is_live, is_early))?;
+    }
+    Ok(flags)
+}
+
+/// How many places of each programme's line are reached, and whether each wish needs no seat.
+#[derive(Drop)]
+pub struct Seats {
+    pub reached: Vec<usize>,
+    pub sure: Vec<bool>,
 }
 
 /// How far the seats of all programmes reach where these wishes are open.
@@ -29,11 +59,10 @@ pub fn seats_of(
     orders: &CallOrders,
     lineup: &Lineup,
     opens: &[bool],
-) -> Result<Vec<usize>, OutOfMemory>
+) -> Result<Seats, OutOfMemory>
     requires lineup { IsLineupOf state.now.dossier orders.now.orders lineup.now }
     requires opens { length opens.now ≡ length state.now.dossier.wishes }
-    ensures { IfOk result (λ v. IsReached state.now orders.now.orders opens.now v.items
-        lineup.now.claims.items lineup.now.places.items (sure_flags state.now lineup.now.early.items)) }
+    ensures { IfOk result (λ x. IsReached state.now orders.now.orders opens.now x.reached.items lineup.now.claims.items lineup.now.places.items x.sure.items) }
 {
     let _ = state.marks(); // one for each wish
     let programmes = programme_count(state);
@@ -43,5 +72,6 @@ pub fn seats_of(
         let left = seats_left(state, programme) as usize;
         reached.push(reach_of(state, opens, claims, left))?;
     }
-    Ok(reached)
+    let sure = sure_flags(alloc, state, &lineup.early)?;
+    Ok(Seats { reached, sure })
 }

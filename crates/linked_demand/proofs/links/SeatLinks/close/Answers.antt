@@ -2,10 +2,9 @@ use Rattle.std.proofs.Common.{rules, ◌≡◌, ℕ, ◌+◌, ◌<◌, Bool, Lis
 use Rattle.std.specs.List.{list_any}
 use Rattle.linked_demand.specs.Line.{next, last_new}
 use Rattle.linked_demand.specs.Links.{LinksRow}
-use Rattle.linked_demand.specs.Opens.{line_of, wanting_at, sure_flags}
+use Rattle.linked_demand.specs.Opens.{line_of, wanting_at}
 use Rattle.linked_demand.specs.Wants.{wants_along}
 use Rattle.linked_demand.proofs.Closing.{starts_within, closes_read, wish_within, programme_within, place_right, claim_right, claims_each, sure_each, row_within}
-use Rattle.linked_demand.proofs.Flagging.{length-sure_flags}
 use Rattle.linked_demand.proofs.Leaving.{Reads, before_within, row_below, stays_closed, moves_closed, reached_each, reach_put, reach_kept, in_claims, claim_there}
 use Rattle.linked_demand.proofs.Moving.{newly_none, newly_some}
 use Rattle.linked_demand.proofs.Ticking.{claim_fits, told_none, told_some}
@@ -199,7 +198,7 @@ note_fresh-requires g c =
       claim = claim_fits k _ _ c.at.result.now fresh_claim (length c.self.inside.state.now.dossier.wishes) refl;
       bars = c.requires.bars ∙ schools;
       opens = omega (arith, c.deref-in-Some.ensures.len, c.self.invariant.links.opens_each);
-      early = omega (arith, c.deref-in-Some-2.ensures.len, sure_each k, length-sure_flags c.self.inside.state.now c.self.inside.lineup.now.early.items);
+      sure = omega (arith, c.deref-in-Some-2.ensures.len, sure_each k);
       marked = c.requires.marked ∙ schools;
     }
 
@@ -282,8 +281,8 @@ returns-in-Some g c =
     let orders = r.orders.now.orders in
     let lt : c.in-Some.next < length (line_of s.dossier orders p) = omega (arith, within, in_claims k row c.index-claims.ensures) in
     let told =
-    told_some s orders r.opens.items (sure_flags s r.lineup.now.early.items) c.args.wish p (get_or (line_of s.dossier orders p) c.in-Some.next 0) c.args.self.now c.self.view_is
+    told_some s orders r.opens.items r.sure.items c.args.wish p (get_or (line_of s.dossier orders p) c.in-Some.next 0) c.args.self.now c.self.view_is
     (newly_some k c.last_wanting.result moved.fresh c.in-Some.next c.in-Some.is lt) c.self.invariant.links.marks_each c.args.bars.now c.at.result.now fresh_claim
-    c.deref-in-Some.result.now (sure_flags s c.deref-in-Some-2.result.now) c.deref-in-Some.ensures.value (ap (sure_flags s) c.deref-in-Some-2.ensures.value) c.args.steps.now c.note_fresh.new.steps
+    c.deref-in-Some.result.now c.deref-in-Some-2.result.now c.deref-in-Some.ensures.value c.deref-in-Some-2.ensures.value c.args.steps.now c.note_fresh.new.steps
     c.args.marked.now c.note_fresh.new.marked c.note_fresh.ensures.steps c.note_fresh.ensures.marked in
     record { value = search rules; steps = told.steps; marked = told.marked }

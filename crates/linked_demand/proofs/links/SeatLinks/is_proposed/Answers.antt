@@ -1,7 +1,6 @@
-use Rattle.std.proofs.Common.{ℕ, Bool, List, arith, ap, refl, sym, ◌∙◌, get_or, false}
-use Rattle.linked_demand.specs.Opens.{seat_row, sure_flags}
-use Rattle.linked_demand.proofs.Closing.{starts_within, closes_read, wish_within, programme_within, place_right, sure_each, proposed_goal, proposed_at_is, served_reached, served_sure}
-use Rattle.linked_demand.proofs.Flagging.{length-sure_flags}
+use Rattle.std.proofs.Common.{ℕ, arith, sym, ◌∙◌}
+use Rattle.linked_demand.specs.Opens.{seat_row}
+use Rattle.linked_demand.proofs.Closing.{starts_within, closes_read, wish_within, programme_within, place_right, sure_each, proposed_goal, proposed_at_is}
 use Rattle.linked_demand.proofs.Leaving.{reach_right, reached_each, reached_is, row_there}
 use Rattle.linked_demand.proofs.links.SeatLinks.is_proposed.Goals as goal
 
@@ -19,21 +18,18 @@ index-open-requires c =
     let k = closes_read c.self.invariant.links c.args.self.now c.self.view_is c.args.wish c.requires c.wish_at-programme.result c.wish_at-programme.ensures.wish in
     omega (arith, wish_within k, c.self.invariant.links.opens_each)
 
+pub index-sure-requires : goal.index-sure-requires
+index-sure-requires c =
+    let k = closes_read c.self.invariant.links c.args.self.now c.self.view_is c.args.wish c.requires c.wish_at-programme.result c.wish_at-programme.ensures.wish in
+    omega (arith, wish_within k, sure_each k)
+
 pub index-requires : goal.index-requires
 index-requires c =
     let k = closes_read c.self.invariant.links c.args.self.now c.self.view_is c.args.wish c.requires c.wish_at-programme.result c.wish_at-programme.ensures.wish in
     omega (arith, programme_within k, reached_each k c.self.inside.reached.items c.self.invariant.reached_are)
 
-pub is_sure-requires-clause-place : goal.is_sure-requires-clause-place
-is_sure-requires-clause-place c = starts_within c.self.invariant.links c.args.self.now c.self.view_is c.args.wish c.requires
-
-pub is_sure-requires-clause-early : goal.is_sure-requires-clause-early
-is_sure-requires-clause-early c =
-    let k = closes_read c.self.invariant.links c.args.self.now c.self.view_is c.args.wish c.requires c.wish_at-programme.result c.wish_at-programme.ensures.wish in
-    omega (arith, c.deref.ensures.len, sure_each k, length-sure_flags c.self.inside.state.now c.self.inside.lineup.now.early.items)
-
-pub returns-then-reached : goal.returns-then-reached
-returns-then-reached c =
+pub returns : goal.returns
+returns c =
     let (w, m, waits) = c.requires in
     let r = c.self.inside in
     let s = r.state.now in
@@ -44,29 +40,7 @@ returns-then-reached c =
     let at = place_right k c.index-place.result.now c.index-place.ensures in
     let reach = reach_right k r.reached.items c.self.invariant.reached_are c.index.result.now c.index.ensures in
     let reached = reached_is s orders opens p c.index-place.result.now c.index.result.now c.is_reached-reached.result reach at.within c.is_reached-reached.ensures in
-    let sure : Bool = get_or (sure_flags s r.lineup.now.early.items) c.args.wish false in
     proposed_goal c.self.invariant.links c.args.self.now c.self.view_is c.args.wish w m waits c.wish_at-programme.result c.wish_at-programme.ensures.wish
-    c.index-place.result.now c.index-place.ensures (seat_row s orders opens p) (row_there s orders opens p (programme_within k)) c.index-open.result.now sure c.is_reached-reached.result c.is_reached-reached.result
-    c.index-open.ensures refl reached
-    (served_reached c.index-open.result.now sure c.is_reached-reached.result c.if-open.true c.if-reached.true)
-    ∙ sym (proposed_at_is c.args.self.now c.args.wish w m waits)
-
-pub returns-else-reached : goal.returns-else-reached
-returns-else-reached c =
-    let (w, m, waits) = c.requires in
-    let r = c.self.inside in
-    let s = r.state.now in
-    let orders = r.orders.now.orders in
-    let opens = r.opens.items in
-    let p : ℕ = c.wish_at-programme.result.programme in
-    let k = closes_read c.self.invariant.links c.args.self.now c.self.view_is c.args.wish c.requires c.wish_at-programme.result c.wish_at-programme.ensures.wish in
-    let at = place_right k c.index-place.result.now c.index-place.ensures in
-    let reach = reach_right k r.reached.items c.self.invariant.reached_are c.index.result.now c.index.ensures in
-    let reached = reached_is s orders opens p c.index-place.result.now c.index.result.now c.is_reached-reached.result reach at.within c.is_reached-reached.ensures in
-    let sure : Bool = get_or (sure_flags s r.lineup.now.early.items) c.args.wish false in
-    proposed_goal c.self.invariant.links c.args.self.now c.self.view_is c.args.wish w m waits c.wish_at-programme.result c.wish_at-programme.ensures.wish
-    c.index-place.result.now c.index-place.ensures (seat_row s orders opens p) (row_there s orders opens p (programme_within k)) c.index-open.result.now sure c.is_reached-reached.result c.is_sure.result
-    c.index-open.ensures refl reached
-    (served_sure c.index-open.result.now sure c.is_reached-reached.result c.is_sure.result c.if-open.true c.if-reached.false
-    (c.is_sure.ensures ∙ ap (λ (es : List Bool). get_or (sure_flags s es) c.args.wish false) c.deref.ensures.value))
+    c.index-place.result.now c.index-place.ensures (seat_row s orders opens p) (row_there s orders opens p (programme_within k)) c.index-open.result.now c.index-sure.result.now c.is_reached-reached.result c.is_served.result
+    c.index-open.ensures c.index-sure.ensures reached c.is_served.ensures
     ∙ sym (proposed_at_is c.args.self.now c.args.wish w m waits)
