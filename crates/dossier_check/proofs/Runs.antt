@@ -1,16 +1,14 @@
 -- That wishes which stand together by candidate do not clash.
-use Rattle.std.proofs.Common.{◌≡◌, ◌∙◌, ◌+◌, ◌-◌, ◌≤◌, ◌<◌, ℕ, Bool, true, false, ◌&&◌, List, Option, Some, None, AllPairs, IfSome, arith, ap, drop, get_or, inl, inr, slice_get, ◌⊎◌, length, nat_eq, nat_lt, refl, subst, sym, take, true≢false}
-use Rattle.std.specs.Prelude.{◌||◌, not, if◌then◌else◌}
+use Rattle.std.proofs.Common.{◌≡◌, ◌∙◌, ◌+◌, ◌-◌, ◌≤◌, ◌<◌, ℕ, Bool, true, false, List, Some, arith, ap, drop, get_or, inl, inr, slice_get, ◌⊎◌, length, nat_eq, nat_lt, refl, subst, sym, true≢false}
+use Rattle.std.specs.Prelude.{not}
 use Rattle.std.specs.List.{list_all, slice_range}
 use Rattle.std.proofs.lemmas.Bool.Decides.{nat_tests}
-use Rattle.std.proofs.lemmas.List.{get_or-drop, get_or-take, get_or_default, length-drop, length-take-le}
+use Rattle.std.proofs.lemmas.List.{get_or-drop, get_or-take, length-drop, length-take-le}
 use Rattle.std.proofs.lemmas.List.Folds.{list_all_at}
 use Rattle.std.proofs.lemmas.Option.{slice_get-get_or}
 use Rattle.admit_core.specs.declared.tables.WishRow.{WishRow}
-use Rattle.admit_core.specs.Relations.{same_wish}
 use Rattle.dossier_check.specs.declared.apart.Run.{Run}
-use Rattle.dossier_check.specs.Runs.{IsRun, clashes, run_with, same_preference}
-use Rattle.dossier_check.specs.Wished.{has_preference}
+use Rattle.dossier_check.specs.Runs.{IsRun, clashes, run_with}
 use Rattle.dossier_check.proofs.Places.{nat_eq_sound}
 
 -- wishes of two candidates do not clash
