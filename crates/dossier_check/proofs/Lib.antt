@@ -20,6 +20,7 @@ pub mod TwicePreferred
 pub mod Rising
 pub mod RisingIds
 pub mod RowFacts
+pub mod Runs
 pub mod Scans
 pub mod SortedBy
 pub mod SortedLists

@@ -1,6 +1,6 @@
 -- The dates of wishes whose statuses have none.
-use Rattle.std.proofs.Common.{◌≡◌, nat_eq, ℕ, Bool, true, false, List, [], ◌∷◌, Option, Some, None, find, length, map, refl, is_some}
-use Rattle.std.specs.Prelude.{◌&&◌, not, replicate}
+use Rattle.std.proofs.Common.{◌≡◌, nat_eq, Bool, true, false, List, [], ◌∷◌, Option, Some, None, find, length, map, refl, is_some}
+use Rattle.std.specs.Prelude.{not, replicate}
 use Rattle.std.specs.List.{list_all}
 use Rattle.std.specs.Option.{option_and_then}
 use Rattle.std.proofs.lemmas.Bool.{and_parts}

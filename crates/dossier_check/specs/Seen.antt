@@ -28,7 +28,7 @@ is_accepted_of t candidate r = is_accepted r.status && same_candidate (Some cand
 abbrev pub noted_wish : ℕ × WishRow → FirstWish
 noted_wish first = record { row = first.0; preference = first.1.preference }
 
--- `found` gives for each candidate his first wish
+-- `found` gives for each candidate their first wish
 abbrev pub AreFirstWishes : (ℕ → Option FirstWish) → List WishRow → Type 0
 AreFirstWishes found before = (candidate : ℕ) → found candidate ≡ option_map noted_wish (first_wish_of before candidate)
 

@@ -41,7 +41,7 @@ pub(crate) fn empty_lists(alloc: Global, groups: &RowIds) -> Result<Vec<Vec<Rank
     Ok(lists)
 }
 
-/// Adds a candidate to the list of his group.
+/// Adds a candidate to the list of their group.
 pub(crate) fn lay_row(
     lists: &mut Vec<Vec<Ranked>>,
     groups: &RowIds,

@@ -5,6 +5,7 @@
 #![tactic(auto)]
 
 mod answers;
+mod apart;
 mod dates;
 mod day_falls;
 mod groups;

@@ -8,15 +8,14 @@ ghost use Rattle.dossier_check.specs.Dealt.{SaysWhoIsRanked};
 ghost use Rattle.dossier_check.specs.Outcome.{AnswersFault};
 ghost use Rattle.dossier_check.specs.Seen.{boarded_pairs, AreFirstWishes};
 
+use crate::apart::shown_apart;
 use crate::hashing::hashing_of_wishes;
 use crate::noted::{FirstWish, note_first, row_of};
-use crate::preferred::preferences_apart;
 use crate::row_ids::RowIds;
 use crate::row_tests::{NamesUnknown, NoTest, Repeats, RepeatsId, RowTest, Then, Unless};
 use crate::rules::{ItsProgramme, ItsSchool, OwnId, WhatIsWished};
 use crate::scan::scan;
 use crate::who_is_ranked::WhoIsRanked;
-use crate::wished::wishes_apart;
 use admit_core::{InFault, OutOfMemory, Reason, Slot, Tables, WishRow};
 use indexmap::{IndexMap, IndexSet};
 use keyed_hash::Keyed;
@@ -163,9 +162,8 @@ pub(crate) fn check_wishes<'a>(
     ensures firsts { IfOk result (λ keys. AreFirstWishes (get nat_eq keys.firsts) tables.now.wishes) }
 {
     let rows = tables.wishes.as_slice();
-    let apart = wishes_apart(alloc, rows)?;
-    let distinct = preferences_apart(alloc, rows)?;
-    let by_wish = if apart && distinct {
+    let apart = shown_apart(alloc, rows)?;
+    let by_wish = if apart.wishes && apart.preferences {
         keyed
     } else {
         hashing_of_wishes(rows)
@@ -177,7 +175,7 @@ pub(crate) fn check_wishes<'a>(
         },
         rest: Then {
             first: Unless {
-                is_known: distinct,
+                is_known: apart.preferences,
                 test: PreferenceTaken {
                     rows: IndexMap::with_hasher(alloc, by_wish),
                 },
@@ -221,7 +219,7 @@ pub(crate) fn check_wishes<'a>(
         },
         rest: Then {
             first: Unless {
-                is_known: apart,
+                is_known: apart.wishes,
                 test: Repeats {
                     keys: IndexSet::with_hasher(alloc, by_wish),
                     rule: WhatIsWished,

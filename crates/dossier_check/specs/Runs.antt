@@ -1,0 +1,30 @@
+-- Runs of rows in which one candidate's wishes stand together.
+use Rattle.std.specs.Prelude.{◌≡◌, ◌≤◌, ◌<◌, ℕ, Bool, false, ◌&&◌, ◌||◌, List, Option, Some, None, get_or, nat_eq, nat_lt, if◌then◌else◌}
+use Rattle.admit_core.specs.declared.tables.WishRow.{WishRow}
+use Rattle.admit_core.specs.Relations.{same_wish}
+use Rattle.dossier_check.specs.declared.apart.Run.{Run}
+
+-- whether a wish has a preference that another one of the candidate has
+abbrev pub same_preference : WishRow → WishRow → Bool
+same_preference row r =
+    nat_eq row.candidate r.candidate && nat_lt 0 row.preference && nat_eq row.preference r.preference
+
+-- whether of two wishes one must not be
+abbrev pub clashes : WishRow → WishRow → Bool
+clashes row r = same_wish row r || same_preference row r
+
+-- the run of the next row's candidate, where candidates rise
+abbrev pub run_with : Run → ℕ → ℕ → Option Run
+run_with run candidate place =
+    if nat_eq candidate run.candidate then Some run
+    else if nat_lt run.candidate candidate then Some (record { candidate = candidate; from = place })
+    else None
+
+-- no two rows before a place clash, and those of the last candidate are those of the run
+pub record IsRun (rows : List WishRow) (run : Run) (to : ℕ) : Type 0 where
+  pub start : run.from ≤ to
+  pub apart : (j k : ℕ) (d : WishRow) → j < k → k < to
+      → clashes (get_or rows k d) (get_or rows j d) ≡ false
+  pub others : (j : ℕ) (d : WishRow) → j < run.from → (get_or rows j d).candidate < run.candidate
+  pub own : (j : ℕ) (d : WishRow) → run.from ≤ j → j < to
+      → (get_or rows j d).candidate ≡ run.candidate
