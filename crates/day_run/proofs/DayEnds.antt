@@ -12,7 +12,7 @@ use Rattle.admit_core.specs.EveningLaws.{last_bars}
 use Rattle.day_run.specs.AnswersOn.{IsUnfitOf}
 use Rattle.day_run.specs.CampaignDays.{EndsNextDay, Progress, Stage, moment_of}
 use Rattle.day_run.specs.DeskStates.{DeskStates}
-use Rattle.day_run.specs.RunDay.{Moment, IsDayDone, EndsDay, TellsNoneUnfit}
+use Rattle.day_run.specs.RunDay.{Moment, IsDayDone, EndsDay, KeepsOpening, TellsNoneUnfit}
 use Rattle.day_run.specs.declared.refusal.DayRefusal.{DayRefusal}
 
 pub no_refusal : {T E : Type 0} (P : Type 0) (r : Result T E) {b : Bool} → b ≡ is_err r → b ≡ false → OnErr r P
@@ -44,9 +44,10 @@ module _ (terms : Option Terms) (orders : List CallOrder) (ceilings : List ℕ) 
       → (at old evening was told choice).desk ≡ desk → now ≡ old
       → IfOk r (λ done. IsDayDone terms orders ceilings day (at old old was told choice) done (at new old opening told_after choice_after))
       → IfErr r (IsUnfitOf old.dossier day (unfit_on terms day old)) → OnErr r (new ≡ old) → new.dossier ≡ old.dossier
+      → IfErr r (KeepsOpening was opening)
       → IfErr r (TellsNoneUnfit told told_after) → choice_after ≡ choice
       → EndsDay terms orders ceilings day (record { desk = desk; told = told; choice = choice }) (at new now opening told_after choice_after) r
-  ends_played desk old evening was new now opening told told_after choice choice_after r is now_is done unfit restored same untold kept =
+  ends_played desk old evening was new now opening told told_after choice choice_after r is now_is done unfit restored same unopened untold kept =
       let P : DeskStates → Type 0 = λ d. EndsDay terms orders ceilings day (record { desk = d; told = told; choice = choice }) (at new now opening told_after choice_after) r in
       subst P is (record {
         done = done_there old was new opening old evening old now told told_after choice choice_after r done;
@@ -54,6 +55,7 @@ module _ (terms : Option Terms) (orders : List CallOrder) (ceilings : List ℕ) 
         restored = restored;
         evening = now_is;
         dossier = same;
+        unopened = unopened;
         untold = untold;
         choice = kept;
       })
@@ -70,6 +72,7 @@ module _ (terms : Option Terms) (orders : List CallOrder) (ceilings : List ℕ) 
         restored = ends.restored;
         evening = ends.evening;
         dossier = ends.dossier;
+        unopened = ends.unopened;
         untold = ends.untold;
         choice = ends.choice;
       })
@@ -123,6 +126,7 @@ next_ran old p terms shown ceilings bars d desk told told_after choice choice_af
       unfit = tt;
       stays = tt;
       same = record { orders = refl; terms = refl; dossier = same };
+      unopened = tt;
       untold = tt;
       choice = kept;
     })

@@ -14,7 +14,7 @@ use Rattle.linked_demand.specs.declared.lineup.Lineup.{Lineup}
 use Rattle.linked_demand.specs.Lineups.{IsLineupOf}
 use Rattle.day_run.specs.AnswersOn.{IsUnfitOf}
 use Rattle.day_run.specs.LastPasses.{IsLastPass, last_pass}
-use Rattle.day_run.specs.RunDay.{Moment, IsDayDone, TellsNoneUnfit}
+use Rattle.day_run.specs.RunDay.{Moment, IsDayDone, KeepsOpening, TellsNoneUnfit}
 use Rattle.day_run.specs.declared.refusal.DayRefusal.{DayRefusal}
 
 -- the orders and the terms of a campaign, the days that were run, and whether the last one came about; the present state, that of
@@ -103,5 +103,6 @@ pub record EndsNextDay (before after : Stage) (result : Result DayRecord DayRefu
   pub unfit : IfErr result (IsUnfitOf before.course.present.dossier (before.course.day + 1) (unfit_on before.course.terms (before.course.day + 1) before.course.present))
   pub stays : OnErr result (StaysAt before.course after.course)
   pub same : SameCampaign before.course after.course
+  pub unopened : IfErr result (KeepsOpening before.course.opening after.course.opening)
   pub untold : IfErr result (TellsNoneUnfit before.told after.told)
   pub choice : after.choice ≡ before.choice

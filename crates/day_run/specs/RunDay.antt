@@ -1,5 +1,5 @@
 -- How a day ends: it came about, or the first answer that does not fit is refused, or memory ran out.
-use Rattle.std.specs.Prelude.{◌≡◌, ◌≤◌, ℕ, ◌+◌, List, length, ◌++◌, All, Option, Result, IfOk, IfErr, OnErr}
+use Rattle.std.specs.Prelude.{◌≡◌, ◌≤◌, ℕ, ◌+◌, List, length, ◌++◌, All, Option, Result, IfOk, IfErr, OnErr, ⊤}
 use Rattle.admit_core.specs.declared.ranking.CallOrder.{CallOrder}
 use Rattle.admit_core.specs.declared.records.DayRecord.{DayRecord}
 use Rattle.admit_core.specs.declared.records.Terms.{Terms}
@@ -45,6 +45,11 @@ abbrev pub TellsNoneUnfit : List ℕ → List ℕ → DayRefusal → Type 0
 TellsNoneUnfit before after (refusals.Unfit refusal) = after ≡ before
 TellsNoneUnfit before after refusals.OutOfMemory = TellsMore before after
 
+-- an unfit answer is found before the first pass; where memory ran out, any pass may have opened
+abbrev pub KeepsOpening : State → State → DayRefusal → Type 0
+KeepsOpening before after (refusals.Unfit refusal) = after ≡ before
+KeepsOpening before after refusals.OutOfMemory = ⊤
+
 -- how a day ends on a desk: after a refusal the state is that of the evening before
 pub record EndsDay (terms : Option Terms) (orders : List CallOrder) (ceilings : List ℕ) (day : ℕ) (before after : Moment) (result : Result DayRecord DayRefusal) : Type 0 where
   pub done : IfOk result (λ done. IsDayDone terms orders ceilings day before done after)
@@ -52,5 +57,6 @@ pub record EndsDay (terms : Option Terms) (orders : List CallOrder) (ceilings : 
   pub restored : OnErr result (after.desk.present ≡ before.desk.present)
   pub evening : after.desk.evening ≡ before.desk.present
   pub dossier : after.desk.present.dossier ≡ before.desk.present.dossier
+  pub unopened : IfErr result (KeepsOpening before.desk.opening after.desk.opening)
   pub untold : IfErr result (TellsNoneUnfit before.told after.told)
   pub choice : after.choice ≡ before.choice

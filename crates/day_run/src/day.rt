@@ -5,7 +5,7 @@ ghost use Rattle.admit_core.specs.CallOrder.{AreCallOrders};
 ghost use Rattle.admit_core.specs.Ranges.{IsDay as IsDayNumber};
 ghost use Rattle.admit_core.specs.Days.{unfit_on};
 ghost use Rattle.day_run.specs.AnswersOn.{IsUnfitOf};
-ghost use Rattle.day_run.specs.RunDay.{EndsDay, IsDayDone, TellsNoneUnfit};
+ghost use Rattle.day_run.specs.RunDay.{EndsDay, IsDayDone, KeepsOpening, TellsNoneUnfit};
 ghost use Rattle.linked_demand.specs.Lineups.{IsLineupOf};
 
 use crate::answers_on::answer;
@@ -151,6 +151,7 @@ fn play<'d>(
         done
         (record { desk = record { present = state.new; evening = state.old; opening = opening.new }; told = told picker.new; choice = choice picker.new })) }
     ensures unfit { IfErr result (IsUnfitOf state.old.dossier day (unfit_on (option_copied terms.entry) day state.old)) }
+    ensures unopened { IfErr result (KeepsOpening opening.old opening.new) }
     ensures untold { IfErr result (TellsNoneUnfit (told picker.old) (told picker.new)) }
     ensures same { state.new.dossier ≡ state.old.dossier }
     ensures opening_same { opening.new.dossier ≡ state.old.dossier }
