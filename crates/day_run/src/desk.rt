@@ -64,4 +64,11 @@ impl<'d> Desk<'d> {
     {
         &self.opening
     }
+
+    /// The present state alone; the room of the other two is given back.
+    pub fn into_now(self) -> DayState<'d>
+        ensures { result ≡ self.entry.present }
+    {
+        self.present
+    }
 }

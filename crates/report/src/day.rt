@@ -112,16 +112,26 @@ fn push_evening(text: &mut String, dossier: &Dossier, day: &DayRecord) -> Result
     Ok(())
 }
 
-/// The lines of a day: its passes, and the seats and beds that are left in the evening.
+/// Adds the lines of a day: its passes, and the seats and beds that are left in the evening.
+pub fn push_day(text: &mut String, dossier: &Dossier, day: &DayRecord) -> Result<(), AllocError>
+    requires { All (IsPassOf dossier.now) day.now.passes }
+    ensures { OnOk result
+        (string_bytes text.new ≡ string_bytes text.old ++ day_text dossier.now day.now) }
+{
+    let number = day.day;
+    writeln!(text, "day {number}")?;
+    push_passes(text, dossier, day.passes.as_slice())?;
+    push_evening(text, dossier, day)?;
+    Ok(())
+}
+
+/// The lines of a day, as a text of their own.
 pub fn day_text(alloc: Global, dossier: &Dossier, day: &DayRecord) -> Result<Vec<u8>, OutOfMemory>
     requires { All (IsPassOf dossier.now) day.now.passes }
     ensures { IfOk result (λ text. text.items ≡ day_text dossier.now day.now) }
 {
     let mut text = String::new(alloc);
-    let number = day.day;
-    writeln!(text, "day {number}")?;
-    push_passes(&mut text, dossier, day.passes.as_slice())?;
-    push_evening(&mut text, dossier, day)?;
+    push_day(&mut text, dossier, day)?;
     Ok(text.into_bytes())
 }
 
@@ -158,8 +168,29 @@ fn push_lapses(
     Ok(())
 }
 
-/// The lines of a day where offers have dates, of which `start` is that of day 1: those of
-/// `day_text`, with the lapses after the first.
+/// Adds the lines of a day where offers have dates, of which `start` is that of day 1: those of
+/// `push_day`, with the lapses after the first.
+pub fn push_dated_day(
+    text: &mut String,
+    dossier: &Dossier,
+    day: &DayRecord,
+    start: Civil,
+    terms: &Terms,
+) -> Result<(), AllocError>
+    requires passes { All (IsPassOf dossier.now) day.now.passes }
+    requires lapses { All (IsLapseOf dossier.now start terms.now.term) day.now.lapsed }
+    ensures { OnOk result (string_bytes text.new
+        ≡ string_bytes text.old ++ dated_day_text dossier.now day.now start terms.now.term) }
+{
+    let number = day.day;
+    writeln!(text, "day {number}")?;
+    push_lapses(text, dossier, day.lapsed.as_slice(), start, terms.term)?;
+    push_passes(text, dossier, day.passes.as_slice())?;
+    push_evening(text, dossier, day)?;
+    Ok(())
+}
+
+/// The lines of a day where offers have dates, as a text of their own.
 pub fn dated_day_text(
     alloc: Global,
     dossier: &Dossier,
@@ -172,10 +203,6 @@ pub fn dated_day_text(
     ensures { IfOk result (λ text. text.items ≡ dated_day_text dossier.now day.now start terms.now.term) }
 {
     let mut text = String::new(alloc);
-    let number = day.day;
-    writeln!(text, "day {number}")?;
-    push_lapses(&mut text, dossier, day.lapsed.as_slice(), start, terms.term)?;
-    push_passes(&mut text, dossier, day.passes.as_slice())?;
-    push_evening(&mut text, dossier, day)?;
+    push_dated_day(&mut text, dossier, day, start, terms)?;
     Ok(text.into_bytes())
 }

@@ -10,18 +10,26 @@ use calendar::{Civil, on_day};
 use day_state::DayState;
 use std::alloc::{AllocError, Global};
 
-/// The final state: each wish with its status. What follows the first line is a state slot.
-pub fn final_text(alloc: Global, state: &DayState<'_>) -> Result<Vec<u8>, OutOfMemory>
-    ensures { IfOk result (λ text. text.items ≡ final_text state.now) }
+/// Adds the final state: each wish with its status. What follows the first line is a state slot.
+pub fn push_final(text: &mut String, state: &DayState<'_>) -> Result<(), AllocError>
+    ensures { OnOk result (string_bytes text.new ≡ string_bytes text.old ++ final_text state.now) }
 {
     let wishes = state.dossier().wishes.as_slice();
-    let mut text = String::new(alloc);
     text.push_str("final\nwish,status\n")?;
     for (place, wish) in wishes.iter().enumerate() {
         let id = wish.id;
         let status = state.status(place as u32);
         writeln!(text, "{id},{status}")?;
     }
+    Ok(())
+}
+
+/// The final state, as a text of its own.
+pub fn final_text(alloc: Global, state: &DayState<'_>) -> Result<Vec<u8>, OutOfMemory>
+    ensures { IfOk result (λ text. text.items ≡ final_text state.now) }
+{
+    let mut text = String::new(alloc);
+    push_final(&mut text, state)?;
     Ok(text.into_bytes())
 }
 
@@ -69,9 +77,28 @@ fn push_dated_row(
     Ok(())
 }
 
-/// The final state where offers have dates, of which `start` is that of day 1: each wish with its
-/// status and, where it is offered, the date of its offer. What follows the first line is a state
+/// Adds the final state where offers have dates, of which `start` is that of day 1: each wish with
+/// its status and, where it is offered, the date of its offer. What follows the first line is a state
 /// slot.
+pub fn push_dated_final(
+    text: &mut String,
+    state: &DayState<'_>,
+    start: Civil,
+    terms: &Terms,
+) -> Result<(), AllocError>
+    requires { HasDates state.now start terms.now.before }
+    ensures { OnOk result (string_bytes text.new
+        ≡ string_bytes text.old ++ final_dated_text state.now start terms.now.before) }
+{
+    let wishes = state.dossier().wishes.as_slice();
+    text.push_str("final\nwish,status,since\n")?;
+    for (place, wish) in wishes.iter().enumerate() {
+        push_dated_row(text, state, start, terms, place as u32, wish)?;
+    }
+    Ok(())
+}
+
+/// The final state where offers have dates, as a text of its own.
 pub fn final_dated_text(
     alloc: Global,
     state: &DayState<'_>,
@@ -81,11 +108,7 @@ pub fn final_dated_text(
     requires { HasDates state.now start terms.now.before }
     ensures { IfOk result (λ text. text.items ≡ final_dated_text state.now start terms.now.before) }
 {
-    let wishes = state.dossier().wishes.as_slice();
     let mut text = String::new(alloc);
-    text.push_str("final\nwish,status,since\n")?;
-    for (place, wish) in wishes.iter().enumerate() {
-        push_dated_row(&mut text, state, start, terms, place as u32, wish)?;
-    }
+    push_dated_final(&mut text, state, start, terms)?;
     Ok(text.into_bytes())
 }

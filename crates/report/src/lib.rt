@@ -1,7 +1,7 @@
 //! The texts of the report: call orders, days, final states, explanations, refusals and samples,
-//! byte for byte. A text is made whole in memory.
+//! byte for byte. A text is made whole in memory; what a long one has many of is added to it.
 //!
-//! `let text = order_text(alloc, group.id, order)?;`
+//! `push_order(&mut text, group.id, order)?;`
 #![tactic(auto)]
 
 mod date;
@@ -15,10 +15,10 @@ mod sample;
 mod words;
 mod worked;
 
-pub use day::{dated_day_text, day_text, push_falls};
+pub use day::{dated_day_text, day_text, push_dated_day, push_day, push_falls};
 pub use explanation::explain_text;
-pub use final_state::{final_dated_text, final_text};
-pub use order::order_text;
+pub use final_state::{final_dated_text, final_text, push_dated_final, push_final};
+pub use order::{order_text, push_order};
 pub use refusal::refusal_text;
 pub use sample::sample_text;
 pub use worked::worked_texts;

@@ -1,8 +1,8 @@
 use Rattle.std.proofs.Common.{None, arith, append_assoc}
 use Rattle.admit_core.specs.declared.dossier.Wish.{Wish}
-use Rattle.report.specs.FinalText.{dated_row}
+use Rattle.report.specs.FinalText.{status_row}
 use Rattle.report.proofs.LineLemmas.{lines_more}
-use Rattle.report.proofs.final_state.final_dated_text.Goals as goal
+use Rattle.report.proofs.final_state.push_final.Goals as goal
 
 pub loop-place-preserved : goal.loop-place-preserved
 loop-place-preserved c =
@@ -10,8 +10,9 @@ loop-place-preserved c =
     let wishes = c.as_slice-wishes.result.now in
     let none : Wish = record { id = 0; candidate = 0; programme = 0; school = None; board_rank = 0; preference = 0 } in
     rw (
-      c.in_ok-push_dated_row.ensures,
+      c.in_ok-writeln.ensures.bytes,
       c.loop-place.invariant,
-      lines_more (dated_row c.args.state.now c.args.start c.args.terms.now.before) 0 wishes k k none (omega arith) (omega arith),
+      c.status-status.ensures,
+      lines_more (status_row c.args.state.now) 0 wishes k k none (omega arith) (omega arith),
     )
     (simp append_assoc)
