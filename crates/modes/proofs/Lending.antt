@@ -1,6 +1,9 @@
 -- The picker that the ending is lent.
 use Rattle.std.proofs.Common.{◌≡◌, ◌∙◌, ℕ, false, List, [], Option, None, Some, Result, Ok, Err, IfOk, refl, subst, sym}
+use Rattle.std.specs.Prelude.{⊤}
 use Rattle.std.proofs.lemmas.List.{append-nil}
+use Rattle.admit_core.specs.declared.ranking.CallOrder.{CallOrder}
+use Rattle.admit_core.specs.declared.records.DayRecord.{DayRecord}
 use Rattle.admit_core.specs.declared.refusal.Refusal.{Refusal}
 use Rattle.day_run.specs.DayPasses.{TellsMore}
 use Rattle.day_run.specs.DeskStates.{DeskStates}
@@ -9,7 +12,7 @@ use Rattle.played.specs.PlayedDays.{Played}
 use Rattle.played.proofs.Naming.{OnlyNamed, back_untouched, each_named}
 use Rattle.request.specs.declared.pickers.PickerName.{PickerName}
 use Rattle.modes.specs.Asking.{ArePicks, IsLent, TellsLent, asked}
-use Rattle.modes.specs.Endings.{EndsAfter, EndsLent, IsRefusedWith, lines_before}
+use Rattle.modes.specs.Endings.{EndsAfter, EndsLent, IsEndOf, IsRefusedWith, lines_before}
 use Rattle.modes.specs.Jobs.{Seen, picker_after}
 use Rattle.modes.specs.declared.reply.Reply.{Reply}
 
@@ -37,13 +40,31 @@ module _ {E : Type 0} (seen : Seen) (played : Played) (desk : DeskStates) (betwe
     lends = subst (λ (n : Option PickerName). IsLent n between after) is (lent_named name only ends);
   }
 
+-- nobody is lent
+told_nothing : {E : Type 0} (result : Result Reply E) → IfOk result (λ reply. ⊤)
+told_nothing (Ok reply) = tt
+told_nothing (Err e) = tt
+
+pub ends_unlent : {E : Type 0} (seen : Seen) (played : Played) (desk : DeskStates) (pickers : Lent) (result : Result Reply E) → None ≡ picker_after seen.request
+    → IfOk result (λ reply. IsEndOf seen.request.mode seen played desk reply.exit reply.text.items) → EndsAfter (Ok desk) seen played pickers pickers result
+ends_unlent seen played desk pickers result none ends = record {
+  ends = ends;
+  tells = subst (λ (n : Option PickerName). IfOk result (λ reply. TellsLent n (ArePicks seen.request.mode seen played desk) pickers pickers)) none (told_nothing result);
+  lends = nobody_lent (picker_after seen.request) pickers;
+}
+
 -- the days were cut short, and nobody is asked after them
 untold_after : {E : Type 0} (pickers : Lent) (result : Result Reply E) → IfOk result (λ reply. Untold pickers pickers)
 untold_after pickers (Ok reply) = λ name. refl
 untold_after pickers (Err e) = tt
 
-pub ends_cut_short : {E : Type 0} (end : Result DeskStates Refusal) (refusal : Refusal) (seen : Seen) (played : Played) (pickers : Lent) (result : Result Reply E) → end ≡ Err refusal
-    → IfOk result (λ reply. IsRefusedWith refusal (lines_before seen.request.mode seen played) reply.exit reply.text.items) → EndsAfter end seen played pickers pickers result
-ends_cut_short end refusal seen played pickers result is ends =
-    subst (λ (e : Result DeskStates Refusal). EndsAfter e seen played pickers pickers result) (sym is)
-    (record { ends = ends; tells = untold_after pickers result; lends = nobody_lent (picker_after seen.request) pickers })
+pub ends_cut_short : {E : Type 0} (refusal : Refusal) (seen : Seen) (played : Played) (pickers : Lent) (result : Result Reply E)
+    → IfOk result (λ reply. IsRefusedWith refusal (lines_before seen.request.mode seen played) reply.exit reply.text.items) → EndsAfter (Err refusal) seen played pickers pickers result
+ends_cut_short refusal seen played pickers result ends =
+    record { ends = ends; tells = untold_after pickers result; lends = nobody_lent (picker_after seen.request) pickers }
+
+-- the end of the days is the one that was found
+pub ends_so : {E : Type 0} (end found : Result DeskStates Refusal) (seen : Seen) (orders : List CallOrder) (days : List DayRecord) (between after : Lent) (result : Result Reply E) → end ≡ found
+    → EndsAfter found seen (record { orders = orders; days = days; end = found }) between after result → EndsAfter end seen (record { orders = orders; days = days; end = end }) between after result
+ends_so end found seen orders days between after result is ends =
+    subst (λ (e : Result DeskStates Refusal). EndsAfter e seen (record { orders = orders; days = days; end = e }) between after result) (sym is) ends

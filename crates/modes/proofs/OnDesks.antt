@@ -52,7 +52,7 @@ desk_at_first terms number days last (Ok found) first plan before lead ends desk
 desk_at_first terms number days last (Err refusal) first plan before lead ends desk same none = absurd (cc)
 
 -- the days led to a desk
-pub ends_on : (seen : Seen) (played : Played) (desk : DeskStates) → CanEnd seen played → played.end ≡ Ok desk → CanBeEnded seen played desk
+ends_on : (seen : Seen) (played : Played) (desk : DeskStates) → CanEnd seen played → played.end ≡ Ok desk → CanBeEnded seen played desk
 ends_on seen played desk can same =
     let plays = can.plays.2 in
     let all = written seen played can in
@@ -68,6 +68,11 @@ ends_on seen played desk can same =
       last = desk_played seen.dossier (terms_in seen.dated) (days_of seen.request) seen.request.picker can.plays.0 played can.plays.1 plays desk same;
       idle = desk_at_first (terms_in seen.dated) (days_of seen.request) played.days plays.last played.end (first_desk seen.dossier) (plan_of (terms_in seen.dated) seen.request.picker played) can.plays.0 plays.days plays.ends desk same;
     }
+
+-- the same of what is kept of the days then
+pub ends_led : (seen : Seen) (played : Played) (desk : DeskStates) → CanEnd seen played → played.end ≡ Ok desk → CanBeEnded seen (record { orders = played.orders; days = played.days; end = Ok desk }) desk
+ends_led seen played desk can same =
+    subst (λ (end : Result DeskStates Refusal). CanBeEnded seen (record { orders = played.orders; days = played.days; end = end }) desk) same (ends_on seen played desk can same)
 
 -- an explanation under the ceilings of the last day and the bars of its last pass
 pub explains_on : (d : DossierRows) (orders : List CallOrder) (day : DayRecord) (desk : DeskStates) (place : ℕ) (x : Explanation) (ceilings bars : List ℕ) → ceilings ≡ ceilings_of d day.day

@@ -28,7 +28,12 @@ use Rattle.modes.specs.Order.{orders_text}
 use Rattle.modes.specs.Replay.{CanBeDated, CanBeWritten, days_text, replay_text}
 use Rattle.modes.specs.declared.exit.Exit.{Exit}
 use Rattle.modes.specs.declared.exit.Exit.TheVariants.{Done, Refused}
+use Rattle.modes.specs.declared.led.Led.{Led}
 use Rattle.modes.specs.declared.reply.Reply.{Reply}
+
+-- what was played where all days have led to a desk
+abbrev pub led_by : Led → Played
+led_by led = record { orders = led.orders.orders; days = led.days.items; end = Ok led.desk }
 
 -- a run is done with its whole text
 abbrev pub IsDoneWith : List ℕ → Exit → List ℕ → Type 0

@@ -15,7 +15,7 @@ ghost use Rattle.modes.specs.declared.unproved.Unproved.TheVariants as whys;
 
 use crate::exit::Exit;
 use crate::job::terms_in;
-use crate::replay::final_lines;
+use crate::replay::push_final_lines;
 use crate::reply::Reply;
 use crate::unproved::Unproved;
 use admit_core::{CallOrders, DayChain, Dossier, OutOfMemory, Terms};
@@ -119,11 +119,10 @@ fn proved_text(
     requires { CanBeDated (option_copied dated) evening.now }
     ensures { IfOk result (λ text. text.items ≡ proved_text number evening.now (option_copied dated.entry)) }
 {
-    let mut line = String::new(alloc);
-    writeln!(line, "proved {number}")?;
-    let mut text = line.into_bytes();
-    text.extend_from_slice(&final_lines(alloc, evening, dated)?)?;
-    Ok(text)
+    let mut text = String::new(alloc);
+    writeln!(text, "proved {number}")?;
+    push_final_lines(&mut text, evening, dated)?;
+    Ok(text.into_bytes())
 }
 
 /// A reply.

@@ -1,7 +1,7 @@
 //! The modes: how a run ends once its days are over, with each mode's text; and the line of what
 //! stopped a run before them.
 //!
-//! `let reply = ending(alloc, &request, &input, dated, &played, &mut pickers)?;`
+//! `let reply = ending(alloc, &request, &input, dated, played, &mut pickers)?;`
 #![tactic(auto)]
 
 mod beds;
@@ -11,6 +11,7 @@ mod endings;
 mod exit;
 mod explained;
 mod job;
+mod led;
 mod market;
 mod order;
 mod replay;

@@ -1,12 +1,27 @@
 //! The mode `order`: the lines of the call orders.
-ghost use Rattle.std.specs.Prelude.{◌≡◌, IfOk};
+ghost use Rattle.std.specs.Prelude.{◌≡◌, ◌++◌, IfOk, OnOk, string_bytes};
 ghost use Rattle.modes.specs.Order.{orders_text};
 
 use admit_core::{CallOrder, OutOfMemory, RankGroup};
-use report::order_text;
-use std::alloc::Global;
+use report::push_order;
+use std::alloc::{AllocError, Global};
 
-/// The lines of all groups, in file order.
+/// Adds the lines of all groups, in file order.
+pub(crate) fn push_orders(
+    text: &mut String,
+    groups: &[RankGroup],
+    orders: &[CallOrder],
+) -> Result<(), AllocError>
+    ensures { OnOk result
+        (string_bytes text.new ≡ string_bytes text.old ++ orders_text groups.now orders.now) }
+{
+    for (group, order) in groups.iter().zip(orders) {
+        push_order(text, group.id, order)?;
+    }
+    Ok(())
+}
+
+/// The lines of all groups.
 pub(crate) fn orders_text(
     alloc: Global,
     groups: &[RankGroup],
@@ -14,9 +29,7 @@ pub(crate) fn orders_text(
 ) -> Result<Vec<u8>, OutOfMemory>
     ensures { IfOk result (λ text. text.items ≡ orders_text groups.now orders.now) }
 {
-    let mut text = Vec::new(alloc);
-    for (group, order) in groups.iter().zip(orders) {
-        text.extend_from_slice(&order_text(alloc, group.id, order)?)?;
-    }
-    Ok(text)
+    let mut text = String::new(alloc);
+    push_orders(&mut text, groups, orders)?;
+    Ok(text.into_bytes())
 }

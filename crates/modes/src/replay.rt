@@ -1,43 +1,64 @@
 //! The mode `replay`: the call orders, the days and the final state.
-ghost use Rattle.std.specs.Prelude.{◌≡◌, ◌++◌, All, IfOk, OnOk, option_copied};
+ghost use Rattle.std.specs.Prelude.{◌≡◌, ◌++◌, All, IfOk, OnOk, option_copied, string_bytes};
 ghost use Rattle.modes.specs.Replay.{CanBeDated, CanBeWritten, day_lines, days_text, final_lines, replay_text};
 
-use crate::order::orders_text;
+use crate::order::push_orders;
 use admit_core::{CallOrder, DayRecord, Dossier, OutOfMemory};
 use day_state::DayState;
 use intake::DatedTerms;
-use report::{dated_day_text, day_text, final_dated_text, final_text};
-use std::alloc::Global;
+use report::{push_dated_day, push_dated_final, push_day, push_final};
+use std::alloc::{AllocError, Global};
 
-/// The lines of a day, with its lapses where offers have deadlines.
-fn day_lines(
-    alloc: Global,
+/// Adds the lines of a day, with its lapses where offers have deadlines.
+fn push_day_lines(
+    text: &mut String,
     dossier: &Dossier,
     dated: Option<&DatedTerms>,
     day: &DayRecord,
-) -> Result<Vec<u8>, OutOfMemory>
+) -> Result<(), AllocError>
     requires { CanBeWritten dossier.now (option_copied dated) day.now }
-    ensures { IfOk result (λ text. text.items ≡ day_lines dossier.now (option_copied dated.entry) day.now) }
+    ensures { OnOk result (string_bytes text.new
+        ≡ string_bytes text.old ++ day_lines dossier.now (option_copied dated.entry) day.now) }
 {
     match dated {
-        None => day_text(alloc, dossier, day),
-        Some(dated) => dated_day_text(alloc, dossier, day, dated.start, &dated.terms),
+        None => push_day(text, dossier, day),
+        Some(dated) => push_dated_day(text, dossier, day, dated.start, &dated.terms),
     }
 }
 
-/// The lines of the final state, with the dates of offers where these have deadlines.
-pub(crate) fn final_lines(
-    alloc: Global,
+/// Adds the lines of the final state, with the dates of offers where these have deadlines.
+pub(crate) fn push_final_lines(
+    text: &mut String,
     state: &DayState<'_>,
     dated: Option<&DatedTerms>,
-) -> Result<Vec<u8>, OutOfMemory>
+) -> Result<(), AllocError>
     requires { CanBeDated (option_copied dated) state.now }
-    ensures { IfOk result (λ text. text.items ≡ final_lines state.now (option_copied dated.entry)) }
+    ensures { OnOk result (string_bytes text.new
+        ≡ string_bytes text.old ++ final_lines state.now (option_copied dated.entry)) }
 {
     match dated {
-        None => final_text(alloc, state),
-        Some(dated) => final_dated_text(alloc, state, dated.start, &dated.terms),
+        None => push_final(text, state),
+        Some(dated) => push_dated_final(text, state, dated.start, &dated.terms),
     }
+}
+
+/// Adds the call orders, and the lines of days.
+fn push_days(
+    text: &mut String,
+    dossier: &Dossier,
+    dated: Option<&DatedTerms>,
+    orders: &[CallOrder],
+    days: &[DayRecord],
+) -> Result<(), AllocError>
+    requires { All (CanBeWritten dossier.now (option_copied dated)) days.now }
+    ensures { OnOk result (string_bytes text.new ≡ string_bytes text.old
+        ++ days_text dossier.now (option_copied dated.entry) orders.now days.now) }
+{
+    push_orders(text, dossier.groups.as_slice(), orders)?;
+    for day in days {
+        push_day_lines(text, dossier, dated, day)?;
+    }
+    Ok(())
 }
 
 /// The call orders, and the lines of days.
@@ -51,14 +72,12 @@ pub(crate) fn days_text(
     requires { All (CanBeWritten dossier.now (option_copied dated)) days.now }
     ensures { IfOk result (λ text. text.items ≡ days_text dossier.now (option_copied dated.entry) orders.now days.now) }
 {
-    let mut text = orders_text(alloc, dossier.groups.as_slice(), orders)?;
-    for day in days {
-        text.extend_from_slice(&day_lines(alloc, dossier, dated, day)?)?;
-    }
-    Ok(text)
+    let mut text = String::new(alloc);
+    push_days(&mut text, dossier, dated, orders, days)?;
+    Ok(text.into_bytes())
 }
 
-/// The whole text.
+/// The whole text, which grows in one buffer.
 pub(crate) fn replay_text(
     alloc: Global,
     dossier: &Dossier,
@@ -71,7 +90,8 @@ pub(crate) fn replay_text(
     requires offers { CanBeDated (option_copied dated) evening.now }
     ensures { IfOk result (λ text. text.items ≡ replay_text dossier.now (option_copied dated.entry) orders.now days.now evening.now) }
 {
-    let mut text = days_text(alloc, dossier, dated, orders, days)?;
-    text.extend_from_slice(&final_lines(alloc, evening, dated)?)?;
-    Ok(text)
+    let mut text = String::new(alloc);
+    push_days(&mut text, dossier, dated, orders, days)?;
+    push_final_lines(&mut text, evening, dated)?;
+    Ok(text.into_bytes())
 }

@@ -57,7 +57,7 @@ fn play_out(
         request.picker,
         pickers,
     )?;
-    ending(alloc, request, input, dated, &played, pickers)
+    ending(alloc, request, input, dated, played, pickers)
 }
 
 /// What a run answers, before anything is written.

@@ -1,11 +1,13 @@
-use Rattle.std.proofs.Common.{flat_map, sym, ap, ◌∙◌, rules}
+use Rattle.std.proofs.Common.{◌++◌, flat_map, string_bytes, sym, ap, ◌∙◌, rules}
 use Rattle.std.proofs.lemmas.Iterator.{YieldsList-from_slice, YieldsList-from_zip}
 use Rattle.std.proofs.lemmas.Iterator.Consumers.{YieldsList-end}
 use Rattle.std.proofs.lemmas.List.Folds.{flat_map-map}
 use Rattle.modes.specs.Order.{group_text}
-use Rattle.modes.proofs.order.orders_text.Goals as goal
+use Rattle.modes.proofs.order.push_orders.Goals as goal
 
 pub returns : goal.returns
 returns c =
     let end = YieldsList-end (YieldsList-from_zip {s = c.into_iter-group-iterator.result} (YieldsList-from_slice c.args.groups.now (search rules)) (YieldsList-from_slice c.args.orders.now (search rules))) c.loop-group.yielded c.loop-group.group-iterator c.loop-group.yielded_by c.next.result c.next.new.self c.in-None.is c.next.ensures.steps in
-    c.loop-group.invariant ∙ sym (flat_map-map group_text (λ p. (p.0.now, p.1.now)) c.loop-group.yielded) ∙ ap (flat_map group_text) end.0
+    c.loop-group.invariant
+    ∙ ap (λ lines. string_bytes c.args.text.now ++ lines)
+    (sym (flat_map-map group_text (λ p. (p.0.now, p.1.now)) c.loop-group.yielded) ∙ ap (flat_map group_text) end.0)
