@@ -1,5 +1,5 @@
 -- A day whose chain is tested.
-use Rattle.std.proofs.Common.{◌≡◌, ◌∙◌, ℕ, ◌+◌, ◌≤◌, List, [], ◌∷◌, Option, Some, None, Result, Ok, Err, IsSomeAnd, OnOk, IfSome, All, ap, arith, drop, length, map, refl, subst, sym}
+use Rattle.std.proofs.Common.{◌≡◌, ◌∙◌, ℕ, ◌+◌, List, [], ◌∷◌, Option, Some, None, Result, IsSomeAnd, IfSome, All, ap, length, map, refl, subst, sym}
 use Rattle.std.specs.Prelude.{option_map}
 use Rattle.std.specs.List.{range_with_len}
 use Rattle.std.specs.Option.{option_or}
@@ -14,11 +14,9 @@ use Rattle.admit_core.specs.declared.chain.DayChain.{DayChain}
 use Rattle.admit_core.specs.declared.ranking.CallOrder.{CallOrder}
 use Rattle.admit_core.specs.declared.records.DayRecord.{DayRecord}
 use Rattle.admit_core.specs.declared.records.Terms.{Terms}
-use Rattle.admit_core.specs.declared.state.Mark.{Mark}
 use Rattle.admit_core.specs.declared.state.Status.{Status}
 use Rattle.certificate.proofs.Ending.{evening_is}
 use Rattle.certificate.specs.ChainText.{IsDayOf}
-use Rattle.certificate.specs.Checked.{state_after}
 use Rattle.certificate.specs.ProvedDays.{AreProvedDays, evening_after, evening_by}
 use Rattle.day_run.proofs.SameDossier.{evening_dossier}
 use Rattle.day_run.proofs.Stamps.{stamps_kept}

@@ -1,11 +1,10 @@
 -- The figures of a school, and what the picker told as they were found.
-use Rattle.std.proofs.Common.{◌≡◌, ◌∙◌, ℕ, ◌+◌, ◌-◌, ◌<◌, ◌≤◌, true, List, ◌++◌, Option, None, Some, Result, Ok, Err, IfOk, IsTrue, ap, arith, length, nat_eq, position, refl, subst, sym}
-use Rattle.std.specs.Prelude.{slice_get}
+use Rattle.std.proofs.Common.{◌≡◌, ◌∙◌, ℕ, ◌-◌, List, Option, Some, Result, Ok, Err, IfOk, ap, arith, length, nat_eq, position, refl, subst, sym}
 use Rattle.admit_core.specs.Boarding.{boarding}
 use Rattle.admit_core.specs.CallOrder.{AreCallOrders}
 use Rattle.admit_core.specs.DossierRows.{DossierRows, beds_of}
 use Rattle.admit_core.specs.Explanations.{LastPass}
-use Rattle.admit_core.specs.Falls.{IsAtMost, IsGreatest}
+use Rattle.admit_core.specs.Falls.{IsAtMost}
 use Rattle.admit_core.specs.LeastBeds.{IsLeastBeds}
 use Rattle.admit_core.specs.State.{State}
 use Rattle.admit_core.specs.declared.ranking.CallOrder.{CallOrder}

@@ -1,5 +1,5 @@
 -- The picker that the ending is lent.
-use Rattle.std.proofs.Common.{◌≡◌, ◌∙◌, ℕ, false, List, [], Option, None, Some, Result, Ok, Err, IfOk, refl, subst, sym}
+use Rattle.std.proofs.Common.{◌≡◌, ◌∙◌, List, [], Option, None, Some, Result, Ok, Err, IfOk, refl, subst, sym}
 use Rattle.std.specs.Prelude.{⊤}
 use Rattle.std.proofs.lemmas.List.{append-nil}
 use Rattle.admit_core.specs.declared.ranking.CallOrder.{CallOrder}

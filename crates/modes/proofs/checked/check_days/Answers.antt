@@ -1,4 +1,4 @@
-use Rattle.std.proofs.Common.{◌≡◌, ◌∙◌, ◌+◌, ◌≤◌, ap, arith, drop}
+use Rattle.std.proofs.Common.{◌∙◌, ◌+◌, ◌≤◌, ap, arith, drop}
 use Rattle.std.specs.Option.{option_copied}
 use Rattle.certificate.proofs.Lowering.{drop_item}
 use Rattle.certificate.specs.ProvedDays.{evening_after}

@@ -1,4 +1,4 @@
-use Rattle.std.proofs.Common.{◌≡◌, ◌∙◌, None, rules}
+use Rattle.std.proofs.Common.{◌≡◌, None, rules}
 use Rattle.std.specs.Option.{option_copied}
 use Rattle.std.proofs.lemmas.Result.{on_ok_weaker}
 use Rattle.admit_core.specs.Days.{ceilings_of, morning, unfit_on}
