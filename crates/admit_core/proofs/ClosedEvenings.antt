@@ -3,7 +3,7 @@ use Rattle.std.proofs.Common.{ℕ, ◌+◌, ◌≤◌, ◌<◌, ◌≡◌, Bool,
 use Rattle.std.specs.Prelude.{slice_index, option_map, unwrap_or, IsTrue}
 use Rattle.std.specs.List.{list_any, find, position_or_len, All, enumerate_from}
 use Rattle.std.specs.Option.{ForSome}
-use Rattle.std.proofs.lemmas.Bool.{and_parts, and_from, and_cases, or_parts, or_cases, or_left, or_right, cases_Bool, cases_lt, eqb-true, eq-eqb, false≢true, ltb-true, lt-ltb, both_ways, not_from_false, false_from_ne_true}
+use Rattle.std.proofs.lemmas.Bool.{and_parts, and_from, and_cases, or_parts, or_cases, or_left, cases_Bool, cases_lt, eqb-true, eq-eqb, false≢true, ltb-true, lt-ltb, both_ways, not_from_false, false_from_ne_true}
 use Rattle.std.proofs.lemmas.Cmp.{nat_eq_equiv}
 use Rattle.std.proofs.lemmas.List.{length-map, get_or_past, get_or_default}
 use Rattle.std.proofs.lemmas.List.Elements.{All-head, All-tail, All-same, All-map}
@@ -29,7 +29,7 @@ use Rattle.admit_core.specs.EveningLaws.{EveningsAreClosed}
 use Rattle.admit_core.specs.Falls.{IsGreatest}
 use Rattle.admit_core.specs.Boarding.{boarding}
 use Rattle.admit_core.proofs.DemandLaws.{demanded, demands_at, demand_parts, not_over, not_barred_step, boarding_is_lawful}
-use Rattle.admit_core.proofs.Tests.{filter_implied, increasing-ascending}
+use Rattle.admit_core.proofs.Tests.{among-map, filter_implied, increasing-ascending}
 use Rattle.admit_core.proofs.FullBeds.{rising_distinct, full_below}
 use Rattle.admit_core.proofs.Dossiers.{HasRank, ranks_of_valid}
 use Rattle.admit_core.proofs.Holders.{lives_with, marked_by, entries_marked, any_map, holds_after, holds_kept, holder_has_wish}
@@ -63,14 +63,6 @@ rank_is d valid h k w lt at has =
     let v_at : v ≡ get_or ws j v = get_or_default ws j w v j_lt in
     let same = same_rank d valid j k v w h j_lt lt v_at at found.0 has (eqb-true v.candidate c found.1) in
     rw (find_at test ws, slice_get-get_or ws j w j_lt) same
-
-among_map : (f : ℕ → ℕ) (c : ℕ) (xs : List ℕ) → is_among c xs ≡ true → is_among (f c) (map f xs) ≡ true
-among_map f c [] t = t
-among_map f c (x ∷ xs) t =
-    elim (or_cases (nat_eq c x) (is_among c xs) t) [
-      | inl here ↦ or_left (nat_eq (f c) (f x)) (is_among (f c) (map f xs)) (eq-eqb (f c) (f x) (ap f (eqb-true c x here)))
-      | inr later ↦ or_right (nat_eq (f c) (f x)) (is_among (f c) (map f xs)) (among_map f c xs later)
-    ]
 
 among_filter : (test : ℕ → Bool) (c : ℕ) (xs : List ℕ) → is_among c xs ≡ true → test c ≡ true → is_among c (filter test xs) ≡ true
 among_filter test c xs t passes = is_member-filter nat_eq_equiv test c (λ x same. ap test (eqb-true c x same)) xs ∙ and_from (is_among c xs) (test c) t passes
@@ -152,7 +144,7 @@ module _ (o : State) (orders : List CallOrder) (bars : List ℕ) (stamp : Stamp)
       (λ r t.
       let (c, taken, is) = taker_of h r t in
       let has_wish = holder_has_wish (λ u. has_school u h) offered_state c (and_parts (holds_bed offered_state c h) (not (holds_bed o c h)) taken).0 in
-      let there = among_map (rank_in o.dossier h) c (filter (takes_bed h) cs) (among_filter (takes_bed h) c cs has_wish taken) in
+      let there = among-map (rank_in o.dossier h) c (filter (takes_bed h) cs) (among_filter (takes_bed h) c cs has_wish taken) in
       rw is at there) in
       omega (arith, fewer, length-map (filter (takes_bed h) cs) (rank_in o.dossier h))
 

@@ -85,7 +85,7 @@ pub struct CeilingChange {
 
 /// All rows of a campaign, by place. Each dossier is a valid one: contracts see its rows, and may
 /// rest on all that `specs/Validity.antt` says of them.
-#[derive(Debug, Drop)]
+#[derive(Debug)]
 pub struct Dossier {
     pub groups: Sequence<RankGroup>,
     pub programmes: Sequence<Programme>,
@@ -94,6 +94,21 @@ pub struct Dossier {
     pub statuses: Sequence<Status>,
     pub ceilings: Sequence<CeilingChange>,
     pub answers: Sequence<Answer>,
+}
+
+// Not derived: so a dossier is dropped in one step where it is held, and not by each slot.
+impl Drop for Dossier {
+    fn drop(self) {
+        let Dossier {
+            groups: _,
+            programmes: _,
+            schools: _,
+            wishes: _,
+            statuses: _,
+            ceilings: _,
+            answers: _,
+        } = self;
+    }
 }
 
 impl Model for Dossier {

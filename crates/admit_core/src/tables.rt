@@ -90,7 +90,7 @@ pub struct AnswerRow {
 }
 
 /// The rows of the nine slots, in file order.
-#[derive(Debug, Drop)]
+#[derive(Debug)]
 pub struct Tables {
     pub groups: Sequence<GroupRow>,
     pub programmes: Sequence<ProgrammeRow>,
@@ -101,4 +101,21 @@ pub struct Tables {
     pub state: Sequence<StateRow>,
     pub ceilings: Sequence<CeilingRow>,
     pub answers: Sequence<AnswerRow>,
+}
+
+// Not derived: so tables are dropped in one step where they are held, and not by each slot.
+impl Drop for Tables {
+    fn drop(self) {
+        let Tables {
+            groups: _,
+            programmes: _,
+            schools: _,
+            rankings: _,
+            boarding: _,
+            wishes: _,
+            state: _,
+            ceilings: _,
+            answers: _,
+        } = self;
+    }
 }

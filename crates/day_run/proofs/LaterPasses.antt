@@ -1,7 +1,7 @@
 -- A later pass of a day opens where all have been answered for: only those with an offer are answered for, and change.
-use Rattle.std.proofs.Common.{ℕ, ◌<◌, ◌≡◌, true, false, List, [], ◌∷◌, map, length, inl, inr, refl, sym, ◌∙◌, ap, nat_eq, subst}
+use Rattle.std.proofs.Common.{ℕ, ◌<◌, ◌≡◌, true, false, List, map, length, inl, inr, refl, sym, ◌∙◌, ap, subst}
 use Rattle.std.specs.Prelude.{All, if◌then◌else◌}
-use Rattle.std.proofs.lemmas.Bool.{cases_Bool, or_cases, or_left, or_right, eqb-true, eq-eqb, false≢true}
+use Rattle.std.proofs.lemmas.Bool.{cases_Bool, false≢true}
 use Rattle.admit_core.specs.declared.ranking.CallOrder.{CallOrder}
 use Rattle.admit_core.specs.declared.dossier.Wish.{Wish}
 use Rattle.admit_core.specs.declared.state.Status.TheVariants.{Offered}
@@ -13,6 +13,7 @@ use Rattle.admit_core.specs.State.{State, entries, changed_to}
 use Rattle.admit_core.specs.Proposals.{is_proposed, proposed}
 use Rattle.admit_core.specs.AutoAnswer.{auto_all}
 use Rattle.admit_core.specs.Days.{offered, closing}
+use Rattle.admit_core.proofs.Tests.{among-map}
 use Rattle.day_state.specs.Kept.{mark_in}
 use Rattle.day_state.specs.Along.{change_along}
 use Rattle.day_state.proofs.Along.{along_at, length-with_marks}
@@ -24,15 +25,6 @@ use Rattle.auto_answer.proofs.Answering.{turned, joined, all_both}
 use Rattle.auto_answer.proofs.LawsOfAnswers.{same_own}
 use Rattle.round.proofs.Offering.{apart_places, offers_made, proposed_are_wishes}
 use Rattle.day_run.specs.DayPasses.{IsAnswered}
-
--- the image of a member is a member of the images
-among_map : (f : ℕ → ℕ) (k : ℕ) (ks : List ℕ) → is_among k ks ≡ true → is_among (f k) (map f ks) ≡ true
-among_map f k [] some = some
-among_map f k (j ∷ ks) some =
-    elim (or_cases (nat_eq k j) (is_among k ks) some) [
-      | inl here ↦ or_left (nat_eq (f k) (f j)) (is_among (f k) (map f ks)) (eq-eqb (f k) (f j) (ap f (eqb-true k j here)))
-      | inr later ↦ or_right (nat_eq (f k) (f j)) (is_among (f k) (map f ks)) (among_map f k ks later)
-    ]
 
 module _ (s : State) (orders : List CallOrder) (bars : List ℕ) (stamp : Stamp) (long : length s.marks ≡ length s.dossier.wishes) where
   abbrev after : State
@@ -53,7 +45,7 @@ module _ (s : State) (orders : List CallOrder) (bars : List ℕ) (stamp : Stamp)
         elim (cases_Bool (is_among k ks)) [
           | inl made ↦
               let c_is : candidate_of s.dossier k ≡ c = candidate_in s.dossier.wishes k ∙ own in
-              absurd (false≢true (sym none ∙ rw c_is at (among_map (candidate_of s.dossier) k ks made)))
+              absurd (false≢true (sym none ∙ rw c_is at (among-map (candidate_of s.dossier) k ks made)))
           | inr other ↦
               let within : All (λ j. j < length s.marks) ks = rw long (proposed_are_wishes s orders bars) in
               let apart = apart_places (λ (e : Wish × Mark). is_proposed s orders bars e.0 e.1) 0 (entries s) in

@@ -1,6 +1,6 @@
 -- The passes that a day has made.
-use Rattle.std.proofs.Common.{ℕ, ◌+◌, ◌≤◌, ◌<◌, ◌≡◌, not, List, [], ◌∷◌, ◌++◌, length, refl, sym, ◌∙◌, ap, arith, inl, inr, append_assoc, subst, Result, Ok, Err, IfErr}
-use Rattle.std.specs.Prelude.{IsErrAnd, IsTrue}
+use Rattle.std.proofs.Common.{ℕ, ◌+◌, ◌≤◌, ◌<◌, ◌≡◌, not, List, [], ◌∷◌, ◌++◌, length, refl, sym, ◌∙◌, ap, arith, inl, inr, append_assoc}
+use Rattle.std.specs.Prelude.{IsTrue}
 use Rattle.std.proofs.lemmas.List.{append-nil, flat_map_more, length_push}
 use Rattle.admit_core.specs.declared.ranking.CallOrder.{CallOrder}
 use Rattle.admit_core.specs.declared.records.PassEnd.{PassEnd}
@@ -10,9 +10,6 @@ use Rattle.admit_core.specs.Boarding.{boarding}
 use Rattle.admit_core.specs.Falls.{FallingSystem}
 use Rattle.admit_core.specs.State.{State}
 use Rattle.admit_core.specs.Days.{IsPassEnd, Passes, closing, frees_nothing}
-use Rattle.day_run.specs.declared.refusal.DayRefusal.{DayRefusal}
-use Rattle.day_run.specs.declared.refusal.DayRefusal.TheVariants as refusals
-use Rattle.day_run.specs.RunDay.{TellsNoneUnfit}
 use Rattle.day_run.specs.DayPasses.{AreChosenPasses, TellsMore, last_opening, schools_of_passes, open_wishes, stamp_of}
 
 -- passes from s on, each of which freed something, lead to the present state
@@ -136,19 +133,3 @@ tells_of_falls sys choice before after told =
       | inl all ↦ (schools_of told.1.falls, all)
       | inr one ↦ (schools_of told.1.falls ++ one.place ∷ [], one.told_of ∙ append_assoc before (schools_of told.1.falls) (one.place ∷ []))
     ]
-
-pub untold_memory : {T : Type 0} (r : Result T DayRefusal) (before after : List ℕ) → IsErrAnd r (λ x. x ≡ refusals.OutOfMemory) → TellsMore before after
-    → IfErr r (TellsNoneUnfit before after)
-untold_memory (Ok x) before after from more = tt
-untold_memory (Err e) before after from more = subst (TellsNoneUnfit before after) (sym from) more
-
-pub untold_other : {T : Type 0} (r : Result T DayRefusal) (refusal : DayRefusal) (before after : List ℕ) → IsErrAnd r (λ x. x ≡ refusal) → TellsNoneUnfit before after refusal
-    → IfErr r (TellsNoneUnfit before after)
-untold_other (Ok x) refusal before after from told = tt
-untold_other (Err e) refusal before after from told = subst (TellsNoneUnfit before after) (sym from) told
-
--- no picker was asked
-pub untold_same : {T : Type 0} (r : Result T DayRefusal) (told : List ℕ) → IfErr r (TellsNoneUnfit told told)
-untold_same (Ok x) told = tt
-untold_same (Err (refusals.Unfit refusal)) told = refl
-untold_same (Err refusals.OutOfMemory) told = tells_still told told refl

@@ -18,7 +18,6 @@ use std::alloc::Global;
 use std::marker::Model;
 
 /// The days of a campaign, without the picker.
-#[derive(Drop)]
 pub struct Course<'d> {
     desk: Desk<'d>,
     orders: &'d CallOrders,
@@ -28,6 +27,22 @@ pub struct Course<'d> {
     has_day: bool,
     bars: Vec<u32>,
     ceilings: Vec<u32>,
+}
+
+// Not derived: so a course is dropped in one step where it is held, and not by each part.
+impl Drop for Course<'_> {
+    fn drop(self) {
+        let Course {
+            desk: _,
+            orders: _,
+            lineup: _,
+            terms: _,
+            day: _,
+            has_day: _,
+            bars: _,
+            ceilings: _,
+        } = self;
+    }
 }
 
 impl<'d> Model for Course<'d> {

@@ -38,10 +38,16 @@ pub struct UnfitAt {
 }
 
 /// The marks of a dossier's wishes. At most one wish of each candidate is accepted.
-#[derive(Drop)]
 pub struct DayState<'d> {
     index: Rc<CandidateIndex<'d>>,
     live: CountedMarks<'d>,
+}
+
+// Not derived: so a state is dropped in one step where it is held, and not by each list.
+impl Drop for DayState<'_> {
+    fn drop(self) {
+        let DayState { index: _, live: _ } = self;
+    }
 }
 
 impl<'d> Model for DayState<'d> {

@@ -19,9 +19,15 @@ pub(crate) enum Kept {
 
 /// Since when each wish has its status, by the wishes' places. No list is kept where none has a
 /// date.
-#[derive(Drop)]
 pub struct Dates {
     kept: Kept,
+}
+
+// Not derived: so dates are dropped in one step where they are held, and not by each way.
+impl Drop for Dates {
+    fn drop(self) {
+        let Dates { kept: _ } = self;
+    }
 }
 
 impl Model for Dates {

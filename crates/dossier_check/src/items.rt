@@ -3,8 +3,10 @@ ghost use Rattle.std.specs.Prelude.{◌≡◌, ◌<◌, ◌≤◌, ◌^◌, ℕ,
 ghost use Rattle.admit_core.specs.declared.tables.Tables.{Tables};
 ghost use Rattle.admit_core.specs.Relations.{wish_ids};
 ghost use Rattle.admit_core.specs.Standing.{place_of, programme_of_row, school_of_row, board_rank_of, wish_of_row, status_of_row, target_of, ceiling_of_row, answer_of_row};
+ghost use Rattle.dossier_check.specs.Ids.{IsSmall};
 ghost use Rattle.dossier_check.specs.Keys.{AreKeysOf};
 
+use crate::index::Index;
 use crate::noted::row_with;
 use crate::row_ids::RowIds;
 use admit_core::{
@@ -16,7 +18,6 @@ use keyed_hash::Keyed;
 use std::alloc::Global;
 
 /// What the rows of the slots are found by, by place.
-#[derive(Drop)]
 pub(crate) struct Keys {
     pub(crate) groups: RowIds,
     pub(crate) programmes: RowIds,
@@ -24,6 +25,38 @@ pub(crate) struct Keys {
     pub(crate) boarding: IndexSet<(u32, u32), Keyed>,
     pub(crate) wishes: RowIds,
     pub(crate) state: IndexSet<u32, Keyed>,
+}
+
+// Not derived: so keys are dropped in one step where they are held, and not by each list.
+impl Drop for Keys {
+    fn drop(self) {
+        let Keys {
+            groups: _,
+            programmes: _,
+            schools: _,
+            boarding: _,
+            wishes: _,
+            state: _,
+        } = self;
+    }
+}
+
+impl Keys {
+    /// The index alone; the room of the others is given back.
+    pub(crate) fn into_index(self) -> Index
+        requires { IsSmall (record { wishes = self.wishes.keys; schools = self.schools.keys }) }
+        ensures { result ≡ record { wishes = self.wishes.keys; schools = self.schools.keys } }
+    {
+        let Keys {
+            groups: _,
+            programmes: _,
+            schools,
+            boarding: _,
+            wishes,
+            state: _,
+        } = self;
+        Index { wishes, schools }
+    }
 }
 
 /// The place of an id among ids, and their number where it is none of them.

@@ -137,13 +137,9 @@ pub fn check(alloc: Global, tables: &Tables) -> Result<Checked, InFault>
     let (keys, lists) = check_slots(alloc, tables)?;
     let dossier = make_dossier(alloc, tables, &keys, lists)?;
     let dates = dates_of(alloc, tables, &keys)?;
-    let index = Index {
-        wishes: keys.wishes,
-        schools: keys.schools,
-    };
     Ok(Checked {
         dossier,
-        index,
+        index: keys.into_index(),
         dates,
     })
 }

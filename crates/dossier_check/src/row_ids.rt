@@ -20,9 +20,15 @@ pub(crate) enum Way {
 }
 
 /// The ids of a slot's rows, each once. A contract sees them by place.
-#[derive(Drop)]
 pub(crate) struct RowIds {
     way: Way,
+}
+
+// Not derived: so ids are dropped in one step where they are held, and not by each way.
+impl Drop for RowIds {
+    fn drop(self) {
+        let RowIds { way: _ } = self;
+    }
 }
 
 impl Model for RowIds {

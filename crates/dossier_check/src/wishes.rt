@@ -109,9 +109,15 @@ impl RowTest<WishRow> for PreferenceMixed {
 }
 
 /// An earlier wish of the candidate has the same positive preference.
-#[derive(Drop)]
 pub(crate) struct PreferenceTaken {
     pub(crate) rows: IndexMap<(u32, u32), u64, Keyed>,
+}
+
+// Not derived: so it is dropped in one step where it is held, and not by each list of the map.
+impl Drop for PreferenceTaken {
+    fn drop(self) {
+        let PreferenceTaken { rows: _ } = self;
+    }
 }
 
 impl RowTest<WishRow> for PreferenceTaken {
@@ -168,6 +174,7 @@ pub(crate) fn check_wishes<'a>(
     } else {
         hashing_of_wishes(rows)
     };
+    let own_ids = RowIds::with_room(alloc, rows.len())?;
     let near = vec![in alloc; 0; ranked.candidates.len()]?;
     let preferences = Then {
         first: PreferenceMixed {
@@ -214,7 +221,7 @@ pub(crate) fn check_wishes<'a>(
         first: RepeatsId {
             alloc,
             keyed,
-            ids: RowIds::with_room(alloc, rows.len())?,
+            ids: own_ids,
             rule: OwnId,
         },
         rest: Then {

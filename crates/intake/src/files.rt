@@ -70,51 +70,53 @@ fn no_rows(alloc: Global) -> Tables
     }
 }
 
-/// The tables with the rows of one slot, which has these bytes. The chain slot has no rows.
+/// Puts the rows of one slot, which has these bytes, into tables. The chain slot has no rows. The
+/// tables are lent: held here, they would be dropped list by list at each refusal.
 #[tactic(auto, unfolding(crate::specs::Reading::with_rows))]
-fn with_rows(alloc: Global, tables: Tables, slot: Slot, bytes: &[u8]) -> Result<Tables, InFault>
-    requires { AreTables tables }
-    ensures value { Answers (λ more. more) result (Reading.with_rows tables slot bytes.now) }
-    ensures ranges { IfOk result AreTables }
+fn put_rows(alloc: Global, tables: &mut Tables, slot: Slot, bytes: &[u8]) -> Result<(), InFault>
+    requires { AreTables tables.old }
+    ensures value { Answers (λ _. tables.new) result
+        (Reading.with_rows tables.old slot bytes.now) }
+    ensures ranges { OnOk result (AreTables tables.new) }
 {
     match slot {
-        Slot::Groups => Ok(Tables {
-            groups: Sequence::from_vec(read_groups(alloc, bytes)?),
-            ..tables
-        }),
-        Slot::Programmes => Ok(Tables {
-            programmes: Sequence::from_vec(read_programmes(alloc, bytes)?),
-            ..tables
-        }),
-        Slot::Schools => Ok(Tables {
-            schools: Sequence::from_vec(read_schools(alloc, bytes)?),
-            ..tables
-        }),
-        Slot::Rankings => Ok(Tables {
-            rankings: Sequence::from_vec(read_rankings(alloc, bytes)?),
-            ..tables
-        }),
-        Slot::Boarding => Ok(Tables {
-            boarding: Sequence::from_vec(read_boarding(alloc, bytes)?),
-            ..tables
-        }),
-        Slot::Wishes => Ok(Tables {
-            wishes: Sequence::from_vec(read_wishes(alloc, bytes)?),
-            ..tables
-        }),
-        Slot::State => Ok(Tables {
-            state: Sequence::from_vec(read_state(alloc, bytes)?),
-            ..tables
-        }),
-        Slot::Ceilings => Ok(Tables {
-            ceilings: Sequence::from_vec(read_ceilings(alloc, bytes)?),
-            ..tables
-        }),
-        Slot::Answers => Ok(Tables {
-            answers: Sequence::from_vec(read_answers(alloc, bytes)?),
-            ..tables
-        }),
-        Slot::Chain => Ok(tables),
+        Slot::Groups => {
+            tables.groups = Sequence::from_vec(read_groups(alloc, bytes)?);
+            Ok(())
+        }
+        Slot::Programmes => {
+            tables.programmes = Sequence::from_vec(read_programmes(alloc, bytes)?);
+            Ok(())
+        }
+        Slot::Schools => {
+            tables.schools = Sequence::from_vec(read_schools(alloc, bytes)?);
+            Ok(())
+        }
+        Slot::Rankings => {
+            tables.rankings = Sequence::from_vec(read_rankings(alloc, bytes)?);
+            Ok(())
+        }
+        Slot::Boarding => {
+            tables.boarding = Sequence::from_vec(read_boarding(alloc, bytes)?);
+            Ok(())
+        }
+        Slot::Wishes => {
+            tables.wishes = Sequence::from_vec(read_wishes(alloc, bytes)?);
+            Ok(())
+        }
+        Slot::State => {
+            tables.state = Sequence::from_vec(read_state(alloc, bytes)?);
+            Ok(())
+        }
+        Slot::Ceilings => {
+            tables.ceilings = Sequence::from_vec(read_ceilings(alloc, bytes)?);
+            Ok(())
+        }
+        Slot::Answers => {
+            tables.answers = Sequence::from_vec(read_answers(alloc, bytes)?);
+            Ok(())
+        }
+        Slot::Chain => Ok(()),
     }
 }
 
@@ -135,8 +137,8 @@ fn with_slot(alloc: Global, files: Files, slot: Slot, bytes: Vec<u8>) -> Result<
     ensures value { Answers (λ more. more) result (Reading.with_slot files slot bytes.items) }
     ensures ranges { IfOk result (λ more. AreTables more.tables) }
 {
-    let Files { tables, chain } = files;
-    let tables = with_rows(alloc, tables, slot, &bytes)?;
+    let Files { mut tables, chain } = files;
+    put_rows(alloc, &mut tables, slot, &bytes)?;
     Ok(Files {
         tables,
         chain: chain_after(chain, slot, bytes),

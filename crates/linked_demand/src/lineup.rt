@@ -115,12 +115,23 @@ fn boarders_of(alloc: Global, state: &DayState<'_>) -> Result<Vec<u32>, OutOfMem
 /// For each programme those who wish for it, in call order, with their claims; for each wish the place
 /// of its candidate among them, and whether they are called by the programme's limit; and the wishes
 /// with a school.
-#[derive(Drop)]
 pub struct Lineup {
     pub(crate) claims: Vec<Claims>,
     pub(crate) places: Vec<usize>,
     pub(crate) early: Vec<bool>,
     pub(crate) boarders: Vec<u32>,
+}
+
+// Not derived: so a lineup is dropped in one step where it is held, and not by each list.
+impl Drop for Lineup {
+    fn drop(self) {
+        let Lineup {
+            claims: _,
+            places: _,
+            early: _,
+            boarders: _,
+        } = self;
+    }
 }
 
 impl Lineup {

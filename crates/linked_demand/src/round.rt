@@ -35,7 +35,6 @@ fn school_count(state: &DayState<'_>) -> u32
 /// The boarding schools (*internats*) of a state, with their ceilings and their present bars. It keeps
 /// who is served in each programme and which schools are overfilled: a fall costs the rows of the
 /// schools whose demand it changes.
-#[derive(Drop)]
 pub struct LinkedRound<'a, 'd> {
     links: SeatLinks<'a, 'd>,
     ceilings: Vec<u32>,
@@ -44,6 +43,21 @@ pub struct LinkedRound<'a, 'd> {
     rows: Vec<Vec<RowWish>>,
     overs: Overs,
     marked: Marks,
+}
+
+// Not derived: so a round is dropped in one step where it is held, and not by each list.
+impl Drop for LinkedRound<'_, '_> {
+    fn drop(self) {
+        let LinkedRound {
+            links: _,
+            ceilings: _,
+            bars: _,
+            free: _,
+            rows: _,
+            overs: _,
+            marked: _,
+        } = self;
+    }
 }
 
 impl<'a, 'd> Model for LinkedRound<'a, 'd> {

@@ -2,7 +2,7 @@
 use Rattle.std.proofs.Common.{ℕ, ◌≤◌, ◌<◌, ◌≡◌, Bool, true, false, not, ◌&&◌, List, [], ◌∷◌, map, length, get_or, inl, inr, refl, sym, ◌∙◌, ap, arith, filter, find, nat_eq, nat_lt, suc, Option, Some, None}
 use Rattle.std.specs.Prelude.{◌↔◌, IsSome, option_map, unwrap_or}
 use Rattle.std.specs.List.{list_any, IsDistinct}
-use Rattle.std.proofs.lemmas.Bool.{cases_Bool, cases_order, and_parts, and_from, or_cases, or_left, or_right, not-true, eqb-true, eq-eqb, lt-ltb, false≢true}
+use Rattle.std.proofs.lemmas.Bool.{cases_Bool, cases_order, and_parts, and_from, not-true, eqb-true, eq-eqb, lt-ltb, false≢true}
 use Rattle.std.proofs.lemmas.List.{length-map, get_or-map, get_or_default}
 use Rattle.std.proofs.lemmas.List.Folds.{Any-from_list_any, list_any_at}
 use Rattle.std.proofs.lemmas.Cmp.{nat_eq_equiv}
@@ -19,7 +19,7 @@ use Rattle.admit_core.specs.Proposals.{is_proposed, demands_bed, demanded_ranks}
 use Rattle.admit_core.specs.Days.{offered}
 use Rattle.admit_core.proofs.DemandLaws.{demanded}
 use Rattle.admit_core.proofs.Dossiers.{ranks_of_valid}
-use Rattle.admit_core.proofs.Tests.{increasing-ascending}
+use Rattle.admit_core.proofs.Tests.{among-map, increasing-ascending}
 use Rattle.round.specs.PassLaws.{new_bed_holders}
 use Rattle.round.proofs.Members.{among-filter, among_filtered, distinct-filter, distinct_once, among-distinct, distinct_increasing}
 use Rattle.round.proofs.NewHolders.{MakesLive, becomes_live, is_live_after, entry_wish}
@@ -33,14 +33,6 @@ found_value f test v (x ∷ xs) some each =
     elim (cases_Bool (test x)) [
       | inl here ↦ rw here (each 0 x (omega arith) refl here)
       | inr later ↦ rw later (found_value f test v xs (rw later at some) (λ k y lt is passes. each (suc k) y (omega arith) is passes))
-    ]
-
-among-map : (f : ℕ → ℕ) (n : ℕ) (ns : List ℕ) → is_among n ns ≡ true → is_among (f n) (map f ns) ≡ true
-among-map f n [] among = among
-among-map f n (m ∷ ms) among =
-    elim (or_cases (nat_eq n m) (is_among n ms) among) [
-      | inl here ↦ or_left (nat_eq (f n) (f m)) (is_among (f n) (map f ms)) (eq-eqb (f n) (f m) (ap f (eqb-true n m here)))
-      | inr later ↦ or_right (nat_eq (f n) (f m)) (is_among (f n) (map f ms)) (among-map f n ms later)
     ]
 
 -- two wishes with one school

@@ -22,6 +22,7 @@ use Rattle.admit_core.specs.Proposals.{order_of}
 use Rattle.admit_core.specs.Validity.{IsValid}
 use Rattle.admit_core.specs.declared.dossier.Wish.{Wish}
 use Rattle.admit_core.specs.declared.ranking.CallOrder.{CallOrder}
+use Rattle.admit_core.proofs.Tests.{among-map}
 use Rattle.demand.proofs.Calling.{all_called}
 use Rattle.linked_demand.proofs.Seating.{called_once}
 use Rattle.stable_market.specs.Markets.{MarketRows, IsMarket, IsSmall, is_list_below, is_distinct, lists_it, listers, order_of as order_in}
@@ -64,15 +65,7 @@ module _ (ws : List Wish) (p x : ℕ) (names : names_it ws p x ≡ true) where
 named_at : (ws : List Wish) (c : ℕ) → number ws c < length (named ws) → c ≡ get_or (named ws) (number ws c) 0
 named_at ws c lt = eqb-true c (get_or (named ws) (position_or_len (nat_eq c) (named ws)) 0) (passes_at_first (nat_eq c) (named ws) 0 lt)
 
--- who is in a list is in what is made of it, and nobody else is
-among_map : (f : ℕ → ℕ) (c : ℕ) (xs : List ℕ) → is_among c xs ≡ true → is_among (f c) (map f xs) ≡ true
-among_map f c [] t = absurd (false≢true t)
-among_map f c (x ∷ xs) t =
-    elim (or_cases (nat_eq c x) (is_among c xs) t) [
-      | inl here ↦ or_left (nat_eq (f c) (f x)) (is_among (f c) (map f xs)) (eq-eqb (f c) (f x) (ap f (eqb-true c x here)))
-      | inr later ↦ or_right (nat_eq (f c) (f x)) (is_among (f c) (map f xs)) (among_map f c xs later)
-    ]
-
+-- what stands in what is made of a list is made of one of it
 from_map : (f : ℕ → ℕ) (q : ℕ) (xs : List ℕ) → is_among q (map f xs) ≡ true → (c : ℕ) × ((is_among c xs ≡ true) × (q ≡ f c))
 from_map f q [] t = absurd (false≢true t)
 from_map f q (x ∷ xs) t =
@@ -158,7 +151,7 @@ module _ (d : DossierRows) (valid : IsValid d) (orders : List CallOrder) (are : 
       ap (λ k. is_among k call) (eqb-true c w.candidate parts.0)
       ∙ ap (λ q. is_among w.candidate (order_of d orders q)) (eqb-true p w.programme parts.1) ∙ called in
       let in_numbers : is_among x numbers ≡ true =
-      ap (λ k. is_among k numbers) (sym (their_number ws p x names)) ∙ among_map (number ws) c call in_call in
+      ap (λ k. is_among k numbers) (sym (their_number ws p x names)) ∙ among-map (number ws) c call in_call in
       among_filter (names_it ws p) x numbers ∙ and_from (is_among x numbers) (names_it ws p x) in_numbers names) in
       rw (once, list, whole) refl
 
