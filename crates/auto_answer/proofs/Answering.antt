@@ -287,17 +287,16 @@ pub step_last : (start now next : State) (stamp : Stamp) (i c : ℕ) (all own ne
     → is_among c (later start.dossier (i + 1)) ≡ false
     → next ≡ auto_one now c stamp
     → own ≡ freed_by now next c
-    → next_all.seats ≡ all.seats + own.seats
-    → next_all.beds ≡ all.beds + own.beds
+    → next_all ≡ record { seats = all.seats + own.seats; beds = all.beds + own.beds }
     → IsAnswered start next stamp (i + 1) next_all
-step_last start now next stamp i c all own next_all so_far lt here last next_is own_is seats beds =
+step_last start now next stamp i c all own next_all so_far lt here last next_is own_is in_all =
     let x = candidate_of start.dossier i in
     let end = auto_all start stamp in
     let freed_is : own ≡ freed_by start end x = own_is ∙ rw (next_is, here) (freed_here start now stamp i all so_far lt) in
     rw (next_is, here)
     (answered_last start now stamp i all next_all so_far lt (rw here at last)
-    (seats ∙ ap (λ (f : Freed). all.seats + f.seats) freed_is)
-    (beds ∙ ap (λ (f : Freed). all.beds + f.beds) freed_is))
+    (ap (λ (f : Freed). f.seats) in_all ∙ ap (λ (f : Freed). all.seats + f.seats) freed_is)
+    (ap (λ (f : Freed). f.beds) in_all ∙ ap (λ (f : Freed). all.beds + f.beds) freed_is))
 
 pub step_room : (start now next : State) (stamp : Stamp) (i c : ℕ) (all own : Freed) → IsAnswered start now stamp i all → i < length start.dossier.wishes
     → c ≡ candidate_of start.dossier i

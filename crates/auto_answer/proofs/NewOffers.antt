@@ -247,16 +247,16 @@ pub next_place : (start now next : State) (stamp : Stamp) (places : List ℕ) (i
     → AreAnswered start now stamp (first_candidates start.dossier places i) all
     → i < length places → get_or places i 0 ≡ p → p < length start.dossier.wishes
     → next ≡ auto_one now (candidate_of now.dossier p) stamp → own ≡ freed_by now next (candidate_of now.dossier p)
-    → next_all.seats ≡ all.seats + own.seats → next_all.beds ≡ all.beds + own.beds
+    → next_all ≡ record { seats = all.seats + own.seats; beds = all.beds + own.beds }
     → AreAnswered start next stamp (first_candidates start.dossier places (i + 1)) next_all
-next_place start now next stamp places i p all own next_all so_far lt here in_range next_is own_is seats beds =
+next_place start now next stamp places i p all own next_all so_far lt here in_range next_is own_is in_all =
     let cs = first_candidates start.dossier places i in
     let x = candidate_of start.dossier p in
     let (next_here, own_here) = at_start start now next stamp cs p all own so_far next_is own_is in
     rw (more_candidates start.dossier places i p lt here, next_here)
     (one_more start now stamp x cs all so_far next_all (wishes_here start.dossier p in_range)
-    (seats ∙ ap (λ (f : Freed). all.seats + f.seats) own_here)
-    (beds ∙ ap (λ (f : Freed). all.beds + f.beds) own_here))
+    (ap (λ (f : Freed). f.seats) in_all ∙ ap (λ (f : Freed). all.seats + f.seats) own_here)
+    (ap (λ (f : Freed). f.beds) in_all ∙ ap (λ (f : Freed). all.beds + f.beds) own_here))
 
 pub places_end : (start now : State) (stamp : Stamp) (places : List ℕ) (i : ℕ) (all : Freed)
     → AreAnswered start now stamp (first_candidates start.dossier places i) all → length places ≤ i → AreAnsweredBut places start stamp

@@ -1,5 +1,5 @@
 //! The automatic answers.
-ghost use Rattle.std.specs.Prelude.{◌≡◌, ◌<◌, ◌+◌, ◌^◌, All, length, not, drop, map, slice_get, filter, nat_eq, ◌==◌};
+ghost use Rattle.std.specs.Prelude.{◌≡◌, ◌<◌, ◌+◌, All, length, not, drop, map, slice_get, filter, nat_eq, ◌==◌};
 ghost use Rattle.std.specs.List.{range_with_len};
 ghost use Rattle.admit_core.specs.AutoAnswer.{auto_one, auto_all, freed_by, freed};
 ghost use Rattle.admit_core.specs.DossierRows.{candidate_of};
@@ -9,7 +9,7 @@ ghost use Rattle.auto_answer.specs.LastWish.{wishers};
 ghost use Rattle.auto_answer.specs.Laws.{AreAnsweredBut};
 
 use admit_core::{Freed, Stamp};
-use day_state::DayState;
+use day_state::{DayState, freed_in_all};
 
 /// Answers for a candidate who ranks their wishes; nothing changes for one who doesn't.
 pub fn auto_one(state: &mut DayState<'_>, candidate: u32, stamp: Stamp) -> Freed
@@ -30,7 +30,7 @@ pub fn auto_all(state: &mut DayState<'_>, stamp: Stamp) -> Freed
     for place in 0..count {
         if is_last_wish(state, place) {
             let own = state.answer_beside(place, stamp);
-            all = together(all, own);
+            all = freed_in_all(all, own);
         }
     }
     all
@@ -51,22 +51,9 @@ pub fn auto_some(state: &mut DayState<'_>, places: &[u32], stamp: Stamp) -> Free
     let mut all = Freed { seats: 0, beds: 0 };
     for place in places {
         let own = state.answer_beside(*place, stamp);
-        all = together(all, own);
+        all = freed_in_all(all, own);
     }
     all
-}
-
-/// The sums of what was freed twice.
-fn together(one: Freed, other: Freed) -> Freed
-    requires seats { one.seats + other.seats < 2 ^ 32 }
-    requires beds { one.beds + other.beds < 2 ^ 32 }
-    ensures seats { result.seats ≡ one.seats + other.seats }
-    ensures beds { result.beds ≡ one.beds + other.beds }
-{
-    Freed {
-        seats: one.seats + other.seats,
-        beds: one.beds + other.beds,
-    }
 }
 
 /// Whether no later wish is of the same candidate, so that each candidate is answered for once.

@@ -266,7 +266,7 @@ impl<'d> CountedMarks<'d> {
 pub const NOTHING_FREED: Freed = Freed { seats: 0, beds: 0 };
 
 /// What two changes, one after the other, free together.
-fn freed_in_all(first: Freed, then: Freed) -> Freed
+pub fn freed_in_all(first: Freed, then: Freed) -> Freed
     requires seats { first.seats + then.seats < 2 ^ 32 }
     requires beds { first.beds + then.beds < 2 ^ 32 }
     ensures { result ≡ record { seats = first.seats + then.seats; beds = first.beds + then.beds } }

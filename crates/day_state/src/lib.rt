@@ -14,6 +14,7 @@ mod laws;
 mod mark;
 mod numbers;
 
+pub use counted_marks::freed_in_all;
 pub use day::{DayState, UnfitAnswer, UnfitAt};
 pub use laws::candidates_stand_apart;
 pub use mark::{lapses, offer_day};

@@ -23,8 +23,8 @@ answer_beside-own-requires c =
     let lt : c.loop-place.place < length d.wishes = rw count at c.loop-place-test.true in
     rw (same_dossier c.args.state.now c.loop-place.state c.args.stamp c.loop-place.place c.loop-place.all c.loop-place.invariant) lt
 
-pub together-all-requires : goal.together-all-requires
-together-all-requires c =
+pub freed_in_all-all-requires : goal.freed_in_all-all-requires
+freed_in_all-all-requires c =
     let d = c.args.state.now.dossier in
     let i = c.loop-place.place in
     let count : c.len-count.result ≡ length d.wishes = c.len-count.ensures ∙ ap (λ (d : DossierRows). length d.wishes) (c.behind-state.view_is ∙ c.dossier.ensures) in
@@ -48,8 +48,8 @@ loop-place-preserved c =
       | then-is_last_wish w ↦
           let last : is_among here (later d (i + 1)) ≡ false = rw own (test_last c.args.state.now c.loop-place.state c.args.stamp i c.loop-place.all c.is_last_wish.result c.loop-place.invariant c.is_last_wish.ensures w.if-is_last_wish.true) in
           rw (w.state-is, w.all-is)
-          (step_last c.args.state.now c.loop-place.state w.answer_beside-own.new.self c.args.stamp i here c.loop-place.all w.answer_beside-own.result w.together-all.result c.loop-place.invariant lt own last
-          w.answer_beside-own.ensures.state w.answer_beside-own.ensures.freed w.together-all.ensures.seats w.together-all.ensures.beds)
+          (step_last c.args.state.now c.loop-place.state w.answer_beside-own.new.self c.args.stamp i here c.loop-place.all w.answer_beside-own.result w.freed_in_all-all.result c.loop-place.invariant lt own last
+          w.answer_beside-own.ensures.state w.answer_beside-own.ensures.freed w.freed_in_all-all.ensures)
       | else-is_last_wish w ↦
           let again : comes_later d i ≡ true = test_later c.args.state.now c.loop-place.state c.args.stamp i c.loop-place.all c.is_last_wish.result c.loop-place.invariant c.is_last_wish.ensures w.if-is_last_wish.false in
           rw (w.state-is, w.all-is)

@@ -14,8 +14,8 @@ answer_beside-own-requires c =
     let same = dossier_stays c.args.state.now c.loop-place.state c.args.stamp (first_candidates d c.args.places.now i) c.loop-place.all c.loop-place.invariant in
     rw same (c.requires.within i 0 c.loop-place-test.true)
 
-pub together-all-requires : goal.together-all-requires
-together-all-requires c =
+pub freed_in_all-all-requires : goal.freed_in_all-all-requires
+freed_in_all-all-requires c =
     let i = c.loop-place.place-index in
     let d = c.args.state.now.dossier in
     let few = ap (λ (d : DossierRows). length d.wishes) (c.behind-state.view_is ∙ c.dossier.ensures) in
@@ -27,9 +27,9 @@ together-all-requires c =
 pub loop-place-preserved : goal.loop-place-preserved
 loop-place-preserved c =
     let i = c.loop-place.place-index in
-    next_place c.args.state.now c.loop-place.state c.answer_beside-own.new.self c.args.stamp c.args.places.now i (get_or c.args.places.now i 0) c.loop-place.all c.answer_beside-own.result c.together-all.result
+    next_place c.args.state.now c.loop-place.state c.answer_beside-own.new.self c.args.stamp c.args.places.now i (get_or c.args.places.now i 0) c.loop-place.all c.answer_beside-own.result c.freed_in_all-all.result
     c.loop-place.invariant c.loop-place-test.true refl (c.requires.within i 0 c.loop-place-test.true) c.answer_beside-own.ensures.state c.answer_beside-own.ensures.freed
-    c.together-all.ensures.seats c.together-all.ensures.beds
+    c.freed_in_all-all.ensures
 
 pub returns : goal.returns
 returns c =

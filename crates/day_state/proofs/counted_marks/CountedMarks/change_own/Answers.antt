@@ -38,8 +38,8 @@ set_other-requires c =
     let place = on_way_place f c.args.self.now c.loop-place.self c.args.own.now c.args.candidate c.loop-place.place-index long c.requires c.loop-place.invariant.on_way c.loop-place-test.true in
     place.0
 
-pub freed_in_all-freed-requires-clause-seats : goal.freed_in_all-freed-requires-clause-seats
-freed_in_all-freed-requires-clause-seats c =
+pub freed_in_all-freed-requires : goal.freed_in_all-freed-requires
+freed_in_all-freed-requires c =
     let long : length c.args.self.now.marks ≡ length c.args.self.now.dossier.wishes = subst IsWhole c.self.view_is c.self.invariant.kept.marks in
     let same : c.self.inside.dossier.now ≡ c.args.self.now.dossier = ap (λ (s : State). s.dossier) c.self.view_is in
     let wishes : c.as_slice-wishes.result.now ≡ c.loop-place.self.dossier.wishes =
@@ -50,21 +50,8 @@ freed_in_all-freed-requires-clause-seats c =
       state = c.set_other.ensures.state;
       freed = c.set_other.ensures.freed;
     } in
-    (counted_step c.args.change c.args.stamp c.args.candidate c.args.own.now c.args.self.now c.loop-place.self c.set_other.new.self c.loop-place.freed c.set_other.result c.loop-place.place-index c.changed_by-mark.result valid long c.requires c.loop-place.invariant c.loop-place-test.true step).seats_fit
-
-pub freed_in_all-freed-requires-clause-beds : goal.freed_in_all-freed-requires-clause-beds
-freed_in_all-freed-requires-clause-beds c =
-    let long : length c.args.self.now.marks ≡ length c.args.self.now.dossier.wishes = subst IsWhole c.self.view_is c.self.invariant.kept.marks in
-    let same : c.self.inside.dossier.now ≡ c.args.self.now.dossier = ap (λ (s : State). s.dossier) c.self.view_is in
-    let wishes : c.as_slice-wishes.result.now ≡ c.loop-place.self.dossier.wishes =
-    c.as_slice-wishes.ensures ∙ ap (λ (d : DossierRows). d.wishes) (c.dossier.view_is ∙ same ∙ sym c.loop-place.invariant.on_way.dossier) in
-    let valid : IsValid c.args.self.now.dossier = subst IsValid (c.dossier.view_is ∙ same) c.dossier.invariant in
-    let step : IsStep c.args.change c.args.stamp c.loop-place.self c.set_other.new.self (slice_index c.args.own.now c.loop-place.place-index) c.changed_by-mark.result c.set_other.result = record {
-      mark = c.changed_by-mark.ensures ∙ rw (c.wish_at.ensures, c.mark.ensures, wishes) refl;
-      state = c.set_other.ensures.state;
-      freed = c.set_other.ensures.freed;
-    } in
-    (counted_step c.args.change c.args.stamp c.args.candidate c.args.own.now c.args.self.now c.loop-place.self c.set_other.new.self c.loop-place.freed c.set_other.result c.loop-place.place-index c.changed_by-mark.result valid long c.requires c.loop-place.invariant c.loop-place-test.true step).beds_fit
+    let counted = counted_step c.args.change c.args.stamp c.args.candidate c.args.own.now c.args.self.now c.loop-place.self c.set_other.new.self c.loop-place.freed c.set_other.result c.loop-place.place-index c.changed_by-mark.result valid long c.requires c.loop-place.invariant c.loop-place-test.true step in
+    record { seats = counted.seats_fit; beds = counted.beds_fit }
 
 pub loop-place-preserved : goal.loop-place-preserved
 loop-place-preserved c =
