@@ -174,7 +174,7 @@ bundled_more sites s numbers live k m long lt bundled =
     }
 
 -- the count of a wish's bundle, before its mark becomes m
-pub bundle_fits : (sites : Sites) (s : State) (numbers : List Number) (live : List ℕ) (k : ℕ) (m : Mark) → length s.marks ≡ length s.dossier.wishes → k < length s.marks
+bundle_fits : (sites : Sites) (s : State) (numbers : List Number) (live : List ℕ) (k : ℕ) (m : Mark) → length s.marks ≡ length s.dossier.wishes → k < length s.marks
     → length s.dossier.wishes ≤ 16000000 → IsBundled sites s numbers live
     → ForSome (count_of (number_at numbers k)) (λ n. Fits live (length s.marks) n (is_live (mark_in s.marks k)) (is_live m))
 bundle_fits sites s numbers live k m long lt short bundled n e =
@@ -195,13 +195,13 @@ same_some : (o : Option ℕ) (b : ℕ) → is_same (Some b) o ≡ true → o ≡
 same_some None b e = absurd (cc)
 same_some (Some c) b e = rw (eqb-true c b e) refl
 
-pub numbers_long : (sites : Sites) (s : State) (numbers : List Number) (live : List ℕ) → IsBundled sites s numbers live → length numbers ≡ length s.dossier.wishes
+numbers_long : (sites : Sites) (s : State) (numbers : List Number) (live : List ℕ) → IsBundled sites s numbers live → length numbers ≡ length s.dossier.wishes
 numbers_long sites s numbers live bundled =
     let bundles = bundles_of sites s.dossier.wishes in
     ap length bundled.numbered ∙ length-map bundles (number_of bundles) ∙ (bundles_are sites s.dossier.wishes).as_long
 
 -- a wish's bundle has a place among the counts, where it has a number
-pub number_within : (sites : Sites) (s : State) (numbers : List Number) (live : List ℕ) (k : ℕ) → length s.marks ≡ length s.dossier.wishes → k < length s.marks
+number_within : (sites : Sites) (s : State) (numbers : List Number) (live : List ℕ) (k : ℕ) → length s.marks ≡ length s.dossier.wishes → k < length s.marks
     → IsBundled sites s numbers live → ForSome (count_of (number_at numbers k)) (λ n. n < length live)
 number_within sites s numbers live k long lt bundled n e =
     let bundles = bundles_of sites s.dossier.wishes in
@@ -209,6 +209,35 @@ number_within sites s numbers live k long lt bundled n e =
     let parts = count_parts bundles (number_in bundles k) n (rw (number_is sites s numbers live k bundled) at e) in
     let b_in : parts.0 < length bundles = omega (arith, bundles_are_so.as_long, bundles_are_so.within k (omega arith) parts.0 parts.1) in
     omega (arith, parts.3, bundled.counts.as_long, rank_within bundles parts.0 parts.2 b_in)
+
+-- a wish has a number, and where that names a count, it is there
+pub record HasNumber (numbers : List Number) (live : List ℕ) (k : ℕ) : Type 0 where
+  pub place : k < length numbers
+  pub number : ForSome (count_of (number_at numbers k)) (λ n. n < length live)
+
+pub has_number : (sites : Sites) (s : State) (numbers : List Number) (live : List ℕ) (k : ℕ) → length s.marks ≡ length s.dossier.wishes → k < length s.marks
+    → IsBundled sites s numbers live → HasNumber numbers live k
+has_number sites s numbers live k long lt bundled = record {
+  place = omega (arith, long, lt, numbers_long sites s numbers live bundled);
+  number = number_within sites s numbers live k long lt bundled;
+}
+
+-- a wish's bundle can be counted anew
+pub record CanTurn (numbers : List Number) (live : List ℕ) (k : ℕ) (was lives : Bool) : Type 0 where
+  pub has : HasNumber numbers live k
+  pub comes : ForSome (count_of (number_at numbers k)) (λ n. slice_index live n + one_if lives < 4294967296)
+  pub goes : ForSome (count_of (number_at numbers k)) (λ n. one_if was ≤ slice_index live n + one_if lives)
+
+pub can_turn : (sites : Sites) (s : State) (numbers : List Number) (live : List ℕ) (k : ℕ) (m : Mark) (was lives : Bool)
+    → length s.marks ≡ length s.dossier.wishes → k < length s.marks → length s.dossier.wishes ≤ 16000000 → IsBundled sites s numbers live
+    → was ≡ is_live (mark_in s.marks k) → lives ≡ is_live m → CanTurn numbers live k was lives
+can_turn sites s numbers live k m was lives long lt short bundled was_is lives_is =
+    let fits = bundle_fits sites s numbers live k m long lt short bundled in
+    record {
+      has = has_number sites s numbers live k long lt bundled;
+      comes = rw lives_is (λ n e. (fits n e).comes);
+      goes = rw (was_is, lives_is) (λ n e. (fits n e).goes);
+    }
 
 -- where a wish is alone, its own mark tells whether one of its bundle is live
 alone_any : (ms : List Mark) (bundles : List (Option ℕ)) (k b : ℕ) → k < length ms → length bundles ≡ length ms → is_shared bundles b ≡ false → number_in bundles k ≡ Some b
@@ -346,32 +375,45 @@ keeps_changed d marks seats beds of_programmes in_programmes of_schools in_schoo
   schools = bundled_more Schools (state_of d marks) of_schools in_schools wish m keeps.kept.marks lt keeps.schools;
 }
 
--- a turn of the bundle in a programme tells whether the candidate was live there, and is
+-- what the counts of a bundle tell of its candidate in a state
+abbrev Tells : Sites → (State → ℕ → Bool) → List Number → ℕ → Type 0
+Tells sites there numbers k =
+    (s : State) (live : List ℕ) → length s.marks ≡ length s.dossier.wishes → k < length s.marks → IsBundled sites s numbers live
+    → has_live live (number_at numbers k) (is_live (mark_in s.marks k)) ≡ there s k
+
+-- a turn of a bundle tells whether its candidate was live there, and is
+turned : (sites : Sites) (there : State → ℕ → Bool) (s : State) (numbers : List Number) (live : List ℕ) (k : ℕ) (m : Mark) (was lives had has : Bool) (after : List ℕ)
+    → Tells sites there numbers k → length s.marks ≡ length s.dossier.wishes → k < length s.marks → IsBundled sites s numbers live
+    → was ≡ is_live (mark_in s.marks k) → lives ≡ is_live m → after ≡ recount_some live (count_of (number_at numbers k)) was lives
+    → had ≡ has_live live (number_at numbers k) was → has ≡ has_live after (number_at numbers k) lives
+    → (had ≡ there s k) × (has ≡ there (with_mark_at s k m) k)
+turned sites there s numbers live k m was lives had has after tells long lt bundled was_is lives_is after_is had_is has_is =
+    let next = recount_some live (count_of (number_at numbers k)) (is_live (mark_in s.marks k)) (is_live m) in
+    let more = bundled_more sites s numbers live k m long lt bundled in
+    let after_is_so : after ≡ next = rw (← was_is, ← lives_is) after_is in (
+      had_is ∙ rw was_is (tells s live long lt bundled),
+      has_is
+          ∙ rw (after_is_so, lives_is)
+          (ap (λ n. has_live next (number_at numbers k) (is_live n)) (sym (mark_in-set_same s.marks k m lt))
+          ∙ tells (with_mark_at s k m) next (length-set s.marks k m ∙ long) (omega (arith, length-set s.marks k m, lt)) more),
+    )
+
+-- in a programme
 pub seat_turned : (d : DossierRows) (marks : List Mark) (seats beds : List ℕ) (of_programmes : List Number) (in_programmes : List ℕ) (of_schools : List Number) (in_schools : List ℕ) (wish : ℕ) (m : Mark) (was lives had has : Bool) (after : List ℕ)
     → KeepsCounts (state_of d marks) seats beds of_programmes in_programmes of_schools in_schools → wish < length marks
     → was ≡ is_live (mark_in marks wish) → lives ≡ is_live m → after ≡ recount_some in_programmes (count_of (number_at of_programmes wish)) was lives
     → had ≡ has_live in_programmes (number_at of_programmes wish) was → has ≡ has_live after (number_at of_programmes wish) lives
     → (had ≡ has_seat_there (state_of d marks) wish) × (has ≡ has_seat_there (with_mark_at (state_of d marks) wish m) wish)
 seat_turned d marks seats beds of_programmes in_programmes of_schools in_schools wish m was lives had has after keeps lt was_is lives_is after_is had_is has_is =
-    let s = state_of d marks in
-    let long = keeps.kept.marks in
-    let more = bundled_more Programmes s of_programmes in_programmes wish m long lt keeps.programmes in
-    let after_is_so : after ≡ recount_some in_programmes (count_of (number_at of_programmes wish)) (is_live (mark_in marks wish)) (is_live m) = rw (← was_is, ← lives_is) after_is in (
-      had_is ∙ rw was_is (has_seat_is s of_programmes in_programmes wish long lt keeps.programmes),
-      has_is ∙ rw (after_is_so, lives_is) (ap (λ n. has_live (recount_some in_programmes (count_of (number_at of_programmes wish)) (is_live (mark_in marks wish)) (is_live m)) (number_at of_programmes wish) (is_live n)) (sym (mark_in-set_same marks wish m lt)) ∙ has_seat_is (with_mark_at s wish m) of_programmes (recount_some in_programmes (count_of (number_at of_programmes wish)) (is_live (mark_in marks wish)) (is_live m)) wish (length-set marks wish m ∙ long) (omega (arith, length-set marks wish m)) more),
-    )
+    turned Programmes has_seat_there (state_of d marks) of_programmes in_programmes wish m was lives had has after (λ s live. has_seat_is s of_programmes live wish)
+    keeps.kept.marks lt keeps.programmes was_is lives_is after_is had_is has_is
 
--- the same in a school
+-- and in a school
 pub bed_turned : (d : DossierRows) (marks : List Mark) (seats beds : List ℕ) (of_programmes : List Number) (in_programmes : List ℕ) (of_schools : List Number) (in_schools : List ℕ) (wish : ℕ) (m : Mark) (was lives had has : Bool) (after : List ℕ)
     → KeepsCounts (state_of d marks) seats beds of_programmes in_programmes of_schools in_schools → wish < length marks
     → was ≡ is_live (mark_in marks wish) → lives ≡ is_live m → after ≡ recount_some in_schools (count_of (number_at of_schools wish)) was lives
     → had ≡ has_live in_schools (number_at of_schools wish) was → has ≡ has_live after (number_at of_schools wish) lives
     → (had ≡ has_bed_there (state_of d marks) wish) × (has ≡ has_bed_there (with_mark_at (state_of d marks) wish m) wish)
 bed_turned d marks seats beds of_programmes in_programmes of_schools in_schools wish m was lives had has after keeps lt was_is lives_is after_is had_is has_is =
-    let s = state_of d marks in
-    let long = keeps.kept.marks in
-    let more = bundled_more Schools s of_schools in_schools wish m long lt keeps.schools in
-    let after_is_so : after ≡ recount_some in_schools (count_of (number_at of_schools wish)) (is_live (mark_in marks wish)) (is_live m) = rw (← was_is, ← lives_is) after_is in (
-      had_is ∙ rw was_is (has_bed_is s of_schools in_schools wish long lt keeps.schools),
-      has_is ∙ rw (after_is_so, lives_is) (ap (λ n. has_live (recount_some in_schools (count_of (number_at of_schools wish)) (is_live (mark_in marks wish)) (is_live m)) (number_at of_schools wish) (is_live n)) (sym (mark_in-set_same marks wish m lt)) ∙ has_bed_is (with_mark_at s wish m) of_schools (recount_some in_schools (count_of (number_at of_schools wish)) (is_live (mark_in marks wish)) (is_live m)) wish (length-set marks wish m ∙ long) (omega (arith, length-set marks wish m)) more),
-    )
+    turned Schools has_bed_there (state_of d marks) of_schools in_schools wish m was lives had has after (λ s live. has_bed_is s of_schools live wish)
+    keeps.kept.marks lt keeps.schools was_is lives_is after_is had_is has_is

@@ -336,10 +336,15 @@ bundles_are sites ws =
           (bundles_shared sites ws (range_with_len 0 n) j k (k, omega (arith, k_lt, length-range_with_len 0 n), range_at n k 0 k_lt));
     }
 
-pub bundles_within : (sites : Sites) (ws : List Wish) → AreWithin (bundles_of sites ws)
+bundles_within : (sites : Sites) (ws : List Wish) → AreWithin (bundles_of sites ws)
 bundles_within sites ws k lt b e =
     let are = bundles_are sites ws in
     omega (arith, are.as_long, are.within k (omega (arith, lt, are.as_long)) b e)
+
+-- a list of the bundles is as long as the wishes, and each bundle is one of them
+pub bundles_fit : (sites : Sites) (ws : List Wish) (firsts : List (Option ℕ)) → firsts ≡ bundles_of sites ws → length ws < 2147483648
+    → (length firsts < 2147483648) × AreWithin firsts
+bundles_fit sites ws firsts are few = rw are (omega (arith, (bundles_are sites ws).as_long, few), bundles_within sites ws)
 
 -- at the end all wishes have their bundles
 pub walked_all : (sites : Sites) (ws : List Wish) (order : List ℕ) (count : ℕ) (last numbers : List (Option ℕ)) (i : ℕ) → IsIndex ws order → length order ≤ i

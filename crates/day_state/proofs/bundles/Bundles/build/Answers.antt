@@ -2,37 +2,20 @@ use Rattle.std.proofs.Common.{◌≡◌, ◌∙◌, ◌<◌, length, get_or, rep
 use Rattle.std.specs.Prelude.{slice_index}
 use Rattle.std.proofs.lemmas.List.{get_or_read}
 use Rattle.day_state.specs.Bundles.{bundles_of, shared_flags, all_ranks, rank_of}
-use Rattle.day_state.proofs.Numbering.{bundles_are, bundles_within}
+use Rattle.day_state.proofs.Numbering.{bundles_are, bundles_fit}
 use Rattle.day_state.proofs.Sharing.{flags_long, ranks_long, rank_read}
 use Rattle.day_state.proofs.bundles.Bundles.build.Goals as goal
 
-pub shared_among-requires-clause-few : goal.shared_among-requires-clause-few
-shared_among-requires-clause-few c =
-    let ws = c.args.wishes.now in
-    let bundles = bundles_of c.args.sites ws in
-    let long = (bundles_are c.args.sites ws).as_long in
-    let firsts : c.as_slice.result.now ≡ bundles = c.as_slice.ensures.value ∙ c.in_ok-firsts.ensures in
-    rw firsts (omega (arith, long, c.requires.few))
-
-pub shared_among-requires-clause-within : goal.shared_among-requires-clause-within
-shared_among-requires-clause-within c =
-    let bundles = bundles_of c.args.sites c.args.wishes.now in
-    let firsts : c.as_slice.result.now ≡ bundles = c.as_slice.ensures.value ∙ c.in_ok-firsts.ensures in
-    rw firsts (bundles_within c.args.sites c.args.wishes.now)
+pub shared_among-requires : goal.shared_among-requires
+shared_among-requires c =
+    let fit = bundles_fit c.args.sites c.args.wishes.now c.as_slice.result.now (c.as_slice.ensures.value ∙ c.in_ok-firsts.ensures) c.requires.few in
+    record { few = fit.0; within = fit.1 }
 
 pub numbers_of-requires-clause-few : goal.numbers_of-requires-clause-few
-numbers_of-requires-clause-few c =
-    let ws = c.args.wishes.now in
-    let bundles = bundles_of c.args.sites ws in
-    let long = (bundles_are c.args.sites ws).as_long in
-    let firsts : c.as_slice-3.result.now ≡ bundles = c.as_slice-3.ensures.value ∙ c.in_ok-firsts.ensures in
-    rw firsts (omega (arith, long, c.requires.few))
+numbers_of-requires-clause-few c = (bundles_fit c.args.sites c.args.wishes.now c.as_slice-3.result.now (c.as_slice-3.ensures.value ∙ c.in_ok-firsts.ensures) c.requires.few).0
 
 pub numbers_of-requires-clause-within : goal.numbers_of-requires-clause-within
-numbers_of-requires-clause-within c =
-    let bundles = bundles_of c.args.sites c.args.wishes.now in
-    let firsts : c.as_slice-3.result.now ≡ bundles = c.as_slice-3.ensures.value ∙ c.in_ok-firsts.ensures in
-    rw firsts (bundles_within c.args.sites c.args.wishes.now)
+numbers_of-requires-clause-within c = (bundles_fit c.args.sites c.args.wishes.now c.as_slice-3.result.now (c.as_slice-3.ensures.value ∙ c.in_ok-firsts.ensures) c.requires.few).1
 
 pub ranks_of-requires : goal.ranks_of-requires
 ranks_of-requires c =

@@ -1,20 +1,16 @@
-use Rattle.std.proofs.Common.{◌≡◌, ◌∙◌, ◌<◌, length, ap, sym, arith}
+use Rattle.std.proofs.Common.{◌≡◌, ◌∙◌, ◌<◌, length, ap, sym}
 use Rattle.admit_core.specs.State.{State, is_live}
 use Rattle.day_state.specs.declared.bundles.Sites.TheVariants.{Schools}
 use Rattle.day_state.specs.Bundles.{number_at, has_live}
 use Rattle.day_state.specs.Kept.{mark_in, wish_in, holds_bed_in, state_of}
-use Rattle.day_state.proofs.Bundled.{numbers_long, number_within, holds_bed_is}
+use Rattle.day_state.proofs.Bundled.{has_number, holds_bed_is}
 use Rattle.day_state.proofs.counted_marks.CountedMarks.is_live_in_its_school.Goals as goal
 
-pub is_live-requires-clause-place : goal.is_live-requires-clause-place
-is_live-requires-clause-place c =
+pub is_live-requires : goal.is_live-requires
+is_live-requires c =
     let in_range : c.args.wish < length c.self.inside.marks.items = rw (sym c.self.view_is) at c.requires in
-    omega (arith, c.self.invariant.kept.marks, numbers_long Schools (state_of c.self.inside.dossier.now c.self.inside.marks.items) c.self.inside.in_schools.numbers.value c.self.inside.in_schools.live.items c.self.invariant.schools)
-
-pub is_live-requires-clause-number : goal.is_live-requires-clause-number
-is_live-requires-clause-number c =
-    let in_range : c.args.wish < length c.self.inside.marks.items = rw (sym c.self.view_is) at c.requires in
-    number_within Schools (state_of c.self.inside.dossier.now c.self.inside.marks.items) c.self.inside.in_schools.numbers.value c.self.inside.in_schools.live.items c.args.wish c.self.invariant.kept.marks in_range c.self.invariant.schools
+    let has = has_number Schools (state_of c.self.inside.dossier.now c.self.inside.marks.items) c.self.inside.in_schools.numbers.value c.self.inside.in_schools.live.items c.args.wish c.self.invariant.kept.marks in_range c.self.invariant.schools in
+    record { place = has.place; number = has.number }
 
 pub returns : goal.returns
 returns c =
