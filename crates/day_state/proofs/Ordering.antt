@@ -12,7 +12,7 @@ use Rattle.std.proofs.lemmas.List.Folds.{Any-from_list_any, drop_split}
 use Rattle.std.proofs.lemmas.List.FromFn.{length-range_with_len, get_or-range_with_len, map-range_with_len_more}
 use Rattle.std.proofs.lemmas.List.Sorted.{All-permutation, length_permutation}
 use Rattle.admit_core.specs.declared.dossier.Wish.{Wish}
-use Rattle.day_state.specs.declared.index.Span.{Span}
+use Rattle.day_state.specs.declared.spans.Span.{Span}
 use Rattle.day_state.specs.Kept.{candidate_in, span_in, IsIndex, IsSpan, AreSpans}
 
 pub filter_none : {X : Type 0} (p : X → Bool) (xs : List X) → All (λ x. p x ≡ false) xs → filter p xs ≡ []

@@ -1,11 +1,12 @@
 -- What is kept beside the marks: an index of the candidates, and the numbers of those who are live.
-use Rattle.std.specs.Prelude.{◌≡◌, ℕ, ◌+◌, ◌-◌, ◌≤◌, ◌<◌, Bool, false, cond, ◌&&◌, List, map, length, filter, Option, Some, None, ◌==◌, slice_get, slice_index, slice_range, slice_set, unwrap_or, All}
+use Rattle.std.specs.Prelude.{◌≡◌, ℕ, ◌+◌, ◌-◌, ◌≤◌, ◌<◌, Bool, false, cond, ◌&&◌, List, map, length, filter, Option, Some, None, ◌==◌, slice_get, slice_index, slice_set, unwrap_or, All}
 use Rattle.std.specs.List.{list_any, range_with_len}
 use Rattle.std.specs.List.Sorted.{IsNonDecreasingBy}
 use Rattle.admit_core.specs.declared.dossier.Wish.{Wish}
 use Rattle.admit_core.specs.declared.state.Status.TheVariants.{Waiting}
 use Rattle.admit_core.specs.declared.state.Mark.{Mark}
-use Rattle.day_state.specs.declared.index.Span.{Span}
+use Rattle.day_state.specs.declared.spans.Span.{Span}
+use Rattle.day_state.specs.Spans.{IsWithin, part_of}
 use Rattle.admit_core.specs.DossierRows.{DossierRows, candidates_of}
 use Rattle.admit_core.specs.State.{State, entries, is_live, status_number, has_school, holds_seat, holds_bed}
 
@@ -89,9 +90,8 @@ pub record IsIndex (ws : List Wish) (order : List ℕ) : Type 0 where
 
 -- where in the order the wishes of a candidate stand
 pub record IsSpan (ws : List Wish) (order : List ℕ) (c : ℕ) (span : Span) : Type 0 where
-  pub rises : span.from ≤ span.to
-  pub within : span.to ≤ length order
-  pub own : slice_range order span.from span.to ≡ filter (λ k. candidate_in ws k == c) order
+  pub within : IsWithin (length order) span
+  pub own : part_of order span ≡ filter (λ k. candidate_in ws k == c) order
 
 -- the span at a place
 abbrev pub span_in : List Span → ℕ → Span

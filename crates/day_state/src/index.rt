@@ -1,5 +1,5 @@
 //! An index from a candidate to their own wishes.
-ghost use Rattle.std.specs.Prelude.{◌≡◌, ◌<◌, ◌≤◌, ◌^◌, length, slice_range, IfOk, OnOk, nat_lt, nat_le, true, false};
+ghost use Rattle.std.specs.Prelude.{◌≡◌, ◌<◌, ◌≤◌, ◌^◌, length, IfOk, OnOk, nat_lt, nat_le, true, false};
 ghost use Rattle.std.specs.List.{range_with_len};
 ghost use Rattle.std.specs.List.Sorted.{IsNonDecreasingBy, IsPermutation, IsStableByKey, IsPartitionPoint};
 ghost use Rattle.std.specs.Ordering.{nat_cmp};
@@ -7,16 +7,10 @@ ghost use Rattle.admit_core.specs.DossierRows.{DossierRows, candidate_of};
 ghost use Rattle.admit_core.specs.OwnWishes.{own_places};
 ghost use Rattle.day_state.specs.Kept.{candidate_in, IsIndex, IsSpan, AreSpans};
 
+use crate::spans::{Span, part};
 use admit_core::{Dossier, OutOfMemory, Wish};
 use std::alloc::{AllocError, Global};
 use std::marker::Model;
-
-/// Where in an order by candidate the wishes of one candidate begin and end.
-#[derive(Clone, Copy)]
-struct Span {
-    from: u32,
-    to: u32,
-}
 
 /// The places of a dossier's wishes in order by candidate, and for each wish where those of its
 /// candidate stand in it.
@@ -180,13 +174,4 @@ fn spans_of(alloc: Global, wishes: &[Wish], order: &[u32]) -> Result<Vec<Span>, 
         spans.push(span)?;
     }
     Ok(spans)
-}
-
-/// The part of an order that a span marks.
-fn part(order: &[u32], span: Span) -> &[u32]
-    requires rises { span.from ≤ span.to }
-    requires within { span.to ≤ length order.now }
-    ensures { result.now ≡ slice_range order.now span.from span.to }
-{
-    &order[span.from as usize..span.to as usize]
 }

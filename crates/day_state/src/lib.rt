@@ -13,8 +13,10 @@ mod index;
 mod laws;
 mod mark;
 mod numbers;
+mod spans;
 
 pub use counted_marks::freed_in_all;
 pub use day::{DayState, UnfitAnswer, UnfitAt};
 pub use laws::candidates_stand_apart;
 pub use mark::{lapses, offer_day};
+pub use spans::{Span, part};

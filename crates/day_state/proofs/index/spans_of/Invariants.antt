@@ -1,6 +1,6 @@
 use Rattle.std.specs.Prelude.{ℕ, List}
 use Rattle.admit_core.specs.declared.dossier.Wish.{Wish}
-use Rattle.day_state.specs.declared.index.Span.{Span}
+use Rattle.day_state.specs.declared.spans.Span.{Span}
 use Rattle.day_state.specs.Kept.{IsSpan, AreSpans}
 use Rattle.day_state.proofs.index.spans_of.Given as goal
 
