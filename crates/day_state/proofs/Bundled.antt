@@ -20,7 +20,7 @@ use Rattle.day_state.specs.declared.bundles.Sites.{Sites}
 use Rattle.day_state.specs.declared.bundles.Sites.TheVariants.{Programmes, Schools}
 use Rattle.day_state.specs.declared.numbers.Number.{Number}
 use Rattle.day_state.specs.declared.numbers.Number.TheVariants.{NoSite}
-use Rattle.day_state.specs.Kept.{mark_in, wish_in, waiting_mark, holds_one, holds_bed_in, in_school, one_if, recount, recount_some, has_seat_there, has_bed_there, state_of}
+use Rattle.day_state.specs.Kept.{mark_in, wish_in, waiting_mark, holds_one, holds_bed_in, one_if, recount, recount_some, has_seat_there, has_bed_there, state_of}
 use Rattle.day_state.specs.Bundles.{site_of, is_same, number_in, bundles_of, is_shared, rank_of, number_of, number_at, count_of, all_numbers, shared_in_all, has_live, live_in_bundle, AreLiveCounts, IsBundled, KeepsCounts}
 use Rattle.day_state.proofs.Counting.{here_step, there_step}
 use Rattle.day_state.proofs.Numbering.{range_at, bundles_are}
@@ -302,30 +302,19 @@ pub has_seat_is : (s : State) (numbers : List Number) (live : List ℕ) (k : ℕ
     → IsBundled Programmes s numbers live → has_live live (number_at numbers k) (is_live (mark_in s.marks k)) ≡ has_seat_there s k
 has_seat_is s numbers live k long lt bundled = has_live_is Programmes s numbers live k long lt bundled
 
-in_school_is : (o : Option ℕ) (w : Wish) → is_same o w.school ≡ in_school o w
-in_school_is None w = refl
-in_school_is (Some h) w = refl
+-- a live wish at the site of another one, where that may have none
+in_its_school : (s : State) (c : ℕ) (o : Option ℕ) → holds_one (λ v. is_same o v.school) s c ≡ holds_bed_in s c o
+in_its_school s c None =
+    never (λ (e : Wish × Mark). is_live e.1 && (e.0.candidate == c) && false)
+    (λ e. and_right (is_live e.1 && (e.0.candidate == c)) false refl) (entries s)
+in_its_school s c (Some h) = refl
 
-in_any_school : (s : State) (c : ℕ) (o : Option ℕ) → holds_one (in_school o) s c ≡ holds_bed_in s c o
-in_any_school s c None = never (λ (e : Wish × Mark). is_live e.1 && (e.0.candidate == c) && false) (λ e. and_right (is_live e.1 && (e.0.candidate == c)) false refl) (entries s)
-in_any_school s c (Some h) = refl
-
-pub has_bed_is : (s : State) (numbers : List Number) (live : List ℕ) (k : ℕ) → length s.marks ≡ length s.dossier.wishes → k < length s.marks
-    → IsBundled Schools s numbers live → has_live live (number_at numbers k) (is_live (mark_in s.marks k)) ≡ has_bed_there s k
+pub has_bed_is : (s : State) (numbers : List Number) (live : List ℕ) (k : ℕ)
+    → length s.marks ≡ length s.dossier.wishes → k < length s.marks → IsBundled Schools s numbers live
+    → has_live live (number_at numbers k) (is_live (mark_in s.marks k)) ≡ has_bed_there s k
 has_bed_is s numbers live k long lt bundled =
     let w = wish_in s.dossier.wishes k in
-    has_live_is Schools s numbers live k long lt bundled
-    ∙ any_same (λ (e : Wish × Mark). is_live e.1 && (e.0.candidate == w.candidate) && is_same w.school e.0.school)
-    (λ (e : Wish × Mark). is_live e.1 && (e.0.candidate == w.candidate) && in_school w.school e.0)
-    (λ e. ap (λ t. (is_live e.1 && (e.0.candidate == w.candidate)) && t) (in_school_is w.school e.0)) (entries s)
-
--- the same where the school is given by cases
-pub holds_bed_is : (s : State) (numbers : List Number) (live : List ℕ) (k : ℕ) → length s.marks ≡ length s.dossier.wishes → k < length s.marks
-    → IsBundled Schools s numbers live
-    → has_live live (number_at numbers k) (is_live (mark_in s.marks k)) ≡ holds_bed_in s (wish_in s.dossier.wishes k).candidate (wish_in s.dossier.wishes k).school
-holds_bed_is s numbers live k long lt bundled =
-    let w = wish_in s.dossier.wishes k in
-    has_bed_is s numbers live k long lt bundled ∙ in_any_school s w.candidate w.school
+    has_live_is Schools s numbers live k long lt bundled ∙ in_its_school s w.candidate w.school
 
 no_live_in : (n : ℕ) (numbers : List (Option ℕ)) (b a l : ℕ) → a + l ≤ n → length (filter (counts_in (replicate n waiting_mark) numbers b) (range_with_len a l)) ≡ 0
 no_live_in n numbers b a zero le = refl

@@ -15,7 +15,7 @@ use Rattle.admit_core.specs.State.{State, has_school, with_mark_at, holds_seat, 
 use Rattle.admit_core.specs.OwnWishes.{own_places}
 use Rattle.admit_core.specs.AutoAnswer.{freed_by}
 use Rattle.admit_core.specs.Validity.{IsValid, IsValidWish}
-use Rattle.day_state.specs.Kept.{mark_in, wish_in, holds_one, in_school, one_if, recount, recount_some, has_seat_there, has_bed_there, state_of, AreCounts, IsKept}
+use Rattle.day_state.specs.Kept.{mark_in, wish_in, holds_bed_in, one_if, recount, recount_some, has_seat_there, has_bed_there, state_of, AreCounts, IsKept}
 use Rattle.day_state.proofs.Places.{candidate_in}
 use Rattle.day_state.proofs.KeptCounts.{kept_after, holders_after, count_bounds}
 use Rattle.day_state.proofs.Freeing.{freed_there}
@@ -56,7 +56,7 @@ seat_fits s seats beds place m kept lt short programme =
 bed_fits_at : (s : State) (seats beds : List ℕ) (place : ℕ) (m : Mark) → IsKept s seats beds → place < length s.marks
     → length s.dossier.wishes ≤ 16000000 → (o : Option ℕ) (h : ℕ) → o ≡ Some h → h < length s.dossier.schools
     → let c = (wish_in s.dossier.wishes place).candidate in
-    Fits beds (length s.dossier.schools) h (holds_one (in_school o) s c) (holds_one (in_school o) (with_mark_at s place m) c)
+    Fits beds (length s.dossier.schools) h (holds_bed_in s c o) (holds_bed_in (with_mark_at s place m) c o)
 bed_fits_at s seats beds place m kept lt short None h is within = absurd (cc)
 bed_fits_at s seats beds place m kept lt short (Some g) h is within =
     let same : g ≡ h = (cc) in

@@ -12,7 +12,7 @@ use Rattle.admit_core.specs.declared.state.Freed.{Freed}
 use Rattle.admit_core.specs.State.{State, entries, is_live, has_school, with_mark_at, holds_seat, holds_bed}
 use Rattle.admit_core.specs.DossierRows.{DossierRows}
 use Rattle.admit_core.specs.AutoAnswer.{freed_by}
-use Rattle.day_state.specs.Kept.{mark_in, wish_in, holds_one, in_school, one_if, has_seat_there, has_bed_there}
+use Rattle.day_state.specs.Kept.{mark_in, wish_in, holds_one, holds_bed_in, one_if, has_seat_there, has_bed_there}
 use Rattle.day_state.proofs.Places.{entry_in, entries-with_mark_at}
 use Rattle.day_state.proofs.KeptCounts.{holds_same_other, school_fails, none_fails}
 use Rattle.day_state.proofs.Lost.{Falls, lost_in, lost_none, lost_one, lost_both, lost_at_most}
@@ -22,19 +22,14 @@ pub freed_none : (s t : State) (c : ℕ) → ((k : ℕ) → holds_seat t c k ≡
 freed_none s t c seats beds =
     rw (lost_none (holds_seat s c) (holds_seat t c) (length s.dossier.programmes) seats, lost_none (holds_bed s c) (holds_bed t c) (length s.dossier.schools) beds) refl
 
-no_school : (c : ℕ) (es : List (Wish × Mark)) → list_any (λ (e : Wish × Mark). is_live e.1 && (e.0.candidate == c) && in_school None e.0) es ≡ false
-no_school c [] = refl
-no_school c (e ∷ es) = rw (and_right (is_live e.1 && (e.0.candidate == c)) false refl) (no_school c es)
-
 beds_freed_at : (s : State) (place : ℕ) (m : Mark) → length s.marks ≡ length s.dossier.wishes → place < length s.marks
     → (o : Option ℕ) → (wish_in s.dossier.wishes place).school ≡ o → ForSome o (λ h. h < length s.dossier.schools)
     → let t = with_mark_at s place m in let c = (wish_in s.dossier.wishes place).candidate in
-    lost_in (holds_bed s c) (holds_bed t c) (length s.dossier.schools) ≡ one_if (holds_one (in_school o) s c && not (holds_one (in_school o) t c))
+    lost_in (holds_bed s c) (holds_bed t c) (length s.dossier.schools) ≡ one_if (holds_bed_in s c o && not (holds_bed_in t c o))
 beds_freed_at s place m long lt None is within =
     let c = (wish_in s.dossier.wishes place).candidate in
     let t = with_mark_at s place m in
     lost_none (holds_bed s c) (holds_bed t c) (length s.dossier.schools) (λ k. holds_same_other (λ w. has_school w k) s place m long lt (none_fails (wish_in s.dossier.wishes place).school k is) c)
-    ∙ rw (no_school c (entries s)) refl
 beds_freed_at s place m long lt (Some h) is within =
     let c = (wish_in s.dossier.wishes place).candidate in
     let t = with_mark_at s place m in

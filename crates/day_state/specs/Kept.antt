@@ -8,7 +8,7 @@ use Rattle.admit_core.specs.declared.state.Mark.{Mark}
 use Rattle.day_state.specs.declared.spans.Span.{Span}
 use Rattle.day_state.specs.Spans.{IsWithin, part_of}
 use Rattle.admit_core.specs.DossierRows.{DossierRows, candidates_of}
-use Rattle.admit_core.specs.State.{State, entries, is_live, status_number, has_school, holds_seat, holds_bed}
+use Rattle.admit_core.specs.State.{State, entries, is_live, status_number, holds_seat, holds_bed}
 
 -- a wish that waits from the start
 abbrev pub waiting_mark : Mark
@@ -37,11 +37,6 @@ lives_at ws ms test k = is_live (mark_in ms k) && test (wish_in ws k)
 abbrev pub holds_one : (Wish → Bool) → State → ℕ → Bool
 holds_one test s c = list_any (λ (w, m). is_live m && (w.candidate == c) && test w) (entries s)
 
--- the wish has this school, where one is given
-abbrev pub in_school : Option ℕ → Wish → Bool
-in_school None w = false
-in_school (Some h) w = has_school w h
-
 -- a candidate is live in a school, where one is given
 abbrev pub holds_bed_in : State → ℕ → Option ℕ → Bool
 holds_bed_in s c None = false
@@ -52,7 +47,7 @@ abbrev pub has_seat_there : State → ℕ → Bool
 has_seat_there s place = holds_seat s (wish_in s.dossier.wishes place).candidate (wish_in s.dossier.wishes place).programme
 
 abbrev pub has_bed_there : State → ℕ → Bool
-has_bed_there s place = holds_one (in_school (wish_in s.dossier.wishes place).school) s (wish_in s.dossier.wishes place).candidate
+has_bed_there s place = holds_bed_in s (wish_in s.dossier.wishes place).candidate (wish_in s.dossier.wishes place).school
 
 -- the state of a dossier with these marks
 abbrev pub state_of : DossierRows → List Mark → State

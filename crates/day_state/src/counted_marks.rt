@@ -2,13 +2,13 @@
 ghost use Rattle.std.specs.Prelude.{◌≡◌, ◌<◌, ◌≤◌, ◌+◌, ◌-◌, ◌^◌, ◌==◌, ◌&&◌, length, slice_index, All, IfOk, replicate, option_map};
 ghost use Rattle.std.specs.Option.{ForSome};
 ghost use Rattle.std.specs.List.{list_any};
-ghost use Rattle.admit_core.specs.State.{State, with_mark_at, holds_seat, holds_bed, seat_holders, bed_holders};
+ghost use Rattle.admit_core.specs.State.{State, with_mark_at, has_school, holds_seat, holds_bed, seat_holders, bed_holders};
 ghost use Rattle.admit_core.specs.DossierRows.{candidate_of};
 ghost use Rattle.admit_core.specs.OwnWishes.{own_places};
 ghost use Rattle.admit_core.specs.AutoAnswer.{auto_one, best_live, freed_by};
 ghost use Rattle.day_state.specs.Along.{change_own, changed_by};
 ghost use Rattle.day_state.specs.Best.{best_among};
-ghost use Rattle.day_state.specs.Kept.{mark_in, wish_in, lives_at, in_school, holds_bed_in, has_seat_there, waiting_mark, state_of, IsIndex};
+ghost use Rattle.day_state.specs.Kept.{mark_in, lives_at, has_seat_there, has_bed_there, waiting_mark, state_of, IsIndex};
 
 use crate::bundles::{Bundles, Sites};
 use crate::counts::{copy_counts, recount, recount_some, zeros};
@@ -160,7 +160,7 @@ impl<'d> CountedMarks<'d> {
             dossier.wishes.as_slice(),
             self.marks.as_slice(),
             own,
-            Some(school),
+            school,
         )
     }
 
@@ -176,7 +176,7 @@ impl<'d> CountedMarks<'d> {
     /// Whether a wish's candidate is live in its school.
     pub fn is_live_in_its_school(&self, wish: u32) -> bool
         requires { wish < length self.now.marks }
-        ensures { result ≡ holds_bed_in self.now (wish_in self.now.dossier.wishes wish).candidate (wish_in self.now.dossier.wishes wish).school }
+        ensures { result ≡ has_bed_there self.now wish }
     {
         let lives = self.mark(wish).is_live();
         self.in_schools.is_live(wish, lives)
@@ -314,11 +314,11 @@ fn any_in_programme(wishes: &[Wish], marks: &[Mark], own: &[u32], programme: u32
     own.iter().any(|place| lives_in_programme(wishes, marks, *place, programme))
 }
 
-/// Whether one of a candidate's own wishes is live in a school, where one is given.
-fn any_in_school(wishes: &[Wish], marks: &[Mark], own: &[u32], school: Option<u32>) -> bool
+/// Whether one of a candidate's own wishes is live in a school.
+fn any_in_school(wishes: &[Wish], marks: &[Mark], own: &[u32], school: u32) -> bool
     requires wishes { All (λ k. k < length wishes.now) own.now }
     requires marks { length marks.now ≡ length wishes.now }
-    ensures { result ≡ list_any (lives_at wishes.now marks.now (in_school school)) own.now }
+    ensures { result ≡ list_any (lives_at wishes.now marks.now (λ w. has_school w school)) own.now }
 {
     own.iter()
         .any(|place| lives_in_school(wishes, marks, *place, school))

@@ -1,12 +1,12 @@
 //! Tests of wishes and their marks.
 ghost use Rattle.std.specs.Prelude.{◌≡◌, ◌<◌, ◌≤◌, ◌+◌, ◌^◌, ◌&&◌, ◌==◌, length, IsTrue, not, pos, negsuc, ◌≤ℤ◌, slice_index_or, if◌then◌else◌};
-ghost use Rattle.admit_core.specs.State.{changed_to};
+ghost use Rattle.admit_core.specs.State.{changed_to, has_school};
 ghost use Rattle.admit_core.specs.AutoAnswer.{auto_status};
 ghost use Rattle.admit_core.specs.Days.{first_mark};
 ghost use Rattle.admit_core.specs.Lapses.{lapses, offer_day};
 ghost use Rattle.day_state.specs.Along.{changed_by};
 ghost use Rattle.day_state.specs.Best.{better, live_preference};
-ghost use Rattle.day_state.specs.Kept.{is_same_mark, mark_in, wish_in, lives_at, in_school, one_if};
+ghost use Rattle.day_state.specs.Kept.{is_same_mark, mark_in, wish_in, lives_at, one_if};
 
 use admit_core::{Mark, Stamp, Status, Terms, Wish};
 
@@ -138,16 +138,6 @@ pub fn wish_at(wishes: &[Wish], place: u32) -> Wish
     wishes[place as usize]
 }
 
-/// Whether the wish has this school, where one is given.
-pub fn is_in_school(wish: Wish, school: Option<u32>) -> bool
-    ensures { result ≡ in_school school wish }
-{
-    match school {
-        None => false,
-        Some(_) => wish.school == school,
-    }
-}
-
 /// Whether the wish at a place is live in a programme.
 pub fn lives_in_programme(wishes: &[Wish], marks: &[Mark], place: u32, programme: u32) -> bool
     requires wish { place < length wishes.now }
@@ -157,13 +147,13 @@ pub fn lives_in_programme(wishes: &[Wish], marks: &[Mark], place: u32, programme
     marks[place as usize].is_live() && wishes[place as usize].programme == programme
 }
 
-/// Whether the wish at a place is live in a school, where one is given.
-pub fn lives_in_school(wishes: &[Wish], marks: &[Mark], place: u32, school: Option<u32>) -> bool
+/// Whether the wish at a place is live in a school.
+pub fn lives_in_school(wishes: &[Wish], marks: &[Mark], place: u32, school: u32) -> bool
     requires wish { place < length wishes.now }
     requires mark { place < length marks.now }
-    ensures { result ≡ lives_at wishes.now marks.now (in_school school) place }
+    ensures { result ≡ lives_at wishes.now marks.now (λ w. has_school w school) place }
 {
-    marks[place as usize].is_live() && is_in_school(wishes[place as usize], school)
+    marks[place as usize].is_live() && wishes[place as usize].school == Some(school)
 }
 
 /// 1 where one who was counted no longer is.

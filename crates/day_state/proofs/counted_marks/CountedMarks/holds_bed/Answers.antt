@@ -1,7 +1,7 @@
-use Rattle.std.proofs.Common.{◌≡◌, ◌∙◌, ap, Some}
+use Rattle.std.proofs.Common.{◌≡◌, ◌∙◌, ap}
 use Rattle.admit_core.specs.DossierRows.{DossierRows}
-use Rattle.admit_core.specs.State.{State}
-use Rattle.day_state.specs.Kept.{in_school, state_of, holds_one}
+use Rattle.admit_core.specs.State.{State, has_school}
+use Rattle.day_state.specs.Kept.{state_of, holds_one}
 use Rattle.day_state.proofs.Change.{own_within}
 use Rattle.day_state.proofs.Places.{own_any}
 use Rattle.day_state.proofs.counted_marks.CountedMarks.holds_bed.Goals as goal
@@ -18,5 +18,5 @@ returns c =
     let s = state_of c.self.inside.dossier.now c.self.inside.marks.items in
     let is = c.self.view_is in
     c.any_in_school.ensures
-    ∙ rw (wishes, c.as_slice-2.ensures.value, c.requires, ← ap (λ (s : State). s.dossier) c.self.view_is) (own_any (in_school (Some c.args.school)) s c.args.candidate c.self.invariant.kept.marks)
-    ∙ ap (λ (s : State). holds_one (in_school (Some c.args.school)) s c.args.candidate) c.self.view_is
+    ∙ rw (wishes, c.as_slice-2.ensures.value, c.requires, ← ap (λ (s : State). s.dossier) c.self.view_is) (own_any (λ w. has_school w c.args.school) s c.args.candidate c.self.invariant.kept.marks)
+    ∙ ap (λ (s : State). holds_one (λ w. has_school w c.args.school) s c.args.candidate) c.self.view_is

@@ -2,8 +2,8 @@ use Rattle.std.proofs.Common.{◌≡◌, ◌∙◌, ◌<◌, length, ap, sym}
 use Rattle.admit_core.specs.State.{State, is_live}
 use Rattle.day_state.specs.declared.bundles.Sites.TheVariants.{Schools}
 use Rattle.day_state.specs.Bundles.{number_at, has_live}
-use Rattle.day_state.specs.Kept.{mark_in, wish_in, holds_bed_in, state_of}
-use Rattle.day_state.proofs.Bundled.{has_number, holds_bed_is}
+use Rattle.day_state.specs.Kept.{mark_in, has_bed_there, state_of}
+use Rattle.day_state.proofs.Bundled.{has_number, has_bed_is}
 use Rattle.day_state.proofs.counted_marks.CountedMarks.is_live_in_its_school.Goals as goal
 
 pub is_live-requires : goal.is_live-requires
@@ -19,5 +19,5 @@ returns c =
     let lives : c.is_live-lives.result ≡ is_live (mark_in marks c.args.wish) = c.is_live-lives.ensures ∙ ap is_live (c.mark.ensures ∙ ap (λ (s : State). mark_in s.marks c.args.wish) (sym c.self.view_is)) in
     c.is_live.ensures
     ∙ ap (has_live c.self.inside.in_schools.live.items (number_at c.self.inside.in_schools.numbers.value c.args.wish)) lives
-    ∙ holds_bed_is (state_of c.self.inside.dossier.now marks) c.self.inside.in_schools.numbers.value c.self.inside.in_schools.live.items c.args.wish c.self.invariant.kept.marks in_range c.self.invariant.schools
-    ∙ ap (λ (s : State). holds_bed_in s (wish_in s.dossier.wishes c.args.wish).candidate (wish_in s.dossier.wishes c.args.wish).school) c.self.view_is
+    ∙ has_bed_is (state_of c.self.inside.dossier.now marks) c.self.inside.in_schools.numbers.value c.self.inside.in_schools.live.items c.args.wish c.self.invariant.kept.marks in_range c.self.invariant.schools
+    ∙ ap (λ (s : State). has_bed_there s c.args.wish) c.self.view_is
