@@ -91,17 +91,28 @@ between_is a c l u = eq-eqb a c (omega (arith, ltb-false a c l, leb-true a c u))
 lt_le : (a c : ℕ) → ltb a c ≡ true → leb a c ≡ true
 lt_le a c t = le-leb a c (omega (arith, ltb-true a c t))
 
--- between the first place that is not below c and the first that is above c stand those of c
-pub between : (key : ℕ → ℕ) (xs : List ℕ) (c from to : ℕ) → from ≤ length xs → to ≤ length xs
-    → IsPartitionPoint (λ k. ltb (key k) c ≡ true) (λ k. ltb (key k) c ≡ false) xs from
-    → IsPartitionPoint (λ k. leb (key k) c ≡ true) (λ k. leb (key k) c ≡ false) xs to
-    → (from ≤ to) × (slice_range xs from to ≡ filter (λ k. key k == c) xs)
-between key xs c from to from_in to_in lower upper =
-    let p = λ (k : ℕ). key k == c in
-    let le : from ≤ to = elim (cases_lt to from) [
-      | inl less ↦ absurd (both_ways (leb (key (get_or xs to 0)) c) (upper.1 to 0 (omega arith) (omega arith)) (lt_le (key (get_or xs to 0)) c (lower.0 to 0 (omega arith) less)))
+-- the first place that is not below c is not behind the first that is above it
+between_order : {X : Type 0} (key : X → ℕ) (xs : List X) (c from to : ℕ) → from ≤ length xs
+    → IsPartitionPoint (λ x. ltb (key x) c ≡ true) (λ x. ltb (key x) c ≡ false) xs from
+    → IsPartitionPoint (λ x. leb (key x) c ≡ true) (λ x. leb (key x) c ≡ false) xs to
+    → from ≤ to
+between_order key [] c from to from_in lower upper = omega (arith, from_in)
+between_order {X} key (x ∷ xs) c from to from_in lower upper =
+    elim (cases_lt to from) [
+      | inl less ↦
+          let k = key (get_or (x ∷ xs) to x) in
+          absurd (both_ways (leb k c) (upper.1 to x (omega arith) (omega arith)) (lt_le k c (lower.0 to x (omega arith) less)))
       | inr more ↦ more
-    ] in
+    ]
+
+-- between the first place that is not below c and the first that is above c stand those of c
+pub between : {X : Type 0} (key : X → ℕ) (xs : List X) (c from to : ℕ) → from ≤ length xs → to ≤ length xs
+    → IsPartitionPoint (λ x. ltb (key x) c ≡ true) (λ x. ltb (key x) c ≡ false) xs from
+    → IsPartitionPoint (λ x. leb (key x) c ≡ true) (λ x. leb (key x) c ≡ false) xs to
+    → (from ≤ to) × (slice_range xs from to ≡ filter (λ x. key x == c) xs)
+between {X} key xs c from to from_in to_in lower upper =
+    let p = λ (x : X). key x == c in
+    let le = between_order key xs c from to from_in lower upper in
     let front : filter p (take from xs) ≡ [] = filter_none p (take from xs) (λ k d lt.
     let k_in : k < from = omega (arith, length-take from xs) in
     rw (get_or-take from xs k d k_in) (below_not _ _ (lower.0 k d (omega arith) k_in))) in
@@ -111,7 +122,8 @@ between key xs c from to from_in to_in lower upper =
     (between_is _ _ (lower.1 (from + k) d (omega arith) (omega arith)) (upper.0 (from + k) d (omega arith) (omega arith)))) in
     let back : filter p (drop to xs) ≡ [] = filter_none p (drop to xs) (λ k d lt.
     rw (get_or-drop to xs k d) (above_not _ _ (upper.1 (to + k) d (omega arith) (omega (arith, length-drop to xs))))) in
-    let whole : xs ≡ take from xs ++ (slice_range xs from to ++ drop to xs) = sym (take-append-drop from xs) ∙ ap (λ (l : List ℕ). take from xs ++ l) (drop_split xs from to le) in
+    let whole : xs ≡ take from xs ++ (slice_range xs from to ++ drop to xs) =
+    sym (take-append-drop from xs) ∙ ap (λ (l : List X). take from xs ++ l) (drop_split xs from to le) in
     let parts : filter p xs ≡ slice_range xs from to =
     ap (filter p) whole ∙ filter-append p (take from xs) (slice_range xs from to ++ drop to xs)
     ∙ rw (front, filter-append p (slice_range xs from to) (drop to xs), middle, back) (append-nil (slice_range xs from to)) in
