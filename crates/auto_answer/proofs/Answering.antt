@@ -73,7 +73,8 @@ one_both c s t stamp a =
     }
 
 -- the answers of all do to a candidate's wishes what their own answer does
-pub one_as_all : (c : ℕ) (s : State) (stamp : Stamp) → length s.marks ≡ length s.dossier.wishes → Agrees c (auto_one s c stamp) (auto_all s stamp)
+pub one_as_all : (c : ℕ) (s : State) (stamp : Stamp) → length s.marks ≡ length s.dossier.wishes
+    → Agrees c (auto_one s c stamp) (auto_all s stamp)
 one_as_all c s stamp long = record {
   dossier = refl;
   long = length-with_marks (one_mark s c stamp) s long ∙ long;
@@ -135,18 +136,23 @@ pub record IsAnswered (start now : State) (stamp : Stamp) (i : ℕ) (all : Freed
   pub long : length start.marks ≡ length start.dossier.wishes
   pub done : (c : ℕ) → is_among c (later start.dossier i) ≡ false → Agrees c now (auto_all start stamp)
   pub waits : (c : ℕ) → is_among c (later start.dossier i) ≡ true → Agrees c now start
-  pub seats : all.seats + seats_of_all start (auto_all start stamp) (later start.dossier i) ≡ seats_of_all start (auto_all start stamp) (wishers start.dossier)
-  pub beds : all.beds + beds_of_all start (auto_all start stamp) (later start.dossier i) ≡ beds_of_all start (auto_all start stamp) (wishers start.dossier)
+  pub seats : all.seats + seats_of_all start (auto_all start stamp) (later start.dossier i)
+      ≡ seats_of_all start (auto_all start stamp) (wishers start.dossier)
+  pub beds : all.beds + beds_of_all start (auto_all start stamp) (later start.dossier i)
+      ≡ beds_of_all start (auto_all start stamp) (wishers start.dossier)
 
 -- the candidate of a wish is among the wishes' candidates
 pub own_among : (ws : List Wish) (k : ℕ) → k < length ws → is_among (wish_in ws k).candidate (map (λ (w : Wish). w.candidate) ws) ≡ true
 own_among [] k lt = absurd (omega arith)
-own_among (w ∷ ws) zero lt = or_left (nat_eq w.candidate w.candidate) (is_among w.candidate (map (λ (w : Wish). w.candidate) ws)) (eq-eqb w.candidate w.candidate refl)
+own_among (w ∷ ws) zero lt = or_left (nat_eq w.candidate w.candidate)
+    (is_among w.candidate (map (λ (w : Wish). w.candidate) ws)) (eq-eqb w.candidate w.candidate refl)
 own_among (w ∷ ws) (suc k) lt =
-    or_right (nat_eq (wish_in ws k).candidate w.candidate) (is_among (wish_in ws k).candidate (map (λ (w : Wish). w.candidate) ws)) (own_among ws k (omega arith))
+    or_right (nat_eq (wish_in ws k).candidate w.candidate)
+    (is_among (wish_in ws k).candidate (map (λ (w : Wish). w.candidate) ws)) (own_among ws k (omega arith))
 
 -- a candidate without a wish has nothing to differ in
-no_wish : (c : ℕ) (s t : State) → t.dossier ≡ s.dossier → length s.marks ≡ length s.dossier.wishes → length t.marks ≡ length s.dossier.wishes
+no_wish : (c : ℕ) (s t : State) → t.dossier ≡ s.dossier → length s.marks ≡ length s.dossier.wishes
+    → length t.marks ≡ length s.dossier.wishes
     → is_among c (wishers s.dossier) ≡ false → Agrees c s t
 no_wish c s t dossier long long_too none = record {
   dossier = dossier;
@@ -155,7 +161,8 @@ no_wish c s t dossier long long_too none = record {
   same = λ k lt own. absurd (false≢true (sym none ∙ rw own at (own_among s.dossier.wishes k lt)));
 }
 
-pub answered_none : (s : State) (stamp : Stamp) → length s.marks ≡ length s.dossier.wishes → IsAnswered s s stamp 0 (record { seats = 0; beds = 0 })
+pub answered_none : (s : State) (stamp : Stamp) → length s.marks ≡ length s.dossier.wishes
+    → IsAnswered s s stamp 0 (record { seats = 0; beds = 0 })
 answered_none s stamp long = record {
   long = long;
   done = λ c none. no_wish c s (auto_all s stamp) refl long (length-with_marks (all_mark s stamp) s long ∙ long) none;
@@ -176,7 +183,8 @@ same_among c x ns again =
     ]
 
 -- the wish's candidate has a later one
-pub answered_later : (start now : State) (stamp : Stamp) (i : ℕ) (all : Freed) → IsAnswered start now stamp i all → i < length start.dossier.wishes
+pub answered_later : (start now : State) (stamp : Stamp) (i : ℕ) (all : Freed) → IsAnswered start now stamp i all
+    → i < length start.dossier.wishes
     → is_among (candidate_of start.dossier i) (later start.dossier (i + 1)) ≡ true → IsAnswered start now stamp (i + 1) all
 answered_later start now stamp i all so_far lt again =
     let d = start.dossier in
@@ -188,12 +196,15 @@ answered_later start now stamp i all so_far lt again =
       long = so_far.long;
       done = λ c none. so_far.done c (ap (is_among c) next ∙ same_among c x rest again ∙ none);
       waits = λ c some. so_far.waits c (ap (is_among c) next ∙ same_among c x rest again ∙ some);
-      seats = let same = ap (seats_of_all start end) next ∙ total_again (seats_freed start end) x rest again in omega (arith, so_far.seats, same);
-      beds = let same = ap (beds_of_all start end) next ∙ total_again (beds_freed start end) x rest again in omega (arith, so_far.beds, same);
+      seats = let same = ap (seats_of_all start end) next ∙ total_again (seats_freed start end) x rest again in
+          omega (arith, so_far.seats, same);
+      beds = let same = ap (beds_of_all start end) next ∙ total_again (beds_freed start end) x rest again in
+          omega (arith, so_far.beds, same);
     }
 
 -- a candidate's answer at their last wish frees what it frees in the end
-pub freed_here : (start now : State) (stamp : Stamp) (i : ℕ) (all : Freed) → IsAnswered start now stamp i all → i < length start.dossier.wishes
+pub freed_here : (start now : State) (stamp : Stamp) (i : ℕ) (all : Freed) → IsAnswered start now stamp i all
+    → i < length start.dossier.wishes
     → let x = candidate_of start.dossier i in
     freed_by now (auto_one now x stamp) x ≡ freed_by start (auto_all start stamp) x
 freed_here start now stamp i all so_far lt =
@@ -204,7 +215,8 @@ freed_here start now stamp i all so_far lt =
     same_freed x now (auto_one now x stamp) start (auto_all start stamp) a (one_here x now start stamp a)
 
 -- the wish is its candidate's last
-pub answered_last : (start now : State) (stamp : Stamp) (i : ℕ) (all next_all : Freed) → IsAnswered start now stamp i all → i < length start.dossier.wishes
+pub answered_last : (start now : State) (stamp : Stamp) (i : ℕ) (all next_all : Freed)
+    → IsAnswered start now stamp i all → i < length start.dossier.wishes
     → let x = candidate_of start.dossier i in
     is_among x (later start.dossier (i + 1)) ≡ false
     → next_all.seats ≡ all.seats + seats_freed start (auto_all start stamp) x
@@ -221,17 +233,22 @@ answered_last start now stamp i all next_all so_far lt last more_seats more_beds
       long = so_far.long;
       done = λ c none. elim (cases_eq x c) [
         | inl same ↦ rw (← same) (one_here x now start stamp here)
-        | inr differ ↦ one_other c x now end stamp differ (so_far.done c (ap (is_among c) next ∙ or_from (nat_eq c x) (is_among c rest) (ne_eqb c x (λ e. differ (sym e))) none))
+        | inr differ ↦ one_other c x now end stamp differ
+            (so_far.done c (ap (is_among c) next
+            ∙ or_from (nat_eq c x) (is_among c rest) (ne_eqb c x (λ e. differ (sym e))) none))
       ];
       waits = λ c some.
           one_other c x now start stamp (λ e. false≢true (sym last ∙ rw (← e) at some))
           (so_far.waits c (ap (is_among c) next ∙ or_right (nat_eq c x) (is_among c rest) some));
-      seats = let sum_is = ap (seats_of_all start end) next ∙ total_new (seats_freed start end) x rest last in omega (arith, so_far.seats, sum_is, more_seats);
-      beds = let sum_is = ap (beds_of_all start end) next ∙ total_new (beds_freed start end) x rest last in omega (arith, so_far.beds, sum_is, more_beds);
+      seats = let sum_is = ap (seats_of_all start end) next ∙ total_new (seats_freed start end) x rest last in
+          omega (arith, so_far.seats, sum_is, more_seats);
+      beds = let sum_is = ap (beds_of_all start end) next ∙ total_new (beds_freed start end) x rest last in
+          omega (arith, so_far.beds, sum_is, more_beds);
     }
 
 -- what is freed fits
-pub room_here : (start now : State) (stamp : Stamp) (i : ℕ) (all : Freed) → IsAnswered start now stamp i all → i < length start.dossier.wishes
+pub room_here : (start now : State) (stamp : Stamp) (i : ℕ) (all : Freed) → IsAnswered start now stamp i all
+    → i < length start.dossier.wishes
     → let x = candidate_of start.dossier i in
     is_among x (later start.dossier (i + 1)) ≡ false
     → (all.seats + seats_freed start (auto_all start stamp) x ≤ length start.dossier.wishes)
@@ -258,7 +275,8 @@ pub same_numbers : (x y : Freed) → x.seats ≡ y.seats → x.beds ≡ y.beds �
 same_numbers x y seats beds = let e : numbers x.seats x.beds ≡ numbers y.seats y.beds = rw (seats, beds) refl in e
 
 -- the dossier stays
-pub same_dossier : (start now : State) (stamp : Stamp) (i : ℕ) (all : Freed) → IsAnswered start now stamp i all → now.dossier ≡ start.dossier
+pub same_dossier : (start now : State) (stamp : Stamp) (i : ℕ) (all : Freed) → IsAnswered start now stamp i all
+    → now.dossier ≡ start.dossier
 same_dossier start now stamp i all so_far =
     elim (cases_Bool (is_among 0 (later start.dossier i))) [
       | inl some ↦ sym (so_far.waits 0 some).dossier
@@ -266,7 +284,8 @@ same_dossier start now stamp i all so_far =
     ]
 
 -- after the last wish all have been answered for
-pub answered_all : (start now : State) (stamp : Stamp) (i : ℕ) (all : Freed) → IsAnswered start now stamp i all → length start.dossier.wishes ≤ i
+pub answered_all : (start now : State) (stamp : Stamp) (i : ℕ) (all : Freed) → IsAnswered start now stamp i all
+    → length start.dossier.wishes ≤ i
     → (now ≡ auto_all start stamp) × (all ≡ freed start (auto_all start stamp))
 answered_all start now stamp i all so_far le =
     let d = start.dossier in
@@ -274,15 +293,18 @@ answered_all start now stamp i all so_far le =
     let none : later d i ≡ [] = drop_all i (wishers d) (omega (arith, length-map d.wishes (λ (w : Wish). w.candidate))) in
     let each = λ (c : ℕ). so_far.done c (ap (is_among c) none) in
     let a = each 0 in
-    let seats : all.seats ≡ seats_of_all start end (wishers d) = let sum_is = ap (seats_of_all start end) none in omega (arith, so_far.seats, sum_is) in
-    let beds : all.beds ≡ beds_of_all start end (wishers d) = let sum_is = ap (beds_of_all start end) none in omega (arith, so_far.beds, sum_is) in (
+    let seats : all.seats ≡ seats_of_all start end (wishers d) = let sum_is = ap (seats_of_all start end) none in
+    omega (arith, so_far.seats, sum_is) in
+    let beds : all.beds ≡ beds_of_all start end (wishers d) = let sum_is = ap (beds_of_all start end) none in
+    omega (arith, so_far.beds, sum_is) in (
       same_state now end (sym a.dossier)
           (same_marks now.marks end.marks (a.long ∙ sym a.long_too) (λ k lt. (each (who now k)).same k (omega (arith, a.long)) refl)),
       same_numbers all (freed start end) seats beds,
     )
 
 -- THE STEP at a candidate's last wish, as the loop has it
-pub step_last : (start now next : State) (stamp : Stamp) (i c : ℕ) (all own next_all : Freed) → IsAnswered start now stamp i all → i < length start.dossier.wishes
+pub step_last : (start now next : State) (stamp : Stamp) (i c : ℕ) (all own next_all : Freed)
+    → IsAnswered start now stamp i all → i < length start.dossier.wishes
     → c ≡ candidate_of start.dossier i
     → is_among c (later start.dossier (i + 1)) ≡ false
     → next ≡ auto_one now c stamp
@@ -298,7 +320,8 @@ step_last start now next stamp i c all own next_all so_far lt here last next_is 
     (ap (λ (f : Freed). f.seats) in_all ∙ ap (λ (f : Freed). all.seats + f.seats) freed_is)
     (ap (λ (f : Freed). f.beds) in_all ∙ ap (λ (f : Freed). all.beds + f.beds) freed_is))
 
-pub step_room : (start now next : State) (stamp : Stamp) (i c : ℕ) (all own : Freed) → IsAnswered start now stamp i all → i < length start.dossier.wishes
+pub step_room : (start now next : State) (stamp : Stamp) (i c : ℕ) (all own : Freed)
+    → IsAnswered start now stamp i all → i < length start.dossier.wishes
     → c ≡ candidate_of start.dossier i
     → is_among c (later start.dossier (i + 1)) ≡ false
     → next ≡ auto_one now c stamp
@@ -324,7 +347,8 @@ test_later start now stamp i all is_last so_far e t =
     ∙ not-false (comes_later now.dossier i) (sym e ∙ t)
 
 -- the candidate of the wish that the loop is at
-pub wisher_here : (d : DossierRows) (ws : List Wish) (i : ℕ) (e : Wish) → ws ≡ d.wishes → i < length ws → (get_or ws i e).candidate ≡ candidate_of d i
+pub wisher_here : (d : DossierRows) (ws : List Wish) (i : ℕ) (e : Wish) → ws ≡ d.wishes → i < length ws
+    → (get_or ws i e).candidate ≡ candidate_of d i
 wisher_here d ws i e same lt =
     let candidate = λ (w : Wish). w.candidate in
     sym (get_or-map candidate ws i e 0 lt) ∙ ap (λ (xs : List Wish). get_or (map candidate xs) i 0) same

@@ -46,7 +46,8 @@ one_of_range q a zero single = omega arith
 one_of_range q a (suc n) single =
     let cons = count-cons q a (range_with_len (a + 1) n) in
     elim (cases_Bool (q a)) [
-      | inl here ↦ let rest = none_from q a (a + 1) n single here (omega arith) in let first = ap one here in omega (arith, cons, first, rest)
+      | inl here ↦ let rest = none_from q a (a + 1) n single here (omega arith) in let first = ap one here in
+          omega (arith, cons, first, rest)
       | inr other ↦ let first = ap one other in omega (arith, cons, first, one_of_range q (a + 1) n single)
     ]
 
@@ -71,11 +72,14 @@ few_hit hits kind n single of_kind (x ∷ xs) =
     let cons = count-cons kind x xs in
     elim (cases_Bool (kind x)) [
       | inl of ↦ let first = ap one of in let here = one_of_range (hits x) 0 n (single x) in omega (arith, both, rest, cons, first, here)
-      | inr not_of ↦ let first = ap one not_of in let here = count_none (hits x) (λ k. of_kind x k not_of) ks in omega (arith, both, rest, cons, first, here)
+      | inr not_of ↦ let first = ap one not_of in let here = count_none (hits x) (λ k. of_kind x k not_of) ks in
+          omega (arith, both, rest, cons, first, here)
     ]
 
 -- the own wishes among the entries
-own_entries : (c : ℕ) (ws : List Wish) (ms : List Mark) → count_by (λ (x : Wish × Mark). x.0.candidate == c) (zip ws ms) ≤ count_by (nat_eq c) (map (λ (w : Wish). w.candidate) ws)
+own_entries : (c : ℕ) (ws : List Wish) (ms : List Mark)
+    → count_by (λ (x : Wish × Mark). x.0.candidate == c) (zip ws ms) ≤ count_by (nat_eq c)
+    (map (λ (w : Wish). w.candidate) ws)
 own_entries c [] ms = omega arith
 own_entries c (w ∷ ws) [] = omega arith
 own_entries c (w ∷ ws) (m ∷ ms) =
@@ -123,14 +127,18 @@ pub few_seats : (old new : State) (c : ℕ) → seats_freed old new c ≤ count_
 few_seats old new c =
     let n = length old.dossier.programmes in
     let ks = range_with_len 0 n in
-    let fewer = count_fewer (λ p. holds_seat old c p && not (holds_seat new c p)) (holds_seat old c) (λ p. one_and (holds_seat old c p) (not (holds_seat new c p))) ks in
-    let hit = few_hit (hits_seat c) (λ (x : Wish × Mark). x.0.candidate == c) n (one_programme c) (λ x k e. not_own (is_live x.1) (x.0.candidate == c) (x.0.programme == k) e) (entries old) in
+    let fewer = count_fewer (λ p. holds_seat old c p && not (holds_seat new c p)) (holds_seat old c)
+    (λ p. one_and (holds_seat old c p) (not (holds_seat new c p))) ks in
+    let hit = few_hit (hits_seat c) (λ (x : Wish × Mark). x.0.candidate == c) n (one_programme c)
+    (λ x k e. not_own (is_live x.1) (x.0.candidate == c) (x.0.programme == k) e) (entries old) in
     omega (arith, fewer, hit, own_entries c old.dossier.wishes old.marks)
 
 pub few_beds : (old new : State) (c : ℕ) → beds_freed old new c ≤ count_by (nat_eq c) (wishers old.dossier)
 few_beds old new c =
     let n = length old.dossier.schools in
     let ks = range_with_len 0 n in
-    let fewer = count_fewer (λ h. holds_bed old c h && not (holds_bed new c h)) (holds_bed old c) (λ h. one_and (holds_bed old c h) (not (holds_bed new c h))) ks in
-    let hit = few_hit (hits_bed c) (λ (x : Wish × Mark). x.0.candidate == c) n (one_school c) (λ x k e. not_own (is_live x.1) (x.0.candidate == c) (has_school x.0 k) e) (entries old) in
+    let fewer = count_fewer (λ h. holds_bed old c h && not (holds_bed new c h)) (holds_bed old c)
+    (λ h. one_and (holds_bed old c h) (not (holds_bed new c h))) ks in
+    let hit = few_hit (hits_bed c) (λ (x : Wish × Mark). x.0.candidate == c) n (one_school c)
+    (λ x k e. not_own (is_live x.1) (x.0.candidate == c) (has_school x.0 k) e) (entries old) in
     omega (arith, fewer, hit, own_entries c old.dossier.wishes old.marks)

@@ -47,24 +47,34 @@ passing_place t (w ∷ ws) [] some = absurd (cc)
 passing_place t (w ∷ ws) (m ∷ ms) some =
     elim (or_cases (t (w, m)) (list_any t (zip ws ms)) some) [
       | inl here ↦ (zero, omega arith, omega arith, here)
-      | inr more ↦ let rest = passing_place t ws ms more in (suc rest.0, let lt : rest.0 < length ws = rest.1 in omega arith, let lt : rest.0 < length ms = rest.2 in omega arith, rest.3)
+      | inr more ↦ let rest = passing_place t ws ms more in (
+        suc rest.0,
+        let lt : rest.0 < length ws = rest.1 in omega arith,
+        let lt : rest.0 < length ms = rest.2 in
+            omega arith,
+        rest.3,
+      )
     ]
 
 -- an entry at a place that passes is found
-pub place_passes : (t : Wish × Mark → Bool) (ws : List Wish) (ms : List Mark) (k : ℕ) → k < length ws → k < length ms → t (wish_in ws k, mark_in ms k) ≡ true
+pub place_passes : (t : Wish × Mark → Bool) (ws : List Wish) (ms : List Mark) (k : ℕ) → k < length ws → k < length ms
+    → t (wish_in ws k, mark_in ms k) ≡ true
     → list_any t (zip ws ms) ≡ true
 place_passes t [] ms k lt lt_too here = absurd (omega arith)
 place_passes t (w ∷ ws) [] k lt lt_too here = absurd (omega arith)
 place_passes t (w ∷ ws) (m ∷ ms) zero lt lt_too here = or_left (t (w, m)) (list_any t (zip ws ms)) here
-place_passes t (w ∷ ws) (m ∷ ms) (suc k) lt lt_too here = or_right (t (w, m)) (list_any t (zip ws ms)) (place_passes t ws ms k (omega arith) (omega arith) here)
+place_passes t (w ∷ ws) (m ∷ ms) (suc k) lt lt_too here =
+    or_right (t (w, m)) (list_any t (zip ws ms)) (place_passes t ws ms k (omega arith) (omega arith) here)
 
 -- a live wish that is live no longer was refused
-pub live_no_longer : (stamp : Stamp) (best : Option (Wish × Mark)) (w : Wish) (m : Mark) → is_live m ≡ true → is_live (auto_mark stamp best w m) ≡ false
+pub live_no_longer : (stamp : Stamp) (best : Option (Wish × Mark)) (w : Wish) (m : Mark) → is_live m ≡ true
+    → is_live (auto_mark stamp best w m) ≡ false
     → (auto_mark stamp best w m).status ≡ AutoRefused
 live_no_longer stamp None w m live gone = absurd (false≢true (sym gone ∙ live))
 live_no_longer stamp (Some best) w m live gone =
     let is = status_of_auto stamp best w m in
-    is ∙ given_up_by_answer m.status (w.preference == best.0.preference) (nat_lt best.0.preference w.preference) live (sym (ap is_live_status is) ∙ gone)
+    is ∙ given_up_by_answer m.status (w.preference == best.0.preference) (nat_lt best.0.preference w.preference) live
+    (sym (ap is_live_status is) ∙ gone)
 
 -- a candidate who was live where a test says, and no longer is, has a wish that was refused
 refused_of : (test : Wish → Bool) (s : State) (stamp : Stamp) (c : ℕ) → length s.marks ≡ length s.dossier.wishes
@@ -80,11 +90,20 @@ refused_of test s stamp c long held lost =
     let outer = and_parts (is_live m && (w.candidate == c)) (test w) found.3 in
     let inner = and_parts (is_live m) (w.candidate == c) outer.0 in
     let in_end : k < length end.marks = omega (arith, length-with_marks (all_mark s stamp) s long) in
-    let mark_is : mark_in end.marks k ≡ auto_mark stamp (best_live s w.candidate) w m = mark_in-with_marks (all_mark s stamp) s long k in_marks in
+    let mark_is : mark_in end.marks k ≡ auto_mark stamp (best_live s w.candidate) w m =
+    mark_in-with_marks (all_mark s stamp) s long k in_marks in
     let gone : is_live (mark_in end.marks k) ≡ false = false_from_ne_true (is_live (mark_in end.marks k)) (λ live.
     false≢true (sym lost ∙ place_passes (holds test c) s.dossier.wishes end.marks k in_wishes in_end
-    (and_from (is_live (mark_in end.marks k) && (w.candidate == c)) (test w) (and_from (is_live (mark_in end.marks k)) (w.candidate == c) live inner.1) outer.1))) in
-    (k, record { in_range = in_wishes; lived = inner.0; refused = ap (λ (n : Mark). n.status) mark_is ∙ live_no_longer stamp (best_live s w.candidate) w m inner.0 (rw mark_is at gone) })
+    (and_from (is_live (mark_in end.marks k) && (w.candidate == c)) (test w)
+    (and_from (is_live (mark_in end.marks k)) (w.candidate == c) live inner.1) outer.1))) in (
+      k,
+      record {
+        in_range = in_wishes;
+        lived = inner.0;
+        refused = ap (λ (n : Mark). n.status) mark_is
+            ∙ live_no_longer stamp (best_live s w.candidate) w m inner.0 (rw mark_is at gone);
+      },
+    )
 
 -- what was freed counts a place where they were live and no longer are
 lost_one : (p q : ℕ → Bool) (ks : List ℕ) → (count_by (λ k. p k && not (q k)) ks ≡ 0 → ⊥) → (k : ℕ) × (p k ≡ true) × (q k ≡ false)

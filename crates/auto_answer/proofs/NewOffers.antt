@@ -79,18 +79,23 @@ not_both false = refl
 same_frees : (s : State) (c : ℕ) → freed_by s s c ≡ record { seats = 0; beds = 0 }
 same_frees s c =
     same_numbers (freed_by s s c) (record { seats = 0; beds = 0 })
-    (count_none (λ p. holds_seat s c p && not (holds_seat s c p)) (λ p. not_both (holds_seat s c p)) (range_with_len 0 (length s.dossier.programmes)))
-    (count_none (λ h. holds_bed s c h && not (holds_bed s c h)) (λ h. not_both (holds_bed s c h)) (range_with_len 0 (length s.dossier.schools)))
+    (count_none (λ p. holds_seat s c p && not (holds_seat s c p)) (λ p. not_both (holds_seat s c p))
+    (range_with_len 0 (length s.dossier.programmes)))
+    (count_none (λ h. holds_bed s c h && not (holds_bed s c h)) (λ h. not_both (holds_bed s c h))
+    (range_with_len 0 (length s.dossier.schools)))
 
 -- those in the list have been answered for, the others not yet
 pub record AreAnswered (start now : State) (stamp : Stamp) (cs : List ℕ) (all : Freed) : Type 0 where
   pub long : length start.marks ≡ length start.dossier.wishes
   pub done : (c : ℕ) → is_among c cs ≡ true → Agrees c now (auto_all start stamp)
   pub waits : (c : ℕ) → is_among c cs ≡ false → Agrees c now start
-  pub seats : all.seats + sum (map (but cs (seats_freed start (auto_all start stamp))) (distinct (wishers start.dossier))) ≡ seats_of_all start (auto_all start stamp) (wishers start.dossier)
-  pub beds : all.beds + sum (map (but cs (beds_freed start (auto_all start stamp))) (distinct (wishers start.dossier))) ≡ beds_of_all start (auto_all start stamp) (wishers start.dossier)
+  pub seats : all.seats + sum (map (but cs (seats_freed start (auto_all start stamp)))
+      (distinct (wishers start.dossier))) ≡ seats_of_all start (auto_all start stamp) (wishers start.dossier)
+  pub beds : all.beds + sum (map (but cs (beds_freed start (auto_all start stamp)))
+      (distinct (wishers start.dossier))) ≡ beds_of_all start (auto_all start stamp) (wishers start.dossier)
 
-pub answered_nobody : (s : State) (stamp : Stamp) → length s.marks ≡ length s.dossier.wishes → AreAnswered s s stamp [] (record { seats = 0; beds = 0 })
+pub answered_nobody : (s : State) (stamp : Stamp) → length s.marks ≡ length s.dossier.wishes
+    → AreAnswered s s stamp [] (record { seats = 0; beds = 0 })
 answered_nobody s stamp long = record {
   long = long;
   done = λ c some. absurd (cc);
@@ -99,7 +104,8 @@ answered_nobody s stamp long = record {
   beds = omega arith;
 }
 
-pub dossier_stays : (start now : State) (stamp : Stamp) (cs : List ℕ) (all : Freed) → AreAnswered start now stamp cs all → now.dossier ≡ start.dossier
+pub dossier_stays : (start now : State) (stamp : Stamp) (cs : List ℕ) (all : Freed)
+    → AreAnswered start now stamp cs all → now.dossier ≡ start.dossier
 dossier_stays start now stamp cs all so_far =
     elim (cases_Bool (is_among 0 cs)) [
       | inl some ↦ sym (so_far.done 0 some).dossier
@@ -131,25 +137,29 @@ module _ (start now : State) (stamp : Stamp) (x : ℕ) (cs : List ℕ) (all : Fr
   here : (Agrees x (auto_one now x stamp) end)
       × (seats_freed now (auto_one now x stamp) x ≡ but cs (seats_freed start end) x)
       × (beds_freed now (auto_one now x stamp) x ≡ but cs (beds_freed start end) x)
-  here =
-      elim (cases_Bool (is_among x cs)) [
-        | inl again ↦
-            let before = so_far.done x again in
-            let after : Agrees x (auto_one now x stamp) end = rw (← answered_once start stamp so_far.long stamp) (one_here x now end stamp before) in
-            let none : freed_by now (auto_one now x stamp) x ≡ record { seats = 0; beds = 0 } = same_freed x now (auto_one now x stamp) end end before after ∙ same_frees end x in
-            (after, ap (λ (f : Freed). f.seats) none ∙ rw again refl, ap (λ (f : Freed). f.beds) none ∙ rw again refl)
-        | inr new ↦
-            let before = so_far.waits x new in
-            let after = one_here x now start stamp before in
-            let frees : freed_by now (auto_one now x stamp) x ≡ freed_by start end x = same_freed x now (auto_one now x stamp) start end before after in
-            (after, ap (λ (f : Freed). f.seats) frees ∙ rw new refl, ap (λ (f : Freed). f.beds) frees ∙ rw new refl)
-      ]
+  here = elim (cases_Bool (is_among x cs)) [
+    | inl again ↦
+        let before = so_far.done x again in
+        let after : Agrees x (auto_one now x stamp) end =
+        rw (← answered_once start stamp so_far.long stamp) (one_here x now end stamp before) in
+        let none : freed_by now (auto_one now x stamp) x ≡ record { seats = 0; beds = 0 } =
+        same_freed x now (auto_one now x stamp) end end before after ∙ same_frees end x in
+        (after, ap (λ (f : Freed). f.seats) none ∙ rw again refl, ap (λ (f : Freed). f.beds) none ∙ rw again refl)
+    | inr new ↦
+        let before = so_far.waits x new in
+        let after = one_here x now start stamp before in
+        let frees : freed_by now (auto_one now x stamp) x ≡ freed_by start end x =
+        same_freed x now (auto_one now x stamp) start end before after in
+        (after, ap (λ (f : Freed). f.seats) frees ∙ rw new refl, ap (λ (f : Freed). f.beds) frees ∙ rw new refl)
+  ]
 
   -- the sum over all loses what they free
   taken_out : (f : ℕ → ℕ) → is_among x (wishers start.dossier) ≡ true
-      → sum (map (but cs f) (distinct (wishers start.dossier))) ≡ but cs f x + sum (map (but (cs ++ x ∷ []) f) (distinct (wishers start.dossier)))
+      → sum (map (but cs f) (distinct (wishers start.dossier)))
+      ≡ but cs f x + sum (map (but (cs ++ x ∷ []) f) (distinct (wishers start.dossier)))
   taken_out f wishes =
-      one_out (but cs f) (but (cs ++ x ∷ []) f) x (rw (among_last x cs) refl) (λ c other. rw (among_other c x cs other) refl) (wishers start.dossier) wishes
+      one_out (but cs f) (but (cs ++ x ∷ []) f) x (rw (among_last x cs) refl)
+      (λ c other. rw (among_other c x cs other) refl) (wishers start.dossier) wishes
 
   pub room : is_among x (wishers start.dossier) ≡ true
       → (all.seats + seats_freed now (auto_one now x stamp) x ≤ length start.dossier.wishes)
@@ -186,7 +196,8 @@ pub all_answered : (start now : State) (stamp : Stamp) (cs : List ℕ) (all : Fr
     → (now ≡ auto_all start stamp) × (all ≡ freed start (auto_all start stamp))
 all_answered start now stamp cs all so_far others =
     let end = auto_all start stamp in
-    let end_long : length end.marks ≡ length end.dossier.wishes = length-with_marks (all_mark start stamp) start so_far.long ∙ so_far.long in
+    let end_long : length end.marks ≡ length end.dossier.wishes =
+    length-with_marks (all_mark start stamp) start so_far.long ∙ so_far.long in
     let stays : (c : ℕ) → is_among c cs ≡ false → Agrees c start end = λ c none. agrees c start end so_far.long end_long (others c none) in
     let each : (c : ℕ) → Agrees c now end = λ c.
     elim (cases_Bool (is_among c cs)) [
@@ -205,8 +216,15 @@ all_answered start now stamp cs all so_far others =
       | inl some ↦ rw some refl
       | inr none ↦ rw none (ap (λ (f : Freed). f.beds) (frees_none c none))
     ] in
-    let seats : all.seats ≡ seats_of_all start end (wishers start.dossier) = omega (arith, so_far.seats, sum_none (but cs (seats_freed start end)) no_seats (distinct (wishers start.dossier))) in
-    let beds : all.beds ≡ beds_of_all start end (wishers start.dossier) = omega (arith, so_far.beds, sum_none (but cs (beds_freed start end)) no_beds (distinct (wishers start.dossier))) in
+    let seats : all.seats ≡ seats_of_all start end (wishers start.dossier) =
+    omega (
+      arith,
+      so_far.seats,
+      sum_none (but cs (seats_freed start end)) no_seats
+          (distinct (wishers start.dossier)),
+    ) in
+    let beds : all.beds ≡ beds_of_all start end (wishers start.dossier) =
+    omega (arith, so_far.beds, sum_none (but cs (beds_freed start end)) no_beds (distinct (wishers start.dossier))) in
     (all_agree now end each, same_numbers all (freed start end) seats beds)
 
 -- the candidate of a wish has one
@@ -237,7 +255,8 @@ at_start start now next stamp cs p all own so_far next_is own_is =
 
 -- THE STEP, as the loop has it: what is freed fits, and one more has been answered for
 pub next_room : (start now next : State) (stamp : Stamp) (cs : List ℕ) (p : ℕ) (all own : Freed) → AreAnswered start now stamp cs all
-    → p < length start.dossier.wishes → next ≡ auto_one now (candidate_of now.dossier p) stamp → own ≡ freed_by now next (candidate_of now.dossier p)
+    → p < length start.dossier.wishes → next ≡ auto_one now (candidate_of now.dossier p) stamp
+    → own ≡ freed_by now next (candidate_of now.dossier p)
     → (all.seats + own.seats ≤ length start.dossier.wishes) × (all.beds + own.beds ≤ length start.dossier.wishes)
 next_room start now next stamp cs p all own so_far lt next_is own_is =
     let (next_here, own_here) = at_start start now next stamp cs p all own so_far next_is own_is in

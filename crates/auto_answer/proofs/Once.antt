@@ -16,7 +16,8 @@ use Rattle.auto_answer.specs.LastWish.{wishers}
 pub total_again : (f : ℕ → ℕ) (c : ℕ) (cs : List ℕ) → is_among c cs ≡ true → sum (map f (distinct (c ∷ cs))) ≡ sum (map f (distinct cs))
 total_again f c cs again = rw again refl
 
-pub total_new : (f : ℕ → ℕ) (c : ℕ) (cs : List ℕ) → is_among c cs ≡ false → sum (map f (distinct (c ∷ cs))) ≡ f c + sum (map f (distinct cs))
+pub total_new : (f : ℕ → ℕ) (c : ℕ) (cs : List ℕ) → is_among c cs ≡ false
+    → sum (map f (distinct (c ∷ cs))) ≡ f c + sum (map f (distinct cs))
 total_new f c cs new = rw new (sum_by-cons (λ (x : ℕ). x) (f c) (map f (distinct cs)))
 
 -- how often a number stands in a list
@@ -40,7 +41,8 @@ zero_plus n = omega arith
 
 no_time : (c n : ℕ) (ns : List ℕ) → nat_eq c n ≡ false → times c (n ∷ ns) ≡ times c ns
 unfolding times
-no_time c n ns e = sum_by-cons (λ x. cond (nat_eq c x) 1 0) n ns ∙ ap (λ b. cond b 1 0 + count_by (nat_eq c) ns) e ∙ zero_plus (count_by (nat_eq c) ns)
+no_time c n ns e = sum_by-cons (λ x. cond (nat_eq c x) 1 0) n ns ∙ ap (λ b. cond b 1 0 + count_by (nat_eq c) ns) e
+    ∙ zero_plus (count_by (nat_eq c) ns)
 
 none_distinct : (c : ℕ) (ns : List ℕ) → is_among c ns ≡ false → times c (distinct ns) ≡ 0
 none_distinct c [] none = times-nil c
@@ -70,8 +72,10 @@ split_stands x cs (d ∷ ds) =
     let left = sum_by-cons (λ c. times c (x ∷ cs)) d ds in
     let right = sum_by-cons (λ c. times c cs) d ds in
     elim (cases_eq x d) [
-      | inl same ↦ let here = one_time d x cs (eq-eqb d x (sym same)) in let there = one_time x d ds (eq-eqb x d same) in omega (arith, left, right, rest, here, there)
-      | inr differ ↦ let here = no_time d x cs (ne_eqb d x (λ e. differ (sym e))) in let there = no_time x d ds (ne_eqb x d differ) in omega (arith, left, right, rest, here, there)
+      | inl same ↦ let here = one_time d x cs (eq-eqb d x (sym same)) in
+          let there = one_time x d ds (eq-eqb x d same) in omega (arith, left, right, rest, here, there)
+      | inr differ ↦ let here = no_time d x cs (ne_eqb d x (λ e. differ (sym e))) in
+          let there = no_time x d ds (ne_eqb x d differ) in omega (arith, left, right, rest, here, there)
     ]
 
 nothing : (ds : List ℕ) → sum_by (λ c. times c []) ds ≡ 0
@@ -86,7 +90,12 @@ stands_at_most (x ∷ cs) ns = omega (arith, split_stands x cs (distinct ns), st
 -- what counts at most each candidate's own wishes is at most the number of all
 pub total_at_most : (f : ℕ → ℕ) (cs : List ℕ) → ((c : ℕ) → f c ≤ count_by (nat_eq c) cs) → sum (map f (distinct cs)) ≤ length cs
 total_at_most f cs few =
-    omega (arith, sum-map f (distinct cs), sum_by-le-sum_by f (λ c. times c cs) (distinct cs) (λ c. omega (arith, few c, times-is c cs)), stands_at_most cs cs)
+    omega (
+      arith,
+      sum-map f (distinct cs),
+      sum_by-le-sum_by f (λ c. times c cs) (distinct cs) (λ c. omega (arith, few c, times-is c cs)),
+      stands_at_most cs cs,
+    )
 
 -- the last of a list
 abbrev last_of : List ℕ → Option ℕ
@@ -110,7 +119,8 @@ or_cases_left : (x y : Bool) → (x || y) ≡ true → y ≡ false → x ≡ tru
 or_cases_left true y some none = refl
 or_cases_left false y some none = absurd (false≢true (sym none ∙ some))
 
-last_from : (q : ℕ → Bool) (a n : ℕ) → list_any q (range_with_len a n) ≡ true → (z : ℕ) × (a ≤ z) × (last_of (filter q (range_with_len a n)) ≡ Some z)
+last_from : (q : ℕ → Bool) (a n : ℕ) → list_any q (range_with_len a n) ≡ true
+    → (z : ℕ) × (a ≤ z) × (last_of (filter q (range_with_len a n)) ≡ Some z)
 last_from q a zero some = absurd (cc)
 last_from q a (suc n) some =
     elim (cases_Bool (list_any q (range_with_len (a + 1) n))) [
@@ -141,7 +151,8 @@ some_passes q place a (suc n) le lt here =
     ]
 
 is_last_in : (q : ℕ → Bool) (place a n : ℕ) → a ≤ place → place < a + n → q place ≡ true
-    → option_eq nat_eq (last_of (filter q (range_with_len a n))) (Some place) ≡ not (list_any q (range_with_len (place + 1) (a + n - (place + 1))))
+    → option_eq nat_eq (last_of (filter q (range_with_len a n))) (Some place)
+    ≡ not (list_any q (range_with_len (place + 1) (a + n - (place + 1))))
 is_last_in q place a zero le lt here = absurd (omega arith)
 is_last_in q place a (suc n) le lt here =
     let rest = range_with_len (a + 1) n in
@@ -151,14 +162,16 @@ is_last_in q place a (suc n) le lt here =
           rw (length_is, ← same) (elim (cases_Bool (list_any q rest)) [
             | inl more ↦
                 let last = last_from q (a + 1) n more in
-                rw (rw (← same) at here, last_of-more a (filter q rest) last.0 last.2, more) (ne_eqb last.0 a (λ e. omega (arith, e, last.1)))
+                rw (rw (← same) at here, last_of-more a (filter q rest) last.0 last.2, more)
+                (ne_eqb last.0 a (λ e. omega (arith, e, last.1)))
             | inr none ↦ rw (rw (← same) at here, none_passes q rest none, none) (eq-eqb a a refl)
           ])
       | inr differ ↦
           let length_is : a + suc n - (place + 1) ≡ a + 1 + n - (place + 1) = omega arith in
           let next = is_last_in q place (a + 1) n (omega arith) (omega arith) here in
           rw length_is (elim (cases_Bool (q a)) [
-            | inl first ↦ rw first (ap (λ (o : Option ℕ). option_eq nat_eq o (Some place)) (skip_first a (filter q rest) (some_passes q place (a + 1) n (omega arith) (omega arith) here)) ∙ next)
+            | inl first ↦ rw first (ap (λ (o : Option ℕ). option_eq nat_eq o (Some place))
+                (skip_first a (filter q rest) (some_passes q place (a + 1) n (omega arith) (omega arith) here)) ∙ next)
             | inr other ↦ rw other next
           ])
     ]
@@ -171,7 +184,8 @@ turn_eq c x =
     ]
 
 -- those who stand from a place on, by their places
-among_from : (c : ℕ) (cs : List ℕ) (i m : ℕ) → i + m ≡ length cs → is_among c (drop i cs) ≡ list_any (λ k. slice_index cs k == c) (range_with_len i m)
+among_from : (c : ℕ) (cs : List ℕ) (i m : ℕ) → i + m ≡ length cs
+    → is_among c (drop i cs) ≡ list_any (λ k. slice_index cs k == c) (range_with_len i m)
 among_from c cs i zero e = ap (is_among c) (drop_all i cs (omega arith))
 among_from c cs i (suc m) e =
     ap (is_among c) (drop_more cs i 0 (omega arith))
@@ -179,7 +193,8 @@ among_from c cs i (suc m) e =
 
 -- THE TEST: a wish is its candidate's last where it is the last of their own
 pub last_own : (d : DossierRows) (place : ℕ) → place < length d.wishes
-    → option_eq nat_eq (last_of (own_places d (candidate_of d place))) (Some place) ≡ not (is_among (candidate_of d place) (drop (place + 1) (wishers d)))
+    → option_eq nat_eq (last_of (own_places d (candidate_of d place))) (Some place)
+    ≡ not (is_among (candidate_of d place) (drop (place + 1) (wishers d)))
 last_own d place lt =
     let c = candidate_of d place in
     let n = length d.wishes in

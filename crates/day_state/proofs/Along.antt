@@ -30,7 +30,8 @@ Apart (k ∷ ks) = (is_among k ks ≡ false) × Apart ks
 not_below : (q : ℕ → Bool) (k a n : ℕ) → k < a → list_any (λ x. q x && nat_eq k x) (range_with_len a n) ≡ false
 not_below q k a zero lt = refl
 not_below q k a (suc n) lt =
-    or_from (q a && nat_eq k a) (list_any (λ x. q x && nat_eq k x) (range_with_len (a + 1) n)) (and_right (q a) (nat_eq k a) (ne_eqb k a (λ e. omega arith)))
+    or_from (q a && nat_eq k a) (list_any (λ x. q x && nat_eq k x) (range_with_len (a + 1) n))
+    (and_right (q a) (nat_eq k a) (ne_eqb k a (λ e. omega arith)))
     (not_below q k (a + 1) n (omega arith))
 
 apart_step : (b : Bool) (a : ℕ) (xs : List ℕ) → is_among a xs ≡ false → Apart xs → Apart (cond b (a ∷ xs) xs)
@@ -40,7 +41,9 @@ apart_step false a xs none rest = rest
 apart-filter : (q : ℕ → Bool) (a n : ℕ) → Apart (filter q (range_with_len a n))
 apart-filter q a zero = tt
 apart-filter q a (suc n) =
-    apart_step (q a) a (filter q (range_with_len (a + 1) n)) (any-filter (nat_eq a) q (range_with_len (a + 1) n) ∙ not_below q a (a + 1) n (omega arith)) (apart-filter q (a + 1) n)
+    apart_step (q a) a (filter q (range_with_len (a + 1) n))
+    (any-filter (nat_eq a) q (range_with_len (a + 1) n) ∙ not_below q a (a + 1) n (omega arith))
+    (apart-filter q (a + 1) n)
 
 and_true : (b : Bool) → ((b && true) || false) ≡ b
 and_true true = refl
@@ -73,11 +76,13 @@ mark_in-set_same ms k m lt = unwrap_or-slice_get (set ms k m) k (mark_in [] 0) �
 
 pub mark_in-set_other : (ms : List Mark) (k j : ℕ) (m : Mark) → (j ≡ k → ⊥) → mark_in (set ms k m) j ≡ mark_in ms j
 mark_in-set_other ms k j m ne =
-    unwrap_or-slice_get (set ms k m) j (mark_in [] 0) ∙ get_or-set_other ms k j m (mark_in [] 0) ne ∙ sym (unwrap_or-slice_get ms j (mark_in [] 0))
+    unwrap_or-slice_get (set ms k m) j (mark_in [] 0) ∙ get_or-set_other ms k j m (mark_in [] 0) ne
+    ∙ sym (unwrap_or-slice_get ms j (mark_in [] 0))
 
 -- the mark at a place after the changes
 pub along_at : (f : Wish → Mark → Mark) (ks : List ℕ) (s : State) → Apart ks → All (λ k. k < length s.marks) ks → (j : ℕ)
-    → mark_in (change_along f ks s).marks j ≡ (if is_among j ks then f (wish_in s.dossier.wishes j) (mark_in s.marks j) else mark_in s.marks j)
+    → mark_in (change_along f ks s).marks j
+    ≡ (if is_among j ks then f (wish_in s.dossier.wishes j) (mark_in s.marks j) else mark_in s.marks j)
 along_at f [] s apart within j = refl
 along_at f (k ∷ ks) s apart within j =
     let m = f (wish_in s.dossier.wishes k) (mark_in s.marks k) in
@@ -112,9 +117,11 @@ pub same_marks : (xs ys : List Mark) → length xs ≡ length ys → ((k : ℕ) 
 same_marks xs ys long same =
     same_lists xs ys long (λ k d lt.
     let b = mark_in [] 0 in
-    get_or_default xs k d b lt ∙ sym (unwrap_or-slice_get xs k b) ∙ same k lt ∙ unwrap_or-slice_get ys k b ∙ get_or_default ys k b d (omega (arith, long)))
+    get_or_default xs k d b lt ∙ sym (unwrap_or-slice_get xs k b) ∙ same k lt ∙ unwrap_or-slice_get ys k b
+    ∙ get_or_default ys k b d (omega (arith, long)))
 
-pub length-with_marks : (f : Wish → Mark → Mark) (s : State) → length s.marks ≡ length s.dossier.wishes → length (with_marks s f).marks ≡ length s.marks
+pub length-with_marks : (f : Wish → Mark → Mark) (s : State) → length s.marks ≡ length s.dossier.wishes
+    → length (with_marks s f).marks ≡ length s.marks
 length-with_marks f s long =
     let g = λ (x : Wish × Mark). f x.0 x.1 in
     omega (arith, length-map (entries s) g, length-zip s.dossier.wishes s.marks)
@@ -195,7 +202,8 @@ map_same f g same (x ∷ xs) = rw (same x, map_same f g same xs) refl
 
 pub with_marks_same : (f g : Wish → Mark → Mark) (s : State) → ((w : Wish) (m : Mark) → f w m ≡ g w m) → with_marks s f ≡ with_marks s g
 with_marks_same f g s same =
-    same_state (with_marks s f) (with_marks s g) refl (map_same (λ (x : Wish × Mark). f x.0 x.1) (λ (x : Wish × Mark). g x.0 x.1) (λ x. same x.0 x.1) (entries s))
+    same_state (with_marks s f) (with_marks s g) refl
+    (map_same (λ (x : Wish × Mark). f x.0 x.1) (λ (x : Wish × Mark). g x.0 x.1) (λ x. same x.0 x.1) (entries s))
 
 own_first : (own test : Bool) (m n : Mark) → (if own then (if test then n else m) else m) ≡ (if test && own then n else m)
 own_first true true m n = refl
@@ -205,10 +213,12 @@ own_first false false m n = refl
 
 pub refuse_live_is : (s : State) (c : ℕ) (stamp : Stamp) → change_own (changed_by RefuseLive stamp) c s ≡ refuse_live s c stamp
 refuse_live_is s c stamp =
-    with_marks_same (λ w m. if w.candidate == c then changed_by RefuseLive stamp w m else m) (λ w m. if is_live m && (w.candidate == c) then changed_to Refused stamp m else m) s
+    with_marks_same (λ w m. if w.candidate == c then changed_by RefuseLive stamp w m else m)
+    (λ w m. if is_live m && (w.candidate == c) then changed_to Refused stamp m else m) s
     (λ w m. own_first (w.candidate == c) (is_live m) m (changed_to Refused stamp m))
 
 pub quit_all_is : (s : State) (c : ℕ) (stamp : Stamp) → change_own (changed_by QuitOpen stamp) c s ≡ quit_all s c stamp
 quit_all_is s c stamp =
-    with_marks_same (λ w m. if w.candidate == c then changed_by QuitOpen stamp w m else m) (λ w m. if (is_live m || is_waiting m) && (w.candidate == c) then changed_to Quit stamp m else m) s
+    with_marks_same (λ w m. if w.candidate == c then changed_by QuitOpen stamp w m else m)
+    (λ w m. if (is_live m || is_waiting m) && (w.candidate == c) then changed_to Quit stamp m else m) s
     (λ w m. own_first (w.candidate == c) (is_live m || is_waiting m) m (changed_to Quit stamp m))

@@ -34,7 +34,9 @@ unfolding best_of
 fold_best g a [] = sym (better_none a)
 fold_best g a (k ∷ ks) = fold_best g (better a (g k)) ks ∙ better_assoc a (g k) (best_of g ks)
 
-lesser_preference : (e : Wish × Mark) (o : Option (Wish × Mark)) → option_map (λ (x : Wish × Mark). x.0.preference) (Some (lesser (λ (x : Wish × Mark). x.0.preference) e o)) ≡ better (Some e.0.preference) (option_map (λ (x : Wish × Mark). x.0.preference) o)
+lesser_preference : (e : Wish × Mark) (o : Option (Wish × Mark))
+    → option_map (λ (x : Wish × Mark). x.0.preference) (Some (lesser (λ (x : Wish × Mark). x.0.preference) e o))
+    ≡ better (Some e.0.preference) (option_map (λ (x : Wish × Mark). x.0.preference) o)
 lesser_preference e None = refl
 lesser_preference e (Some y) =
     let m = e.0.preference in
@@ -47,7 +49,8 @@ lesser_preference e (Some y) =
 best_step : (own live ranked : Bool) (e : Wish × Mark) (g : ℕ → Option ℕ) (k : ℕ) (ks : List ℕ) (es : List (Wish × Mark))
     → g k ≡ (if live && ranked then Some e.0.preference else None)
     → best_of g ks ≡ option_map (λ (x : Wish × Mark). x.0.preference) (least_by (λ (x : Wish × Mark). x.0.preference) es)
-    → best_of g (cond own (k ∷ ks) ks) ≡ option_map (λ (x : Wish × Mark). x.0.preference) (least_by (λ (x : Wish × Mark). x.0.preference) (cond ((live && own) && ranked) (e ∷ es) es))
+    → best_of g (cond own (k ∷ ks) ks) ≡ option_map (λ (x : Wish × Mark). x.0.preference)
+    (least_by (λ (x : Wish × Mark). x.0.preference) (cond ((live && own) && ranked) (e ∷ es) es))
 unfolding best_of
 best_step true true true e g k ks es is rest =
     rw is (ap (better (Some e.0.preference)) rest ∙ sym (lesser_preference e (least_by (λ (x : Wish × Mark). x.0.preference) es)))
@@ -58,7 +61,10 @@ best_step false false ranked e g k ks es is rest = rest
 
 best_filtered : (s : State) (c : ℕ) (ks : List ℕ)
     → best_of (live_preference s.dossier.wishes s.marks) (filter (λ k. candidate_of s.dossier k == c) ks)
-    ≡ option_map (λ (x : Wish × Mark). x.0.preference) (least_by (λ (x : Wish × Mark). x.0.preference) (filter (λ (x : Wish × Mark). is_live x.1 && (x.0.candidate == c) && nat_lt 0 x.0.preference) (map (entry_in s) ks)))
+    ≡ option_map (λ (x : Wish × Mark). x.0.preference)
+    (least_by (λ (x : Wish × Mark). x.0.preference)
+    (filter (λ (x : Wish × Mark). is_live x.1 && (x.0.candidate == c) && nat_lt 0 x.0.preference)
+    (map (entry_in s) ks)))
 unfolding best_of
 best_filtered s c [] = refl
 best_filtered s c (k ∷ ks) =
@@ -67,7 +73,8 @@ best_filtered s c (k ∷ ks) =
     let own = filter (λ k. candidate_of s.dossier k == c) ks in
     let es = filter (λ (x : Wish × Mark). is_live x.1 && (x.0.candidate == c) && nat_lt 0 x.0.preference) (map (entry_in s) ks) in
     rw (candidate_in s.dossier.wishes k)
-    (best_step (w.candidate == c) (is_live m) (nat_lt 0 w.preference) (w, m) (live_preference s.dossier.wishes s.marks) k own es refl (best_filtered s c ks))
+    (best_step (w.candidate == c) (is_live m) (nat_lt 0 w.preference) (w, m)
+    (live_preference s.dossier.wishes s.marks) k own es refl (best_filtered s c ks))
 
 -- along a candidate's own wishes, the best live one is found
 pub best_own : (s : State) (c : ℕ) → length s.marks ≡ length s.dossier.wishes
@@ -99,5 +106,6 @@ least_passes q key (y ∷ ys) x e =
 -- the best live wish is ranked
 pub best_ranked : (s : State) (c : ℕ) (x : Wish × Mark) → best_live s c ≡ Some x → 0 < x.0.preference
 best_ranked s c x is =
-    let passes = least_passes (λ (y : Wish × Mark). is_live y.1 && (y.0.candidate == c) && nat_lt 0 y.0.preference) (λ (y : Wish × Mark). y.0.preference) (entries s) x is in
+    let passes = least_passes (λ (y : Wish × Mark). is_live y.1 && (y.0.candidate == c) && nat_lt 0 y.0.preference)
+    (λ (y : Wish × Mark). y.0.preference) (entries s) x is in
     ltb-true 0 x.0.preference (and_parts (is_live x.1 && (x.0.candidate == c)) (nat_lt 0 x.0.preference) passes).1

@@ -34,11 +34,14 @@ use Rattle.day_state.proofs.Filled.{kept_waiting}
 abbrev AgreeBut : ℕ → (ℕ → Bool) → (ℕ → Bool) → Type 0
 AgreeBut k p q = (j : ℕ) → (j ≡ k → ⊥) → q j ≡ p j
 
-count_beside : (p q : ℕ → Bool) (k a n : ℕ) → k < a → AgreeBut k p q → length (filter q (range_with_len a n)) ≡ length (filter p (range_with_len a n))
+count_beside : (p q : ℕ → Bool) (k a n : ℕ) → k < a → AgreeBut k p q
+    → length (filter q (range_with_len a n)) ≡ length (filter p (range_with_len a n))
 count_beside p q k a zero lt agree = refl
 count_beside p q k a (suc n) lt agree =
     let there : (a ≡ k → ⊥) = λ e. omega arith in
-    let step = there_step (q a) (p a) a 0 0 (filter q (range_with_len (a + 1) n)) (filter p (range_with_len (a + 1) n)) (agree a there) (ap (λ x. x + 0) (count_beside p q k (a + 1) n (omega arith) agree)) in
+    let step = there_step (q a) (p a) a 0 0 (filter q (range_with_len (a + 1) n))
+    (filter p (range_with_len (a + 1) n)) (agree a there)
+    (ap (λ x. x + 0) (count_beside p q k (a + 1) n (omega arith) agree)) in
     omega (arith, step)
 
 -- how many of a range pass, where the test changes at one place
@@ -49,9 +52,11 @@ count_turned p q k a (suc n) le lt agree =
     elim (cases_eq a k) [
       | inl here ↦
           rw here
-          (here_step (q k) (p k) k (filter q (range_with_len (k + 1) n)) (filter p (range_with_len (k + 1) n)) (count_beside p q k (k + 1) n (omega arith) agree))
+          (here_step (q k) (p k) k (filter q (range_with_len (k + 1) n)) (filter p (range_with_len (k + 1) n))
+          (count_beside p q k (k + 1) n (omega arith) agree))
       | inr other ↦
-          there_step (q a) (p a) a (one_if (p k)) (one_if (q k)) (filter q (range_with_len (a + 1) n)) (filter p (range_with_len (a + 1) n)) (agree a other)
+          there_step (q a) (p a) a (one_if (p k)) (one_if (q k)) (filter q (range_with_len (a + 1) n))
+          (filter p (range_with_len (a + 1) n)) (agree a other)
           (count_turned p q k (a + 1) n (omega arith) (omega arith) agree)
     ]
 
@@ -63,7 +68,8 @@ any_counts p (x ∷ xs) =
       | inr fails ↦ rw fails (any_counts p xs)
     ]
 
-any_in_range : (p q : ℕ → Bool) (a n : ℕ) → ((j : ℕ) → j < a + n → p j ≡ q j) → list_any p (range_with_len a n) ≡ list_any q (range_with_len a n)
+any_in_range : (p q : ℕ → Bool) (a n : ℕ) → ((j : ℕ) → j < a + n → p j ≡ q j)
+    → list_any p (range_with_len a n) ≡ list_any q (range_with_len a n)
 any_in_range p q a zero same = refl
 any_in_range p q a (suc n) same = rw (same a (omega arith), any_in_range p q (a + 1) n (λ j lt. same j (omega arith))) refl
 
@@ -76,10 +82,12 @@ abbrev counts_in : List Mark → List (Option ℕ) → ℕ → ℕ → Bool
 counts_in ms numbers b k = is_live (mark_in ms k) && is_same (Some b) (number_in numbers k)
 
 live_turned : (ms : List Mark) (numbers : List (Option ℕ)) (b k : ℕ) (m : Mark) → k < length ms
-    → live_in_bundle (set ms k m) numbers b + one_if (counts_in ms numbers b k) ≡ live_in_bundle ms numbers b + one_if (is_live m && is_same (Some b) (number_in numbers k))
+    → live_in_bundle (set ms k m) numbers b + one_if (counts_in ms numbers b k)
+    ≡ live_in_bundle ms numbers b + one_if (is_live m && is_same (Some b) (number_in numbers k))
 live_turned ms numbers b k m lt =
     rw (length-set ms k m)
-    (count_turned (counts_in ms numbers b) (counts_in (set ms k m) numbers b) k 0 (length ms) (omega arith) (omega arith) (λ j other. rw (mark_in-set_other ms k j m other) refl)
+    (count_turned (counts_in ms numbers b) (counts_in (set ms k m) numbers b) k 0 (length ms) (omega arith)
+    (omega arith) (λ j other. rw (mark_in-set_other ms k j m other) refl)
     ∙ ap (λ n. live_in_bundle ms numbers b + one_if (is_live n && is_same (Some b) (number_in numbers k))) (mark_in-set_same ms k m lt))
 
 alone : (live : Bool) (o : Option ℕ) (b : ℕ) → o ≡ Some b → one_if (live && is_same (Some b) o) ≡ one_if live
@@ -93,15 +101,26 @@ elsewhere live (Some c) b other = rw (ne_eqb c b (λ e. other (rw e refl)), and_
 live_here : (ms : List Mark) (numbers : List (Option ℕ)) (b k : ℕ) (m : Mark) → k < length ms → number_in numbers k ≡ Some b
     → live_in_bundle (set ms k m) numbers b + one_if (is_live (mark_in ms k)) ≡ live_in_bundle ms numbers b + one_if (is_live m)
 live_here ms numbers b k m lt is =
-    omega (arith, live_turned ms numbers b k m lt, alone (is_live (mark_in ms k)) (number_in numbers k) b is, alone (is_live m) (number_in numbers k) b is)
+    omega (
+      arith,
+      live_turned ms numbers b k m lt,
+      alone (is_live (mark_in ms k)) (number_in numbers k) b is,
+      alone (is_live m) (number_in numbers k) b is,
+    )
 
 live_elsewhere : (ms : List Mark) (numbers : List (Option ℕ)) (b k : ℕ) (m : Mark) → k < length ms → (number_in numbers k ≡ Some b → ⊥)
     → live_in_bundle (set ms k m) numbers b ≡ live_in_bundle ms numbers b
 live_elsewhere ms numbers b k m lt other =
-    omega (arith, live_turned ms numbers b k m lt, elsewhere (is_live (mark_in ms k)) (number_in numbers k) b other, elsewhere (is_live m) (number_in numbers k) b other)
+    omega (
+      arith,
+      live_turned ms numbers b k m lt,
+      elsewhere (is_live (mark_in ms k)) (number_in numbers k) b other,
+      elsewhere (is_live m) (number_in numbers k) b other,
+    )
 
 -- the counts where the mark is of another bundle than each of those that are counted
-counts_stay : (ms : List Mark) (bundles : List (Option ℕ)) (live : List ℕ) (k : ℕ) (m : Mark) → AreLiveCounts ms bundles live → k < length ms
+counts_stay : (ms : List Mark) (bundles : List (Option ℕ)) (live : List ℕ) (k : ℕ) (m : Mark)
+    → AreLiveCounts ms bundles live → k < length ms
     → ((b : ℕ) → is_shared bundles b ≡ true → number_in bundles k ≡ Some b → ⊥) → AreLiveCounts (set ms k m) bundles live
 counts_stay ms bundles live k m are lt other = record {
   as_long = are.as_long;
@@ -109,7 +128,8 @@ counts_stay ms bundles live k m are lt other = record {
 }
 
 -- the counts after a change of one mark
-counts_turned : (ms : List Mark) (bundles : List (Option ℕ)) (live : List ℕ) (k : ℕ) (m : Mark) (o : Option ℕ) → AreLiveCounts ms bundles live → k < length ms
+counts_turned : (ms : List Mark) (bundles : List (Option ℕ)) (live : List ℕ) (k : ℕ) (m : Mark) (o : Option ℕ)
+    → AreLiveCounts ms bundles live → k < length ms
     → number_in bundles k ≡ o → ForSome o (λ b. b < length bundles)
     → AreLiveCounts (set ms k m) bundles (recount_some live (count_of (number_of bundles o)) (is_live (mark_in ms k)) (is_live m))
 counts_turned ms bundles live k m None are lt is within = counts_stay ms bundles live k m are lt (λ b shared e. let none = sym is ∙ e in cc)
@@ -145,7 +165,12 @@ counts_turned ms bundles live k m (Some c) are lt is within =
 count_most : (ms : List Mark) (numbers : List (Option ℕ)) (b : ℕ) → live_in_bundle ms numbers b ≤ length ms
 count_most ms numbers b =
     let ks = range_with_len 0 (length ms) in
-    omega (arith, length-filter (counts_in ms numbers b) ks, count_by-le-length (counts_in ms numbers b) ks, length-range_with_len 0 (length ms))
+    omega (
+      arith,
+      length-filter (counts_in ms numbers b) ks,
+      count_by-le-length (counts_in ms numbers b) ks,
+      length-range_with_len 0 (length ms),
+    )
 
 one_most : (b : Bool) → one_if b ≤ 1
 one_most true = omega arith
@@ -161,20 +186,24 @@ number_is sites s numbers live k bundled =
     ∙ get_or-map (number_of bundles) bundles k None
     ∙ ap (number_of bundles) (sym (unwrap_or-slice_get bundles k None)))
 
-pub bundled_more : (sites : Sites) (s : State) (numbers : List Number) (live : List ℕ) (k : ℕ) (m : Mark) → length s.marks ≡ length s.dossier.wishes → k < length s.marks
+pub bundled_more : (sites : Sites) (s : State) (numbers : List Number) (live : List ℕ) (k : ℕ) (m : Mark)
+    → length s.marks ≡ length s.dossier.wishes → k < length s.marks
     → IsBundled sites s numbers live
-    → IsBundled sites (with_mark_at s k m) numbers (recount_some live (count_of (number_at numbers k)) (is_live (mark_in s.marks k)) (is_live m))
+    → IsBundled sites (with_mark_at s k m) numbers
+    (recount_some live (count_of (number_at numbers k)) (is_live (mark_in s.marks k)) (is_live m))
 bundled_more sites s numbers live k m long lt bundled =
     let ws = s.dossier.wishes in
     let are = bundles_are sites ws in
     record {
       numbered = bundled.numbered;
       counts = rw (number_is sites s numbers live k bundled)
-          (counts_turned s.marks (bundles_of sites ws) live k m (number_in (bundles_of sites ws) k) bundled.counts lt refl (λ b e. omega (arith, are.as_long, are.within k (omega arith) b e)));
+          (counts_turned s.marks (bundles_of sites ws) live k m (number_in (bundles_of sites ws) k) bundled.counts
+          lt refl (λ b e. omega (arith, are.as_long, are.within k (omega arith) b e)));
     }
 
 -- the count of a wish's bundle, before its mark becomes m
-bundle_fits : (sites : Sites) (s : State) (numbers : List Number) (live : List ℕ) (k : ℕ) (m : Mark) → length s.marks ≡ length s.dossier.wishes → k < length s.marks
+bundle_fits : (sites : Sites) (s : State) (numbers : List Number) (live : List ℕ) (k : ℕ) (m : Mark)
+    → length s.marks ≡ length s.dossier.wishes → k < length s.marks
     → length s.dossier.wishes ≤ 16000000 → IsBundled sites s numbers live
     → ForSome (count_of (number_at numbers k)) (λ n. Fits live (length s.marks) n (is_live (mark_in s.marks k)) (is_live m))
 bundle_fits sites s numbers live k m long lt short bundled n e =
@@ -195,13 +224,15 @@ same_some : (o : Option ℕ) (b : ℕ) → is_same (Some b) o ≡ true → o ≡
 same_some None b e = absurd (cc)
 same_some (Some c) b e = rw (eqb-true c b e) refl
 
-numbers_long : (sites : Sites) (s : State) (numbers : List Number) (live : List ℕ) → IsBundled sites s numbers live → length numbers ≡ length s.dossier.wishes
+numbers_long : (sites : Sites) (s : State) (numbers : List Number) (live : List ℕ) → IsBundled sites s numbers live
+    → length numbers ≡ length s.dossier.wishes
 numbers_long sites s numbers live bundled =
     let bundles = bundles_of sites s.dossier.wishes in
     ap length bundled.numbered ∙ length-map bundles (number_of bundles) ∙ (bundles_are sites s.dossier.wishes).as_long
 
 -- a wish's bundle has a place among the counts, where it has a number
-number_within : (sites : Sites) (s : State) (numbers : List Number) (live : List ℕ) (k : ℕ) → length s.marks ≡ length s.dossier.wishes → k < length s.marks
+number_within : (sites : Sites) (s : State) (numbers : List Number) (live : List ℕ) (k : ℕ)
+    → length s.marks ≡ length s.dossier.wishes → k < length s.marks
     → IsBundled sites s numbers live → ForSome (count_of (number_at numbers k)) (λ n. n < length live)
 number_within sites s numbers live k long lt bundled n e =
     let bundles = bundles_of sites s.dossier.wishes in
@@ -215,7 +246,8 @@ pub record HasNumber (numbers : List Number) (live : List ℕ) (k : ℕ) : Type 
   pub place : k < length numbers
   pub number : ForSome (count_of (number_at numbers k)) (λ n. n < length live)
 
-pub has_number : (sites : Sites) (s : State) (numbers : List Number) (live : List ℕ) (k : ℕ) → length s.marks ≡ length s.dossier.wishes → k < length s.marks
+pub has_number : (sites : Sites) (s : State) (numbers : List Number) (live : List ℕ) (k : ℕ)
+    → length s.marks ≡ length s.dossier.wishes → k < length s.marks
     → IsBundled sites s numbers live → HasNumber numbers live k
 has_number sites s numbers live k long lt bundled = record {
   place = omega (arith, long, lt, numbers_long sites s numbers live bundled);
@@ -240,7 +272,8 @@ can_turn sites s numbers live k m was lives long lt short bundled was_is lives_i
     }
 
 -- where a wish is alone, its own mark tells whether one of its bundle is live
-alone_any : (ms : List Mark) (bundles : List (Option ℕ)) (k b : ℕ) → k < length ms → length bundles ≡ length ms → is_shared bundles b ≡ false → number_in bundles k ≡ Some b
+alone_any : (ms : List Mark) (bundles : List (Option ℕ)) (k b : ℕ) → k < length ms → length bundles ≡ length ms
+    → is_shared bundles b ≡ false → number_in bundles k ≡ Some b
     → is_live (mark_in ms k) ≡ list_any (counts_in ms bundles b) (range_with_len 0 (length ms))
 alone_any ms bundles k b lt long none is =
     let n = length ms in
@@ -259,13 +292,18 @@ alone_any ms bundles k b lt long none is =
     let k_here : k ≡ b = alone_first bundles b k none (omega (arith, long)) is in
     rw (k_here, ← x_here) parts.0)
 
-bundle_any : (ms : List Mark) (bundles : List (Option ℕ)) (live : List ℕ) (k : ℕ) (o : Option ℕ) → AreLiveCounts ms bundles live → length bundles ≡ length ms → k < length ms
+bundle_any : (ms : List Mark) (bundles : List (Option ℕ)) (live : List ℕ) (k : ℕ) (o : Option ℕ)
+    → AreLiveCounts ms bundles live → length bundles ≡ length ms → k < length ms
     → number_in bundles k ≡ o → ForSome o (λ b. b < length ms)
-    → has_live live (number_of bundles o) (is_live (mark_in ms k)) ≡ list_any (λ j. is_live (mark_in ms j) && is_same o (number_in bundles j)) (range_with_len 0 (length ms))
-bundle_any ms bundles live k None are long lt is within = sym (never (λ j. is_live (mark_in ms j) && false) (λ j. and_right (is_live (mark_in ms j)) false refl) (range_with_len 0 (length ms)))
+    → has_live live (number_of bundles o) (is_live (mark_in ms k))
+    ≡ list_any (λ j. is_live (mark_in ms j) && is_same o (number_in bundles j)) (range_with_len 0 (length ms))
+bundle_any ms bundles live k None are long lt is within =
+    sym (never (λ j. is_live (mark_in ms j) && false) (λ j. and_right (is_live (mark_in ms j)) false refl)
+    (range_with_len 0 (length ms)))
 bundle_any ms bundles live k (Some b) are long lt is within =
     elim (cases_Bool (is_shared bundles b)) [
-      | inl shared ↦ rw shared (ap (nat_lt 0) (are.each b (omega (arith, within b refl, long)) shared) ∙ any_counts (counts_in ms bundles b) (range_with_len 0 (length ms)))
+      | inl shared ↦ rw shared (ap (nat_lt 0) (are.each b (omega (arith, within b refl, long)) shared)
+          ∙ any_counts (counts_in ms bundles b) (range_with_len 0 (length ms)))
       | inr none ↦ rw none (alone_any ms bundles k b lt long none is)
     ]
 
@@ -274,10 +312,12 @@ and_turn true own test = refl
 and_turn false own test = refl
 
 -- a bundle has a live wish where its candidate is live at its site
-has_live_is : (sites : Sites) (s : State) (numbers : List Number) (live : List ℕ) (k : ℕ) → length s.marks ≡ length s.dossier.wishes → k < length s.marks
+has_live_is : (sites : Sites) (s : State) (numbers : List Number) (live : List ℕ) (k : ℕ)
+    → length s.marks ≡ length s.dossier.wishes → k < length s.marks
     → IsBundled sites s numbers live
     → let w = wish_in s.dossier.wishes k in
-    has_live live (number_at numbers k) (is_live (mark_in s.marks k)) ≡ holds_one (λ v. is_same (site_of sites w) (site_of sites v)) s w.candidate
+    has_live live (number_at numbers k) (is_live (mark_in s.marks k))
+    ≡ holds_one (λ v. is_same (site_of sites w) (site_of sites v)) s w.candidate
 has_live_is sites s numbers live k long lt bundled =
     let ws = s.dossier.wishes in
     let ms = s.marks in
@@ -289,16 +329,19 @@ has_live_is sites s numbers live k long lt bundled =
     let holds = λ (e : Wish × Mark). is_live e.1 && (e.0.candidate == w.candidate) && test e.0 in
     let k_in : k < length ws = omega arith in
     ap (λ n. has_live live n (is_live (mark_in ms k))) (number_is sites s numbers live k bundled)
-    ∙ bundle_any ms bundles live k o bundled.counts (bundles_are_so.as_long ∙ sym long) lt refl (λ b e. omega (arith, long, bundles_are_so.within k k_in b e))
+    ∙ bundle_any ms bundles live k o bundled.counts (bundles_are_so.as_long ∙ sym long) lt refl
+    (λ b e. omega (arith, long, bundles_are_so.within k k_in b e))
     ∙ any_in_range (λ j. is_live (mark_in ms j) && is_same o (number_in bundles j)) (λ j. holds (entry_in s j)) 0 (length ms)
     (λ j j_lt.
     let j_in : j < length ws = omega arith in
-    ap (λ t. is_live (mark_in ms j) && t) (bundles_are_so.shared k j k_in j_in) ∙ and_turn (is_live (mark_in ms j)) ((wish_in ws j).candidate == w.candidate) (test (wish_in ws j)))
+    ap (λ t. is_live (mark_in ms j) && t) (bundles_are_so.shared k j k_in j_in)
+    ∙ and_turn (is_live (mark_in ms j)) ((wish_in ws j).candidate == w.candidate) (test (wish_in ws j)))
     ∙ ap (λ n. list_any (λ j. holds (entry_in s j)) (range_with_len 0 n)) long
     ∙ sym (any-map holds (entry_in s) (range_with_len 0 (length ws)))
     ∙ ap (list_any holds) (sym (entries_by_place s long))
 
-pub has_seat_is : (s : State) (numbers : List Number) (live : List ℕ) (k : ℕ) → length s.marks ≡ length s.dossier.wishes → k < length s.marks
+pub has_seat_is : (s : State) (numbers : List Number) (live : List ℕ) (k : ℕ)
+    → length s.marks ≡ length s.dossier.wishes → k < length s.marks
     → IsBundled Programmes s numbers live → has_live live (number_at numbers k) (is_live (mark_in s.marks k)) ≡ has_seat_there s k
 has_seat_is s numbers live k long lt bundled = has_live_is Programmes s numbers live k long lt bundled
 
@@ -316,15 +359,19 @@ has_bed_is s numbers live k long lt bundled =
     let w = wish_in s.dossier.wishes k in
     has_live_is Schools s numbers live k long lt bundled ∙ in_its_school s w.candidate w.school
 
-no_live_in : (n : ℕ) (numbers : List (Option ℕ)) (b a l : ℕ) → a + l ≤ n → length (filter (counts_in (replicate n waiting_mark) numbers b) (range_with_len a l)) ≡ 0
+no_live_in : (n : ℕ) (numbers : List (Option ℕ)) (b a l : ℕ) → a + l ≤ n
+    → length (filter (counts_in (replicate n waiting_mark) numbers b) (range_with_len a l)) ≡ 0
 no_live_in n numbers b a zero le = refl
 no_live_in n numbers b a (suc l) le =
-    let waits : mark_in (replicate n waiting_mark) a ≡ waiting_mark = unwrap_or-slice_get (replicate n waiting_mark) a waiting_mark ∙ get_or-replicate n a waiting_mark waiting_mark (omega arith) in
+    let waits : mark_in (replicate n waiting_mark) a ≡ waiting_mark =
+    unwrap_or-slice_get (replicate n waiting_mark) a waiting_mark
+    ∙ get_or-replicate n a waiting_mark waiting_mark (omega arith) in
     rw waits (no_live_in n numbers b (a + 1) l (omega arith))
 
 -- where all wishes wait no bundle has a live one
 bundled_waiting : (sites : Sites) (d : DossierRows)
-    → IsBundled sites (state_of d (replicate (length d.wishes) waiting_mark)) (all_numbers sites d.wishes) (replicate (shared_in_all sites d.wishes) 0)
+    → IsBundled sites (state_of d (replicate (length d.wishes) waiting_mark)) (all_numbers sites d.wishes)
+    (replicate (shared_in_all sites d.wishes) 0)
 bundled_waiting sites d =
     let n = length d.wishes in
     let bundles = bundles_of sites d.wishes in
@@ -335,13 +382,15 @@ bundled_waiting sites d =
       counts = record {
         as_long = length-replicate (shared_in_all sites d.wishes) 0;
         each = λ b lt shared.
-            get_or-replicate (shared_in_all sites d.wishes) (rank_of bundles b) 0 0 (rank_within bundles b shared lt) ∙ rw long (sym (no_live_in n bundles b 0 n (omega arith)));
+            get_or-replicate (shared_in_all sites d.wishes) (rank_of bundles b) 0 0 (rank_within bundles b shared lt)
+            ∙ rw long (sym (no_live_in n bundles b 0 n (omega arith)));
       };
     }
 
 pub keeps_waiting : (d : DossierRows)
     → let n = length d.wishes in
-    KeepsCounts (state_of d (replicate n waiting_mark)) (replicate (length d.programmes) 0) (replicate (length d.schools) 0) (all_numbers Programmes d.wishes)
+    KeepsCounts (state_of d (replicate n waiting_mark)) (replicate (length d.programmes) 0)
+    (replicate (length d.schools) 0) (all_numbers Programmes d.wishes)
     (replicate (shared_in_all Programmes d.wishes) 0) (all_numbers Schools d.wishes) (replicate (shared_in_all Schools d.wishes) 0)
 keeps_waiting d = record {
   kept = kept_waiting d;
@@ -350,7 +399,8 @@ keeps_waiting d = record {
 }
 
 -- all counts after a change of one mark
-pub keeps_changed : (d : DossierRows) (marks : List Mark) (seats beds : List ℕ) (of_programmes : List Number) (in_programmes : List ℕ) (of_schools : List Number) (in_schools : List ℕ) (wish : ℕ) (m : Mark)
+pub keeps_changed : (d : DossierRows) (marks : List Mark) (seats beds : List ℕ) (of_programmes : List Number)
+    (in_programmes : List ℕ) (of_schools : List Number) (in_schools : List ℕ) (wish : ℕ) (m : Mark)
     → IsValid d → KeepsCounts (state_of d marks) seats beds of_programmes in_programmes of_schools in_schools → wish < length marks
     → let s = state_of d marks in let new = with_mark_at s wish m in
     KeepsCounts new
@@ -371,7 +421,8 @@ Tells sites there numbers k =
     → has_live live (number_at numbers k) (is_live (mark_in s.marks k)) ≡ there s k
 
 -- a turn of a bundle tells whether its candidate was live there, and is
-turned : (sites : Sites) (there : State → ℕ → Bool) (s : State) (numbers : List Number) (live : List ℕ) (k : ℕ) (m : Mark) (was lives had has : Bool) (after : List ℕ)
+turned : (sites : Sites) (there : State → ℕ → Bool) (s : State) (numbers : List Number) (live : List ℕ) (k : ℕ)
+    (m : Mark) (was lives had has : Bool) (after : List ℕ)
     → Tells sites there numbers k → length s.marks ≡ length s.dossier.wishes → k < length s.marks → IsBundled sites s numbers live
     → was ≡ is_live (mark_in s.marks k) → lives ≡ is_live m → after ≡ recount_some live (count_of (number_at numbers k)) was lives
     → had ≡ has_live live (number_at numbers k) was → has ≡ has_live after (number_at numbers k) lives
@@ -388,21 +439,31 @@ turned sites there s numbers live k m was lives had has after tells long lt bund
     )
 
 -- in a programme
-pub seat_turned : (d : DossierRows) (marks : List Mark) (seats beds : List ℕ) (of_programmes : List Number) (in_programmes : List ℕ) (of_schools : List Number) (in_schools : List ℕ) (wish : ℕ) (m : Mark) (was lives had has : Bool) (after : List ℕ)
+pub seat_turned : (d : DossierRows) (marks : List Mark) (seats beds : List ℕ) (of_programmes : List Number)
+    (in_programmes : List ℕ) (of_schools : List Number) (in_schools : List ℕ) (wish : ℕ) (m : Mark)
+    (was lives had has : Bool) (after : List ℕ)
     → KeepsCounts (state_of d marks) seats beds of_programmes in_programmes of_schools in_schools → wish < length marks
-    → was ≡ is_live (mark_in marks wish) → lives ≡ is_live m → after ≡ recount_some in_programmes (count_of (number_at of_programmes wish)) was lives
+    → was ≡ is_live (mark_in marks wish) → lives ≡ is_live m
+    → after ≡ recount_some in_programmes (count_of (number_at of_programmes wish)) was lives
     → had ≡ has_live in_programmes (number_at of_programmes wish) was → has ≡ has_live after (number_at of_programmes wish) lives
     → (had ≡ has_seat_there (state_of d marks) wish) × (has ≡ has_seat_there (with_mark_at (state_of d marks) wish m) wish)
-seat_turned d marks seats beds of_programmes in_programmes of_schools in_schools wish m was lives had has after keeps lt was_is lives_is after_is had_is has_is =
-    turned Programmes has_seat_there (state_of d marks) of_programmes in_programmes wish m was lives had has after (λ s live. has_seat_is s of_programmes live wish)
+seat_turned d marks seats beds of_programmes in_programmes of_schools in_schools wish m was lives had has after keeps
+    lt was_is lives_is after_is had_is has_is =
+    turned Programmes has_seat_there (state_of d marks) of_programmes in_programmes wish m was lives had has after
+    (λ s live. has_seat_is s of_programmes live wish)
     keeps.kept.marks lt keeps.programmes was_is lives_is after_is had_is has_is
 
 -- and in a school
-pub bed_turned : (d : DossierRows) (marks : List Mark) (seats beds : List ℕ) (of_programmes : List Number) (in_programmes : List ℕ) (of_schools : List Number) (in_schools : List ℕ) (wish : ℕ) (m : Mark) (was lives had has : Bool) (after : List ℕ)
+pub bed_turned : (d : DossierRows) (marks : List Mark) (seats beds : List ℕ) (of_programmes : List Number)
+    (in_programmes : List ℕ) (of_schools : List Number) (in_schools : List ℕ) (wish : ℕ) (m : Mark)
+    (was lives had has : Bool) (after : List ℕ)
     → KeepsCounts (state_of d marks) seats beds of_programmes in_programmes of_schools in_schools → wish < length marks
-    → was ≡ is_live (mark_in marks wish) → lives ≡ is_live m → after ≡ recount_some in_schools (count_of (number_at of_schools wish)) was lives
+    → was ≡ is_live (mark_in marks wish) → lives ≡ is_live m
+    → after ≡ recount_some in_schools (count_of (number_at of_schools wish)) was lives
     → had ≡ has_live in_schools (number_at of_schools wish) was → has ≡ has_live after (number_at of_schools wish) lives
     → (had ≡ has_bed_there (state_of d marks) wish) × (has ≡ has_bed_there (with_mark_at (state_of d marks) wish m) wish)
-bed_turned d marks seats beds of_programmes in_programmes of_schools in_schools wish m was lives had has after keeps lt was_is lives_is after_is had_is has_is =
-    turned Schools has_bed_there (state_of d marks) of_schools in_schools wish m was lives had has after (λ s live. has_bed_is s of_schools live wish)
+bed_turned d marks seats beds of_programmes in_programmes of_schools in_schools wish m was lives had has after keeps
+    lt was_is lives_is after_is had_is has_is =
+    turned Schools has_bed_there (state_of d marks) of_schools in_schools wish m was lives had has after
+    (λ s live. has_bed_is s of_schools live wish)
     keeps.kept.marks lt keeps.schools was_is lives_is after_is had_is has_is

@@ -36,7 +36,8 @@ pub record Fits (counts : List ℕ) (n k : ℕ) (had has : Bool) : Type 0 where
   pub comes : slice_index counts k + one_if has < 4294967296
   pub goes : one_if had ≤ slice_index counts k + one_if has
 
-fits_from : (old new : ℕ → ℕ → Bool) (ns : List ℕ) (n : ℕ) (counts : List ℕ) → AreCounts old (distinct ns) n counts → (k c : ℕ) → k < n → length ns ≤ 16000000
+fits_from : (old new : ℕ → ℕ → Bool) (ns : List ℕ) (n : ℕ) (counts : List ℕ) → AreCounts old (distinct ns) n counts
+    → (k c : ℕ) → k < n → length ns ≤ 16000000
     → length (filter (λ x. new x k) (distinct ns)) + one_if (old c k) ≡ length (filter (λ x. old x k) (distinct ns)) + one_if (new c k)
     → Fits counts n k (old c k) (new c k)
 fits_from old new ns n counts are k c lt short here =
@@ -45,11 +46,13 @@ fits_from old new ns n counts are k c lt short here =
 
 pub seat_fits : (s : State) (seats beds : List ℕ) (place : ℕ) (m : Mark) → IsKept s seats beds → place < length s.marks
     → length s.dossier.wishes ≤ 16000000 → (wish_in s.dossier.wishes place).programme < length s.dossier.programmes
-    → Fits seats (length s.dossier.programmes) (wish_in s.dossier.wishes place).programme (has_seat_there s place) (has_seat_there (with_mark_at s place m) place)
+    → Fits seats (length s.dossier.programmes) (wish_in s.dossier.wishes place).programme (has_seat_there s place)
+    (has_seat_there (with_mark_at s place m) place)
 seat_fits s seats beds place m kept lt short programme =
     let w = wish_in s.dossier.wishes place in
     let candidate = λ (v : Wish). v.candidate in
-    fits_from (holds_seat s) (holds_seat (with_mark_at s place m)) (map candidate s.dossier.wishes) (length s.dossier.programmes) seats kept.by_programme w.programme w.candidate programme
+    fits_from (holds_seat s) (holds_seat (with_mark_at s place m)) (map candidate s.dossier.wishes)
+    (length s.dossier.programmes) seats kept.by_programme w.programme w.candidate programme
     (omega (arith, length-map s.dossier.wishes candidate))
     (holders_after (λ v. v.programme == w.programme) s place m kept.marks lt)
 
@@ -63,13 +66,16 @@ bed_fits_at s seats beds place m kept lt short (Some g) h is within =
     let w = wish_in s.dossier.wishes place in
     let candidate = λ (v : Wish). v.candidate in
     rw same
-    (fits_from (holds_bed s) (holds_bed (with_mark_at s place m)) (map candidate s.dossier.wishes) (length s.dossier.schools) beds kept.by_school h w.candidate within
+    (fits_from (holds_bed s) (holds_bed (with_mark_at s place m)) (map candidate s.dossier.wishes)
+    (length s.dossier.schools) beds kept.by_school h w.candidate within
     (omega (arith, length-map s.dossier.wishes candidate))
     (holders_after (λ v. has_school v h) s place m kept.marks lt))
 
 pub bed_fits : (s : State) (seats beds : List ℕ) (place : ℕ) (m : Mark) → IsKept s seats beds → place < length s.marks
     → length s.dossier.wishes ≤ 16000000 → ForSome (wish_in s.dossier.wishes place).school (λ h. h < length s.dossier.schools)
-    → ForSome (wish_in s.dossier.wishes place).school (λ h. Fits beds (length s.dossier.schools) h (has_bed_there s place) (has_bed_there (with_mark_at s place m) place))
+    → ForSome (wish_in s.dossier.wishes place).school
+    (λ h. Fits beds (length s.dossier.schools) h (has_bed_there s place)
+    (has_bed_there (with_mark_at s place m) place))
 bed_fits s seats beds place m kept lt short school h is =
     bed_fits_at s seats beds place m kept lt short (wish_in s.dossier.wishes place).school h is (school h is)
 
@@ -82,22 +88,29 @@ wish_valid d valid place lt =
 pub mark_read : (ms : List Mark) (k : ℕ) (x : Mark) → k < length ms → x ≡ get_or ms k x → mark_in ms k ≡ x
 mark_read ms k x lt is = unwrap_or-slice_get ms k (mark_in [] 0) ∙ sym (get_or_read ms k x lt is (mark_in [] 0))
 
-named_valid : (d : DossierRows) (marks : List Mark) (seats beds : List ℕ) (wish : ℕ) → IsValid d → IsKept (state_of d marks) seats beds → wish < length marks → IsValidWish d (wish_in d.wishes wish)
+named_valid : (d : DossierRows) (marks : List Mark) (seats beds : List ℕ) (wish : ℕ) → IsValid d
+    → IsKept (state_of d marks) seats beds → wish < length marks → IsValidWish d (wish_in d.wishes wish)
 named_valid d marks seats beds wish valid kept lt = wish_valid d valid wish (omega (arith, kept.marks))
 
 -- the count of a wish's programme, and that of its school, before the mark of the wish becomes m
-pub seat_ready : (d : DossierRows) (marks : List Mark) (seats beds : List ℕ) (wish : ℕ) (m : Mark) → IsValid d → IsKept (state_of d marks) seats beds → wish < length marks
-    → Fits seats (length d.programmes) (wish_in d.wishes wish).programme (has_seat_there (state_of d marks) wish) (has_seat_there (with_mark_at (state_of d marks) wish m) wish)
+pub seat_ready : (d : DossierRows) (marks : List Mark) (seats beds : List ℕ) (wish : ℕ) (m : Mark) → IsValid d
+    → IsKept (state_of d marks) seats beds → wish < length marks
+    → Fits seats (length d.programmes) (wish_in d.wishes wish).programme (has_seat_there (state_of d marks) wish)
+    (has_seat_there (with_mark_at (state_of d marks) wish m) wish)
 seat_ready d marks seats beds wish m valid kept lt =
     seat_fits (state_of d marks) seats beds wish m kept lt valid.size.wishes (named_valid d marks seats beds wish valid kept lt).programme
 
-pub bed_ready : (d : DossierRows) (marks : List Mark) (seats beds : List ℕ) (wish : ℕ) (m : Mark) → IsValid d → IsKept (state_of d marks) seats beds → wish < length marks
-    → ForSome (wish_in d.wishes wish).school (λ h. Fits beds (length d.schools) h (has_bed_there (state_of d marks) wish) (has_bed_there (with_mark_at (state_of d marks) wish m) wish))
+pub bed_ready : (d : DossierRows) (marks : List Mark) (seats beds : List ℕ) (wish : ℕ) (m : Mark) → IsValid d
+    → IsKept (state_of d marks) seats beds → wish < length marks
+    → ForSome (wish_in d.wishes wish).school
+    (λ h. Fits beds (length d.schools) h (has_bed_there (state_of d marks) wish)
+    (has_bed_there (with_mark_at (state_of d marks) wish m) wish))
 bed_ready d marks seats beds wish m valid kept lt =
     bed_fits (state_of d marks) seats beds wish m kept lt valid.size.wishes (named_valid d marks seats beds wish valid kept lt).school
 
 -- the invariant after the change
-pub kept_changed : (d : DossierRows) (marks : List Mark) (seats beds : List ℕ) (wish : ℕ) (m : Mark) → IsValid d → IsKept (state_of d marks) seats beds → wish < length marks
+pub kept_changed : (d : DossierRows) (marks : List Mark) (seats beds : List ℕ) (wish : ℕ) (m : Mark) → IsValid d
+    → IsKept (state_of d marks) seats beds → wish < length marks
     → let s = state_of d marks in let new = with_mark_at s wish m in
     IsKept new
     (recount seats (wish_in d.wishes wish).programme (has_seat_there s wish) (has_seat_there new wish))
@@ -107,10 +120,14 @@ kept_changed d marks seats beds wish m valid kept lt =
     kept_after (state_of d marks) seats beds wish m kept lt named.programme named.school
 
 -- what the change frees
-pub freed_changed : (d : DossierRows) (marks : List Mark) (seats beds : List ℕ) (wish : ℕ) (m : Mark) → IsValid d → IsKept (state_of d marks) seats beds → wish < length marks
+pub freed_changed : (d : DossierRows) (marks : List Mark) (seats beds : List ℕ) (wish : ℕ) (m : Mark) → IsValid d
+    → IsKept (state_of d marks) seats beds → wish < length marks
     → let s = state_of d marks in let new = with_mark_at s wish m in
     freed_by s new (candidate_of d wish)
-    ≡ record { seats = one_if (has_seat_there s wish && not (has_seat_there new wish)); beds = one_if (has_bed_there s wish && not (has_bed_there new wish)) }
+    ≡ record {
+      seats = one_if (has_seat_there s wish && not (has_seat_there new wish));
+      beds = one_if (has_bed_there s wish && not (has_bed_there new wish));
+    }
 freed_changed d marks seats beds wish m valid kept lt =
     let named = named_valid d marks seats beds wish valid kept lt in
     rw (candidate_in d.wishes wish) (freed_there (state_of d marks) wish m kept.marks lt named.programme named.school)

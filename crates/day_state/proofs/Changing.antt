@@ -21,7 +21,8 @@ use Rattle.day_state.specs.Along.{changed_by}
 use Rattle.day_state.proofs.Along.{IsOnWay, on_way_more, on_way_place, own_at}
 use Rattle.day_state.proofs.Freeing.{HasFreed, holds_falls, freed_more, freed_at_most}
 
-ends_if : (b : Bool) (status : Status) (stamp : Stamp) (m : Mark) → is_live_status status ≡ false → is_live (if b then changed_to status stamp m else m) ≡ true → is_live m ≡ true
+ends_if : (b : Bool) (status : Status) (stamp : Stamp) (m : Mark) → is_live_status status ≡ false
+    → is_live (if b then changed_to status stamp m else m) ≡ true → is_live m ≡ true
 ends_if false status stamp m ended t = t
 ends_if true status stamp m ended t =
     elim (cases_Bool (status_number m.status == status_number status)) [
@@ -30,7 +31,8 @@ ends_if true status stamp m ended t =
     ]
 
 -- what is live after a change of all a candidate's wishes was live before
-pub changed_falls : (change : OwnChange) (stamp : Stamp) (w : Wish) (m : Mark) → is_live (changed_by change stamp w m) ≡ true → is_live m ≡ true
+pub changed_falls : (change : OwnChange) (stamp : Stamp) (w : Wish) (m : Mark)
+    → is_live (changed_by change stamp w m) ≡ true → is_live m ≡ true
 changed_falls RefuseLive stamp w m t = ends_if (is_live m) Refused stamp m refl t
 changed_falls QuitOpen stamp w m t = ends_if (is_live m || is_waiting m) Quit stamp m refl t
 changed_falls (TakeBest best) stamp w m t =
@@ -68,11 +70,14 @@ step_falls : (change : OwnChange) (stamp : Stamp) (c : ℕ) (own : List ℕ) (st
 step_falls change stamp c own start now next freed step i m long is way lt one test =
     let k = slice_index own i in
     let place = on_way_place (changed_by change stamp) start now own c i long is way.on_way lt in
-    let long_now : length now.marks ≡ length now.dossier.wishes = way.on_way.long ∙ long ∙ ap (λ (d : DossierRows). length d.wishes) (sym way.on_way.dossier) in
+    let long_now : length now.marks ≡ length now.dossier.wishes = way.on_way.long ∙ long
+    ∙ ap (λ (d : DossierRows). length d.wishes) (sym way.on_way.dossier) in
     rw one.state
-    (holds_falls test now k m c long_now place.0 (rw one.mark (changed_falls change stamp (wish_in now.dossier.wishes k) (mark_in now.marks k))))
+    (holds_falls test now k m c long_now place.0
+    (rw one.mark (changed_falls change stamp (wish_in now.dossier.wishes k) (mark_in now.marks k))))
 
-pub counted_step : (change : OwnChange) (stamp : Stamp) (c : ℕ) (own : List ℕ) (start now next : State) (freed step : Freed) (i : ℕ) (m : Mark)
+pub counted_step : (change : OwnChange) (stamp : Stamp) (c : ℕ) (own : List ℕ) (start now next : State)
+    (freed step : Freed) (i : ℕ) (m : Mark)
     → IsValid start.dossier → length start.marks ≡ length start.dossier.wishes → own ≡ own_places start.dossier c
     → IsChanging change stamp c own start now freed i → i < length own → IsStep change stamp now next (slice_index own i) m step
     → IsCounted start next c freed step
@@ -91,7 +96,8 @@ counted_step change stamp c own start now next freed step i m valid long is way 
       beds_fit = omega (arith, beds, most.1, valid.size.schools);
     }
 
-pub changing_more : (change : OwnChange) (stamp : Stamp) (c : ℕ) (own : List ℕ) (start now next : State) (freed step : Freed) (i : ℕ) (m : Mark)
+pub changing_more : (change : OwnChange) (stamp : Stamp) (c : ℕ) (own : List ℕ) (start now next : State)
+    (freed step : Freed) (i : ℕ) (m : Mark)
     → IsValid start.dossier → length start.marks ≡ length start.dossier.wishes → own ≡ own_places start.dossier c
     → IsChanging change stamp c own start now freed i → i < length own → IsStep change stamp now next (slice_index own i) m step
     → IsChanging change stamp c own start next (record { seats = freed.seats + step.seats; beds = freed.beds + step.beds }) (i + 1)

@@ -41,7 +41,9 @@ set_other c s t place m a other = record {
 }
 
 -- a change at the same place to the same mark
-set_both : (c : ℕ) (s t : State) (place : ℕ) (m n : Mark) → Agrees c s t → (place < length s.dossier.wishes → who s place ≡ c → m ≡ n) → Agrees c (with_mark_at s place m) (with_mark_at t place n)
+set_both : (c : ℕ) (s t : State) (place : ℕ) (m n : Mark) → Agrees c s t
+    → (place < length s.dossier.wishes → who s place ≡ c → m ≡ n)
+    → Agrees c (with_mark_at s place m) (with_mark_at t place n)
 set_both c s t place m n a same = record {
   dossier = a.dossier;
   long = length-set s.marks place m ∙ a.long;
@@ -49,18 +51,24 @@ set_both c s t place m n a same = record {
   same = λ k lt own. elim (cases_eq k place) [
     | inl here ↦
         let place_in : place < length s.dossier.wishes = rw here at lt in
-        rw (here, mark_in-set_same s.marks place m (omega (arith, a.long)), mark_in-set_same t.marks place n (omega (arith, a.long_too))) (same place_in (rw here at own))
+        rw (
+          here,
+          mark_in-set_same s.marks place m (omega (arith, a.long)),
+          mark_in-set_same t.marks place n (omega (arith, a.long_too)),
+        ) (same place_in (rw here at own))
     | inr there ↦ rw (mark_in-set_other s.marks place k m there, mark_in-set_other t.marks place k n there) (a.same k lt own)
   ];
 }
 
 -- a change of all marks that leaves those of the candidate
-all_other : (c : ℕ) (s t : State) (f : Wish → Mark → Mark) → Agrees c s t → ((w : Wish) (m : Mark) → w.candidate ≡ c → f w m ≡ m) → Agrees c (with_marks s f) t
+all_other : (c : ℕ) (s t : State) (f : Wish → Mark → Mark) → Agrees c s t
+    → ((w : Wish) (m : Mark) → w.candidate ≡ c → f w m ≡ m) → Agrees c (with_marks s f) t
 all_other c s t f a leaves = record {
   dossier = a.dossier;
   long = length-with_marks f s a.long ∙ a.long;
   long_too = a.long_too;
-  same = λ k lt own. mark_in-with_marks f s a.long k (omega (arith, a.long)) ∙ leaves (wish_in s.dossier.wishes k) (mark_in s.marks k) own ∙ a.same k lt own;
+  same = λ k lt own. mark_in-with_marks f s a.long k (omega (arith, a.long))
+      ∙ leaves (wish_in s.dossier.wishes k) (mark_in s.marks k) own ∙ a.same k lt own;
 }
 
 -- the same change of all marks
@@ -84,34 +92,45 @@ of_place : (s : State) (place c : ℕ) → (candidate_at s place == c) ≡ false
 of_place s place c differ same = eqb-false (candidate_at s place) c differ (candidate_in s.dossier.wishes place ∙ same)
 
 -- an answer of another candidate
-pub other_answer : (c : ℕ) (s t : State) (stamp : Stamp) (kind : AnswerKind) (target : ℕ) → Agrees c s t → is_own_kind kind s c target ≡ false → Agrees c (after_kind kind s target stamp) t
+pub other_answer : (c : ℕ) (s t : State) (stamp : Stamp) (kind : AnswerKind) (target : ℕ) → Agrees c s t
+    → is_own_kind kind s c target ≡ false → Agrees c (after_kind kind s target stamp) t
 other_answer c s t stamp Accept target a other =
     let x = candidate_at s target in
     set_other c (refuse_live s x stamp) t target (changed_to Accepted stamp (mark_at s target))
-    (all_other c s t (λ w m. if is_live m && (w.candidate == x) then changed_to Refused stamp m else m) a (λ w m own. not_own (is_live m) w.candidate x c (changed_to Refused stamp m) m own other))
+    (all_other c s t (λ w m. if is_live m && (w.candidate == x) then changed_to Refused stamp m else m) a
+    (λ w m own. not_own (is_live m) w.candidate x c (changed_to Refused stamp m) m own other))
     (of_place s target c other)
-other_answer c s t stamp Refuse target a other = set_other c s t target (changed_to Refused stamp (mark_at s target)) a (of_place s target c other)
-other_answer c s t stamp Withdraw target a other = set_other c s t target (changed_to Withdrawn stamp (mark_at s target)) a (of_place s target c other)
+other_answer c s t stamp Refuse target a other =
+    set_other c s t target (changed_to Refused stamp (mark_at s target)) a (of_place s target c other)
+other_answer c s t stamp Withdraw target a other =
+    set_other c s t target (changed_to Withdrawn stamp (mark_at s target)) a (of_place s target c other)
 other_answer c s t stamp Quit target a other =
     all_other c s t (λ w m. if (is_live m || is_waiting m) && (w.candidate == target) then changed_to HasQuit stamp m else m) a
     (λ w m own. not_own (is_live m || is_waiting m) w.candidate target c (changed_to HasQuit stamp m) m own other)
 
 -- an answer in both states
-pub same_answer : (c : ℕ) (s t : State) (stamp : Stamp) (kind : AnswerKind) (target : ℕ) → Agrees c s t → Agrees c (after_kind kind s target stamp) (after_kind kind t target stamp)
+pub same_answer : (c : ℕ) (s t : State) (stamp : Stamp) (kind : AnswerKind) (target : ℕ) → Agrees c s t
+    → Agrees c (after_kind kind s target stamp) (after_kind kind t target stamp)
 same_answer c s t stamp Accept target a =
     let x = candidate_at s target in
     rw (ap (λ d. slice_index (map (λ w. w.candidate) d.wishes) target) a.dossier)
-    (set_both c (refuse_live s x stamp) (refuse_live t x stamp) target (changed_to Accepted stamp (mark_at s target)) (changed_to Accepted stamp (mark_at t target))
+    (set_both c (refuse_live s x stamp) (refuse_live t x stamp) target (changed_to Accepted stamp (mark_at s target))
+    (changed_to Accepted stamp (mark_at t target))
     (all_both c s t (λ w m. if is_live m && (w.candidate == x) then changed_to Refused stamp m else m) a)
     (λ lt own. ap (changed_to Accepted stamp) (a.same target lt own)))
 same_answer c s t stamp Refuse target a =
-    set_both c s t target (changed_to Refused stamp (mark_at s target)) (changed_to Refused stamp (mark_at t target)) a (λ lt own. ap (changed_to Refused stamp) (a.same target lt own))
+    set_both c s t target (changed_to Refused stamp (mark_at s target)) (changed_to Refused stamp (mark_at t target))
+    a (λ lt own. ap (changed_to Refused stamp) (a.same target lt own))
 same_answer c s t stamp Withdraw target a =
-    set_both c s t target (changed_to Withdrawn stamp (mark_at s target)) (changed_to Withdrawn stamp (mark_at t target)) a (λ lt own. ap (changed_to Withdrawn stamp) (a.same target lt own))
-same_answer c s t stamp Quit target a = all_both c s t (λ w m. if (is_live m || is_waiting m) && (w.candidate == target) then changed_to HasQuit stamp m else m) a
+    set_both c s t target (changed_to Withdrawn stamp (mark_at s target))
+    (changed_to Withdrawn stamp (mark_at t target)) a
+    (λ lt own. ap (changed_to Withdrawn stamp) (a.same target lt own))
+same_answer c s t stamp Quit target a = all_both c s t
+    (λ w m. if (is_live m || is_waiting m) && (w.candidate == target) then changed_to HasQuit stamp m else m) a
 
 -- whose answer it is depends on the dossier alone
-own_same : (s t : State) (c : ℕ) (kind : AnswerKind) (target : ℕ) → t.dossier ≡ s.dossier → is_own_kind kind t c target ≡ is_own_kind kind s c target
+own_same : (s t : State) (c : ℕ) (kind : AnswerKind) (target : ℕ) → t.dossier ≡ s.dossier
+    → is_own_kind kind t c target ≡ is_own_kind kind s c target
 own_same s t c Accept target e = rw e refl
 own_same s t c Refuse target e = rw e refl
 own_same s t c Withdraw target e = rw e refl
@@ -126,15 +145,19 @@ pub agrees_after : (c : ℕ) (first s t : State) (stamp : Stamp) → s.dossier �
 agrees_after c first s t stamp e a [] = a
 agrees_after c first s t stamp e a (x ∷ rest) =
     elim (cases_Bool (is_own_kind x.kind first c x.target)) [
-      | inl mine ↦ rw mine (agrees_after c first (after s stamp x) (after t stamp x) stamp (dossier_after s stamp x.kind x.target ∙ e) (same_answer c s t stamp x.kind x.target a) rest)
-      | inr other ↦ rw other (agrees_after c first (after s stamp x) t stamp (dossier_after s stamp x.kind x.target ∙ e) (other_answer c s t stamp x.kind x.target a (own_same first s c x.kind x.target e ∙ other)) rest)
+      | inl mine ↦ rw mine (agrees_after c first (after s stamp x) (after t stamp x) stamp
+          (dossier_after s stamp x.kind x.target ∙ e) (same_answer c s t stamp x.kind x.target a) rest)
+      | inr other ↦ rw other (agrees_after c first (after s stamp x) t stamp
+          (dossier_after s stamp x.kind x.target ∙ e)
+          (other_answer c s t stamp x.kind x.target a (own_same first s c x.kind x.target e ∙ other)) rest)
     ]
 
 pub answers_stay_apart : AnswersStayApart
 answers_stay_apart s stamp answers long c place lt own_place =
     let a = agrees_after c s s s stamp refl (agrees_self c s long) answers in
     a.same place (rw (dossier_after_all s stamp answers) lt)
-    (ap (λ (d : DossierRows). (wish_in d.wishes place).candidate) (dossier_after_all s stamp answers) ∙ sym (candidate_in s.dossier.wishes place) ∙ own_place)
+    (ap (λ (d : DossierRows). (wish_in d.wishes place).candidate) (dossier_after_all s stamp answers)
+    ∙ sym (candidate_in s.dossier.wishes place) ∙ own_place)
 
 pub some_not : (x : ℕ × Status) → Some x ≡ None → ⊥
 some_not x e = (cc)
@@ -154,9 +177,12 @@ same_target c s t place a own =
 
 same_fit : (c : ℕ) (s t : State) (kind : AnswerKind) (target : ℕ) → Agrees c s t → is_own_kind kind s c target ≡ true
     → kind_fits kind (status_at s target) ≡ kind_fits kind (status_at t target)
-same_fit c s t Accept target a own = ap (λ (m : Mark). is_live_status m.status) (same_target c s t target a (sym (candidate_in s.dossier.wishes target) ∙ eqb-true (candidate_at s target) c own))
-same_fit c s t Refuse target a own = ap (λ (m : Mark). is_live_status m.status) (same_target c s t target a (sym (candidate_in s.dossier.wishes target) ∙ eqb-true (candidate_at s target) c own))
-same_fit c s t Withdraw target a own = ap (λ (m : Mark). is_waiting_status m.status) (same_target c s t target a (sym (candidate_in s.dossier.wishes target) ∙ eqb-true (candidate_at s target) c own))
+same_fit c s t Accept target a own = ap (λ (m : Mark). is_live_status m.status)
+    (same_target c s t target a (sym (candidate_in s.dossier.wishes target) ∙ eqb-true (candidate_at s target) c own))
+same_fit c s t Refuse target a own = ap (λ (m : Mark). is_live_status m.status)
+    (same_target c s t target a (sym (candidate_in s.dossier.wishes target) ∙ eqb-true (candidate_at s target) c own))
+same_fit c s t Withdraw target a own = ap (λ (m : Mark). is_waiting_status m.status)
+    (same_target c s t target a (sym (candidate_in s.dossier.wishes target) ∙ eqb-true (candidate_at s target) c own))
 same_fit c s t Quit target a own = refl
 
 -- each answer fits where it comes
@@ -164,13 +190,15 @@ abbrev pub all_fit : State → Stamp → List Answer → Bool
 all_fit s stamp [] = true
 all_fit s stamp (a ∷ rest) = fits s a && all_fit (after s stamp a) stamp rest
 
-pub none_from_fit : (k : ℕ) (s : State) (stamp : Stamp) (answers : List Answer) → all_fit s stamp answers ≡ true → first_unfit k s stamp answers ≡ None
+pub none_from_fit : (k : ℕ) (s : State) (stamp : Stamp) (answers : List Answer) → all_fit s stamp answers ≡ true
+    → first_unfit k s stamp answers ≡ None
 none_from_fit k s stamp [] t = refl
 none_from_fit k s stamp (a ∷ rest) t =
     let parts = and_parts (fits s a) (all_fit (after s stamp a) stamp rest) t in
     rw parts.0 (none_from_fit (k + 1) (after s stamp a) stamp rest parts.1)
 
-pub fit_from_none : (k : ℕ) (s : State) (stamp : Stamp) (answers : List Answer) → first_unfit k s stamp answers ≡ None → all_fit s stamp answers ≡ true
+pub fit_from_none : (k : ℕ) (s : State) (stamp : Stamp) (answers : List Answer)
+    → first_unfit k s stamp answers ≡ None → all_fit s stamp answers ≡ true
 fit_from_none k s stamp [] e = refl
 fit_from_none k s stamp (a ∷ rest) e =
     elim (cases_Bool (fits s a)) [
@@ -186,8 +214,10 @@ own_fit c first s t stamp e a (x ∷ rest) u =
     elim (cases_Bool (is_own_kind x.kind first c x.target)) [
       | inl mine ↦ rw mine (and_from (fits t x) (all_fit (after t stamp x) stamp (own first c rest))
           (sym (same_fit c s t x.kind x.target a (own_same first s c x.kind x.target e ∙ mine)) ∙ parts.0)
-          (own_fit c first (after s stamp x) (after t stamp x) stamp (dossier_after s stamp x.kind x.target ∙ e) (same_answer c s t stamp x.kind x.target a) rest parts.1))
-      | inr other ↦ rw other (own_fit c first (after s stamp x) t stamp (dossier_after s stamp x.kind x.target ∙ e) (other_answer c s t stamp x.kind x.target a (own_same first s c x.kind x.target e ∙ other)) rest parts.1)
+          (own_fit c first (after s stamp x) (after t stamp x) stamp (dossier_after s stamp x.kind x.target ∙ e)
+          (same_answer c s t stamp x.kind x.target a) rest parts.1))
+      | inr other ↦ rw other (own_fit c first (after s stamp x) t stamp (dossier_after s stamp x.kind x.target ∙ e)
+          (other_answer c s t stamp x.kind x.target a (own_same first s c x.kind x.target e ∙ other)) rest parts.1)
     ]
 
 -- whose answer it is
@@ -207,7 +237,8 @@ owner_is s Quit target = eq-eqb target target refl
 abbrev next_of : State → Stamp → Answer → (ℕ → State) → ℕ → State
 next_of first stamp x t c = if is_own_kind x.kind first c x.target then after (t c) stamp x else t c
 
-fit_from_own : (first s : State) (t : ℕ → State) (stamp : Stamp) → s.dossier ≡ first.dossier → ((c : ℕ) → Agrees c s (t c)) → (answers : List Answer)
+fit_from_own : (first s : State) (t : ℕ → State) (stamp : Stamp) → s.dossier ≡ first.dossier
+    → ((c : ℕ) → Agrees c s (t c)) → (answers : List Answer)
     → ((c : ℕ) → all_fit (t c) stamp (own first c answers) ≡ true) → all_fit s stamp answers ≡ true
 fit_from_own first s t stamp e a [] u = refl
 fit_from_own first s t stamp e a (x ∷ rest) u =
@@ -223,14 +254,18 @@ fit_from_own first s t stamp e a (x ∷ rest) u =
     ])
     rest
     (λ d. elim (cases_Bool (is_own_kind x.kind first d x.target)) [
-      | inl own_one ↦ let v = and_parts (fits (t d) x) (all_fit (after (t d) stamp x) stamp (own first d rest)) (rw own_one at (u d)) in rw own_one v.1
+      | inl own_one ↦ let v = and_parts (fits (t d) x) (all_fit (after (t d) stamp x) stamp (own first d rest))
+          (rw own_one at (u d)) in rw own_one v.1
       | inr other ↦ rw other (rw other at (u d))
     ]))
 
 pub fits_apart : FitsApart
 fits_apart s stamp answers long = (
-  λ e c. none_from_fit 0 s stamp (own s c answers) (own_fit c s s s stamp refl (agrees_self c s long) answers (fit_from_none 0 s stamp answers e)),
-  λ each. none_from_fit 0 s stamp answers (fit_from_own s s (λ c. s) stamp refl (λ c. agrees_self c s long) answers (λ c. fit_from_none 0 s stamp (own s c answers) (each c))),
+  λ e c. none_from_fit 0 s stamp (own s c answers)
+      (own_fit c s s s stamp refl (agrees_self c s long) answers (fit_from_none 0 s stamp answers e)),
+  λ each. none_from_fit 0 s stamp answers
+      (fit_from_own s s (λ c. s) stamp refl (λ c. agrees_self c s long) answers
+      (λ c. fit_from_none 0 s stamp (own s c answers) (each c))),
 )
 
 pub order_is_free : OrderIsFree
@@ -239,8 +274,12 @@ order_is_free s stamp one other long same =
     let end_too = after_all s stamp other in
     let dossier : end.dossier ≡ s.dossier = dossier_after_all s stamp one in
     let dossier_too : end_too.dossier ≡ s.dossier = dossier_after_all s stamp other in
-    let long_one : length end.marks ≡ length s.dossier.wishes = (agrees_after 0 s s s stamp refl (agrees_self 0 s long) one).long ∙ ap (λ (d : DossierRows). length d.wishes) dossier in
-    let long_other : length end_too.marks ≡ length s.dossier.wishes = (agrees_after 0 s s s stamp refl (agrees_self 0 s long) other).long ∙ ap (λ (d : DossierRows). length d.wishes) dossier_too in
+    let long_one : length end.marks ≡ length s.dossier.wishes =
+    (agrees_after 0 s s s stamp refl (agrees_self 0 s long) one).long
+    ∙ ap (λ (d : DossierRows). length d.wishes) dossier in
+    let long_other : length end_too.marks ≡ length s.dossier.wishes =
+    (agrees_after 0 s s s stamp refl (agrees_self 0 s long) other).long
+    ∙ ap (λ (d : DossierRows). length d.wishes) dossier_too in
     record {
       state = same_state end end_too (dossier ∙ sym dossier_too)
           (same_marks end.marks end_too.marks (long_one ∙ sym long_other) (λ k lt.

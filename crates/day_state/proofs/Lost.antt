@@ -30,7 +30,8 @@ one_here true k xs e = rw e refl
 one_here false k xs e = rw e refl
 
 -- where at most one place passes
-passed_one : (p : ℕ → Bool) (k a n : ℕ) → a ≤ k → k < a + n → ((j : ℕ) → (j ≡ k → ⊥) → p j ≡ false) → length (filter p (range_with_len a n)) ≡ one_if (p k)
+passed_one : (p : ℕ → Bool) (k a n : ℕ) → a ≤ k → k < a + n → ((j : ℕ) → (j ≡ k → ⊥) → p j ≡ false)
+    → length (filter p (range_with_len a n)) ≡ one_if (p k)
 passed_one p k a zero le lt other = absurd (omega arith)
 passed_one p k a (suc n) le lt other =
     elim (cases_eq a k) [
@@ -56,7 +57,8 @@ passed_add : (p q r : ℕ → Bool) → Falls p q → Falls q r → (ks : List �
     → length (filter (λ k. p k && not (r k)) ks) ≡ length (filter (λ k. p k && not (q k)) ks) + length (filter (λ k. q k && not (r k)) ks)
 passed_add p q r f g [] = refl
 passed_add p q r f g (k ∷ ks) =
-    add_step (p k) (q k) (r k) (f k) (g k) k (filter (λ j. p j && not (r j)) ks) (filter (λ j. p j && not (q j)) ks) (filter (λ j. q j && not (r j)) ks) (passed_add p q r f g ks)
+    add_step (p k) (q k) (r k) (f k) (g k) k (filter (λ j. p j && not (r j)) ks) (filter (λ j. p j && not (q j)) ks)
+    (filter (λ j. q j && not (r j)) ks) (passed_add p q r f g ks)
 
 -- nothing is lost where nothing changes
 pub lost_none : (had has : ℕ → Bool) (n : ℕ) → ((k : ℕ) → has k ≡ had k) → lost_in had has n ≡ 0
@@ -65,16 +67,25 @@ lost_none had has n same =
     sym (length-filter p (range_with_len 0 n)) ∙ ap length (none_pass p (λ k. gone (had k) (has k) (same k)) (range_with_len 0 n))
 
 -- where the change is at one place
-pub lost_one : (had has : ℕ → Bool) (n k : ℕ) → k < n → ((j : ℕ) → (j ≡ k → ⊥) → has j ≡ had j) → lost_in had has n ≡ one_if (had k && not (has k))
+pub lost_one : (had has : ℕ → Bool) (n k : ℕ) → k < n → ((j : ℕ) → (j ≡ k → ⊥) → has j ≡ had j)
+    → lost_in had has n ≡ one_if (had k && not (has k))
 lost_one had has n k lt same =
     let p = λ (j : ℕ). had j && not (has j) in
-    sym (length-filter p (range_with_len 0 n)) ∙ passed_one p k 0 n (omega arith) (omega arith) (λ j other. gone (had j) (has j) (same j other))
+    sym (length-filter p (range_with_len 0 n))
+    ∙ passed_one p k 0 n (omega arith) (omega arith) (λ j other. gone (had j) (has j) (same j other))
 
 -- two falls after one another lose what each of them does
-pub lost_both : (start now next : ℕ → Bool) (n : ℕ) → Falls start now → Falls now next → lost_in start next n ≡ lost_in start now n + lost_in now next n
+pub lost_both : (start now next : ℕ → Bool) (n : ℕ) → Falls start now → Falls now next
+    → lost_in start next n ≡ lost_in start now n + lost_in now next n
 lost_both start now next n f g =
     let ks = range_with_len 0 n in
-    omega (arith, length-filter (λ k. start k && not (next k)) ks, length-filter (λ k. start k && not (now k)) ks, length-filter (λ k. now k && not (next k)) ks, passed_add start now next f g ks)
+    omega (
+      arith,
+      length-filter (λ k. start k && not (next k)) ks,
+      length-filter (λ k. start k && not (now k)) ks,
+      length-filter (λ k. now k && not (next k)) ks,
+      passed_add start now next f g ks,
+    )
 
 pub lost_at_most : (had has : ℕ → Bool) (n : ℕ) → lost_in had has n ≤ n
 lost_at_most had has n = omega (arith, count_by-le-length (λ k. had k && not (has k)) (range_with_len 0 n), length-range_with_len 0 n)

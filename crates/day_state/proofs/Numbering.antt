@@ -26,17 +26,21 @@ some_is_same : (a b : Option ℕ) (n : ℕ) → a ≡ Some n → b ≡ Some n �
 some_is_same a b n p q = rw (p, q) (eq-eqb n n refl)
 
 -- what together says
-together_parts : (sites : Sites) (v w : Wish) → together sites v w ≡ true → (w.candidate ≡ v.candidate) × (n : ℕ) × (site_of sites v ≡ Some n) × (site_of sites w ≡ Some n)
+together_parts : (sites : Sites) (v w : Wish) → together sites v w ≡ true
+    → (w.candidate ≡ v.candidate) × (n : ℕ) × (site_of sites v ≡ Some n) × (site_of sites w ≡ Some n)
 together_parts sites v w e =
     let parts = and_parts (w.candidate == v.candidate) (is_same (site_of sites v) (site_of sites w)) e in
     let site = is_same_some (site_of sites v) (site_of sites w) parts.1 in
     (eqb-true w.candidate v.candidate parts.0, site.0, site.1, site.2)
 
-together_from : (sites : Sites) (v w : Wish) (n : ℕ) → w.candidate ≡ v.candidate → site_of sites v ≡ Some n → site_of sites w ≡ Some n → together sites v w ≡ true
+together_from : (sites : Sites) (v w : Wish) (n : ℕ) → w.candidate ≡ v.candidate → site_of sites v ≡ Some n
+    → site_of sites w ≡ Some n → together sites v w ≡ true
 together_from sites v w n same p q =
-    and_from (w.candidate == v.candidate) (is_same (site_of sites v) (site_of sites w)) (eq-eqb w.candidate v.candidate same) (some_is_same (site_of sites v) (site_of sites w) n p q)
+    and_from (w.candidate == v.candidate) (is_same (site_of sites v) (site_of sites w))
+    (eq-eqb w.candidate v.candidate same) (some_is_same (site_of sites v) (site_of sites w) n p q)
 
-alike : (sites : Sites) (v w z : Wish) (n : ℕ) → w.candidate ≡ v.candidate → site_of sites v ≡ Some n → site_of sites w ≡ Some n → together sites v z ≡ together sites w z
+alike : (sites : Sites) (v w z : Wish) (n : ℕ) → w.candidate ≡ v.candidate → site_of sites v ≡ Some n
+    → site_of sites w ≡ Some n → together sites v z ≡ together sites w z
 alike sites v w z n same p q =
     ap (λ (c : ℕ). (z.candidate == c) && is_same (site_of sites v) (site_of sites z)) (sym same)
     ∙ ap (λ (o : Option ℕ). (z.candidate == w.candidate) && is_same o (site_of sites z)) (p ∙ sym q)
@@ -45,10 +49,12 @@ find_alike : {X : Type 0} (p q : X → Bool) → ((x : X) → p x ≡ q x) → (
 find_alike p q same [] = refl
 find_alike p q same (x ∷ xs) = rw (same x, find_alike p q same xs) refl
 
-find_first : (p : ℕ → Bool) (xs : List ℕ) (i : ℕ) → i < length xs → p (slice_index xs i) ≡ true → ((j : ℕ) → j < i → p (slice_index xs j) ≡ false) → find p xs ≡ Some (slice_index xs i)
+find_first : (p : ℕ → Bool) (xs : List ℕ) (i : ℕ) → i < length xs → p (slice_index xs i) ≡ true
+    → ((j : ℕ) → j < i → p (slice_index xs j) ≡ false) → find p xs ≡ Some (slice_index xs i)
 find_first p [] i lt passes none = absurd (omega arith)
 find_first p (x ∷ xs) zero lt passes none = rw passes refl
-find_first p (x ∷ xs) (suc i) lt passes none = rw (none 0 (omega arith)) (find_first p xs i (omega arith) passes (λ j j_lt. none (suc j) (omega arith)))
+find_first p (x ∷ xs) (suc i) lt passes none =
+    rw (none 0 (omega arith)) (find_first p xs i (omega arith) passes (λ j j_lt. none (suc j) (omega arith)))
 
 find_within : (p : ℕ → Bool) (xs : List ℕ) (n y : ℕ) → All (λ k. k < n) xs → find p xs ≡ Some y → y < n
 find_within p [] n y within e = absurd (cc)
@@ -97,7 +103,8 @@ pub record IsWalked (sites : Sites) (ws : List Wish) (order : List ℕ) (count :
 number_none : (n k : ℕ) → k < n → number_in (replicate n None) k ≡ None
 number_none n k lt = unwrap_or-slice_get (replicate n None) k None ∙ get_or-replicate n k None None lt
 
-pub walked_none : (sites : Sites) (ws : List Wish) (order : List ℕ) (count : ℕ) → IsWalked sites ws order count (replicate count None) (replicate (length ws) None) 0
+pub walked_none : (sites : Sites) (ws : List Wish) (order : List ℕ) (count : ℕ)
+    → IsWalked sites ws order count (replicate count None) (replicate (length ws) None) 0
 walked_none sites ws order count = record {
   sites_long = length-replicate count None;
   long = length-replicate (length ws) None;
@@ -107,7 +114,9 @@ walked_none sites ws order count = record {
 
 candidates_rise : (ws : List Wish) (order : List ℕ) (i j : ℕ) → IsIndex ws order → i ≤ j → j < length order
     → (wish_in ws (slice_index order i)).candidate ≤ (wish_in ws (slice_index order j)).candidate
-candidates_rise ws order i j index le lt = rw (candidate_there ws (slice_index order i), candidate_there ws (slice_index order j)) at (index.rises i j 0 le lt)
+candidates_rise ws order i j index le lt =
+    rw (candidate_there ws (slice_index order i), candidate_there ws (slice_index order j)) at
+    (index.rises i j 0 le lt)
 
 -- the wish at hand joins the bundle that its site had last, where it is of the same candidate
 joins : (sites : Sites) (ws : List Wish) (order : List ℕ) (i h : ℕ) (found : Option ℕ) → IsIndex ws order → i < length order
@@ -129,8 +138,10 @@ joins sites ws order i h (Some f) index lt site last =
     let found = together_parts sites (wish_in ws m) (wish_in ws f) (find_passes q order f last.first) in
     elim (cases_Bool ((wish_in ws f).candidate == (wish_in ws x).candidate)) [
       | inl mine ↦
-          let same : (wish_in ws x).candidate ≡ (wish_in ws m).candidate = sym (eqb-true (wish_in ws f).candidate (wish_in ws x).candidate mine) ∙ found.0 in
-          rw mine (find_alike p q (λ y. sym (alike sites (wish_in ws m) (wish_in ws x) (wish_in ws y) h same last.site site)) order ∙ last.first)
+          let same : (wish_in ws x).candidate ≡ (wish_in ws m).candidate =
+          sym (eqb-true (wish_in ws f).candidate (wish_in ws x).candidate mine) ∙ found.0 in
+          rw mine (find_alike p q (λ y. sym
+          (alike sites (wish_in ws m) (wish_in ws x) (wish_in ws y) h same last.site site)) order ∙ last.first)
       | inr other ↦
           rw other
           (find_first p order i lt (together_from sites (wish_in ws x) (wish_in ws x) h refl site site)
@@ -143,17 +154,20 @@ joins sites ws order i h (Some f) index lt site last =
           absurd (let yes = eq-eqb (wish_in ws f).candidate (wish_in ws x).candidate same in cc))))
     ]
 
-number_here : (sites : Sites) (ws : List Wish) (order : List ℕ) (count : ℕ) (last numbers : List (Option ℕ)) (i : ℕ) (o : Option ℕ) → IsIndex ws order → i < length order
+number_here : (sites : Sites) (ws : List Wish) (order : List ℕ) (count : ℕ) (last numbers : List (Option ℕ)) (i : ℕ)
+    (o : Option ℕ) → IsIndex ws order → i < length order
     → IsWalked sites ws order count last numbers i
     → let x = slice_index order i in
     site_of sites (wish_in ws x) ≡ o → ForSome o (λ h. h < count) → first_in sites ws order x ≡ bundle_there ws last o x
 number_here sites ws order count last numbers i None index lt walk site within =
     let x = slice_index order i in
-    find_nothing (λ y. together sites (wish_in ws x) (wish_in ws y)) (λ y. rw site (and_right ((wish_in ws y).candidate == (wish_in ws x).candidate) false refl)) order
+    find_nothing (λ y. together sites (wish_in ws x) (wish_in ws y))
+    (λ y. rw site (and_right ((wish_in ws y).candidate == (wish_in ws x).candidate) false refl)) order
 number_here sites ws order count last numbers i (Some h) index lt walk site within =
     joins sites ws order i h (number_in last h) index lt site (walk.last_at h (within h refl))
 
-last_stays : (sites : Sites) (ws : List Wish) (order : List ℕ) (i h : ℕ) (found : Option ℕ) → (site_of sites (wish_in ws (slice_index order i)) ≡ Some h → ⊥)
+last_stays : (sites : Sites) (ws : List Wish) (order : List ℕ) (i h : ℕ) (found : Option ℕ)
+    → (site_of sites (wish_in ws (slice_index order i)) ≡ Some h → ⊥)
     → LastAt sites ws order i h found → LastAt sites ws order (i + 1) h found
 last_stays sites ws order i h None other last = λ j lt e.
     elim (cases_eq j i) [
@@ -175,10 +189,12 @@ number_set_same : (ns : List (Option ℕ)) (k : ℕ) (o : Option ℕ) → k < le
 number_set_same ns k o lt = unwrap_or-slice_get (set ns k o) k None ∙ get_or-set_same ns k o None lt
 
 number_set_other : (ns : List (Option ℕ)) (k j : ℕ) (o : Option ℕ) → (j ≡ k → ⊥) → number_in (set ns k o) j ≡ number_in ns j
-number_set_other ns k j o ne = unwrap_or-slice_get (set ns k o) j None ∙ get_or-set_other ns k j o None ne ∙ sym (unwrap_or-slice_get ns j None)
+number_set_other ns k j o ne = unwrap_or-slice_get (set ns k o) j None ∙ get_or-set_other ns k j o None ne
+    ∙ sym (unwrap_or-slice_get ns j None)
 
 -- what came last to each site after one more
-last_noted : (sites : Sites) (ws : List Wish) (order : List ℕ) (count : ℕ) (last : List (Option ℕ)) (i : ℕ) (o : Option ℕ) → IsIndex ws order → i < length order → length last ≡ count
+last_noted : (sites : Sites) (ws : List Wish) (order : List ℕ) (count : ℕ) (last : List (Option ℕ)) (i : ℕ)
+    (o : Option ℕ) → IsIndex ws order → i < length order → length last ≡ count
     → ((h : ℕ) → h < count → LastAt sites ws order i h (number_in last h))
     → let x = slice_index order i in
     site_of sites (wish_in ws x) ≡ o → first_in sites ws order x ≡ bundle_there ws last o x
@@ -208,7 +224,8 @@ noted_long last None number = refl
 noted_long last (Some h) number = length-set last h number
 
 -- one more wish on the way
-pub walked_more : (sites : Sites) (ws : List Wish) (order : List ℕ) (count : ℕ) (last numbers : List (Option ℕ)) (i : ℕ) → IsIndex ws order → i < length order
+pub walked_more : (sites : Sites) (ws : List Wish) (order : List ℕ) (count : ℕ) (last numbers : List (Option ℕ))
+    (i : ℕ) → IsIndex ws order → i < length order
     → ForSome (site_of sites (wish_in ws (slice_index order i))) (λ h. h < count) → IsWalked sites ws order count last numbers i
     → let x = slice_index order i in
     let site = site_of sites (wish_in ws x) in
@@ -234,14 +251,17 @@ walked_more sites ws order count last numbers i index lt within walk =
       ];
     }
 
-last_within : (sites : Sites) (ws : List Wish) (order : List ℕ) (i h : ℕ) (found : Option ℕ) → IsIndex ws order → LastAt sites ws order i h found → ForSome found (λ b. b < length ws)
+last_within : (sites : Sites) (ws : List Wish) (order : List ℕ) (i h : ℕ) (found : Option ℕ) → IsIndex ws order
+    → LastAt sites ws order i h found → ForSome found (λ b. b < length ws)
 last_within sites ws order i h None index last b e = absurd (cc)
 last_within sites ws order i h (Some f) index last b e =
     let same : f ≡ b = (cc) in
-    rw (← same) (find_within (λ x. together sites (wish_in ws (slice_index order last.at)) (wish_in ws x)) order (length ws) f index.within last.first)
+    rw (← same) (find_within (λ x. together sites (wish_in ws (slice_index order last.at)) (wish_in ws x)) order
+    (length ws) f index.within last.first)
 
 -- the number that the next step notes is a place
-pub number_within : (sites : Sites) (ws : List Wish) (order : List ℕ) (count : ℕ) (last numbers : List (Option ℕ)) (i : ℕ) → IsIndex ws order → i < length order
+pub number_within : (sites : Sites) (ws : List Wish) (order : List ℕ) (count : ℕ) (last numbers : List (Option ℕ))
+    (i : ℕ) → IsIndex ws order → i < length order
     → ForSome (site_of sites (wish_in ws (slice_index order i))) (λ h. h < count) → IsWalked sites ws order count last numbers i
     → let x = slice_index order i in
     ForSome (bundle_there ws last (site_of sites (wish_in ws x)) x) (λ b. b < length ws)
@@ -251,18 +271,21 @@ number_within sites ws order count last numbers i index lt within walk = λ b e.
     (number_here sites ws order count last numbers i (site_of sites (wish_in ws x)) index lt walk refl within ∙ e)
 
 -- the found bundle of a place, as the next step asks
-pub found_within : (sites : Sites) (ws : List Wish) (order : List ℕ) (count : ℕ) (last numbers : List (Option ℕ)) (i h : ℕ) → IsIndex ws order → IsWalked sites ws order count last numbers i
+pub found_within : (sites : Sites) (ws : List Wish) (order : List ℕ) (count : ℕ) (last numbers : List (Option ℕ))
+    (i h : ℕ) → IsIndex ws order → IsWalked sites ws order count last numbers i
     → h < count → ForSome (number_in last h) (λ b. b < length ws)
 found_within sites ws order count last numbers i h index walk lt =
     last_within sites ws order i h (number_in last h) index (walk.last_at h lt)
 
 -- each place stands somewhere in the order
-place_of : (ws : List Wish) (order : List ℕ) (k : ℕ) → IsIndex ws order → k < length ws → (j : ℕ) × (j < length order) × (slice_index order j ≡ k)
+place_of : (ws : List Wish) (order : List ℕ) (k : ℕ) → IsIndex ws order → k < length ws
+    → (j : ℕ) × (j < length order) × (slice_index order j ≡ k)
 place_of ws order k index lt =
     let q = λ (x : ℕ). candidate_in ws x == candidate_in ws k in
     let n = length ws in
     let some : list_any (λ x. q x && nat_eq k x) order ≡ true =
-    sym (any-filter (nat_eq k) q order) ∙ ap (list_any (nat_eq k)) (index.own (candidate_in ws k)) ∙ among-filter q k n lt ∙ eq-eqb (candidate_in ws k) (candidate_in ws k) refl in
+    sym (any-filter (nat_eq k) q order) ∙ ap (list_any (nat_eq k)) (index.own (candidate_in ws k))
+    ∙ among-filter q k n lt ∙ eq-eqb (candidate_in ws k) (candidate_in ws k) refl in
     let (j, x, within, at, passes) = Any-from_list_any (λ x. q x && nat_eq k x) order some in
     let same = eqb-true k x (and_parts (q x) (nat_eq k x) passes).1 in
     (j, within, get_or_default order j 0 x within ∙ at ∙ sym same)
@@ -284,7 +307,8 @@ bundles_shared sites ws order j k place =
     let parts = together_parts sites v w t in
     let here : p (slice_index order place.0) ≡ true = rw place.2 t in
     let found = find_has p order (list_any_at p order place.0 0 place.1 here) in
-    let also : find q order ≡ Some found.0 = sym (find_alike p q (λ x. alike sites v w (wish_in ws x) parts.1 parts.0 parts.2 parts.3) order) ∙ found.1 in
+    let also : find q order ≡ Some found.0 =
+    sym (find_alike p q (λ x. alike sites v w (wish_in ws x) parts.1 parts.0 parts.2 parts.3) order) ∙ found.1 in
     some_is_same (find p order) (find q order) found.0 found.1 also)
 
 find_among : (p q : ℕ → Bool) → ((x : ℕ) → p x ≡ true → q x ≡ true) → (xs : List ℕ) → find p (filter q xs) ≡ find p xs
@@ -304,14 +328,16 @@ first_is sites ws order k index =
     let p = λ (x : ℕ). together sites (wish_in ws k) (wish_in ws x) in
     let q = λ (x : ℕ). candidate_in ws x == c in
     let weaker : (x : ℕ) → p x ≡ true → q x ≡ true = λ x t.
-    eq-eqb (candidate_in ws x) c (candidate_there ws x ∙ (together_parts sites (wish_in ws k) (wish_in ws x) t).0 ∙ sym (candidate_there ws k)) in
+    eq-eqb (candidate_in ws x) c (candidate_there ws x ∙ (together_parts sites (wish_in ws k) (wish_in ws x) t).0
+    ∙ sym (candidate_there ws k)) in
     sym (find_among p q weaker order) ∙ ap (find p) (index.own c) ∙ find_among p q weaker (range_with_len 0 (length ws))
 
 -- a list of the wishes' bundles, two of which are the same exactly where the wishes are together
 pub record AreBundles (sites : Sites) (ws : List Wish) (bundles : List (Option ℕ)) : Type 0 where
   pub as_long : length bundles ≡ length ws
   pub within : (k : ℕ) → k < length ws → ForSome (number_in bundles k) (λ b. b < length ws)
-  pub shared : (j k : ℕ) → j < length ws → k < length ws → is_same (number_in bundles j) (number_in bundles k) ≡ together sites (wish_in ws j) (wish_in ws k)
+  pub shared : (j k : ℕ) → j < length ws → k < length ws
+      → is_same (number_in bundles j) (number_in bundles k) ≡ together sites (wish_in ws j) (wish_in ws k)
 
 pub range_at : (n k d : ℕ) → k < n → get_or (range_with_len 0 n) k d ≡ k
 range_at n k d lt = get_or-range_with_len 0 n k d lt ∙ omega arith
@@ -323,14 +349,16 @@ below_all n i d lt =
 
 bundle_in : (sites : Sites) (ws : List Wish) (k : ℕ) → k < length ws → number_in (bundles_of sites ws) k ≡ bundle_of sites ws k
 bundle_in sites ws k lt =
-    unwrap_or-slice_get (bundles_of sites ws) k None ∙ get_or-map-range_with_len (bundle_of sites ws) 0 (length ws) k k None lt (omega arith)
+    unwrap_or-slice_get (bundles_of sites ws) k None
+    ∙ get_or-map-range_with_len (bundle_of sites ws) 0 (length ws) k k None lt (omega arith)
 
 pub bundles_are : (sites : Sites) (ws : List Wish) → AreBundles sites ws (bundles_of sites ws)
 bundles_are sites ws =
     let n = length ws in
     record {
       as_long = length-map-range_with_len (bundle_of sites ws) 0 n;
-      within = λ k lt b e. find_within (λ x. together sites (wish_in ws k) (wish_in ws x)) (range_with_len 0 n) n b (below_all n) (sym (bundle_in sites ws k lt) ∙ e);
+      within = λ k lt b e. find_within (λ x. together sites (wish_in ws k) (wish_in ws x)) (range_with_len 0 n) n b
+          (below_all n) (sym (bundle_in sites ws k lt) ∙ e);
       shared = λ j k j_lt k_lt.
           rw (bundle_in sites ws j j_lt, bundle_in sites ws k k_lt)
           (bundles_shared sites ws (range_with_len 0 n) j k (k, omega (arith, k_lt, length-range_with_len 0 n), range_at n k 0 k_lt));
@@ -347,7 +375,8 @@ pub bundles_fit : (sites : Sites) (ws : List Wish) (firsts : List (Option ℕ)) 
 bundles_fit sites ws firsts are few = rw are (omega (arith, (bundles_are sites ws).as_long, few), bundles_within sites ws)
 
 -- at the end all wishes have their bundles
-pub walked_all : (sites : Sites) (ws : List Wish) (order : List ℕ) (count : ℕ) (last numbers : List (Option ℕ)) (i : ℕ) → IsIndex ws order → length order ≤ i
+pub walked_all : (sites : Sites) (ws : List Wish) (order : List ℕ) (count : ℕ) (last numbers : List (Option ℕ))
+    (i : ℕ) → IsIndex ws order → length order ≤ i
     → IsWalked sites ws order count last numbers i → numbers ≡ bundles_of sites ws
 walked_all sites ws order count last numbers i index le walk =
     ext_get_or None numbers (bundles_of sites ws) (walk.long ∙ sym (length-map-range_with_len (bundle_of sites ws) 0 (length ws)))
@@ -355,4 +384,5 @@ walked_all sites ws order count last numbers i index le walk =
     let here : k < length ws = omega (arith, lt, walk.long) in
     let place = place_of ws order k index here in
     let is : number_in numbers k ≡ first_in sites ws order k = rw place.2 at (walk.walked place.0 (omega (arith, place.1))) in
-    sym (unwrap_or-slice_get numbers k None) ∙ is ∙ first_is sites ws order k index ∙ sym (bundle_in sites ws k here) ∙ unwrap_or-slice_get (bundles_of sites ws) k None)
+    sym (unwrap_or-slice_get numbers k None) ∙ is ∙ first_is sites ws order k index ∙ sym (bundle_in sites ws k here)
+    ∙ unwrap_or-slice_get (bundles_of sites ws) k None)

@@ -63,21 +63,24 @@ stable_own {X} key xs ys moved stable c =
     ]
 
 pub index_from : (ws : List Wish) (order : List ℕ) → IsPermutation (range_with_len 0 (length ws)) order
-    → IsNonDecreasingBy (candidate_in ws) order → IsStableByKey (candidate_in ws) nat_cmp (range_with_len 0 (length ws)) order → IsIndex ws order
+    → IsNonDecreasingBy (candidate_in ws) order
+    → IsStableByKey (candidate_in ws) nat_cmp (range_with_len 0 (length ws)) order → IsIndex ws order
 index_from ws order moved rises stable =
     let n = length ws in
     let within = λ (k : ℕ). k < n in
     record {
       as_long = length_permutation (range_with_len 0 n) order moved ∙ length-range_with_len 0 n;
       within = All-permutation within (range_with_len 0 n) order moved
-          (λ k e lt. let in_range : k < n = omega (arith, length-range_with_len 0 n) in rw (get_or-range_with_len 0 n k e in_range) (omega arith));
+          (λ k e lt. let in_range : k < n = omega (arith, length-range_with_len 0 n) in
+          rw (get_or-range_with_len 0 n k e in_range) (omega arith));
       rises = rises;
       own = stable_own (candidate_in ws) (range_with_len 0 n) order moved stable;
     }
 
 -- one more place
 pub range_more : (a n j : ℕ) → a + n ≡ j → range_with_len a (n + 1) ≡ range_with_len a n ++ j ∷ []
-range_more a n j e = sym (map-id (range_with_len a (n + 1))) ∙ map-range_with_len_more (λ x. x) a n j e ∙ ap (λ (l : List ℕ). l ++ j ∷ []) (map-id (range_with_len a n))
+range_more a n j e = sym (map-id (range_with_len a (n + 1))) ∙ map-range_with_len_more (λ x. x) a n j e
+    ∙ ap (λ (l : List ℕ). l ++ j ∷ []) (map-id (range_with_len a n))
 
 below_not : (a c : ℕ) → ltb a c ≡ true → (a == c) ≡ false
 below_not a c t = ne_eqb a c (λ e. omega (arith, ltb-true a c t))
@@ -130,7 +133,8 @@ between {X} key xs c from to from_in to_in lower upper =
     (le, sym parts)
 
 -- one more wish with the span of its candidate
-pub spans_more : (ws : List Wish) (order : List ℕ) (n c : ℕ) (spans : List Span) (span : Span) → AreSpans ws order n spans → IsSpan ws order c span
+pub spans_more : (ws : List Wish) (order : List ℕ) (n c : ℕ) (spans : List Span) (span : Span)
+    → AreSpans ws order n spans → IsSpan ws order c span
     → candidate_in ws n ≡ c → AreSpans ws order (n + 1) (spans ++ span ∷ [])
 spans_more ws order n c spans span are is same = record {
   count = omega (arith, length-append spans (span ∷ []), are.count);
@@ -138,14 +142,17 @@ spans_more ws order n c spans span are is same = record {
     | inl before ↦
         let k_in : k < length spans = omega (arith, are.count) in
         let e : span_in (spans ++ span ∷ []) k ≡ span_in spans k =
-        unwrap_or-slice_get (spans ++ span ∷ []) k (span_in [] 0) ∙ get_or_append_left spans (span ∷ []) (span_in [] 0) k k_in ∙ sym (unwrap_or-slice_get spans k (span_in [] 0)) in
+        unwrap_or-slice_get (spans ++ span ∷ []) k (span_in [] 0)
+        ∙ get_or_append_left spans (span ∷ []) (span_in [] 0) k k_in
+        ∙ sym (unwrap_or-slice_get spans k (span_in [] 0)) in
         rw e (are.each k before)
     | inr here ↦
         let at : k ≡ length spans = omega (arith, are.count) in
         let zero_more : k - k ≡ 0 = omega arith in
         let last : k ≡ n = omega (arith, are.count) in
         let e : span_in (spans ++ span ∷ []) k ≡ span =
-        unwrap_or-slice_get (spans ++ span ∷ []) k (span_in [] 0) ∙ get_or-append_right spans (span ∷ []) k k (span_in [] 0) (sym at) (omega arith) ∙ rw zero_more refl in
+        unwrap_or-slice_get (spans ++ span ∷ []) k (span_in [] 0)
+        ∙ get_or-append_right spans (span ∷ []) k k (span_in [] 0) (sym at) (omega arith) ∙ rw zero_more refl in
         rw (e, last, same) is
   ];
 }

@@ -14,7 +14,8 @@ use Rattle.admit_core.specs.DossierRows.{candidate_of}
 use Rattle.day_state.specs.Kept.{mark_in, wish_in, lives_at, holds_one}
 use Rattle.day_state.proofs.Counting.{any-set_same}
 
-pub zip-set : {X Y : Type 0} (xs : List X) (ys : List Y) (i : ℕ) (y : Y) (d : X) → zip xs (set ys i y) ≡ set (zip xs ys) i (get_or xs i d, y)
+pub zip-set : {X Y : Type 0} (xs : List X) (ys : List Y) (i : ℕ) (y : Y) (d : X)
+    → zip xs (set ys i y) ≡ set (zip xs ys) i (get_or xs i d, y)
 zip-set [] ys i y d = refl
 zip-set (x ∷ xs) [] i y d = refl
 zip-set (x ∷ xs) (z ∷ ys) zero y d = refl
@@ -52,7 +53,8 @@ entries_by_place s long =
     let ms = s.marks in
     let d : Wish × Mark = (wish_in [] 0, mark_in [] 0) in
     fill_by_all (entry_in s) (zip ws ms) (length ws) d (omega (arith, length-zip ws ms))
-    (λ k lt. get_or-zip ws ms k d lt (omega arith) ∙ rw (unwrap_or-slice_get ws k (wish_in [] 0), unwrap_or-slice_get ms k (mark_in [] 0)) refl)
+    (λ k lt. get_or-zip ws ms k d lt (omega arith)
+    ∙ rw (unwrap_or-slice_get ws k (wish_in [] 0), unwrap_or-slice_get ms k (mark_in [] 0)) refl)
 
 turn_and : (own live test : Bool) → (own && (live && test)) ≡ ((live && own) && test)
 turn_and true true test = refl
@@ -70,17 +72,21 @@ own_any test s c long =
     let lives = lives_at d.wishes s.marks test in
     let holds = λ (e : Wish × Mark). is_live e.1 && (e.0.candidate == c) && test e.0 in
     any-filter lives is_own places
-    ∙ any_same (λ k. is_own k && lives k) (λ k. holds (entry_in s k)) (λ k. rw (candidate_in d.wishes k) (turn_and ((wish_in d.wishes k).candidate == c) (is_live (mark_in s.marks k)) (test (wish_in d.wishes k)))) places
+    ∙ any_same (λ k. is_own k && lives k) (λ k. holds (entry_in s k))
+    (λ k. rw (candidate_in d.wishes k) (turn_and ((wish_in d.wishes k).candidate == c) (is_live (mark_in s.marks k))
+    (test (wish_in d.wishes k)))) places
     ∙ sym (any-map holds (entry_in s) places)
     ∙ rw (entries_by_place s long) refl
 
 -- the entries after a change of one mark
-pub entries-with_mark_at : (s : State) (place : ℕ) (m : Mark) → entries (with_mark_at s place m) ≡ set (entries s) place (wish_in s.dossier.wishes place, m)
+pub entries-with_mark_at : (s : State) (place : ℕ) (m : Mark)
+    → entries (with_mark_at s place m) ≡ set (entries s) place (wish_in s.dossier.wishes place, m)
 entries-with_mark_at s place m =
     zip-set s.dossier.wishes s.marks place m (wish_in [] 0) ∙ rw (unwrap_or-slice_get s.dossier.wishes place (wish_in [] 0)) refl
 
 -- what a test of the entries finds is the same where it does not see the change
-pub holds_same : (test : Wish → Bool) (s : State) (place : ℕ) (m : Mark) (c : ℕ) → length s.marks ≡ length s.dossier.wishes → place < length s.marks
+pub holds_same : (test : Wish → Bool) (s : State) (place : ℕ) (m : Mark) (c : ℕ)
+    → length s.marks ≡ length s.dossier.wishes → place < length s.marks
     → (is_live m && ((wish_in s.dossier.wishes place).candidate == c) && test (wish_in s.dossier.wishes place))
     ≡ (is_live (mark_in s.marks place) && ((wish_in s.dossier.wishes place).candidate == c) && test (wish_in s.dossier.wishes place))
     → holds_one test (with_mark_at s place m) c ≡ holds_one test s c
@@ -90,6 +96,7 @@ holds_same test s place m c long lt e =
     let d : Wish × Mark = (wish_in [] 0, mark_in [] 0) in
     let holds = λ (e : Wish × Mark). is_live e.1 && (e.0.candidate == c) && test e.0 in
     let at : get_or (zip ws ms) place d ≡ entry_in s place =
-    get_or-zip ws ms place d (omega arith) lt ∙ rw (unwrap_or-slice_get ws place (wish_in [] 0), unwrap_or-slice_get ms place (mark_in [] 0)) refl in
+    get_or-zip ws ms place d (omega arith) lt
+    ∙ rw (unwrap_or-slice_get ws place (wish_in [] 0), unwrap_or-slice_get ms place (mark_in [] 0)) refl in
     ap (list_any holds) (entries-with_mark_at s place m)
     ∙ any-set_same holds (entries s) place (wish_in ws place, m) d (omega (arith, length-zip ws ms)) (e ∙ sym (ap holds at))

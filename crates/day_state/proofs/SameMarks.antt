@@ -16,7 +16,8 @@ status_same m x same = let e = changed_status x m.stamp m in rw same at e
 
 pub mark_same : (m n : Mark) → is_same_mark m n ≡ true → m ≡ n
 mark_same m n same =
-    let parts = and_parts (status_number m.status == status_number n.status) ((m.stamp.day == n.stamp.day) && (m.stamp.pass == n.stamp.pass)) same in
+    let parts = and_parts (status_number m.status == status_number n.status)
+    ((m.stamp.day == n.stamp.day) && (m.stamp.pass == n.stamp.pass)) same in
     let stamps = and_parts (m.stamp.day == n.stamp.day) (m.stamp.pass == n.stamp.pass) parts.1 in
     let status : m.status ≡ n.status = status_same m n.status parts.0 in
     let day : m.stamp.day ≡ n.stamp.day = eqb-true m.stamp.day n.stamp.day stamps.0 in

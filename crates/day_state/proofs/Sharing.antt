@@ -16,7 +16,8 @@ use Rattle.day_state.proofs.Numbering.{range_at}
 use Rattle.day_state.proofs.Ordering.{range_more}
 
 -- a bundle that is not shared has no other wish than its first
-pub alone_first : (bundles : List (Option ℕ)) (b k : ℕ) → is_shared bundles b ≡ false → k < length bundles → number_in bundles k ≡ Some b → k ≡ b
+pub alone_first : (bundles : List (Option ℕ)) (b k : ℕ) → is_shared bundles b ≡ false → k < length bundles
+    → number_in bundles k ≡ Some b → k ≡ b
 alone_first bundles b k none lt is =
     elim (cases_eq k b) [
       | inl same ↦ same
@@ -24,7 +25,8 @@ alone_first bundles b k none lt is =
           let n = length bundles in
           let later : is_later bundles b (slice_index (range_with_len 0 n) k) ≡ true =
           rw (range_at n k 0 lt, ne_eqb k b other, is) (eq-eqb b b refl) in
-          absurd (false≢true (sym none ∙ list_any_at (is_later bundles b) (range_with_len 0 n) k 0 (omega (arith, lt, length-range_with_len 0 n)) later))
+          absurd (false≢true (sym none ∙ list_any_at (is_later bundles b) (range_with_len 0 n) k 0
+          (omega (arith, lt, length-range_with_len 0 n)) later))
     ]
 
 pub flags_long : (bundles : List (Option ℕ)) → length (shared_flags bundles) ≡ length bundles
@@ -33,12 +35,18 @@ flags_long bundles = length-map-range_with_len (is_shared bundles) 0 (length bun
 pub flag_is : (bundles : List (Option ℕ)) (b : ℕ) → b < length bundles → get_or (shared_flags bundles) b false ≡ is_shared bundles b
 flag_is bundles b lt = get_or-map-range_with_len (is_shared bundles) 0 (length bundles) b b false lt (omega arith)
 
-pub true_more : (flags : List Bool) (i : ℕ) (d : Bool) → i < length flags → true_before flags (i + 1) ≡ true_before flags i + cond (get_or flags i d) 1 0
+pub true_more : (flags : List Bool) (i : ℕ) (d : Bool) → i < length flags
+    → true_before flags (i + 1) ≡ true_before flags i + cond (get_or flags i d) 1 0
 true_more flags i d lt = length-filter_more (λ b. b) flags i d lt
 
 pub true_most : (flags : List Bool) (k : ℕ) → k ≤ length flags → true_before flags k ≤ k
 true_most flags k le =
-    omega (arith, length-filter (λ (b : Bool). b) (take k flags), count_by-le-length (λ (b : Bool). b) (take k flags), length-take-le k flags le)
+    omega (
+      arith,
+      length-filter (λ (b : Bool). b) (take k flags),
+      count_by-le-length (λ (b : Bool). b) (take k flags),
+      length-take-le k flags le,
+    )
 
 true_rises : (flags : List Bool) (k d : ℕ) → k + d ≤ length flags → true_before flags k ≤ true_before flags (k + d)
 true_rises flags k zero le = let e : k + 0 ≡ k = omega arith in rw e (omega arith)
@@ -47,20 +55,24 @@ true_rises flags k (suc d) le =
     rw e (omega (arith, true_more flags (k + d) false (omega arith), true_rises flags k d (omega arith)))
 
 -- the numbers rise
-rank_below : (bundles : List (Option ℕ)) (b c : ℕ) → is_shared bundles b ≡ true → b < c → c ≤ length bundles → rank_of bundles b < rank_of bundles c
+rank_below : (bundles : List (Option ℕ)) (b c : ℕ) → is_shared bundles b ≡ true → b < c → c ≤ length bundles
+    → rank_of bundles b < rank_of bundles c
 rank_below bundles b c shared lt le =
     let flags = shared_flags bundles in
     let long = flags_long bundles in
-    let more : true_before flags (b + 1) ≡ true_before flags b + 1 = true_more flags b false (omega arith) ∙ rw (flag_is bundles b (omega arith), shared) refl in
+    let more : true_before flags (b + 1) ≡ true_before flags b + 1 = true_more flags b false (omega arith)
+    ∙ rw (flag_is bundles b (omega arith), shared) refl in
     let e : (b + 1) + (c - (b + 1)) ≡ c = omega arith in
     let rises : true_before flags (b + 1) ≤ true_before flags c = rw e at (true_rises flags (b + 1) (c - (b + 1)) (omega arith)) in
     omega (arith, more, rises)
 
-pub rank_within : (bundles : List (Option ℕ)) (b : ℕ) → is_shared bundles b ≡ true → b < length bundles → rank_of bundles b < rank_of bundles (length bundles)
+pub rank_within : (bundles : List (Option ℕ)) (b : ℕ) → is_shared bundles b ≡ true → b < length bundles
+    → rank_of bundles b < rank_of bundles (length bundles)
 rank_within bundles b shared lt = rank_below bundles b (length bundles) shared lt (omega arith)
 
 -- two bundles have two numbers
-pub rank_apart : (bundles : List (Option ℕ)) (b c : ℕ) → is_shared bundles b ≡ true → is_shared bundles c ≡ true → b < length bundles → c < length bundles
+pub rank_apart : (bundles : List (Option ℕ)) (b c : ℕ) → is_shared bundles b ≡ true → is_shared bundles c ≡ true
+    → b < length bundles → c < length bundles
     → (b ≡ c → ⊥) → rank_of bundles b ≡ rank_of bundles c → ⊥
 rank_apart bundles b c b_shared c_shared b_lt c_lt other same =
     elim (cases_lt b c) [
@@ -134,11 +146,13 @@ pub flagged_more : (bundles : List (Option ℕ)) (flags : List Bool) (i : ℕ) �
 flagged_more bundles flags i so_far lt within = record {
   long = later_long flags (number_in bundles i) i ∙ so_far.long;
   each = λ b b_lt.
-      later_more flags (number_in bundles i) i b (list_any (is_later bundles b) (range_with_len 0 i)) (λ c e. omega (arith, so_far.long, within c e)) (so_far.each b b_lt)
+      later_more flags (number_in bundles i) i b (list_any (is_later bundles b) (range_with_len 0 i))
+      (λ c e. omega (arith, so_far.long, within c e)) (so_far.each b b_lt)
       ∙ sym (any_more (is_later bundles b) i);
 }
 
-pub flagged_all : (bundles : List (Option ℕ)) (flags : List Bool) (i : ℕ) → AreFlagged bundles flags i → i ≡ length bundles → flags ≡ shared_flags bundles
+pub flagged_all : (bundles : List (Option ℕ)) (flags : List Bool) (i : ℕ) → AreFlagged bundles flags i
+    → i ≡ length bundles → flags ≡ shared_flags bundles
 flagged_all bundles flags i so_far end =
     ext_get_or false flags (shared_flags bundles) (so_far.long ∙ sym (flags_long bundles))
     (λ b lt.
@@ -146,7 +160,8 @@ flagged_all bundles flags i so_far end =
     so_far.each b here ∙ rw end refl ∙ sym (flag_is bundles b here))
 
 -- one more flag is counted in four bytes
-pub added_fits : (flags : List Bool) (i : ℕ) (b : Bool) → i < length flags → length flags < 2147483648 → true_before flags i + one_if b < 4294967296
+pub added_fits : (flags : List Bool) (i : ℕ) (b : Bool) → i < length flags → length flags < 2147483648
+    → true_before flags i + one_if b < 4294967296
 added_fits flags i true lt few = omega (arith, true_most flags i (omega arith))
 added_fits flags i false lt few = omega (arith, true_most flags i (omega arith))
 
@@ -158,17 +173,20 @@ pub record AreRanked (flags : List Bool) (ranks : List ℕ) (rank i : ℕ) : Typ
 pub ranked_none : (flags : List Bool) → AreRanked flags [] 0 0
 ranked_none flags = record { so_far = refl; next = refl }
 
-pub rank_more : (flags : List Bool) (rank sum i : ℕ) (b : Bool) → i < length flags → rank ≡ true_before flags i → b ≡ flag_in flags i → sum + 0 ≡ rank + one_if b → sum ≡ true_before flags (i + 1)
+pub rank_more : (flags : List Bool) (rank sum i : ℕ) (b : Bool) → i < length flags → rank ≡ true_before flags i
+    → b ≡ flag_in flags i → sum + 0 ≡ rank + one_if b → sum ≡ true_before flags (i + 1)
 rank_more flags rank sum i b lt is flag added =
     let here : sum + 0 ≡ rank + one_if (get_or flags i false) = rw (flag ∙ unwrap_or-slice_get flags i false) at added in
     omega (arith, here, is, true_more flags i false lt)
 
-pub ranks_more : (flags : List Bool) (ranks new : List ℕ) (rank i : ℕ) → AreRanked flags ranks rank i → new ≡ ranks ++ rank ∷ [] → new ≡ map (true_before flags) (range_with_len 0 (i + 1))
+pub ranks_more : (flags : List Bool) (ranks new : List ℕ) (rank i : ℕ) → AreRanked flags ranks rank i
+    → new ≡ ranks ++ rank ∷ [] → new ≡ map (true_before flags) (range_with_len 0 (i + 1))
 ranks_more flags ranks new rank i are pushed =
     pushed ∙ rw (are.so_far, are.next) (sym (map-range_with_len_more (true_before flags) 0 i i (omega arith)))
 
 -- a bundle's number is that of one of two wishes or more
-pub count_parts : (bundles : List (Option ℕ)) (o : Option ℕ) (n : ℕ) → count_of (number_of bundles o) ≡ Some n → (b : ℕ) × (o ≡ Some b) × (is_shared bundles b ≡ true) × (rank_of bundles b ≡ n)
+pub count_parts : (bundles : List (Option ℕ)) (o : Option ℕ) (n : ℕ) → count_of (number_of bundles o) ≡ Some n
+    → (b : ℕ) × (o ≡ Some b) × (is_shared bundles b ≡ true) × (rank_of bundles b ≡ n)
 count_parts bundles None n e = absurd (cc)
 count_parts bundles (Some b) n e =
     elim (cases_Bool (is_shared bundles b)) [
@@ -181,7 +199,8 @@ ranks_long bundles =
     let flags = shared_flags bundles in
     length-map-range_with_len (true_before flags) 0 (length flags + 1) ∙ ap (λ n. n + 1) (flags_long bundles)
 
-pub rank_read : (bundles : List (Option ℕ)) (k : ℕ) → k ≤ length bundles → slice_index (all_ranks (shared_flags bundles)) k ≡ rank_of bundles k
+pub rank_read : (bundles : List (Option ℕ)) (k : ℕ) → k ≤ length bundles
+    → slice_index (all_ranks (shared_flags bundles)) k ≡ rank_of bundles k
 rank_read bundles k le =
     let flags = shared_flags bundles in
     get_or-map-range_with_len (true_before flags) 0 (length flags + 1) k k 0 (omega (arith, flags_long bundles)) (omega arith)
@@ -192,12 +211,14 @@ pub numbered_is : (bundles : List (Option ℕ)) (shared : List Bool) (ranks : Li
 numbered_is bundles shared ranks None flags are within = refl
 numbered_is bundles shared ranks (Some b) flags are within =
     let lt = within b refl in
-    let flag : flag_in (shared_flags bundles) b ≡ is_shared bundles b = unwrap_or-slice_get (shared_flags bundles) b false ∙ flag_is bundles b lt in
+    let flag : flag_in (shared_flags bundles) b ≡ is_shared bundles b =
+    unwrap_or-slice_get (shared_flags bundles) b false ∙ flag_is bundles b lt in
     let rank : slice_index (all_ranks (shared_flags bundles)) b ≡ rank_of bundles b = rank_read bundles b (omega arith) in
     rw (are, flags, flag, rank) refl
 
 -- a number is packed in four bytes beside what stands for none and for a wish alone
-pub packed_fits : (bundles : List (Option ℕ)) (o : Option ℕ) → ForSome o (λ b. b < length bundles) → length bundles < 2147483648 → ForSome (count_of (number_of bundles o)) (λ n. n < 4294967294)
+pub packed_fits : (bundles : List (Option ℕ)) (o : Option ℕ) → ForSome o (λ b. b < length bundles)
+    → length bundles < 2147483648 → ForSome (count_of (number_of bundles o)) (λ n. n < 4294967294)
 packed_fits bundles o within few n e =
     let parts = count_parts bundles o n e in
     let lt = within parts.0 parts.1 in

@@ -21,7 +21,12 @@ pub push-requires : goal.push-requires
 push-requires c =
     let k_in : c.loop-place.place < length c.args.firsts.now = omega arith in
     let within = c.requires.within c.loop-place.place k_in in
-    rw (c.number_of.ensures, c.first_at.ensures, numbered_is c.args.firsts.now c.args.shared.now c.args.ranks.now (number_in c.args.firsts.now c.loop-place.place) c.requires.shared c.requires.ranks within)
+    rw (
+      c.number_of.ensures,
+      c.first_at.ensures,
+      numbered_is c.args.firsts.now c.args.shared.now c.args.ranks.now (number_in c.args.firsts.now c.loop-place.place)
+          c.requires.shared c.requires.ranks within,
+    )
     (packed_fits c.args.firsts.now (number_in c.args.firsts.now c.loop-place.place) within c.requires.few)
 
 pub loop-place-preserved : goal.loop-place-preserved
@@ -30,7 +35,14 @@ loop-place-preserved c =
     let k = c.loop-place.place in
     let k_in : k < length firsts = omega arith in
     c.in_ok-push.ensures
-    ∙ rw (c.loop-place.invariant, c.number_of.ensures, c.first_at.ensures, numbered_is firsts c.args.shared.now c.args.ranks.now (number_in firsts k) c.requires.shared c.requires.ranks (c.requires.within k k_in), unwrap_or-slice_get firsts k None)
+    ∙ rw (
+      c.loop-place.invariant,
+      c.number_of.ensures,
+      c.first_at.ensures,
+      numbered_is firsts c.args.shared.now c.args.ranks.now (number_in firsts k) c.requires.shared c.requires.ranks
+          (c.requires.within k k_in),
+      unwrap_or-slice_get firsts k None,
+    )
     (sym (map_more (number_of firsts) firsts k None k_in))
 
 pub returns : goal.returns

@@ -8,7 +8,8 @@ loop-place-preserved c =
     let k_in : k < length c.args.flags.now = omega arith in
     record {
       so_far = ranks_more c.args.flags.now c.loop-place.ranks.items _ c.loop-place.rank k c.loop-place.invariant c.in_ok-push.ensures.items;
-      next = rank_more c.args.flags.now c.loop-place.rank c.counted-rank.result k c.flag_at.result k_in c.loop-place.invariant.next c.flag_at.ensures c.counted-rank.ensures;
+      next = rank_more c.args.flags.now c.loop-place.rank c.counted-rank.result k c.flag_at.result k_in
+          c.loop-place.invariant.next c.flag_at.ensures c.counted-rank.ensures;
     }
 
 pub counted-rank-requires-clause-comes : goal.counted-rank-requires-clause-comes
@@ -19,4 +20,5 @@ counted-rank-requires-clause-comes c =
 pub returns : goal.returns
 returns c =
     let end : length c.args.flags.now ≡ c.loop-place.place = omega arith in
-    rw end (ranks_more c.args.flags.now c.loop-place.ranks.items _ c.loop-place.rank c.loop-place.place c.loop-place.invariant c.in_ok-push-2.ensures.items)
+    rw end (ranks_more c.args.flags.now c.loop-place.ranks.items _ c.loop-place.rank c.loop-place.place
+    c.loop-place.invariant c.in_ok-push-2.ensures.items)

@@ -12,7 +12,8 @@ pub loop-place-preserved : goal.loop-place-preserved
 loop-place-preserved c =
     let k_in : c.loop-place.place < length c.args.firsts.now = omega arith in
     rw (c.note_later.ensures, c.first_at.ensures)
-    (flagged_more c.args.firsts.now c.loop-place.shared.items c.loop-place.place c.loop-place.invariant k_in (c.requires.within c.loop-place.place k_in))
+    (flagged_more c.args.firsts.now c.loop-place.shared.items c.loop-place.place c.loop-place.invariant k_in
+    (c.requires.within c.loop-place.place k_in))
 
 pub returns : goal.returns
 returns c = flagged_all c.args.firsts.now c.loop-place.shared.items c.loop-place.place c.loop-place.invariant (omega arith)

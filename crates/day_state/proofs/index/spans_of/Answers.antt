@@ -12,7 +12,8 @@ loop-wish-preserved c =
     let k = c.loop-wish.wish-index in
     record {
       so_far = rw c.in_ok-push.ensures.items
-          (spans_more ws c.args.order.now k _ c.loop-wish.spans.items c.span_beside-span.result c.loop-wish.invariant.so_far c.span_beside-span.ensures
+          (spans_more ws c.args.order.now k _ c.loop-wish.spans.items c.span_beside-span.result
+          c.loop-wish.invariant.so_far c.span_beside-span.ensures
           (candidate_in ws k ∙ ap (λ (w : Wish). w.candidate) (unwrap_or-slice_get ws k (wish_in [] 0))));
       last = c.span_beside-span.ensures;
     }

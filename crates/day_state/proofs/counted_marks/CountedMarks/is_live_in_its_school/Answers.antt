@@ -9,15 +9,19 @@ use Rattle.day_state.proofs.counted_marks.CountedMarks.is_live_in_its_school.Goa
 pub is_live-requires : goal.is_live-requires
 is_live-requires c =
     let in_range : c.args.wish < length c.self.inside.marks.items = rw (sym c.self.view_is) at c.requires in
-    let has = has_number Schools (state_of c.self.inside.dossier.now c.self.inside.marks.items) c.self.inside.in_schools.numbers.value c.self.inside.in_schools.live.items c.args.wish c.self.invariant.kept.marks in_range c.self.invariant.schools in
+    let has = has_number Schools (state_of c.self.inside.dossier.now c.self.inside.marks.items)
+    c.self.inside.in_schools.numbers.value c.self.inside.in_schools.live.items c.args.wish
+    c.self.invariant.kept.marks in_range c.self.invariant.schools in
     record { place = has.place; number = has.number }
 
 pub returns : goal.returns
 returns c =
     let marks = c.self.inside.marks.items in
     let in_range : c.args.wish < length marks = rw (sym c.self.view_is) at c.requires in
-    let lives : c.is_live-lives.result ≡ is_live (mark_in marks c.args.wish) = c.is_live-lives.ensures ∙ ap is_live (c.mark.ensures ∙ ap (λ (s : State). mark_in s.marks c.args.wish) (sym c.self.view_is)) in
+    let lives : c.is_live-lives.result ≡ is_live (mark_in marks c.args.wish) = c.is_live-lives.ensures
+    ∙ ap is_live (c.mark.ensures ∙ ap (λ (s : State). mark_in s.marks c.args.wish) (sym c.self.view_is)) in
     c.is_live.ensures
     ∙ ap (has_live c.self.inside.in_schools.live.items (number_at c.self.inside.in_schools.numbers.value c.args.wish)) lives
-    ∙ has_bed_is (state_of c.self.inside.dossier.now marks) c.self.inside.in_schools.numbers.value c.self.inside.in_schools.live.items c.args.wish c.self.invariant.kept.marks in_range c.self.invariant.schools
+    ∙ has_bed_is (state_of c.self.inside.dossier.now marks) c.self.inside.in_schools.numbers.value
+    c.self.inside.in_schools.live.items c.args.wish c.self.invariant.kept.marks in_range c.self.invariant.schools
     ∙ ap (λ (s : State). has_bed_there s c.args.wish) c.self.view_is

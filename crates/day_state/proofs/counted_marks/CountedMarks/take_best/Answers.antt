@@ -7,7 +7,8 @@ use Rattle.day_state.proofs.counted_marks.CountedMarks.take_best.Goals as goal
 pub returns-in-None-clause-state : goal.returns-in-None-clause-state
 returns-in-None-clause-state c =
     let s = c.args.self.now in
-    let long : length s.marks ≡ length s.dossier.wishes = subst (λ (s : State). length s.marks ≡ length s.dossier.wishes) c.self.view_is c.self.invariant.kept.marks in
+    let long : length s.marks ≡ length s.dossier.wishes =
+    subst (λ (s : State). length s.marks ≡ length s.dossier.wishes) c.self.view_is c.self.invariant.kept.marks in
     auto_none s c.args.candidate c.args.stamp long c.in-None.ensures
 
 pub returns-in-None-clause-freed : goal.returns-in-None-clause-freed

@@ -10,18 +10,21 @@ pub invariant_of-self : goal.invariant_of-self
 invariant_of-self c =
     let s = c.self.inside.live in
     let valid : IsValid s.dossier = subst IsValid (c.dossier.view_is ∙ c.dossier-dossier.ensures) c.dossier.invariant in
-    rw c.take_best.ensures.state (whole_taken c.self.inside.index.value s c.candidate_at-candidate.result c.args.stamp valid c.self.invariant)
+    rw c.take_best.ensures.state (whole_taken c.self.inside.index.value s c.candidate_at-candidate.result
+    c.args.stamp valid c.self.invariant)
 
 pub returns-clause-state : goal.returns-clause-state
 returns-clause-state c =
     let s = c.self.inside.live in
     let candidate : c.candidate_at-candidate.result ≡ candidate_at s c.args.wish =
-    c.candidate_at-candidate.ensures ∙ ap (λ ws. candidate_in ws c.args.wish) (c.as_slice.ensures ∙ ap (λ (d : DossierRows). d.wishes) (c.dossier.view_is ∙ c.dossier-dossier.ensures)) in
+    c.candidate_at-candidate.ensures ∙ ap (λ ws. candidate_in ws c.args.wish)
+    (c.as_slice.ensures ∙ ap (λ (d : DossierRows). d.wishes) (c.dossier.view_is ∙ c.dossier-dossier.ensures)) in
     c.take_best.ensures.state ∙ rw (candidate, c.self.view_is) refl
 
 pub returns-clause-freed : goal.returns-clause-freed
 returns-clause-freed c =
     let s = c.self.inside.live in
     let candidate : c.candidate_at-candidate.result ≡ candidate_at s c.args.wish =
-    c.candidate_at-candidate.ensures ∙ ap (λ ws. candidate_in ws c.args.wish) (c.as_slice.ensures ∙ ap (λ (d : DossierRows). d.wishes) (c.dossier.view_is ∙ c.dossier-dossier.ensures)) in
+    c.candidate_at-candidate.ensures ∙ ap (λ ws. candidate_in ws c.args.wish)
+    (c.as_slice.ensures ∙ ap (λ (d : DossierRows). d.wishes) (c.dossier.view_is ∙ c.dossier-dossier.ensures)) in
     c.take_best.ensures.freed ∙ rw (candidate, c.self.view_is) refl

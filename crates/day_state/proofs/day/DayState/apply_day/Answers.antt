@@ -10,4 +10,5 @@ returns-clause-own_fit c =
 pub returns-clause-apart : goal.returns-clause-apart
 returns-clause-apart c =
     let whole : IsDayState c.self.inside.index.value c.args.self.now = rw c.self.view_is at c.self.invariant in
-    ok_apart c.args.self.now c.apply_front.new.self c.args.stamp c.args.answers.now c.apply_front.result whole.long c.apply_front.ensures.result c.apply_front.ensures.state
+    ok_apart c.args.self.now c.apply_front.new.self c.args.stamp c.args.answers.now c.apply_front.result whole.long
+    c.apply_front.ensures.result c.apply_front.ensures.state
