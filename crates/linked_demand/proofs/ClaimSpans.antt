@@ -12,8 +12,9 @@ use Rattle.std.proofs.lemmas.List.Kept.{IsNonDecreasingBy-filter}
 use Rattle.admit_core.specs.DossierRows.{DossierRows}
 use Rattle.day_state.specs.Kept.{candidate_in, IsIndex}
 use Rattle.day_state.proofs.Ordering.{between}
-use Rattle.linked_demand.specs.declared.claims.Span.{Span}
-use Rattle.linked_demand.specs.Claims.{IsWithin, part_of, IsSpanOf, AreWishesFor, AreWishesFrom}
+use Rattle.day_state.specs.declared.spans.Span.{Span}
+use Rattle.day_state.specs.Spans.{IsWithin, part_of}
+use Rattle.linked_demand.specs.Claims.{IsSpanOf, AreWishesFor, AreWishesFrom}
 use Rattle.linked_demand.specs.Keyed.{AreRowsOf}
 use Rattle.linked_demand.specs.Links.{claim_of}
 use Rattle.linked_demand.specs.Seats.{applies_at}

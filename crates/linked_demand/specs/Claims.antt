@@ -1,20 +1,11 @@
 -- The claims of a programme as spans of the list of the wishes for it.
-use Rattle.std.specs.Prelude.{◌≡◌, ℕ, ◌≤◌, ◌<◌, ◌^◌, true, false, ◌==◌, List, length, filter, nat_lt, nat_le, Some, slice_get, slice_range, All, Vec}
+use Rattle.std.specs.Prelude.{◌≡◌, ℕ, ◌≤◌, ◌<◌, ◌^◌, true, false, ◌==◌, List, length, filter, nat_lt, nat_le, Some, slice_get, All, Vec}
 use Rattle.std.specs.declared.alloc.Global.{Global}
 use Rattle.std.specs.List.Sorted.{IsNonDecreasingBy, IsPartitionPoint}
 use Rattle.admit_core.specs.DossierRows.{DossierRows}
 use Rattle.day_state.specs.Kept.{candidate_in}
-use Rattle.linked_demand.specs.declared.claims.Span.{Span}
+use Rattle.day_state.specs.declared.spans.Span.{Span}
 use Rattle.linked_demand.specs.Links.{claim_of}
-
--- a span lies in a list of this length
-pub record IsWithin (n : ℕ) (span : Span) : Type 0 where
-  pub rises : span.from ≤ span.to
-  pub within : span.to ≤ n
-
--- the part of a list that a span marks
-abbrev pub part_of : List ℕ → Span → List ℕ
-part_of wishes span = slice_range wishes span.from span.to
 
 -- in a list that does not fall, the span begins at the first number that is not below this one, and ends at the first that is above
 pub record IsSpanOf (xs : List ℕ) (c : ℕ) (span : Span) : Type 0 where

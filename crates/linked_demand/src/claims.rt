@@ -2,29 +2,15 @@
 ghost use Rattle.std.specs.Prelude.{◌≡◌, ◌<◌, ◌≤◌, ◌^◌, ◌&&◌, [], true, false, nat_lt, nat_le, length, map, All, IfOk, slice_index_or};
 ghost use Rattle.std.specs.List.Sorted.{IsNonDecreasingBy, IsPartitionPoint};
 ghost use Rattle.day_state.specs.Kept.{candidate_in};
-ghost use Rattle.linked_demand.specs.Claims.{IsWithin, part_of, IsSpanOf};
+ghost use Rattle.day_state.specs.Spans.{IsWithin, part_of};
+ghost use Rattle.linked_demand.specs.Claims.{IsSpanOf};
 
 use crate::rising::first_not_below;
 use admit_core::OutOfMemory;
-use day_state::DayState;
+use day_state::{DayState, Span, part};
 use demand::wish_at;
 use std::alloc::Global;
 use std::marker::Model;
-
-/// Where in a list a claim begins and ends.
-#[derive(Clone, Copy)]
-pub struct Span {
-    pub from: u32,
-    pub to: u32,
-}
-
-/// The part of a list that a span marks.
-pub fn part(wishes: &[u32], span: Span) -> &[u32]
-    requires { IsWithin (length wishes.now) span }
-    ensures { result.now ≡ part_of wishes.now span }
-{
-    &wishes[span.from as usize..span.to as usize]
-}
 
 /// The candidates of wishes.
 pub fn candidates_of(
@@ -81,7 +67,7 @@ pub struct Claims {
 
 impl Model for Claims {
     ghost use Rattle.std.specs.Prelude.{ℕ, List, length, map, All};
-    ghost use Rattle.linked_demand.specs.Claims.{IsWithin, part_of};
+    ghost use Rattle.day_state.specs.Spans.{IsWithin, part_of};
 
     ghost Value = { List (List ℕ) };
 

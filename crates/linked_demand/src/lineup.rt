@@ -10,11 +10,11 @@ ghost use Rattle.linked_demand.specs.Links.{claim_of};
 ghost use Rattle.linked_demand.specs.Opens.{line_of};
 ghost use Rattle.linked_demand.specs.Seats.{PutAt, AreSeated, boards_at, boarders_of, is_below, is_passed};
 
-use crate::claims::{Claims, candidates_of, part, span_of};
+use crate::claims::{Claims, candidates_of, span_of};
 use crate::wishes::wish_count;
 use crate::wishing::wishes_by_programme;
 use admit_core::{CallOrders, OutOfMemory};
-use day_state::DayState;
+use day_state::{DayState, part};
 use demand::{call_everyone, limit_of, order_of, programme_count, wish_at};
 use std::alloc::Global;
 use std::mem;

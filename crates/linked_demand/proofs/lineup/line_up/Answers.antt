@@ -8,8 +8,8 @@ use Rattle.std.proofs.lemmas.List.Elements.{All-nil, All-push}
 use Rattle.admit_core.specs.Proposals.{order_of}
 use Rattle.day_state.specs.Kept.{candidate_in}
 use Rattle.demand.proofs.Ranking.{picked, passed_over}
-use Rattle.linked_demand.specs.declared.claims.Span.{Span}
-use Rattle.linked_demand.specs.Claims.{IsWithin, part_of}
+use Rattle.day_state.specs.declared.spans.Span.{Span}
+use Rattle.day_state.specs.Spans.{IsWithin, part_of}
 use Rattle.linked_demand.specs.Links.{claim_of}
 use Rattle.linked_demand.specs.Opens.{applies_in}
 use Rattle.linked_demand.specs.Seats.{PutAt}

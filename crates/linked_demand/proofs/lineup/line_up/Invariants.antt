@@ -1,6 +1,6 @@
 use Rattle.std.proofs.Common.{◌≡◌, map, filter, take, length}
 use Rattle.std.specs.Prelude.{All}
-use Rattle.linked_demand.specs.Claims.{IsWithin, part_of}
+use Rattle.day_state.specs.Spans.{IsWithin, part_of}
 use Rattle.linked_demand.specs.Links.{claim_of}
 use Rattle.linked_demand.specs.Opens.{applies_in}
 use Rattle.linked_demand.specs.Seats.{AreSeated, is_passed}
