@@ -1,22 +1,29 @@
 //! The demanded ranks of a school, with the wishes that demand them.
-ghost use Rattle.std.specs.Prelude.{◌≡◌, ℕ, ◌<◌, length, List, map, filter, All, IfOk, OnOk};
+ghost use Rattle.std.specs.Prelude.{◌≡◌, ℕ, ◌<◌, length, List, map, filter, All, IfOk};
 ghost use Rattle.std.specs.List.{dedup};
-ghost use Rattle.std.specs.List.Sorted.{IsPermutation, IsNonDecreasingBy, IsStableByKey};
-ghost use Rattle.std.specs.Ordering.{nat_cmp};
 ghost use Rattle.admit_core.specs.declared.ranking.CallOrder.{CallOrder};
 ghost use Rattle.admit_core.specs.Proposals.{proposed};
 ghost use Rattle.demand.specs.Demands.{demands_of, needs_bed, demand_in, same_rank};
 
 use crate::open::wish_at;
+use crate::ranked::{Ranked, sort_by_rank};
 use admit_core::OutOfMemory;
 use day_state::DayState;
-use std::alloc::{AllocError, Global};
+use std::alloc::Global;
 
 /// A demanded rank, and the least place of a wish that demands it.
 #[derive(Clone, Copy, Debug, PartialEq, Eq)]
 pub struct Demand {
     pub rank: u32,
     pub wish: u32,
+}
+
+impl Ranked for Demand {
+    ghost rank_of = { λ demand. demand.rank };
+
+    fn rank(&self) -> u32 {
+        self.rank
+    }
 }
 
 /// Whether the wish at a place has a school in which its candidate has a rank and no bed.
@@ -58,16 +65,6 @@ fn demands_by_place(
     Ok(demands)
 }
 
-/// Puts demands in order by rank; those of one rank keep their order.
-fn sort_demands(demands: &mut Vec<Demand>) -> Result<(), AllocError>
-    ensures moved { IsPermutation demands.old.items demands.new.items }
-    ensures rises { OnOk result (IsNonDecreasingBy (λ x. x.rank) demands.new.items) }
-    ensures stable { OnOk result (IsStableByKey (λ x. x.rank) nat_cmp demands.old.items demands.new.items) }
-{
-    demands.sort_by_key(|demand| demand.rank)?;
-    Ok(())
-}
-
 /// Keeps the first of each run of demands of one rank.
 fn keep_firsts(demands: &mut Vec<Demand>)
     ensures { demands.new.items ≡ dedup same_rank demands.old.items }
@@ -88,7 +85,7 @@ pub fn demands_of(
 {
     let _ = state.marks(); // one for each wish
     let mut demands = demands_by_place(alloc, state, places, school)?;
-    sort_demands(&mut demands)?;
+    sort_by_rank(&mut demands)?;
     keep_firsts(&mut demands);
     Ok(demands)
 }

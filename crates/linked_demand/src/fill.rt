@@ -2,8 +2,6 @@
 ghost use Rattle.std.specs.Prelude.{◌≡◌, ◌<◌, length, map, All, IfOk, OnOk};
 ghost use Rattle.std.specs.Option.{ForSome};
 ghost use Rattle.std.specs.List.{range_with_len};
-ghost use Rattle.std.specs.List.Sorted.{IsPermutation, IsNonDecreasingBy, IsStableByKey};
-ghost use Rattle.std.specs.Ordering.{nat_cmp};
 ghost use Rattle.admit_core.specs.State.{free_beds, is_school};
 ghost use Rattle.day_state.specs.Kept.{mark_in, wish_in};
 ghost use Rattle.linked_demand.specs.Filled.{row_school, AreFilled};
@@ -14,8 +12,8 @@ ghost use Rattle.linked_demand.specs.Seats.{boarders_of};
 use crate::rows::{RowWish, empty_rows, put_in};
 use admit_core::OutOfMemory;
 use day_state::DayState;
-use demand::{mark_at, wish_at};
-use std::alloc::{AllocError, Global};
+use demand::{mark_at, sort_by_rank, wish_at};
+use std::alloc::Global;
 use vacancies::beds_left;
 
 /// The school in whose row the wish at a place stands.
@@ -73,16 +71,6 @@ fn rows_by_place(
     Ok(rows)
 }
 
-/// Puts a row in order by rank; those of one rank keep their order.
-fn sort_row(row: &mut Vec<RowWish>) -> Result<(), AllocError>
-    ensures moved { IsPermutation row.old.items row.new.items }
-    ensures rises { OnOk result (IsNonDecreasingBy (λ x. x.rank) row.new.items) }
-    ensures stable { OnOk result (IsStableByKey (λ x. x.rank) nat_cmp row.old.items row.new.items) }
-{
-    row.sort_by_key(|item| item.rank)?;
-    Ok(())
-}
-
 /// The rows of the schools up to their bars, of the wishes with a school.
 pub fn rows_of(
     alloc: Global,
@@ -97,7 +85,7 @@ pub fn rows_of(
     let _ = state.marks(); // one for each wish
     let mut rows = rows_by_place(alloc, state, boarders, bars)?;
     for school in 0..rows.len() {
-        sort_row(&mut rows[school])?;
+        sort_by_rank(&mut rows[school])?;
     }
     Ok(rows)
 }

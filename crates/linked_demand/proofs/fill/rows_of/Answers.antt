@@ -10,9 +10,9 @@ loop-school-init c = sorted_none c.args.state.now c.args.bars.now c.in_ok-rows.r
 
 pub loop-school-preserved : goal.loop-school-preserved
 loop-school-preserved c =
-    sorted_more c.args.state.now c.args.bars.now c.loop-school.school c.loop-school.rows.items c.index_mut.result.now c.sort_row.new.row (rw c.marks.ensures.marks at c.marks.ensures.one_each)
+    sorted_more c.args.state.now c.args.bars.now c.loop-school.school c.loop-school.rows.items c.index_mut.result.now c.sort_by_rank.new.items (rw c.marks.ensures.marks at c.marks.ensures.one_each)
     c.loop-school.invariant (omega (arith, c.loop-school-test.true, c.len-school-end.ensures, c.loop-school.invariant.one_each, c.in_ok-rows.ensures.one_each)) c.index_mut.ensures.value
-    c.sort_row.ensures.moved c.in_ok-sort_row.ensures.rises c.in_ok-sort_row.ensures.stable
+    c.sort_by_rank.ensures.moved c.in_ok-sort_by_rank.ensures.rises c.in_ok-sort_by_rank.ensures.stable
 
 pub returns : goal.returns
 returns c =
