@@ -95,7 +95,7 @@ lt_le : (a c : ℕ) → ltb a c ≡ true → leb a c ≡ true
 lt_le a c t = le-leb a c (omega (arith, ltb-true a c t))
 
 -- the first place that is not below c is not behind the first that is above it
-between_order : {X : Type 0} (key : X → ℕ) (xs : List X) (c from to : ℕ) → from ≤ length xs
+pub between_order : {X : Type 0} (key : X → ℕ) (xs : List X) (c from to : ℕ) → from ≤ length xs
     → IsPartitionPoint (λ x. ltb (key x) c ≡ true) (λ x. ltb (key x) c ≡ false) xs from
     → IsPartitionPoint (λ x. leb (key x) c ≡ true) (λ x. leb (key x) c ≡ false) xs to
     → from ≤ to
