@@ -25,7 +25,7 @@ use Rattle.day_state.specs.Bundles.{site_of, is_same, number_in, bundles_of, is_
 use Rattle.day_state.proofs.Counting.{here_step, there_step}
 use Rattle.day_state.proofs.Numbering.{range_at, bundles_are}
 use Rattle.day_state.proofs.Sharing.{alone_first, rank_within, rank_apart, count_parts}
-use Rattle.day_state.proofs.Places.{any_same, any-map, entry_in, entries_by_place}
+use Rattle.day_state.proofs.Places.{any-map, entry_in, entries_by_place}
 use Rattle.day_state.proofs.Along.{mark_in-set_same, mark_in-set_other}
 use Rattle.day_state.proofs.Change.{Fits, kept_changed}
 use Rattle.day_state.proofs.Filled.{kept_waiting}

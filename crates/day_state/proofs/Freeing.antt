@@ -3,7 +3,7 @@ use Rattle.std.proofs.Common.{ℕ, ◌+◌, ◌≤◌, ◌<◌, ◌≡◌, Bool,
 use Rattle.std.specs.Prelude.{◌==◌}
 use Rattle.std.specs.Option.{ForSome}
 use Rattle.std.specs.List.{list_any}
-use Rattle.std.proofs.lemmas.Bool.{ne_eqb, and_right, or_cases}
+use Rattle.std.proofs.lemmas.Bool.{ne_eqb, or_cases}
 use Rattle.std.proofs.lemmas.Option.{unwrap_or-slice_get}
 use Rattle.std.proofs.lemmas.Slice.Zip.{length-zip, get_or-zip}
 use Rattle.admit_core.specs.declared.dossier.Wish.{Wish}
