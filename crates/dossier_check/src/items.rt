@@ -185,8 +185,9 @@ pub(crate) fn ceilings_of(
     requires { AreKeysOf tables.now keys.now }
     ensures { IfOk result (λ ceilings. ceilings.items ≡ map (ceiling_of_row tables.now) tables.now.ceilings) }
 {
-    let mut ceilings = Vec::new(alloc);
-    for row in tables.ceilings.as_slice() {
+    let rows = tables.ceilings.as_slice();
+    let mut ceilings = Vec::with_capacity(alloc, rows.len())?;
+    for row in rows {
         ceilings.push(CeilingChange {
             day: row.day,
             school: place_in(&keys.schools, row.school),

@@ -59,7 +59,7 @@ fn ascending_ranks(alloc: Global, list: &[Ranked]) -> Result<Vec<u32>, OutOfMemo
 fn candidate_lists(alloc: Global, lists: &[Vec<Ranked>]) -> Result<Vec<Vec<u32>>, OutOfMemory>
     ensures { IfOk result (λ done. map (λ l. l.items) done.items ≡ map (λ l. candidates_of l.items) lists.now) }
 {
-    let mut done = Vec::new(alloc);
+    let mut done = Vec::with_capacity(alloc, lists.len())?;
     for list in lists {
         done.push(ascending_candidates(alloc, list.as_slice())?)?;
     }

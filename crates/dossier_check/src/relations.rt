@@ -2,7 +2,7 @@
 ghost use Rattle.std.specs.Prelude.{◌≡◌, All, IfOk, map};
 ghost use Rattle.admit_core.specs.Ranges.{AreTables};
 ghost use Rattle.admit_core.specs.Relations.{group_tests, ranking_tests, first_fault, group_ids, programme_ids, school_ids, wish_ids};
-ghost use Rattle.admit_core.specs.Standing.{dossier_of, ranked_in};
+ghost use Rattle.admit_core.specs.Standing.{dossier_of, ranked_in, wish_of_row, status_of_row, ceiling_of_row, answer_of_row};
 ghost use Rattle.admit_core.specs.Validity.{IsValid};
 ghost use Rattle.dossier_check.specs.Dates.{dates_of};
 ghost use Rattle.dossier_check.specs.Dealt.{SaysWhoIsRanked};
@@ -25,7 +25,9 @@ use crate::slots::{check_boarding, check_ceilings, check_groups, check_programme
 use crate::state::check_state;
 use crate::who_is_ranked::WhoIsRanked;
 use crate::wishes::check_wishes;
-use admit_core::{Dossier, InFault, OutOfMemory, Ranked, Sequence, Tables};
+use admit_core::{
+    Answer, CeilingChange, Dossier, InFault, OutOfMemory, Ranked, Sequence, Status, Tables, Wish,
+};
 use indexmap::IndexSet;
 use keyed_hash::Keyed;
 use std::alloc::Global;
@@ -61,7 +63,7 @@ fn check_wishes_on<'a>(
     let state = check_state(alloc, keyed, tables, &wishes.ids)?;
     check_ceilings(alloc, keyed, tables, schools)?;
     check_answers(tables, &wishes.ids, &wishes.firsts)?;
-    Ok((wishes.ids, state))
+    Ok((wishes.into_ids(), state))
 }
 
 /// Tests the rows of all slots in their order, and answers what they are found by.
@@ -101,6 +103,35 @@ fn check_slots(alloc: Global, tables: &Tables) -> Result<(Keys, Vec<Vec<Ranked>>
     Ok((keys, lists))
 }
 
+/// What a dossier has from the wishes on.
+#[derive(Drop)]
+struct FromWishes {
+    wishes: Vec<Wish>,
+    statuses: Vec<Status>,
+    ceilings: Vec<CeilingChange>,
+    answers: Vec<Answer>,
+}
+
+/// Makes what the dossier has from the wishes on.
+fn from_wishes(alloc: Global, tables: &Tables, keys: &Keys) -> Result<FromWishes, OutOfMemory>
+    requires { AreKeysOf tables.now keys.now }
+    ensures wishes { IfOk result (λ made.
+        made.wishes.items ≡ map (wish_of_row tables.now) tables.now.wishes) }
+    ensures statuses { IfOk result (λ made.
+        made.statuses.items ≡ map (status_of_row tables.now) tables.now.wishes) }
+    ensures ceilings { IfOk result (λ made.
+        made.ceilings.items ≡ map (ceiling_of_row tables.now) tables.now.ceilings) }
+    ensures answers { IfOk result (λ made.
+        made.answers.items ≡ map (answer_of_row tables.now) tables.now.answers) }
+{
+    Ok(FromWishes {
+        wishes: wishes_of(alloc, tables, keys)?,
+        statuses: statuses_of(alloc, tables, keys)?,
+        ceilings: ceilings_of(alloc, tables, keys)?,
+        answers: answers_of(alloc, tables, keys)?,
+    })
+}
+
 /// Makes the dossier that fault-free tables stand for.
 fn make_dossier(
     alloc: Global,
@@ -113,14 +144,23 @@ fn make_dossier(
     requires valid { IsValid (dossier_of tables.now) }
     ensures { IfOk result (λ dossier. dossier ≡ dossier_of tables.now) }
 {
+    let groups = rank_groups(alloc, tables, lists)?;
+    let programmes = programmes_of(alloc, tables, keys)?;
+    let schools = schools_of(alloc, tables)?;
+    let FromWishes {
+        wishes,
+        statuses,
+        ceilings,
+        answers,
+    } = from_wishes(alloc, tables, keys)?;
     Ok(Dossier {
-        groups: Sequence::from_vec(rank_groups(alloc, tables, lists)?),
-        programmes: Sequence::from_vec(programmes_of(alloc, tables, keys)?),
-        schools: Sequence::from_vec(schools_of(alloc, tables)?),
-        wishes: Sequence::from_vec(wishes_of(alloc, tables, keys)?),
-        statuses: Sequence::from_vec(statuses_of(alloc, tables, keys)?),
-        ceilings: Sequence::from_vec(ceilings_of(alloc, tables, keys)?),
-        answers: Sequence::from_vec(answers_of(alloc, tables, keys)?),
+        groups: Sequence::from_vec(groups),
+        programmes: Sequence::from_vec(programmes),
+        schools: Sequence::from_vec(schools),
+        wishes: Sequence::from_vec(wishes),
+        statuses: Sequence::from_vec(statuses),
+        ceilings: Sequence::from_vec(ceilings),
+        answers: Sequence::from_vec(answers),
     })
 }
 

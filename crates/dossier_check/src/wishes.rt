@@ -79,9 +79,25 @@ impl<'a> RowTest<WishRow> for NoBoardingRank<'a> {
 }
 
 /// Of this wish and the candidate's first one, one has a preference and the other has none.
-#[derive(Drop)]
 pub(crate) struct PreferenceMixed {
     pub(crate) firsts: IndexMap<u32, FirstWish, Keyed>,
+}
+
+// Not derived: so it is dropped in one step where it is held, and not by each list of the map.
+impl Drop for PreferenceMixed {
+    fn drop(self) {
+        let PreferenceMixed { firsts: _ } = self;
+    }
+}
+
+impl PreferenceMixed {
+    /// The candidates' first wishes.
+    fn into_firsts(self) -> IndexMap<u32, FirstWish, Keyed>
+        ensures { result ≡ self.firsts }
+    {
+        let PreferenceMixed { firsts } = self;
+        firsts
+    }
 }
 
 impl RowTest<WishRow> for PreferenceMixed {
@@ -113,7 +129,7 @@ pub(crate) struct PreferenceTaken {
     pub(crate) rows: IndexMap<(u32, u32), u64, Keyed>,
 }
 
-// Not derived: so it is dropped in one step where it is held, and not by each list of the map.
+// Not derived, as above.
 impl Drop for PreferenceTaken {
     fn drop(self) {
         let PreferenceTaken { rows: _ } = self;
@@ -142,10 +158,26 @@ impl RowTest<WishRow> for PreferenceTaken {
 }
 
 /// The ids of the wishes by place, and each candidate's first wish.
-#[derive(Drop)]
 pub(crate) struct WishKeys {
     pub(crate) ids: RowIds,
     pub(crate) firsts: IndexMap<u32, FirstWish, Keyed>,
+}
+
+// Not derived, as above.
+impl Drop for WishKeys {
+    fn drop(self) {
+        let WishKeys { ids: _, firsts: _ } = self;
+    }
+}
+
+impl WishKeys {
+    /// The ids alone.
+    pub(crate) fn into_ids(self) -> RowIds
+        ensures { result ≡ self.ids }
+    {
+        let WishKeys { ids, firsts: _ } = self;
+        ids
+    }
 }
 
 /// Checks the wishes.
@@ -236,11 +268,29 @@ pub(crate) fn check_wishes<'a>(
         },
     };
     scan(Slot::Wishes, &mut checks, rows)?;
-    let Then { first: own, rest } = checks;
-    let ranks = rest.rest.rest.rest;
-    let preferences = ranks.rest.rest;
+    let Then {
+        first: own,
+        rest: Then {
+            first: _,
+            rest: names,
+        },
+    } = checks;
+    let Then {
+        first: _,
+        rest: Then {
+            first: _,
+            rest: ranks,
+        },
+    } = names;
+    let Then {
+        first: _,
+        rest: Then {
+            first: _,
+            rest: preferences,
+        },
+    } = ranks;
     Ok(WishKeys {
         ids: own.ids,
-        firsts: preferences.first.firsts,
+        firsts: preferences.first.into_firsts(),
     })
 }

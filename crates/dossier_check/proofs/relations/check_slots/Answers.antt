@@ -6,7 +6,7 @@ use Rattle.admit_core.specs.Faults.{first_in}
 use Rattle.admit_core.specs.Lists.{is_among}
 use Rattle.admit_core.specs.Relations.{group_ids, group_tests, programme_tests, school_tests, ranking_tests, boarding_tests}
 use Rattle.dossier_check.specs.Outcome.{AnswersFault, first_from_wishes}
-use Rattle.dossier_check.proofs.FaultFree.{first_passes, rest_pass, pass_all, all_known}
+use Rattle.dossier_check.proofs.FaultFree.{second_passes, pass_all, all_known}
 use Rattle.dossier_check.proofs.KeyPlaces.{are_places}
 use Rattle.dossier_check.proofs.Outcomes.{after_none, first_here, handed_on, none_then}
 use Rattle.dossier_check.proofs.relations.check_slots.Goals as goal
@@ -63,7 +63,7 @@ check_wishes_on-requires-clause-ranked c =
       groups = c.in_ok-groups.ensures.ids;
       candidates = ap (map (λ l. l.items)) c.as_slice.ensures.value ∙ c.in_ok-lists.ensures.dealt.candidates;
       known = all_known (λ r. is_among r.group (group_ids t)) (Unknown 1) t.rankings
-          (first_passes (rest_pass (pass_all slots.Rankings (ranking_tests t) t.rankings c.in_ok-lists.ensures.fault)));
+          (second_passes (pass_all slots.Rankings (ranking_tests t) t.rankings c.in_ok-lists.ensures.fault));
     }
 
 pub returns-in_err-wishes-clause-fault : goal.returns-in_err-wishes-clause-fault
