@@ -15,7 +15,7 @@ use Rattle.admit_core.specs.Lists.{is_among}
 use Rattle.admit_core.specs.Relations.{programme_ids, school_ids, same_school, is_boarded, are_mixed, mixed_with, first_wish_of, preference_mixed}
 use Rattle.admit_core.specs.Standing.{place_of, board_rank_of, wish_of_row, dossier_of}
 use Rattle.admit_core.specs.Validity.{IsApart}
-use Rattle.dossier_check.proofs.FaultFree.{Passes, first_passes, rest_pass, none_map}
+use Rattle.dossier_check.proofs.FaultFree.{Passes, none_map}
 use Rattle.dossier_check.proofs.Found.{not_found}
 use Rattle.dossier_check.proofs.NoFault.{HasNoFault}
 use Rattle.dossier_check.proofs.Pairs.{all_pairs_map, same_at, both_true}

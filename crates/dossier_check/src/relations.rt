@@ -1,8 +1,8 @@
 //! The relations between the rows of tables, as a whole.
 ghost use Rattle.std.specs.Prelude.{◌≡◌, All, IfOk, map};
 ghost use Rattle.admit_core.specs.Ranges.{AreTables};
-ghost use Rattle.admit_core.specs.Relations.{group_tests, ranking_tests, first_fault, group_ids, programme_ids, school_ids, wish_ids};
-ghost use Rattle.admit_core.specs.Standing.{dossier_of, ranked_in, wish_of_row, status_of_row, ceiling_of_row, answer_of_row};
+ghost use Rattle.admit_core.specs.Relations.{first_fault, programme_ids, school_ids, wish_ids};
+ghost use Rattle.admit_core.specs.Standing.{dossier_of, group_of_row, wish_of_row, status_of_row, ceiling_of_row, answer_of_row};
 ghost use Rattle.admit_core.specs.Validity.{IsValid};
 ghost use Rattle.dossier_check.specs.Dates.{dates_of};
 ghost use Rattle.dossier_check.specs.Dealt.{SaysWhoIsRanked};
@@ -13,7 +13,6 @@ ghost use Rattle.dossier_check.specs.Seen.{boarded_pairs};
 
 use crate::answers::check_answers;
 use crate::dates::{Dates, dates_of};
-use crate::groups::rank_groups;
 use crate::hashing::hashing_of;
 use crate::index::Index;
 use crate::items::{
@@ -26,7 +25,7 @@ use crate::state::check_state;
 use crate::who_is_ranked::WhoIsRanked;
 use crate::wishes::check_wishes;
 use admit_core::{
-    Answer, CeilingChange, Dossier, InFault, OutOfMemory, Ranked, Sequence, Status, Tables, Wish,
+    Answer, CeilingChange, Dossier, InFault, OutOfMemory, RankGroup, Sequence, Status, Tables, Wish,
 };
 use indexmap::IndexSet;
 use keyed_hash::Keyed;
@@ -66,18 +65,22 @@ fn check_wishes_on<'a>(
     Ok((wishes.into_ids(), state))
 }
 
-/// Tests the rows of all slots in their order, and answers what they are found by.
-fn check_slots(alloc: Global, tables: &Tables) -> Result<(Keys, Vec<Vec<Ranked>>), InFault>
+/// Tests the rows of all slots in their order, and answers what they are found by, and the rankings.
+fn check_slots(alloc: Global, tables: &Tables) -> Result<(Keys, Vec<RankGroup>), InFault>
     requires { AreTables tables.now }
     ensures fault { AnswersFault result (first_fault tables.now) }
     ensures keys { IfOk result (λ found. AreKeysOf tables.now found.0) }
-    ensures lists { IfOk result (λ found. map (λ l. l.items) found.1.items ≡ map (ranked_in tables.now.rankings) (group_ids tables.now)) }
+    ensures rankings { IfOk result (λ found.
+        found.1.items ≡ map (group_of_row tables.now) tables.now.groups) }
 {
     let keyed = hashing_of(tables);
     let groups = check_groups(alloc, keyed, tables)?;
     let programmes = check_programmes(alloc, keyed, tables, &groups)?;
     let schools = check_schools(alloc, keyed, tables)?;
-    let Dealt { lists, candidates } = check_ranks(alloc, tables, &groups)?;
+    let Dealt {
+        rankings,
+        candidates,
+    } = check_ranks(alloc, tables, &groups)?;
     let boarding = check_boarding(alloc, keyed, tables, &schools)?;
     let ranked = WhoIsRanked {
         groups: &groups,
@@ -100,7 +103,7 @@ fn check_slots(alloc: Global, tables: &Tables) -> Result<(Keys, Vec<Vec<Ranked>>
         wishes,
         state,
     };
-    Ok((keys, lists))
+    Ok((keys, rankings))
 }
 
 /// What a dossier has from the wishes on.
@@ -137,14 +140,13 @@ fn make_dossier(
     alloc: Global,
     tables: &Tables,
     keys: &Keys,
-    lists: Vec<Vec<Ranked>>,
+    rankings: Vec<RankGroup>,
 ) -> Result<Dossier, OutOfMemory>
     requires keys { AreKeysOf tables.now keys.now }
-    requires lists { map (λ l. l.items) lists.items ≡ map (ranked_in tables.now.rankings) (group_ids tables.now) }
+    requires rankings { rankings.items ≡ map (group_of_row tables.now) tables.now.groups }
     requires valid { IsValid (dossier_of tables.now) }
     ensures { IfOk result (λ dossier. dossier ≡ dossier_of tables.now) }
 {
-    let groups = rank_groups(alloc, tables, lists)?;
     let programmes = programmes_of(alloc, tables, keys)?;
     let schools = schools_of(alloc, tables)?;
     let FromWishes {
@@ -154,7 +156,7 @@ fn make_dossier(
         answers,
     } = from_wishes(alloc, tables, keys)?;
     Ok(Dossier {
-        groups: Sequence::from_vec(groups),
+        groups: Sequence::from_vec(rankings),
         programmes: Sequence::from_vec(programmes),
         schools: Sequence::from_vec(schools),
         wishes: Sequence::from_vec(wishes),
@@ -174,8 +176,8 @@ pub fn check(alloc: Global, tables: &Tables) -> Result<Checked, InFault>
     ensures index { IfOk result (λ checked. checked.index ≡ ids_of tables.now) }
     ensures dates { IfOk result (λ checked. checked.dates ≡ dates_of tables.now) }
 {
-    let (keys, lists) = check_slots(alloc, tables)?;
-    let dossier = make_dossier(alloc, tables, &keys, lists)?;
+    let (keys, rankings) = check_slots(alloc, tables)?;
+    let dossier = make_dossier(alloc, tables, &keys, rankings)?;
     let dates = dates_of(alloc, tables, &keys)?;
     Ok(Checked {
         dossier,
