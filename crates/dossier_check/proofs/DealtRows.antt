@@ -1,21 +1,23 @@
 -- What dealt rankings tell of the rows.
-use Rattle.std.proofs.Common.{◌≡◌, ℕ, ◌<◌, suc, Bool, true, false, ◌&&◌, nat_eq, List, [], ◌∷◌, length, map, filter, get_or, None, refl, sym, ◌∙◌, subst, arith, true≢false, All, AllPairs}
+use Rattle.std.proofs.Common.{◌≡◌, ℕ, ◌<◌, suc, Bool, true, false, ◌&&◌, nat_eq, List, [], ◌∷◌, length, map, filter, get_or, None, refl, sym, ap, ◌∙◌, subst, arith, true≢false, All, AllPairs}
 use Prim.Native.Nat.{zero}
 use Rattle.std.specs.List.{IsDistinct, AllByRecursion}
 use Rattle.std.proofs.lemmas.Bool.Decides.{nat_tests}
-use Rattle.std.proofs.lemmas.List.Sorted.{IsPermutation-sym}
+use Rattle.std.proofs.lemmas.List.Sorted.{IsPermutation-sym, IsPermutation-map}
 use Rattle.std.proofs.lemmas.Map.Keys.{IsDistinct-IsPermutation, IsDistinct-head, IsDistinct-tail}
 use Rattle.admit_core.specs.declared.refusal.Reason.TheVariants.{Repeat, RankTaken, Unknown}
 use Rattle.admit_core.specs.declared.slot.Slot.TheVariants as slots
 use Rattle.admit_core.specs.declared.tables.RankRow.{RankRow}
 use Rattle.admit_core.specs.declared.tables.Tables.{Tables}
 use Rattle.admit_core.specs.declared.ranking.Ranked.{Ranked}
+use Rattle.admit_core.specs.declared.ranking.RankGroup.{RankGroup}
 use Rattle.admit_core.specs.Faults.{first_in}
 use Rattle.admit_core.specs.Lists.{is_among, sorted_by}
 use Rattle.admit_core.specs.Relations.{ranking_tests, group_ids}
-use Rattle.admit_core.specs.Standing.{ranked_in, ranked_row}
+use Rattle.admit_core.specs.Standing.{group_of_row, ranked_in, ranked_row}
 use Rattle.dossier_check.specs.declared.ranks.Dealt.{Dealt}
-use Rattle.dossier_check.specs.Dealt.{AreDealt, HasItsGroup, ranks_of}
+use Rattle.dossier_check.specs.Dealt.{AreDealt, HasItsGroup}
+use Rattle.dossier_check.proofs.BuiltGroups.{map_map}
 use Rattle.dossier_check.proofs.Faultless.{no_tests, and_then, none_in, differ, knows_all}
 use Rattle.dossier_check.proofs.Places.{nat_eq_sound, nat_eq_sym}
 use Rattle.dossier_check.proofs.SortedLists.{IsPermutation-sorted_by}
@@ -71,7 +73,12 @@ module _ {R K : Type 0} (p : R → Bool) (eq : K → K → Bool) (key : R → K)
       by false g rest zero (suc n) m_lt n_lt em en = absurd (true≢false (sym em ∙ g))
       by false g rest (suc m) (suc n) m_lt n_lt em en = rest (rw g at apart) m n d (omega arith) (omega arith) em en
 
--- what no two shared in order, no two shared before
+-- what no two have in common in order, no two have before
+distinct_before_by : {X : Type 0} (by key : X → ℕ) (xs : List X) → IsDistinct nat_eq (map key (sorted_by by xs)) → IsDistinct nat_eq (map key xs)
+distinct_before_by by key xs apart =
+    let back = IsPermutation-sym xs (sorted_by by xs) (IsPermutation-sorted_by by xs) in
+    IsDistinct-IsPermutation nat_eq nat_eq_sym (map key (sorted_by by xs)) (map key xs) (IsPermutation-map key (sorted_by by xs) xs back) apart
+
 distinct_before : (xs : List ℕ) → IsDistinct nat_eq (sorted_by (λ n. n) xs) → IsDistinct nat_eq xs
 distinct_before xs apart =
     IsDistinct-IsPermutation nat_eq nat_eq_sym (sorted_by (λ n. n) xs) xs (IsPermutation-sym xs (sorted_by (λ n. n) xs) (IsPermutation-sorted_by (λ n. n) xs)) apart
@@ -82,13 +89,13 @@ both_false g h m n false e differ = rw e refl
 
 -- rows of the same group differ in what no group has twice
 pub rows_apart : (rows : List RankRow) (key : Ranked → ℕ) (groups : List ℕ) → All (HasItsGroup groups) rows
-    → ((group : ℕ) → is_among group groups ≡ true → IsDistinct nat_eq (sorted_by (λ n. n) (map key (ranked_in rows group))))
+    → ((group : ℕ) → is_among group groups ≡ true → IsDistinct nat_eq (map key (ranked_in rows group)))
     → AllPairs (λ r row. (nat_eq row.group r.group && nat_eq (key (ranked_row row)) (key (ranked_row r))) ≡ false) rows
 rows_apart rows key groups known apart i j d lt within =
     let r : RankRow = get_or rows i d in
     let row : RankRow = get_or rows j d in
     let own : IsDistinct nat_eq (map (λ q. key (ranked_row q)) (filter (λ q. nat_eq r.group q.group) rows)) =
-    subst (IsDistinct nat_eq) (sym (map-ranked_in rows r.group key)) (distinct_before _ (apart r.group (known i d (omega arith)))) in
+    subst (IsDistinct nat_eq) (sym (map-ranked_in rows r.group key)) (apart r.group (known i d (omega arith))) in
     both_false r.group row.group (key (ranked_row r)) (key (ranked_row row)) (nat_eq row.group r.group) refl
     (λ e. filtered_apart (λ q. nat_eq r.group q.group) nat_eq (λ q. key (ranked_row q)) rows own i j d lt within (self r.group) (nat_eq_sym r.group row.group ∙ e))
   where
@@ -97,14 +104,23 @@ rows_apart rows key groups known apart i j d lt within =
 
 -- no row of the rankings has a fault
 pub no_rank_fault : (t : Tables) (dealt : Dealt) → AreDealt t dealt → All (HasItsGroup (group_ids t)) t.rankings
-    → All (λ l. IsDistinct nat_eq l.items) dealt.candidates.items → All (λ l. IsDistinct nat_eq (ranks_of l.items)) dealt.lists.items
+    → All (λ l. IsDistinct nat_eq l.items) dealt.candidates.items
+    → All (λ g. IsDistinct nat_eq (map (λ r. r.rank) g.list)) dealt.rankings.items
     → first_in slots.Rankings (ranking_tests t) t.rankings ≡ None
 no_rank_fault t dealt is known candidates ranks =
     let ids : List ℕ = group_ids t in
     let people : AllPairs (λ r row. (nat_eq row.group r.group && nat_eq row.candidate r.candidate) ≡ false) t.rankings =
-    rows_apart t.rankings (λ r. r.candidate) ids known (list_with (λ l. l.items) _ (IsDistinct nat_eq) dealt.candidates.items ids is.candidates candidates) in
+    rows_apart t.rankings (λ r. r.candidate) ids known
+    (λ group there. distinct_before _ (list_with (λ l. l.items) _ (IsDistinct nat_eq) dealt.candidates.items ids is.candidates candidates group there)) in
+    let ordered : ℕ → List Ranked = λ group. sorted_by (λ r. r.rank) (ranked_in t.rankings group) in
+    let lists : map (λ g. g.list) dealt.rankings.items ≡ map ordered ids =
+    ap (map (λ (g : RankGroup). g.list)) is.rankings
+    ∙ map_map (λ (g : RankGroup). g.list) (group_of_row t) t.groups
+    ∙ sym (map_map ordered (λ g. g.id) t.groups) in
     let places : AllPairs (λ r row. (nat_eq row.group r.group && nat_eq row.rank r.rank) ≡ false) t.rankings =
-    rows_apart t.rankings (λ r. r.rank) ids known (list_with (λ l. l.items) (ranked_in t.rankings) (λ l. IsDistinct nat_eq (ranks_of l)) dealt.lists.items ids is.lists ranks) in
+    rows_apart t.rankings (λ r. r.rank) ids known
+    (λ group there. distinct_before_by (λ r. r.rank) (λ r. r.rank) (ranked_in t.rankings group)
+    (list_with (λ g. g.list) ordered (λ l. IsDistinct nat_eq (map (λ r. r.rank) l)) dealt.rankings.items ids lists ranks group there)) in
     none_in slots.Rankings (ranking_tests t) t.rankings
     (and_then (differ (λ row r. nat_eq row.group r.group && nat_eq row.candidate r.candidate) Repeat t.rankings people)
     (and_then (knows_all (λ row. is_among row.group ids) (Unknown 1) t.rankings known)

@@ -34,6 +34,14 @@ pub rest_pass : {R : Type 0} {test : Test R} {tests : List (Test R)} {rows : Lis
 rest_pass {R} {test} {tests} {rows} all =
     record { at = λ k d lt. (none_or (test (take k rows) (get_or rows k d)) (first_reason tests (take k rows) (get_or rows k d)) (all.at k d lt)).1 }
 
+pub second_passes : {R : Type 0} {one two : Test R} {tests : List (Test R)} {rows : List R}
+    → PassesAll (one ∷ two ∷ tests) rows → Passes two rows
+second_passes all = first_passes (rest_pass all)
+
+pub third_passes : {R : Type 0} {one two three : Test R} {tests : List (Test R)} {rows : List R}
+    → PassesAll (one ∷ two ∷ three ∷ tests) rows → Passes three rows
+third_passes all = second_passes (rest_pass all)
+
 module _ {R : Type 0} (slot : Slot) (tests : List (Test R)) where
   less : (k : ℕ) (rows : List R) → suc k < suc (length rows) → k < length rows
   less k rows lt = omega arith

@@ -1,12 +1,45 @@
 -- Tables without a fault, slot by slot.
-use Rattle.std.proofs.Common.{◌≡◌, Option, None}
-use Rattle.std.specs.Option.{option_or}
+use Rattle.std.proofs.Common.{◌≡◌, true, nat_eq, Option, None}
+use Rattle.std.specs.Option.{option_or, option_map_or}
 use Rattle.admit_core.specs.declared.slot.Slot.TheVariants as slots
 use Rattle.admit_core.specs.declared.refusal.Refusal.{Refusal}
 use Rattle.admit_core.specs.declared.tables.Tables.{Tables}
-use Rattle.admit_core.specs.Faults.{first_in}
+use Rattle.admit_core.specs.Faults.{first_in, repeats, names_unknown}
+use Rattle.admit_core.specs.Lists.{is_among}
 use Rattle.admit_core.specs.Relations.{group_tests, programme_tests, school_tests, ranking_tests, boarding_tests, wish_tests, state_tests, ceiling_tests, answer_tests, first_fault}
-use Rattle.dossier_check.proofs.FaultFree.{PassesAll, pass_all, none_or}
+use Rattle.admit_core.specs.Relations.{programme_ids, school_ids, same_wish, unranked, no_boarding_rank, preference_mixed, preference_taken}
+use Rattle.dossier_check.proofs.FaultFree.{Passes, PassesAll, first_passes, rest_pass, pass_all, none_or}
+
+-- each test of the wishes, none of which stands at a row
+pub record WishesPass (t : Tables) : Type 0 where
+  pub ids : Passes (repeats (λ row r. nat_eq row.id r.id)) t.wishes
+  pub once : Passes (repeats same_wish) t.wishes
+  pub programmes : Passes (names_unknown 3 (λ row. is_among row.programme (programme_ids t))) t.wishes
+  pub schools : Passes (names_unknown 4 (λ row. option_map_or (λ h. is_among h (school_ids t)) row.school true)) t.wishes
+  pub ranked : Passes (unranked t) t.wishes
+  pub boarded : Passes (no_boarding_rank t) t.wishes
+  pub like_first : Passes preference_mixed t.wishes
+  pub preferences : Passes preference_taken t.wishes
+
+wishes_pass : (t : Tables) → PassesAll (wish_tests t) t.wishes → WishesPass t
+wishes_pass t from_ids =
+    let from_once = rest_pass from_ids in
+    let from_programmes = rest_pass from_once in
+    let from_schools = rest_pass from_programmes in
+    let from_ranked = rest_pass from_schools in
+    let from_boarded = rest_pass from_ranked in
+    let from_like_first = rest_pass from_boarded in
+    let from_preferences = rest_pass from_like_first in
+    record {
+      ids = first_passes from_ids;
+      once = first_passes from_once;
+      programmes = first_passes from_programmes;
+      schools = first_passes from_schools;
+      ranked = first_passes from_ranked;
+      boarded = first_passes from_boarded;
+      like_first = first_passes from_like_first;
+      preferences = first_passes from_preferences;
+    }
 
 -- no test of a slot stands at its rows
 pub record HasNoFault (t : Tables) : Type 0 where
@@ -15,7 +48,7 @@ pub record HasNoFault (t : Tables) : Type 0 where
   pub schools : PassesAll school_tests t.schools
   pub rankings : PassesAll (ranking_tests t) t.rankings
   pub boarding : PassesAll (boarding_tests t) t.boarding
-  pub wishes : PassesAll (wish_tests t) t.wishes
+  pub wishes : WishesPass t
   pub state : PassesAll (state_tests t) t.state
   pub ceilings : PassesAll (ceiling_tests t) t.ceilings
   pub answers : PassesAll (answer_tests t) t.answers
@@ -54,7 +87,7 @@ no_fault t none =
       schools = pass_all slots.Schools school_tests t.schools p3.0;
       rankings = pass_all slots.Rankings (ranking_tests t) t.rankings p4.0;
       boarding = pass_all slots.Boarding (boarding_tests t) t.boarding p5.0;
-      wishes = pass_all slots.Wishes (wish_tests t) t.wishes p6.0;
+      wishes = wishes_pass t (pass_all slots.Wishes (wish_tests t) t.wishes p6.0);
       state = pass_all slots.State (state_tests t) t.state p7.0;
       ceilings = pass_all slots.Ceilings (ceiling_tests t) t.ceilings p8.0;
       answers = pass_all slots.Answers (answer_tests t) t.answers p9.0;

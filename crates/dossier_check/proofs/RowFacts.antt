@@ -9,7 +9,7 @@ use Rattle.admit_core.specs.declared.tables.Tables.{Tables}
 use Rattle.admit_core.specs.Lists.{is_among}
 use Rattle.admit_core.specs.Faults.{repeats}
 use Rattle.admit_core.specs.Relations.{group_ids, programme_ids, school_ids, wish_ids, same_wish, is_ranked, is_boarded, is_accepted, same_candidate, candidate_with, is_target}
-use Rattle.dossier_check.proofs.FaultFree.{Passes, first_passes, rest_pass, apart, apart_when, all_known}
+use Rattle.dossier_check.proofs.FaultFree.{Passes, first_passes, second_passes, third_passes, apart, apart_when, all_known}
 use Rattle.dossier_check.proofs.Firsts.{length-map-here}
 use Rattle.dossier_check.proofs.NoFault.{HasNoFault}
 use Rattle.dossier_check.proofs.Places.{nat_eq_sym}
@@ -35,49 +35,51 @@ module _ (t : Tables) (fine : HasNoFault t) where
   school_ids_apart = ids_apart (λ h. h.id) t.schools (first_passes fine.schools)
 
   pub wish_ids_apart : IsDistinct nat_eq (wish_ids t)
-  wish_ids_apart = ids_apart (λ w. w.id) t.wishes (first_passes fine.wishes)
+  wish_ids_apart = ids_apart (λ w. w.id) t.wishes fine.wishes.ids
 
   pub wish_ids_differ : AllPairs (λ r row. nat_eq row.id r.id ≡ false) t.wishes
-  wish_ids_differ = apart (λ row r. nat_eq row.id r.id) Repeat t.wishes (first_passes fine.wishes)
+  wish_ids_differ = apart (λ row r. nat_eq row.id r.id) Repeat t.wishes fine.wishes.ids
 
   pub groups_known : All (λ p. is_among p.group (group_ids t) ≡ true) t.programmes
-  groups_known = all_known (λ p. is_among p.group (group_ids t)) (Unknown 2) t.programmes (first_passes (rest_pass fine.programmes))
+  groups_known = all_known (λ p. is_among p.group (group_ids t)) (Unknown 2) t.programmes (second_passes fine.programmes)
 
   pub board_ranks_apart : AllPairs (λ r row. (nat_eq row.school r.school && nat_eq row.rank r.rank) ≡ false) t.boarding
-  board_ranks_apart = apart (λ row r. nat_eq row.school r.school && nat_eq row.rank r.rank) RankTaken t.boarding (first_passes (rest_pass (rest_pass fine.boarding)))
+  board_ranks_apart =
+      apart (λ row r. nat_eq row.school r.school && nat_eq row.rank r.rank) RankTaken t.boarding (third_passes fine.boarding)
 
   pub same_wish_apart : AllPairs (λ r row. same_wish row r ≡ false) t.wishes
-  same_wish_apart = apart same_wish Repeat t.wishes (first_passes (rest_pass fine.wishes))
+  same_wish_apart = apart same_wish Repeat t.wishes fine.wishes.once
 
   pub programmes_known : All (λ w. is_among w.programme (programme_ids t) ≡ true) t.wishes
-  programmes_known = all_known (λ w. is_among w.programme (programme_ids t)) (Unknown 3) t.wishes (first_passes (rest_pass (rest_pass fine.wishes)))
+  programmes_known = all_known (λ w. is_among w.programme (programme_ids t)) (Unknown 3) t.wishes fine.wishes.programmes
 
   pub schools_known : All (λ w. option_map_or (λ h. is_among h (school_ids t)) w.school true ≡ true) t.wishes
-  schools_known = all_known (λ w. option_map_or (λ h. is_among h (school_ids t)) w.school true) (Unknown 4) t.wishes (first_passes (rest_pass (rest_pass (rest_pass fine.wishes))))
+  schools_known =
+      all_known (λ w. option_map_or (λ h. is_among h (school_ids t)) w.school true) (Unknown 4) t.wishes fine.wishes.schools
 
   pub all_ranked : All (λ w. is_ranked t w.programme w.candidate ≡ true) t.wishes
-  all_ranked = all_known (λ w. is_ranked t w.programme w.candidate) Unranked t.wishes (first_passes (rest_pass (rest_pass (rest_pass (rest_pass fine.wishes)))))
+  all_ranked = all_known (λ w. is_ranked t w.programme w.candidate) Unranked t.wishes fine.wishes.ranked
 
   pub all_boarded : All (λ w. option_map_or (λ h. is_boarded t h w.candidate) w.school true ≡ true) t.wishes
   all_boarded =
       all_known (λ w. option_map_or (λ h. is_boarded t h w.candidate) w.school true) NoBoardingRank t.wishes
-      (first_passes (rest_pass (rest_pass (rest_pass (rest_pass (rest_pass fine.wishes))))))
+      fine.wishes.boarded
 
   pub preferences_apart : AllPairs (λ r row. nat_lt 0 row.preference ≡ true → (nat_eq row.candidate r.candidate && nat_eq row.preference r.preference) ≡ false) t.wishes
   preferences_apart =
       apart_when (λ row r. nat_eq row.candidate r.candidate && nat_eq row.preference r.preference) PreferenceTaken t.wishes (λ row. nat_lt 0 row.preference)
-      (first_passes (rest_pass (rest_pass (rest_pass (rest_pass (rest_pass (rest_pass (rest_pass fine.wishes))))))))
+      fine.wishes.preferences
 
   pub accepted_apart : AllPairs (λ r row. is_accepted row.status ≡ true → (is_accepted r.status && same_candidate (candidate_with t row.wish) (candidate_with t r.wish)) ≡ false) t.state
   accepted_apart =
       apart_when (λ row r. is_accepted r.status && same_candidate (candidate_with t row.wish) (candidate_with t r.wish)) TwoAccepted t.state (λ row. is_accepted row.status)
-      (first_passes (rest_pass (rest_pass fine.state)))
+      (third_passes fine.state)
 
   pub ceilings_apart : AllPairs (λ r row. (nat_eq row.day r.day && nat_eq row.school r.school) ≡ false) t.ceilings
   ceilings_apart = apart (λ row r. nat_eq row.day r.day && nat_eq row.school r.school) Repeat t.ceilings (first_passes fine.ceilings)
 
   pub ceiling_schools_known : All (λ c. is_among c.school (school_ids t) ≡ true) t.ceilings
-  ceiling_schools_known = all_known (λ c. is_among c.school (school_ids t)) (Unknown 2) t.ceilings (first_passes (rest_pass fine.ceilings))
+  ceiling_schools_known = all_known (λ c. is_among c.school (school_ids t)) (Unknown 2) t.ceilings (second_passes fine.ceilings)
 
   pub targets_known : All (λ a. is_target t a.kind a.target ≡ true) t.answers
   targets_known = all_known (λ a. is_target t a.kind a.target) (Unknown 3) t.answers (first_passes fine.answers)

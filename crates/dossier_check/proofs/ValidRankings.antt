@@ -15,7 +15,7 @@ use Rattle.admit_core.specs.Standing.{ranked_row, ranked_in, group_of_row}
 use Rattle.admit_core.specs.Validity.{IsRanking}
 use Rattle.dossier_check.proofs.BuiltGroups.{map_map}
 use Rattle.dossier_check.proofs.Firsts.{length-map-here}
-use Rattle.dossier_check.proofs.FaultFree.{PassesAll, first_passes, rest_pass, apart}
+use Rattle.dossier_check.proofs.FaultFree.{PassesAll, first_passes, third_passes, apart}
 use Rattle.dossier_check.proofs.SortedLists.{length-sorted_by, IsDistinct-sorted_by, IsStrictlyIncreasing-sorted_by}
 
 module _ {R : Type 0} (p : R → Bool) (key : R → ℕ) where
@@ -72,7 +72,7 @@ module _ (t : Tables) (ranges : AreRows IsRankRow t.rankings) (fine : PassesAll 
   candidates_apart = apart (λ row r. nat_eq row.group r.group && nat_eq row.candidate r.candidate) Repeat t.rankings (first_passes fine)
 
   ranks_apart : AllPairs (λ r row. (nat_eq row.group r.group && nat_eq row.rank r.rank) ≡ false) t.rankings
-  ranks_apart = apart (λ row r. nat_eq row.group r.group && nat_eq row.rank r.rank) RankTaken t.rankings (first_passes (rest_pass (rest_pass fine)))
+  ranks_apart = apart (λ row r. nat_eq row.group r.group && nat_eq row.rank r.rank) RankTaken t.rankings (third_passes fine)
 
   pub ranking_of : (g : GroupRow) → IsGroupRow g → IsRanking (group_of_row t g)
   ranking_of g row =

@@ -15,7 +15,7 @@ use Rattle.admit_core.specs.Lists.{is_among}
 use Rattle.admit_core.specs.Relations.{programme_ids, school_ids, same_school, is_boarded, are_mixed, mixed_with, first_wish_of, preference_mixed}
 use Rattle.admit_core.specs.Standing.{place_of, board_rank_of, wish_of_row, dossier_of}
 use Rattle.admit_core.specs.Validity.{IsApart}
-use Rattle.dossier_check.proofs.FaultFree.{Passes, first_passes, rest_pass, none_map}
+use Rattle.dossier_check.proofs.FaultFree.{Passes, none_map}
 use Rattle.dossier_check.proofs.Found.{not_found}
 use Rattle.dossier_check.proofs.NoFault.{HasNoFault}
 use Rattle.dossier_check.proofs.Pairs.{all_pairs_map, same_at, both_true}
@@ -169,9 +169,8 @@ module _ (t : Tables) (fine : HasNoFault t) where
         let own : WishRow → Bool = λ r. nat_eq w.candidate r.candidate in
         let any : list_any own t.wishes ≡ true = list_any_at own t.wishes j d in_j (nat_eq_self w.candidate) in
         let (first, is) = any_some own t.wishes any in
-        let passes : Passes preference_mixed t.wishes = first_passes (rest_pass (rest_pass (rest_pass (rest_pass (rest_pass (rest_pass fine.wishes)))))) in
-        let at_w : nat_eq w.preference 0 ≡ nat_eq first.preference 0 = like_first t.wishes passes j d first in_j is in
-        let at_v : nat_eq v.preference 0 ≡ nat_eq first.preference 0 = like_first t.wishes passes i d first in_i (rw candidates is) in
+        let at_w : nat_eq w.preference 0 ≡ nat_eq first.preference 0 = like_first t.wishes fine.wishes.like_first j d first in_j is in
+        let at_v : nat_eq v.preference 0 ≡ nat_eq first.preference 0 = like_first t.wishes fine.wishes.like_first i d first in_i (rw candidates is) in
         at_v ∙ sym at_w
 
     twice : v.candidate ≡ w.candidate → v.preference ≡ w.preference → v.preference ≡ 0

@@ -5,16 +5,13 @@ use Rattle.admit_core.specs.declared.tables.Tables.{Tables}
 use Rattle.admit_core.specs.declared.ranking.Ranked.{Ranked}
 use Rattle.admit_core.specs.Lists.{is_among, sorted_by}
 use Rattle.admit_core.specs.Relations.{group_ids}
-use Rattle.admit_core.specs.Standing.{ranked_in}
+use Rattle.admit_core.specs.Standing.{group_of_row, ranked_in}
 use Rattle.dossier_check.specs.declared.ranks.Dealt.{Dealt}
 use Rattle.dossier_check.specs.declared.who_is_ranked.WhoIsRanked.{WhoIsRanked}
 
--- the candidates of a list and its ranks, ascending
+-- the candidates of a list, ascending
 abbrev pub candidates_of : List Ranked → List ℕ
 candidates_of list = sorted_by (λ n. n) (map (λ r. r.candidate) list)
-
-abbrev pub ranks_of : List Ranked → List ℕ
-ranks_of list = sorted_by (λ n. n) (map (λ r. r.rank) list)
 
 -- the candidates of a group, ascending
 abbrev pub candidates_in : List RankRow → ℕ → List ℕ
@@ -26,7 +23,7 @@ HasItsGroup groups row = is_among row.group groups ≡ true
 
 -- each group has its candidates, at its place
 pub record AreDealt (t : Tables) (dealt : Dealt) : Type 0 where
-  pub lists : map (λ l. l.items) dealt.lists.items ≡ map (ranked_in t.rankings) (group_ids t)
+  pub rankings : dealt.rankings.items ≡ map (group_of_row t) t.groups
   pub candidates : map (λ l. l.items) dealt.candidates.items ≡ map (candidates_in t.rankings) (group_ids t)
 
 -- no one is ranked in another group than these

@@ -1,5 +1,5 @@
 -- What a scan keeps of the rows before.
-use Rattle.std.specs.Prelude.{◌≡◌, ℕ, Bool, ◌&&◌, nat_eq, nat_lt, List, map, Option, Some, option_map}
+use Rattle.std.specs.Prelude.{◌≡◌, ℕ, Bool, ◌&&◌, nat_eq, nat_lt, List, map, Option, Some, IfSome, option_map}
 use Rattle.std.specs.Option.{option_map_or}
 use Rattle.admit_core.specs.declared.tables.StateRow.{StateRow}
 use Rattle.admit_core.specs.declared.tables.WishRow.{WishRow}
@@ -7,6 +7,7 @@ use Rattle.admit_core.specs.declared.tables.Tables.{Tables}
 use Rattle.admit_core.specs.Faults.{first_row}
 use Rattle.admit_core.specs.Relations.{first_wish_of, last_row, is_accepted, same_candidate, candidate_with}
 use Rattle.dossier_check.specs.declared.noted.FirstWish.{FirstWish}
+use Rattle.dossier_check.specs.declared.wishes.LastCandidate.{LastCandidate}
 
 -- the pairs that boarding rows are found by
 abbrev pub boarded_pairs : Tables → List (ℕ × ℕ)
@@ -31,6 +32,10 @@ noted_wish first = record { row = first.0; preference = first.1.preference }
 -- `found` gives for each candidate their first wish
 abbrev pub AreFirstWishes : (ℕ → Option FirstWish) → List WishRow → Type 0
 AreFirstWishes found before = (candidate : ℕ) → found candidate ≡ option_map noted_wish (first_wish_of before candidate)
+
+-- what is kept of the last row's candidate is their first wish
+abbrev pub IsLastCandidate : (ℕ → Option FirstWish) → Option LastCandidate → Type 0
+IsLastCandidate found last = IfSome last (λ l. found l.candidate ≡ Some l.first)
 
 -- the day of the last row, or 0
 abbrev pub IsLastDay : {R : Type 0} → (R → ℕ) → List R → ℕ → Type 0

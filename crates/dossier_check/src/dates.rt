@@ -1,11 +1,11 @@
 //! Since when each wish has its status.
 ghost use Rattle.std.specs.Prelude.{◌≡◌, IfOk, IfSome, None, length, replicate};
 ghost use Rattle.std.specs.List.{list_all};
-ghost use Rattle.dossier_check.specs.Dates.{dates_of, is_undated};
+ghost use Rattle.dossier_check.specs.Dates.{date_of_wish, dates_of, is_undated};
 ghost use Rattle.dossier_check.specs.Keys.{AreKeysOf};
 
 use crate::items::{Keys, state_row_of};
-use admit_core::{OutOfMemory, Since, StateRow, Tables};
+use admit_core::{OutOfMemory, Since, StateRow, Tables, WishRow};
 use std::alloc::Global;
 use std::marker::Model;
 
@@ -79,6 +79,17 @@ fn is_undated(rows: &[StateRow]) -> bool
     rows.iter().all(|row| row.since.is_none())
 }
 
+/// Since when a wish has its status.
+fn date_of_wish(tables: &Tables, keys: &Keys, wish: &WishRow) -> Option<Since>
+    requires { AreKeysOf tables.now keys.now }
+    ensures { result ≡ date_of_wish tables.now wish.now }
+{
+    match state_row_of(tables, keys, wish) {
+        Some(row) => row.since,
+        None => None,
+    }
+}
+
 /// The date of each wish's status.
 fn list_dates(
     alloc: Global,
@@ -91,7 +102,7 @@ fn list_dates(
     let rows = tables.wishes.as_slice();
     let mut dates = Vec::with_capacity(alloc, rows.len())?;
     for wish in rows {
-        dates.push(state_row_of(tables, keys, wish).and_then(|row| row.since))?;
+        dates.push(date_of_wish(tables, keys, wish))?;
     }
     Ok(dates)
 }

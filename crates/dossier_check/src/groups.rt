@@ -30,15 +30,59 @@ pub(crate) fn add(
     Ok(())
 }
 
-/// An empty list for each group.
-pub(crate) fn empty_lists(alloc: Global, groups: &RowIds) -> Result<Vec<Vec<Ranked>>, OutOfMemory>
+/// Counts a row for its group.
+fn count_row(rooms: &mut [usize], groups: &RowIds, row: &RankRow)
+    ensures { length rooms.new ≡ length rooms.old }
+{
+    if let Some(place) = groups.get_index_of(row.group) {
+        if let Some(room) = rooms.get_mut(place) {
+            *room = room.saturating_add(1);
+        }
+    }
+}
+
+/// How much room the list of each group is to have, by the groups' places: as many as it has rows.
+fn rooms_of(
+    alloc: Global,
+    rankings: &[RankRow],
+    groups: &RowIds,
+) -> Result<Vec<usize>, OutOfMemory>
+    ensures { IfOk result (λ rooms. length rooms.items ≡ length groups.now.keys) }
+{
+    let mut rooms = vec![in alloc; 0; groups.len()]?;
+    for row in rankings {
+        count_row(rooms.as_mut_slice(), groups, row);
+    }
+    Ok(rooms)
+}
+
+/// An empty list for each group, with room.
+fn empty_lists(
+    alloc: Global,
+    groups: &RowIds,
+    rooms: &[usize],
+) -> Result<Vec<Vec<Ranked>>, OutOfMemory>
+    requires { length rooms.now ≡ length groups.now.keys }
     ensures { IfOk result (λ lists. map (λ l. l.items) lists.items ≡ map (ranked_in []) groups.now.keys) }
 {
-    let mut lists = Vec::new(alloc);
-    for group in 0..groups.len() {
-        lists.push(Vec::new(alloc))?;
+    let mut lists = Vec::with_capacity(alloc, groups.len())?;
+    for room in rooms {
+        let list = Vec::with_capacity(alloc, *room)?;
+        lists.push(list)?;
     }
     Ok(lists)
+}
+
+/// An empty list for each group, with room for its rows.
+fn roomy_lists(
+    alloc: Global,
+    rankings: &[RankRow],
+    groups: &RowIds,
+) -> Result<Vec<Vec<Ranked>>, OutOfMemory>
+    ensures { IfOk result (λ lists. map (λ l. l.items) lists.items ≡ map (ranked_in []) groups.now.keys) }
+{
+    let rooms = rooms_of(alloc, rankings, groups)?;
+    empty_lists(alloc, groups, rooms.as_slice())
 }
 
 /// Adds a candidate to the list of their group.
@@ -76,7 +120,7 @@ pub(crate) fn ranked_lists(
 ) -> Result<Vec<Vec<Ranked>>, OutOfMemory>
     ensures { IfOk result (λ lists. map (λ l. l.items) lists.items ≡ map (ranked_in rankings.now) groups.now.keys) }
 {
-    let mut lists = empty_lists(alloc, groups)?;
+    let mut lists = roomy_lists(alloc, rankings, groups)?;
     for row in rankings {
         lay_row(&mut lists, groups, row)?;
     }
@@ -92,8 +136,9 @@ pub(crate) fn rank_groups(
     requires { map (λ l. l.items) lists.items ≡ map (ranked_in tables.now.rankings) (group_ids tables.now) }
     ensures { IfOk result (λ gs. gs.items ≡ map (group_of_row tables.now) tables.now.groups) }
 {
-    let mut done = Vec::new(alloc);
-    for (row, mut list) in tables.groups.as_slice().iter().zip(lists) {
+    let rows = tables.groups.as_slice();
+    let mut done = Vec::with_capacity(alloc, rows.len())?;
+    for (row, mut list) in rows.iter().zip(lists) {
         sort_by_rank(&mut list)?;
         done.push(RankGroup {
             id: row.id,

@@ -158,7 +158,18 @@ pub(crate) fn state_row_of(tables: &Tables, keys: &Keys, wish: &WishRow) -> Opti
     row_with(&keys.state, tables.state.as_slice(), wish.id)
 }
 
-/// The statuses of the wishes, of which one that no row names waits.
+/// The status of a wish; one that no row names waits.
+fn status_of(tables: &Tables, keys: &Keys, wish: &WishRow) -> Status
+    requires { AreKeysOf tables.now keys.now }
+    ensures { result ≡ status_of_row tables.now wish.now }
+{
+    match state_row_of(tables, keys, wish) {
+        Some(row) => row.status,
+        None => Status::Waiting,
+    }
+}
+
+/// The statuses of the wishes.
 pub(crate) fn statuses_of(
     alloc: Global,
     tables: &Tables,
@@ -170,8 +181,7 @@ pub(crate) fn statuses_of(
     let rows = tables.wishes.as_slice();
     let mut statuses = Vec::with_capacity(alloc, rows.len())?;
     for wish in rows {
-        let row = state_row_of(tables, keys, wish);
-        statuses.push(row.map_or(Status::Waiting, |row| row.status))?;
+        statuses.push(status_of(tables, keys, wish))?;
     }
     Ok(statuses)
 }
@@ -185,8 +195,9 @@ pub(crate) fn ceilings_of(
     requires { AreKeysOf tables.now keys.now }
     ensures { IfOk result (λ ceilings. ceilings.items ≡ map (ceiling_of_row tables.now) tables.now.ceilings) }
 {
-    let mut ceilings = Vec::new(alloc);
-    for row in tables.ceilings.as_slice() {
+    let rows = tables.ceilings.as_slice();
+    let mut ceilings = Vec::with_capacity(alloc, rows.len())?;
+    for row in rows {
         ceilings.push(CeilingChange {
             day: row.day,
             school: place_in(&keys.schools, row.school),

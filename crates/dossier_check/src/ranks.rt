@@ -5,20 +5,19 @@ ghost use Rattle.admit_core.specs.declared.slot.Slot.TheVariants as slots;
 ghost use Rattle.admit_core.specs.Faults.{first_in};
 ghost use Rattle.admit_core.specs.Lists.{sorted_by};
 ghost use Rattle.admit_core.specs.Relations.{ranking_tests, group_ids};
-ghost use Rattle.dossier_check.specs.Dealt.{AreDealt, HasItsGroup, candidates_of, ranks_of};
+ghost use Rattle.dossier_check.specs.Dealt.{AreDealt, HasItsGroup, candidates_of};
 ghost use Rattle.dossier_check.specs.Outcome.{AnswersFault};
 
-use crate::groups::ranked_lists;
+use crate::groups::{rank_groups, ranked_lists};
 use crate::row_ids::RowIds;
 use crate::slots::find_rank_fault;
-use admit_core::{InFault, OutOfMemory, RankRow, Ranked, Tables};
+use admit_core::{InFault, OutOfMemory, RankGroup, RankRow, Ranked, Tables};
 use std::alloc::Global;
 
-/// The rankings by the places of their groups: the candidates of each in file order, and their ids
-/// ascending.
+/// The rankings by the places of their groups, and the ids of each one's candidates, ascending.
 #[derive(Drop)]
 pub(crate) struct Dealt {
-    pub(crate) lists: Vec<Vec<Ranked>>,
+    pub(crate) rankings: Vec<RankGroup>,
     pub(crate) candidates: Vec<Vec<u32>>,
 }
 
@@ -46,37 +45,35 @@ fn ascending_candidates(alloc: Global, list: &[Ranked]) -> Result<Vec<u32>, OutO
     Ok(ids)
 }
 
-/// The ranks of a group, ascending.
-fn ascending_ranks(alloc: Global, list: &[Ranked]) -> Result<Vec<u32>, OutOfMemory>
-    ensures { IfOk result (λ ranks. ranks.items ≡ ranks_of list.now) }
-{
-    let mut ranks = list.iter().map(|ranked| ranked.rank).collect(alloc)?;
-    sort_numbers(&mut ranks)?;
-    Ok(ranks)
-}
-
 /// The candidates of each group, ascending.
 fn candidate_lists(alloc: Global, lists: &[Vec<Ranked>]) -> Result<Vec<Vec<u32>>, OutOfMemory>
     ensures { IfOk result (λ done. map (λ l. l.items) done.items ≡ map (λ l. candidates_of l.items) lists.now) }
 {
-    let mut done = Vec::new(alloc);
+    let mut done = Vec::with_capacity(alloc, lists.len())?;
     for list in lists {
         done.push(ascending_candidates(alloc, list.as_slice())?)?;
     }
     Ok(done)
 }
 
-/// Whether no group has a rank twice.
-fn ranks_apart(alloc: Global, lists: &[Vec<Ranked>]) -> Result<bool, OutOfMemory>
-    ensures { IfOk result (λ apart. apart ≡ true → All (λ l. IsDistinct nat_eq (ranks_of l.items)) lists.now) }
+/// Whether each rank is greater than the one before it.
+fn ranks_rise(list: &[Ranked]) -> bool
+    ensures { result ≡ true → IsDistinct nat_eq (map (λ r. r.rank) list.now) }
 {
-    for list in lists {
-        let ranks = ascending_ranks(alloc, list.as_slice())?;
-        if !rises(ranks.as_slice()) {
-            return Ok(false);
+    list.is_sorted_by(|one, next| one.rank < next.rank)
+}
+
+/// Whether no group has a rank twice; each one's list is in order by rank.
+fn ranks_apart(rankings: &[RankGroup]) -> bool
+    ensures { result ≡ true →
+        All (λ g. IsDistinct nat_eq (map (λ r. r.rank) g.list)) rankings.now }
+{
+    for ranking in rankings {
+        if !ranks_rise(ranking.list.as_slice()) {
+            return false;
         }
     }
-    Ok(true)
+    true
 }
 
 /// Whether no group has a candidate twice, whose ids are given ascending.
@@ -110,28 +107,27 @@ fn deal(alloc: Global, tables: &Tables, groups: &RowIds) -> Result<Dealt, OutOfM
 {
     let lists = ranked_lists(alloc, tables.rankings.as_slice(), groups)?;
     let candidates = candidate_lists(alloc, lists.as_slice())?;
-    Ok(Dealt { lists, candidates })
+    let rankings = rank_groups(alloc, tables, lists)?;
+    Ok(Dealt {
+        rankings,
+        candidates,
+    })
 }
 
 /// Whether the dealt rankings show that no row has a fault.
-fn shows_no_fault(
-    alloc: Global,
-    tables: &Tables,
-    groups: &RowIds,
-    dealt: &Dealt,
-) -> Result<bool, OutOfMemory>
+fn shows_no_fault(tables: &Tables, groups: &RowIds, dealt: &Dealt) -> bool
     requires groups { groups.now.keys ≡ group_ids tables.now }
     requires dealt { AreDealt tables.now dealt.now }
-    ensures { IfOk result (λ none. none ≡ true →
-        first_in slots.Rankings (ranking_tests tables.now) tables.now.rankings ≡ None) }
+    ensures { result ≡ true →
+        first_in slots.Rankings (ranking_tests tables.now) tables.now.rankings ≡ None }
 {
     if !groups_known(tables.rankings.as_slice(), groups) {
-        return Ok(false);
+        return false;
     }
     if !candidates_apart(dealt.candidates.as_slice()) {
-        return Ok(false);
+        return false;
     }
-    ranks_apart(alloc, dealt.lists.as_slice())
+    ranks_apart(dealt.rankings.as_slice())
 }
 
 /// Checks the rankings, and answers them dealt out by group. The rows are tested one after another
@@ -143,7 +139,7 @@ pub(crate) fn check_ranks(alloc: Global, tables: &Tables, groups: &RowIds) -> Re
     ensures dealt { IfOk result (AreDealt tables.now) }
 {
     let dealt = deal(alloc, tables, groups)?;
-    if shows_no_fault(alloc, tables, groups, &dealt)? {
+    if shows_no_fault(tables, groups, &dealt) {
         return Ok(dealt);
     }
     find_rank_fault(alloc, tables, groups)?;

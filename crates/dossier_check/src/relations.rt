@@ -1,8 +1,8 @@
 //! The relations between the rows of tables, as a whole.
 ghost use Rattle.std.specs.Prelude.{◌≡◌, All, IfOk, map};
 ghost use Rattle.admit_core.specs.Ranges.{AreTables};
-ghost use Rattle.admit_core.specs.Relations.{group_tests, ranking_tests, first_fault, group_ids, programme_ids, school_ids, wish_ids};
-ghost use Rattle.admit_core.specs.Standing.{dossier_of, ranked_in};
+ghost use Rattle.admit_core.specs.Relations.{first_fault, programme_ids, school_ids, wish_ids};
+ghost use Rattle.admit_core.specs.Standing.{dossier_of, group_of_row, wish_of_row, status_of_row, ceiling_of_row, answer_of_row};
 ghost use Rattle.admit_core.specs.Validity.{IsValid};
 ghost use Rattle.dossier_check.specs.Dates.{dates_of};
 ghost use Rattle.dossier_check.specs.Dealt.{SaysWhoIsRanked};
@@ -13,7 +13,6 @@ ghost use Rattle.dossier_check.specs.Seen.{boarded_pairs};
 
 use crate::answers::check_answers;
 use crate::dates::{Dates, dates_of};
-use crate::groups::rank_groups;
 use crate::hashing::hashing_of;
 use crate::index::Index;
 use crate::items::{
@@ -25,7 +24,9 @@ use crate::slots::{check_boarding, check_ceilings, check_groups, check_programme
 use crate::state::check_state;
 use crate::who_is_ranked::WhoIsRanked;
 use crate::wishes::check_wishes;
-use admit_core::{Dossier, InFault, OutOfMemory, Ranked, Sequence, Tables};
+use admit_core::{
+    Answer, CeilingChange, Dossier, InFault, OutOfMemory, RankGroup, Sequence, Status, Tables, Wish,
+};
 use indexmap::IndexSet;
 use keyed_hash::Keyed;
 use std::alloc::Global;
@@ -61,21 +62,25 @@ fn check_wishes_on<'a>(
     let state = check_state(alloc, keyed, tables, &wishes.ids)?;
     check_ceilings(alloc, keyed, tables, schools)?;
     check_answers(tables, &wishes.ids, &wishes.firsts)?;
-    Ok((wishes.ids, state))
+    Ok((wishes.into_ids(), state))
 }
 
-/// Tests the rows of all slots in their order, and answers what they are found by.
-fn check_slots(alloc: Global, tables: &Tables) -> Result<(Keys, Vec<Vec<Ranked>>), InFault>
+/// Tests the rows of all slots in their order, and answers what they are found by, and the rankings.
+fn check_slots(alloc: Global, tables: &Tables) -> Result<(Keys, Vec<RankGroup>), InFault>
     requires { AreTables tables.now }
     ensures fault { AnswersFault result (first_fault tables.now) }
     ensures keys { IfOk result (λ found. AreKeysOf tables.now found.0) }
-    ensures lists { IfOk result (λ found. map (λ l. l.items) found.1.items ≡ map (ranked_in tables.now.rankings) (group_ids tables.now)) }
+    ensures rankings { IfOk result (λ found.
+        found.1.items ≡ map (group_of_row tables.now) tables.now.groups) }
 {
     let keyed = hashing_of(tables);
     let groups = check_groups(alloc, keyed, tables)?;
     let programmes = check_programmes(alloc, keyed, tables, &groups)?;
     let schools = check_schools(alloc, keyed, tables)?;
-    let Dealt { lists, candidates } = check_ranks(alloc, tables, &groups)?;
+    let Dealt {
+        rankings,
+        candidates,
+    } = check_ranks(alloc, tables, &groups)?;
     let boarding = check_boarding(alloc, keyed, tables, &schools)?;
     let ranked = WhoIsRanked {
         groups: &groups,
@@ -98,7 +103,36 @@ fn check_slots(alloc: Global, tables: &Tables) -> Result<(Keys, Vec<Vec<Ranked>>
         wishes,
         state,
     };
-    Ok((keys, lists))
+    Ok((keys, rankings))
+}
+
+/// What a dossier has from the wishes on.
+#[derive(Drop)]
+struct FromWishes {
+    wishes: Vec<Wish>,
+    statuses: Vec<Status>,
+    ceilings: Vec<CeilingChange>,
+    answers: Vec<Answer>,
+}
+
+/// Makes what the dossier has from the wishes on.
+fn from_wishes(alloc: Global, tables: &Tables, keys: &Keys) -> Result<FromWishes, OutOfMemory>
+    requires { AreKeysOf tables.now keys.now }
+    ensures wishes { IfOk result (λ made.
+        made.wishes.items ≡ map (wish_of_row tables.now) tables.now.wishes) }
+    ensures statuses { IfOk result (λ made.
+        made.statuses.items ≡ map (status_of_row tables.now) tables.now.wishes) }
+    ensures ceilings { IfOk result (λ made.
+        made.ceilings.items ≡ map (ceiling_of_row tables.now) tables.now.ceilings) }
+    ensures answers { IfOk result (λ made.
+        made.answers.items ≡ map (answer_of_row tables.now) tables.now.answers) }
+{
+    Ok(FromWishes {
+        wishes: wishes_of(alloc, tables, keys)?,
+        statuses: statuses_of(alloc, tables, keys)?,
+        ceilings: ceilings_of(alloc, tables, keys)?,
+        answers: answers_of(alloc, tables, keys)?,
+    })
 }
 
 /// Makes the dossier that fault-free tables stand for.
@@ -106,21 +140,29 @@ fn make_dossier(
     alloc: Global,
     tables: &Tables,
     keys: &Keys,
-    lists: Vec<Vec<Ranked>>,
+    rankings: Vec<RankGroup>,
 ) -> Result<Dossier, OutOfMemory>
     requires keys { AreKeysOf tables.now keys.now }
-    requires lists { map (λ l. l.items) lists.items ≡ map (ranked_in tables.now.rankings) (group_ids tables.now) }
+    requires rankings { rankings.items ≡ map (group_of_row tables.now) tables.now.groups }
     requires valid { IsValid (dossier_of tables.now) }
     ensures { IfOk result (λ dossier. dossier ≡ dossier_of tables.now) }
 {
+    let programmes = programmes_of(alloc, tables, keys)?;
+    let schools = schools_of(alloc, tables)?;
+    let FromWishes {
+        wishes,
+        statuses,
+        ceilings,
+        answers,
+    } = from_wishes(alloc, tables, keys)?;
     Ok(Dossier {
-        groups: Sequence::from_vec(rank_groups(alloc, tables, lists)?),
-        programmes: Sequence::from_vec(programmes_of(alloc, tables, keys)?),
-        schools: Sequence::from_vec(schools_of(alloc, tables)?),
-        wishes: Sequence::from_vec(wishes_of(alloc, tables, keys)?),
-        statuses: Sequence::from_vec(statuses_of(alloc, tables, keys)?),
-        ceilings: Sequence::from_vec(ceilings_of(alloc, tables, keys)?),
-        answers: Sequence::from_vec(answers_of(alloc, tables, keys)?),
+        groups: Sequence::from_vec(rankings),
+        programmes: Sequence::from_vec(programmes),
+        schools: Sequence::from_vec(schools),
+        wishes: Sequence::from_vec(wishes),
+        statuses: Sequence::from_vec(statuses),
+        ceilings: Sequence::from_vec(ceilings),
+        answers: Sequence::from_vec(answers),
     })
 }
 
@@ -134,8 +176,8 @@ pub fn check(alloc: Global, tables: &Tables) -> Result<Checked, InFault>
     ensures index { IfOk result (λ checked. checked.index ≡ ids_of tables.now) }
     ensures dates { IfOk result (λ checked. checked.dates ≡ dates_of tables.now) }
 {
-    let (keys, lists) = check_slots(alloc, tables)?;
-    let dossier = make_dossier(alloc, tables, &keys, lists)?;
+    let (keys, rankings) = check_slots(alloc, tables)?;
+    let dossier = make_dossier(alloc, tables, &keys, rankings)?;
     let dates = dates_of(alloc, tables, &keys)?;
     Ok(Checked {
         dossier,

@@ -12,23 +12,26 @@ use std::alloc::Global;
 use std::marker::Model;
 
 /// How ids are found.
-#[derive(Drop)]
 pub(crate) enum Way {
     /// Each is greater than the one before it.
     Rising(Vec<u32>),
     Hashed(IndexSet<u32, Keyed>),
 }
 
-/// The ids of a slot's rows, each once. A contract sees them by place.
-pub(crate) struct RowIds {
-    way: Way,
+// Not derived: so ids are dropped in one step where they are held, and not by each way.
+impl Drop for Way {
+    fn drop(self) {
+        match self {
+            Way::Rising(_) => (),
+            Way::Hashed(_) => (),
+        }
+    }
 }
 
-// Not derived: so ids are dropped in one step where they are held, and not by each way.
-impl Drop for RowIds {
-    fn drop(self) {
-        let RowIds { way: _ } = self;
-    }
+/// The ids of a slot's rows, each once. A contract sees them by place.
+#[derive(Drop)]
+pub(crate) struct RowIds {
+    way: Way,
 }
 
 impl Model for RowIds {

@@ -86,10 +86,26 @@ impl<R, T: RowTest<R>> RowTest<R> for Unless<T> {
 }
 
 /// An earlier row has the same key.
-#[derive(Drop)]
 pub(crate) struct Repeats<K: Eq + Hash, Q> {
     pub(crate) keys: IndexSet<K, Keyed>,
     pub(crate) rule: Q,
+}
+
+// Not derived: so it is dropped in one step where it is held, and not by each list of the set.
+impl<K: Eq + Hash + Drop, Q: Drop> Drop for Repeats<K, Q> {
+    fn drop(self) {
+        let Repeats { keys: _, rule: _ } = self;
+    }
+}
+
+impl<K: Eq + Hash, Q: Drop> Repeats<K, Q> {
+    /// The keys of the rows.
+    pub(crate) fn into_keys(self) -> IndexSet<K, Keyed>
+        ensures { result ≡ self.keys }
+    {
+        let Repeats { keys, rule: _ } = self;
+        keys
+    }
 }
 
 impl<R, K: Hash + Eq + Copy + Drop, Q: Key<R, K>> RowTest<R> for Repeats<K, Q> {
@@ -130,10 +146,16 @@ impl<R, Q: Key<R, u32>> RowTest<R> for RepeatsId<Q> {
 }
 
 /// An earlier row has the same rank in the same list: the key.
-#[derive(Drop)]
 pub(crate) struct TakesRank<K: Eq + Hash, Q> {
     pub(crate) keys: IndexSet<K, Keyed>,
     pub(crate) rule: Q,
+}
+
+// Not derived, as above.
+impl<K: Eq + Hash + Drop, Q: Drop> Drop for TakesRank<K, Q> {
+    fn drop(self) {
+        let TakesRank { keys: _, rule: _ } = self;
+    }
 }
 
 impl<R, K: Hash + Eq + Copy + Drop, Q: Key<R, K>> RowTest<R> for TakesRank<K, Q> {

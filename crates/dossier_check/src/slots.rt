@@ -139,9 +139,11 @@ pub(crate) fn check_boarding(
     ensures fault { AnswersFault result (first_in slots.Boarding (boarding_tests tables.now) tables.now.boarding) }
     ensures pairs { IfOk result (λ pairs. pairs.keys ≡ map (λ r. (r.school, r.candidate)) tables.now.boarding) }
 {
+    let rows = tables.boarding.as_slice();
+    let pairs = IndexSet::with_capacity_and_hasher(alloc, rows.len(), keyed)?;
     let mut checks = Then {
         first: Repeats {
-            keys: IndexSet::with_hasher(alloc, keyed),
+            keys: pairs,
             rule: SchoolAndCandidate,
         },
         rest: Then {
@@ -159,8 +161,8 @@ pub(crate) fn check_boarding(
             },
         },
     };
-    scan(Slot::Boarding, &mut checks, tables.boarding.as_slice())?;
-    Ok(checks.first.keys)
+    scan(Slot::Boarding, &mut checks, rows)?;
+    Ok(checks.first.into_keys())
 }
 
 /// Checks the ceilings.

@@ -16,11 +16,21 @@ use keyed_hash::Keyed;
 use std::alloc::Global;
 
 /// An earlier row accepts another wish of the candidate.
-#[derive(Drop)]
 pub(crate) struct TwoAccepted<'a> {
     pub(crate) tables: &'a Tables,
     pub(crate) wishes: &'a RowIds,
     pub(crate) rows: IndexMap<u32, u64, Keyed>,
+}
+
+// Not derived: so it is dropped in one step where it is held, and not by each list of the map.
+impl<'a> Drop for TwoAccepted<'a> {
+    fn drop(self) {
+        let TwoAccepted {
+            tables: _,
+            wishes: _,
+            rows: _,
+        } = self;
+    }
 }
 
 impl<'a> TwoAccepted<'a> {
@@ -73,9 +83,11 @@ pub(crate) fn check_state<'a>(
     ensures fault { AnswersFault result (first_in slots.State (state_tests tables.now) tables.now.state) }
     ensures wishes { IfOk result (λ stated. stated.keys ≡ map (λ s. s.wish) tables.now.state) }
 {
+    let rows = tables.state.as_slice();
+    let stated = IndexSet::with_capacity_and_hasher(alloc, rows.len(), keyed)?;
     let mut checks = Then {
         first: Repeats {
-            keys: IndexSet::with_hasher(alloc, keyed),
+            keys: stated,
             rule: ItsWish,
         },
         rest: Then {
@@ -94,6 +106,6 @@ pub(crate) fn check_state<'a>(
             },
         },
     };
-    scan(Slot::State, &mut checks, tables.state.as_slice())?;
-    Ok(checks.first.keys)
+    scan(Slot::State, &mut checks, rows)?;
+    Ok(checks.first.into_keys())
 }

@@ -78,28 +78,90 @@ impl<'a> RowTest<WishRow> for NoBoardingRank<'a> {
     }
 }
 
+/// A candidate, with their first wish.
+#[derive(Clone, Copy)]
+pub(crate) struct LastCandidate {
+    pub(crate) candidate: u32,
+    pub(crate) first: FirstWish,
+}
+
 /// Of this wish and the candidate's first one, one has a preference and the other has none.
-#[derive(Drop)]
 pub(crate) struct PreferenceMixed {
     pub(crate) firsts: IndexMap<u32, FirstWish, Keyed>,
+    /// The candidate of the row before: a candidate's wishes mostly stand together.
+    pub(crate) last: Option<LastCandidate>,
+}
+
+// Not derived: so it is dropped in one step where it is held, and not by each list of the map.
+impl Drop for PreferenceMixed {
+    fn drop(self) {
+        let PreferenceMixed { firsts: _, last: _ } = self;
+    }
+}
+
+impl PreferenceMixed {
+    ghost use Rattle.std.specs.Prelude.{ℕ, if◌then◌else◌, IsSome, IfSome, None, Some};
+    ghost use Rattle.dossier_check.specs.Seen.{IsLastCandidate};
+
+    /// The first wish of a candidate who is that of the row before.
+    fn first_of_last(&self, candidate: u32) -> Option<FirstWish>
+        ensures { IsLastCandidate (get nat_eq self.now.firsts) self.now.last →
+            IfSome result (λ first. get nat_eq self.now.firsts candidate ≡ Some first) }
+    {
+        match self.last {
+            Some(last) if last.candidate == candidate => Some(last.first),
+            _ => None,
+        }
+    }
+
+    /// Notes a wish of a candidate, unless they have one before; answers that one.
+    fn note(&mut self, candidate: u32, own: FirstWish) -> Result<Option<FirstWish>, OutOfMemory>
+        ensures first { IsLastCandidate (get nat_eq self.old.firsts) self.old.last →
+            IfOk result (λ first. first ≡ get nat_eq self.old.firsts candidate) }
+        ensures kept { IfOk result (λ first. IsSome first →
+            (k : ℕ) → get nat_eq self.new.firsts k ≡ get nat_eq self.old.firsts k) }
+        ensures noted { IfOk result (λ first. first ≡ None → (k : ℕ) →
+            get nat_eq self.new.firsts k ≡
+                (if nat_eq candidate k then Some own else get nat_eq self.old.firsts k)) }
+        ensures last { IsLastCandidate (get nat_eq self.old.firsts) self.old.last →
+            IfOk result (λ first. IsLastCandidate (get nat_eq self.new.firsts) self.new.last) }
+    {
+        if let Some(first) = self.first_of_last(candidate) {
+            return Ok(Some(first));
+        }
+        let first = note_first(&mut self.firsts, candidate, own)?;
+        self.last = Some(LastCandidate {
+            candidate,
+            first: first.unwrap_or(own),
+        });
+        Ok(first)
+    }
+
+    /// The candidates' first wishes.
+    fn into_firsts(self) -> IndexMap<u32, FirstWish, Keyed>
+        ensures { result ≡ self.firsts }
+    {
+        let PreferenceMixed { firsts, last: _ } = self;
+        firsts
+    }
 }
 
 impl RowTest<WishRow> for PreferenceMixed {
     ghost use Rattle.std.specs.Prelude.{nat_eq};
     ghost use Rattle.indexmap.specs.IndexMap.{get};
     ghost use Rattle.admit_core.specs.Relations.{preference_mixed};
-    ghost use Rattle.dossier_check.specs.Seen.{AreFirstWishes};
+    ghost use Rattle.dossier_check.specs.Seen.{AreFirstWishes, IsLastCandidate};
 
     ghost test = { λ c. preference_mixed };
 
-    ghost has_seen = { λ c before. AreFirstWishes (get nat_eq c.firsts) before };
+    ghost has_seen = { λ c before. AreFirstWishes (get nat_eq c.firsts) before × IsLastCandidate (get nat_eq c.firsts) c.last };
 
     fn stands(&mut self, row: &WishRow, number: u64) -> Result<Option<Reason>, OutOfMemory> {
         let own = FirstWish {
             row: number,
             preference: row.preference,
         };
-        match note_first(&mut self.firsts, row.candidate, own)? {
+        match self.note(row.candidate, own)? {
             Some(first) if (first.preference == 0) != (row.preference == 0) => {
                 Ok(Some(Reason::PreferenceMixed(first.row)))
             }
@@ -113,7 +175,7 @@ pub(crate) struct PreferenceTaken {
     pub(crate) rows: IndexMap<(u32, u32), u64, Keyed>,
 }
 
-// Not derived: so it is dropped in one step where it is held, and not by each list of the map.
+// Not derived, as above.
 impl Drop for PreferenceTaken {
     fn drop(self) {
         let PreferenceTaken { rows: _ } = self;
@@ -142,10 +204,26 @@ impl RowTest<WishRow> for PreferenceTaken {
 }
 
 /// The ids of the wishes by place, and each candidate's first wish.
-#[derive(Drop)]
 pub(crate) struct WishKeys {
     pub(crate) ids: RowIds,
     pub(crate) firsts: IndexMap<u32, FirstWish, Keyed>,
+}
+
+// Not derived, as above.
+impl Drop for WishKeys {
+    fn drop(self) {
+        let WishKeys { ids: _, firsts: _ } = self;
+    }
+}
+
+impl WishKeys {
+    /// The ids alone.
+    pub(crate) fn into_ids(self) -> RowIds
+        ensures { result ≡ self.ids }
+    {
+        let WishKeys { ids, firsts: _ } = self;
+        ids
+    }
 }
 
 /// Checks the wishes.
@@ -179,6 +257,7 @@ pub(crate) fn check_wishes<'a>(
     let preferences = Then {
         first: PreferenceMixed {
             firsts: IndexMap::with_hasher(alloc, keyed),
+            last: None,
         },
         rest: Then {
             first: Unless {
@@ -236,11 +315,29 @@ pub(crate) fn check_wishes<'a>(
         },
     };
     scan(Slot::Wishes, &mut checks, rows)?;
-    let Then { first: own, rest } = checks;
-    let ranks = rest.rest.rest.rest;
-    let preferences = ranks.rest.rest;
+    let Then {
+        first: own,
+        rest: Then {
+            first: _,
+            rest: names,
+        },
+    } = checks;
+    let Then {
+        first: _,
+        rest: Then {
+            first: _,
+            rest: ranks,
+        },
+    } = names;
+    let Then {
+        first: _,
+        rest: Then {
+            first: _,
+            rest: preferences,
+        },
+    } = ranks;
     Ok(WishKeys {
         ids: own.ids,
-        firsts: preferences.first.firsts,
+        firsts: preferences.first.into_firsts(),
     })
 }

@@ -11,7 +11,7 @@ returns c =
     let made = c.in_ok-lists.lists.items in
     let lists : map (λ l. l.items) made ≡ map (ranked_in t.rankings) (group_ids t) = rw (← c.requires, ← c.as_slice.ensures) c.in_ok-lists.ensures in
     record {
-      lists = lists;
+      rankings = c.in_ok-rankings.ensures;
       candidates = c.in_ok-candidates.ensures
           ∙ ap (map (λ l. candidates_of l.items)) c.as_slice-2.ensures.value
           ∙ sym (map_map candidates_of (λ l. l.items) made)
