@@ -12,7 +12,7 @@ use day_state::DayState;
 use std::alloc::Global;
 use std::mem;
 
-/// Want of memory, with the picker that was handed in.
+/// Memory ran out; the picker that was handed in comes back.
 #[derive(Drop)]
 pub struct NoRoom {
     pub picker: Box<dyn Picker>,

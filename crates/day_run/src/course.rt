@@ -67,10 +67,10 @@ impl<'d> Course<'d> {
         requires before { ForSome terms (λ t. length t.before ≡ length dossier.now.wishes) }
         ensures { IfOk result (IsBegun dossier.now orders.now.orders terms) }
     {
-        let desk = Desk::begin(alloc, dossier)?;
-        let lineup = Lineup::build(alloc, desk.now(), orders)?;
         let bars = own_ceilings(alloc, dossier)?;
         let ceilings = own_ceilings(alloc, dossier)?;
+        let desk = Desk::begin(alloc, dossier)?;
+        let lineup = Lineup::build(alloc, desk.now(), orders)?;
         Ok(Course {
             desk,
             orders,

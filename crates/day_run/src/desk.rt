@@ -10,11 +10,21 @@ use std::marker::Model;
 
 /// The present state of a dossier's wishes, the state in which its last day began, and the opening of
 /// the last pass.
-#[derive(Drop)]
 pub struct Desk<'d> {
     pub(crate) present: DayState<'d>,
     pub(crate) evening: DayState<'d>,
     pub(crate) opening: DayState<'d>,
+}
+
+// Not derived: so a desk is dropped in one step where it is held, and not state by state.
+impl Drop for Desk<'_> {
+    fn drop(self) {
+        let Desk {
+            present: _,
+            evening: _,
+            opening: _,
+        } = self;
+    }
 }
 
 impl<'d> Model for Desk<'d> {
@@ -69,6 +79,11 @@ impl<'d> Desk<'d> {
     pub fn into_now(self) -> DayState<'d>
         ensures { result ≡ self.entry.present }
     {
-        self.present
+        let Desk {
+            present,
+            evening: _,
+            opening: _,
+        } = self;
+        present
     }
 }

@@ -18,7 +18,7 @@ use Rattle.admit_core.specs.declared.tables.SchoolRow.{SchoolRow}
 use Rattle.admit_core.specs.declared.tables.StateRow.{StateRow}
 use Rattle.admit_core.specs.declared.tables.WishRow.{WishRow}
 use Rattle.dossier_csv.specs.Columns.{◌>>=◌, IsSince, added_number, amounts, days, flag, ids, number, optional_date, optional_number, percents, word, words}
-use Rattle.dossier_csv.specs.Layout.{Layout}
+use Rattle.dossier_csv.specs.Layout.{Layout, layout_of}
 
 unfoldable pub group_row : List (List ℕ) → Result GroupRow Reason
 group_row fields = do
@@ -28,11 +28,7 @@ group_row fields = do
   Ok (record { id = id; scholar_pct = scholar_pct; resident_pct = resident_pct })
 
 abbrev pub groups : Layout GroupRow
-groups = record {
-  slot = slots.Groups;
-  headers = (codes "group" ∷ codes "scholar_pct" ∷ codes "resident_pct" ∷ []) ∷ [];
-  row = group_row;
-}
+groups = layout_of slots.Groups (codes "group,scholar_pct,resident_pct" ∷ []) group_row
 
 unfoldable pub programme_row : List (List ℕ) → Result ProgrammeRow Reason
 programme_row fields = do
@@ -43,12 +39,9 @@ programme_row fields = do
   Ok (record { id = id; group = group; seats = seats; limit = limit })
 
 abbrev pub programmes : Layout ProgrammeRow
-programmes = record {
-  slot = slots.Programmes;
-  headers = (codes "programme" ∷ codes "group" ∷ codes "seats" ∷ [])
-      ∷ (codes "programme" ∷ codes "group" ∷ codes "seats" ∷ codes "limit" ∷ []) ∷ [];
-  row = programme_row;
-}
+programmes =
+    layout_of slots.Programmes (codes "programme,group,seats" ∷ codes "programme,group,seats,limit" ∷ [])
+    programme_row
 
 unfoldable pub school_row : List (List ℕ) → Result SchoolRow Reason
 school_row fields = do
@@ -58,11 +51,7 @@ school_row fields = do
   Ok (record { id = id; beds = beds; ceiling = ceiling })
 
 abbrev pub schools : Layout SchoolRow
-schools = record {
-  slot = slots.Schools;
-  headers = (codes "school" ∷ codes "beds" ∷ codes "ceiling" ∷ []) ∷ [];
-  row = school_row;
-}
+schools = layout_of slots.Schools (codes "school,beds,ceiling" ∷ []) school_row
 
 unfoldable pub rank_row : List (List ℕ) → Result RankRow Reason
 rank_row fields = do
@@ -74,11 +63,7 @@ rank_row fields = do
   Ok (record { group = group; candidate = candidate; rank = rank; scholar = scholar; resident = resident })
 
 abbrev pub rankings : Layout RankRow
-rankings = record {
-  slot = slots.Rankings;
-  headers = (codes "group" ∷ codes "candidate" ∷ codes "rank" ∷ codes "scholar" ∷ codes "resident" ∷ []) ∷ [];
-  row = rank_row;
-}
+rankings = layout_of slots.Rankings (codes "group,candidate,rank,scholar,resident" ∷ []) rank_row
 
 unfoldable pub board_row : List (List ℕ) → Result BoardRow Reason
 board_row fields = do
@@ -88,11 +73,7 @@ board_row fields = do
   Ok (record { school = school; candidate = candidate; rank = rank })
 
 abbrev pub boarding : Layout BoardRow
-boarding = record {
-  slot = slots.Boarding;
-  headers = (codes "school" ∷ codes "candidate" ∷ codes "rank" ∷ []) ∷ [];
-  row = board_row;
-}
+boarding = layout_of slots.Boarding (codes "school,candidate,rank" ∷ []) board_row
 
 unfoldable pub wish_row : List (List ℕ) → Result WishRow Reason
 wish_row fields = do
@@ -104,11 +85,7 @@ wish_row fields = do
   Ok (record { id = id; candidate = candidate; programme = programme; school = school; preference = preference })
 
 abbrev pub wishes : Layout WishRow
-wishes = record {
-  slot = slots.Wishes;
-  headers = (codes "wish" ∷ codes "candidate" ∷ codes "programme" ∷ codes "school" ∷ codes "preference" ∷ []) ∷ [];
-  row = wish_row;
-}
+wishes = layout_of slots.Wishes (codes "wish,candidate,programme,school,preference" ∷ []) wish_row
 
 -- the statuses, each beside the word that it is printed by
 abbrev pub statuses : List (List ℕ × Status)
@@ -122,11 +99,7 @@ state_row fields = do
   Ok (record { wish = wish; status = what; since = since })
 
 abbrev pub state : Layout StateRow
-state = record {
-  slot = slots.State;
-  headers = (codes "wish" ∷ codes "status" ∷ []) ∷ (codes "wish" ∷ codes "status" ∷ codes "since" ∷ []) ∷ [];
-  row = state_row;
-}
+state = layout_of slots.State (codes "wish,status" ∷ codes "wish,status,since" ∷ []) state_row
 
 -- a row whose date, if it has one, is a date
 abbrev pub IsDatedRow : StateRow → Type 0
@@ -140,11 +113,7 @@ ceiling_row fields = do
   Ok (record { day = day; school = school; ceiling = ceiling })
 
 abbrev pub ceilings : Layout CeilingRow
-ceilings = record {
-  slot = slots.Ceilings;
-  headers = (codes "day" ∷ codes "school" ∷ codes "ceiling" ∷ []) ∷ [];
-  row = ceiling_row;
-}
+ceilings = layout_of slots.Ceilings (codes "day,school,ceiling" ∷ []) ceiling_row
 
 abbrev pub kind_word : AnswerKind → List ℕ
 kind_word Accept = codes "accept"
@@ -163,8 +132,4 @@ answer_row fields = do
   Ok (record { day = day; kind = kind; target = target })
 
 abbrev pub answers : Layout AnswerRow
-answers = record {
-  slot = slots.Answers;
-  headers = (codes "day" ∷ codes "kind" ∷ codes "target" ∷ []) ∷ [];
-  row = answer_row;
-}
+answers = layout_of slots.Answers (codes "day,kind,target" ∷ []) answer_row
