@@ -1,10 +1,10 @@
 -- The lists of the wishes by programme, and the claims in them.
-use Rattle.std.proofs.Common.{ℕ, ◌+◌, ◌≤◌, ◌<◌, ◌≡◌, Bool, true, false, not, ◌&&◌, List, [], ◌∷◌, map, length, get_or, inl, inr, refl, sym, ◌∙◌, ap, arith, nat_lt, nat_eq, filter, subst, Vec, ltb, leb}
+use Rattle.std.proofs.Common.{ℕ, ◌+◌, ◌-◌, ◌≤◌, ◌<◌, ◌≡◌, Bool, true, false, not, ◌&&◌, List, [], ◌∷◌, map, length, get_or, inl, inr, refl, sym, ◌∙◌, ap, arith, nat_lt, nat_eq, filter, subst, Vec, ltb, leb}
 use Rattle.std.specs.Prelude.{◌==◌, ◌^◌}
 use Rattle.std.specs.declared.alloc.Global.{Global}
 use Rattle.std.specs.List.Sorted.{IsNonDecreasingBy, IsPartitionPoint}
 use Rattle.std.proofs.Math.ListN.{set}
-use Rattle.std.proofs.lemmas.Bool.{cases_lt, le-leb, lt-leb, lt-ltb, ltb-true, ltb-false, ne_eqb, false≢true}
+use Rattle.std.proofs.lemmas.Bool.{and_parts, cases_lt, eqb-true, le-leb, le-ltb, lt-leb, lt-ltb, ltb-true, ltb-false, ne_eqb, or_cases, false≢true}
 use Rattle.std.proofs.lemmas.List.{get_or-map, get_or_default, length-map, length-set, map-id}
 use Rattle.std.proofs.lemmas.List.Elements.{All-filter}
 use Rattle.std.proofs.lemmas.List.Filters.{length-filter_both}
@@ -13,7 +13,7 @@ use Rattle.admit_core.specs.DossierRows.{DossierRows}
 use Rattle.day_state.specs.Kept.{candidate_in, IsIndex}
 use Rattle.day_state.proofs.Ordering.{between}
 use Rattle.linked_demand.specs.declared.claims.Span.{Span}
-use Rattle.linked_demand.specs.Claims.{IsWithin, part_of, IsSpanOf, AreWishesFor, AreWishesFrom}
+use Rattle.linked_demand.specs.Claims.{IsWithin, part_of, IsSpanOf, AreWishesFor, AreWishesFrom, begins_at, lower_before}
 use Rattle.linked_demand.specs.Keyed.{AreRowsOf}
 use Rattle.linked_demand.specs.Links.{claim_of}
 use Rattle.linked_demand.specs.Seats.{applies_at}
@@ -104,6 +104,26 @@ alike_ends xs c from to rises point are other = (
       let above : c < get_or xs to 0 = elim (cases_lt c (get_or xs to 0)) [ inl above ↦ above | inr le ↦ absurd (other to_in (omega (arith, le, not_below))) ] in
       lt-leb (get_or xs k d) c (omega (arith, above, rises to k 0 low high, get_or_default xs k d 0 high)),
 )
+
+-- where a candidate stands, and those before are below them, they begin
+pub begins_there : (xs : List ℕ) (c k : ℕ) → IsNonDecreasingBy (λ k. k) xs → begins_at xs c k ≡ true
+    → (k ≤ length xs) × IsPartitionPoint (λ j. ltb j c ≡ true) (λ j. ltb j c ≡ false) xs k
+begins_there xs c k rises begins =
+    let parts = and_parts (ltb k (length xs)) (nat_eq (get_or xs k 0) c && lower_before xs c k) begins in
+    let rest = and_parts (nat_eq (get_or xs k 0) c) (lower_before xs c k) parts.1 in
+    let within : k < length xs = ltb-true k (length xs) parts.0 in
+    let here : get_or xs k 0 ≡ c = eqb-true (get_or xs k 0) c rest.0 in
+    let below : (j : ℕ) → j < k → get_or xs j 0 < c =
+    λ j lt. elim (or_cases (nat_eq k 0) (ltb (get_or xs (k - 1) 0) c) rest.1) [
+      | inl front ↦ absurd (omega (arith, lt, eqb-true k 0 front))
+      | inr last ↦ omega (arith, ltb-true (get_or xs (k - 1) 0) c last, rises j (k - 1) 0 (omega (arith, lt)) (omega (arith, lt, within)))
+    ] in (
+      omega (arith, within),
+      (
+        λ j d low high. lt-ltb (get_or xs j d) c (omega (arith, get_or_default xs j d 0 (omega (arith, high, within)), below j high)),
+        λ j d low high. le-ltb (get_or xs j d) c (omega (arith, here, get_or_default xs j d 0 high, rises k j 0 low high)),
+      ),
+    )
 
 point_of_keys : (key : ℕ → ℕ) (xs : List ℕ) (P Q : ℕ → Type 0) (i : ℕ) → i ≤ length xs → IsPartitionPoint P Q (map key xs) i → IsPartitionPoint (λ k. P (key k)) (λ k. Q (key k)) xs i
 point_of_keys key xs P Q i le point = (

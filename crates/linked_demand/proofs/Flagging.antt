@@ -33,7 +33,7 @@ more_of {X} f n xs new x pushed are is =
 pub map_take_more : {X Y : Type 0} (f : X → Y) (xs : List X) (i : ℕ) (d : X) → i < length xs → map f (take (i + 1) xs) ≡ map f (take i xs) ++ f (get_or xs i d) ∷ []
 map_take_more {X} f xs i d lt = ap (map f) (take_more xs i d lt) ∙ map-append f (take i xs) (get_or xs i d ∷ [])
 
-share : (a b c : Bool) → ((a && c) || (b && c)) ≡ ((a || b) && c)
+pub share : (a b c : Bool) → ((a && c) || (b && c)) ≡ ((a || b) && c)
 share true b true = refl
 share true true false = refl
 share true false false = refl

@@ -11,6 +11,8 @@ pub mod Demanded
 pub mod Falling
 pub mod Filling
 pub mod Flagging
+pub mod Fronted
+pub mod Fronting
 pub mod Keeping
 pub mod Keyed
 pub mod Leaving

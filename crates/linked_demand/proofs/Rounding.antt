@@ -1,10 +1,10 @@
 -- A round as a system of falling bars.
-use Rattle.std.proofs.Common.{ℕ, ◌<◌, ◌≡◌, Bool, true, false, not, List, [], ◌∷◌, Some, None, map, filter, length, get_or, refl, sym, ◌∙◌, ap, arith, subst, zero-add, Vec}
+use Rattle.std.proofs.Common.{ℕ, ◌<◌, ◌≡◌, Bool, true, false, not, List, [], ◌∷◌, Some, None, map, filter, length, get_or, inl, inr, refl, sym, ◌∙◌, ap, arith, subst, zero-add, Vec}
 use Rattle.std.specs.Prelude.{slice_get, slice_index, slice_set, Option, is_some}
 use Rattle.std.specs.List.{enumerate_from, range_with_len}
 use Rattle.std.specs.declared.alloc.Global.{Global}
-use Rattle.std.proofs.lemmas.Bool.{and_parts}
-use Rattle.std.proofs.lemmas.List.{get_or_read}
+use Rattle.std.proofs.lemmas.Bool.{and_parts, cases_Bool}
+use Rattle.std.proofs.lemmas.List.{get_or_read, length-map}
 use Rattle.std.proofs.lemmas.List.FromFn.{get_or-map-range_with_len, length-map-range_with_len}
 use Rattle.admit_core.specs.declared.dossier.Wish.{Wish}
 use Rattle.admit_core.specs.declared.state.Mark.{Mark}
@@ -25,9 +25,10 @@ use Rattle.linked_demand.specs.Opens.{opens_of, is_proposed_by}
 use Rattle.linked_demand.specs.Rounds.{Round, IsRoundUnder, bar_each, is_proposed_in}
 use Rattle.linked_demand.specs.Demand.{is_proposed_at, over_at}
 use Rattle.linked_demand.proofs.BarEach.{bar_each_is, bar_each_set}
-use Rattle.linked_demand.proofs.Closing.{proposed_at_is}
+use Rattle.linked_demand.proofs.Closing.{length_entries, proposed_at_is}
 use Rattle.linked_demand.proofs.Falling.{flag_map}
 use Rattle.linked_demand.proofs.Filling.{entry_there}
+use Rattle.linked_demand.proofs.Fronting.{closed_at, open_within}
 use Rattle.linked_demand.proofs.Lining.{numbered}
 use Rattle.linked_demand.proofs.Opens.{proposed_by_bars}
 
@@ -162,3 +163,25 @@ module _ (links : LinksRow) (ceilings bars free : List ℕ) (rows : List (Vec Ro
         ∙ ap (is_proposed_by links.state links.orders links.opens w m) flag_is
         ∙ ap (λ (os : List Bool). is_proposed_by links.state links.orders os w m (is_open links.state bars w m)) right.round.opens_are
         ∙ proposed_by_bars links.state links.orders bars w m)
+
+  -- what is open waits
+  pub opens_wait : (k : ℕ) → get_or links.opens k false ≡ true → (w : Wish) × (m : Mark) × WaitsAt links.state k w m
+  opens_wait k opened =
+      let lt : k < length seen.state.dossier.wishes =
+      omega (
+        arith,
+        open_within links.opens k opened,
+        ap length right.round.opens_are,
+        length-map (entries links.state) (λ (e : Wish × Mark). is_open links.state bars e.0 e.1),
+        length_entries links.state.dossier.wishes links.state.marks right.round.marks_each,
+        ap (λ (r : Round). length r.state.dossier.wishes) is,
+      ) in
+      open_waits k lt opened
+
+  -- a flag that says whether a wish is proposed by the links says whether it is at the bars
+  pub flag_seen : (k : ℕ) → k < length seen.state.dossier.wishes → (flag : Bool) → flag ≡ is_proposed_at links k → flag ≡ is_proposed_in seen k
+  flag_seen k lt flag flag_is =
+      elim (cases_Bool (get_or links.opens k false)) [
+        | inl opened ↦ flag_is ∙ proposed_seen k lt opened
+        | inr closed ↦ flag_is ∙ closed_at links k closed ∙ closed_seen k lt closed
+      ]

@@ -9,6 +9,8 @@ mod claims;
 mod cut;
 mod fill;
 mod fresh;
+mod fronts;
+mod guesses;
 mod law;
 mod line;
 mod lineup;

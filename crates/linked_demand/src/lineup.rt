@@ -11,6 +11,7 @@ ghost use Rattle.linked_demand.specs.Opens.{line_of};
 ghost use Rattle.linked_demand.specs.Seats.{PutAt, AreSeated, boards_at, boarders_of, is_below, is_passed};
 
 use crate::claims::{Claims, candidates_of, part, span_of};
+use crate::guesses::Guesses;
 use crate::wishes::wish_count;
 use crate::wishing::wishes_by_programme;
 use admit_core::{CallOrders, OutOfMemory};
@@ -59,6 +60,7 @@ fn line_up(
     wishes: Vec<u32>,
     places: &mut Vec<usize>,
     early: &mut Vec<bool>,
+    guesses: &mut Guesses,
 ) -> Result<Claims, OutOfMemory>
     requires programme { programme < length state.now.dossier.programmes }
     requires orders { AreCalled state.now.dossier orders.now.orders }
@@ -76,8 +78,9 @@ fn line_up(
     let order = order_of(state, orders, programme);
     let limit = limit_of(state, programme);
     let candidates = candidates_of(alloc, state, &wishes)?;
+    guesses.renew(&candidates);
     for (before, candidate) in order.iter().enumerate() {
-        let span = span_of(&candidates, *candidate);
+        let span = span_of(&candidates, *candidate, guesses.of(*candidate));
         let claim = part(&wishes, span);
         let is_claim = !claim.is_empty();
         if is_claim {
@@ -152,6 +155,7 @@ impl Lineup {
         let mut places = vec![in alloc; 0; count]?;
         let mut early = vec![in alloc; false; count]?;
         let mut claims = Vec::new(alloc);
+        let mut guesses = Guesses::of_wishes(alloc, state)?;
         let mut rows = wishes_by_programme(alloc, state)?;
         let programmes = programme_count(state);
         for programme in 0..programmes {
@@ -164,6 +168,7 @@ impl Lineup {
                 wishes,
                 &mut places,
                 &mut early,
+                &mut guesses,
             )?;
             claims.push(own)?;
         }

@@ -1,5 +1,5 @@
 //! Who is served in each programme while wishes are closed.
-ghost use Rattle.std.specs.Prelude.{◌≡◌, ◌+◌, ◌<◌, ◌&&◌, ◌||◌, false, length, map, All, slice_set, slice_index_or, count_by, IfOk};
+ghost use Rattle.std.specs.Prelude.{◌≡◌, ℕ, ◌+◌, ◌<◌, ◌&&◌, ◌||◌, true, false, length, map, All, slice_set, slice_index_or, count_by, IfOk};
 ghost use Rattle.std.specs.List.{enumerate_from};
 ghost use Rattle.admit_core.specs.State.{entries, is_waiting};
 ghost use Rattle.linked_demand.specs.Marks.{is_new, MarksSchools};
@@ -12,6 +12,7 @@ ghost use Rattle.linked_demand.specs.Links.{LinksRow, WaitsAt};
 ghost use Rattle.linked_demand.specs.Demand.{is_proposed_at};
 
 use crate::fresh::note_fresh;
+use crate::fronts::{flag_fronts, sure_open_flags};
 use crate::line::{is_reached, last_wanting, leaves_seat, next_wanting, wants_seat};
 use crate::lineup::Lineup;
 use crate::marks::Marks;
@@ -160,6 +161,18 @@ impl<'a, 'd> SeatLinks<'a, 'd> {
         ensures { result ≡ slice_index_or self.now.opens wish false }
     {
         self.opens[wish as usize]
+    }
+
+    /// Whether each wish is proposed, by place, where those that are open wait.
+    pub fn proposed_flags(&self, alloc: Global) -> Result<Vec<bool>, OutOfMemory>
+        requires { (k : ℕ) → slice_index_or self.now.opens k false ≡ true → (w : Wish) × (m : Mark) × WaitsAt self.now.state k w m }
+        ensures long { IfOk result (λ v. length v.items ≡ length self.now.state.dossier.wishes) }
+        ensures each { IfOk result (λ v. (k : ℕ) → k < length self.now.state.dossier.wishes → slice_index_or v.items k false ≡ is_proposed_at self.now k) }
+    {
+        let lineup = self.lineup;
+        let mut flags = sure_open_flags(alloc, &self.opens, &self.sure)?;
+        flag_fronts(&self.opens, &lineup.claims, &self.reached, &mut flags);
+        Ok(flags)
     }
 
     /// Whether a waiting wish is proposed.

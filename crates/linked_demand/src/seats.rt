@@ -15,7 +15,7 @@ use std::alloc::Global;
 use vacancies::seats_left;
 
 /// Whether a flag is set.
-fn is_set(flags: &[bool], place: u32) -> bool
+pub fn is_set(flags: &[bool], place: u32) -> bool
     requires { place < length flags.now }
     ensures { result ≡ slice_index_or flags.now place false }
 {
