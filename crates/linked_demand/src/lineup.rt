@@ -70,7 +70,7 @@ fn line_up(
     ensures claims { IfOk result (λ x. x ≡ map (claim_of state.now.dossier programme) (line_of state.now.dossier orders.now.orders programme)) }
     ensures seated { OnOk result (AreSeated state.now.dossier orders.now.orders (is_passed programme (order_of state.now.dossier orders.now.orders programme)) places.new.items early.new.items) }
 {
-    let mut spans = Vec::new(alloc);
+    let mut spans = Vec::with_capacity(alloc, wishes.len())?;
     if wishes.is_empty() {
         let claims = Claims::new(wishes, spans);
         return Ok(claims);
@@ -154,10 +154,10 @@ impl Lineup {
         let count = state.dossier().wishes.len();
         let mut places = vec![in alloc; 0; count]?;
         let mut early = vec![in alloc; false; count]?;
-        let mut claims = Vec::new(alloc);
         let mut guesses = Guesses::of_wishes(alloc, state)?;
         let mut rows = wishes_by_programme(alloc, state)?;
         let programmes = programme_count(state);
+        let mut claims = Vec::with_capacity(alloc, programmes as usize)?;
         for programme in 0..programmes {
             let wishes = mem::replace(&mut rows[programme as usize], Vec::new(alloc));
             let own = line_up(

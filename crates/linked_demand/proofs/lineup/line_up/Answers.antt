@@ -24,7 +24,7 @@ returns-then-is_empty-clause-claims c =
     let d = c.args.state.now.dossier in
     let p = c.args.programme in
     let none = nobody_there d p c.args.wishes.items c.requires.wishes (omega (arith, eqb-true c.args.wishes.len 0 (sym c.is_empty.ensures ∙ c.if-is_empty.true))) in
-    c.new-claims.ensures ∙ ap (map (part_of c.args.wishes.items)) c.new-spans.ensures.items
+    c.new-claims.ensures ∙ ap (map (part_of c.args.wishes.items)) c.in_ok-spans.ensures.items
     ∙ sym (ap (map (claim_of d p)) (nobody_applies d p (order_of d c.args.orders.now.orders p) none))
 
 pub returns-then-is_empty-clause-seated : goal.returns-then-is_empty-clause-seated
@@ -41,8 +41,8 @@ loop-before-init c =
     let wishes = c.args.wishes.items in
     let P = λ (xs : List Span). All (IsWithin (length wishes)) xs in
     record {
-      within = subst P (sym c.new-spans.ensures.items) (All-nil (IsWithin (length wishes)));
-      claims = ap (map (part_of wishes)) c.new-spans.ensures.items;
+      within = subst P (sym c.in_ok-spans.ensures.items) (All-nil (IsWithin (length wishes)));
+      claims = ap (map (part_of wishes)) c.in_ok-spans.ensures.items;
       seated = seated_start d c.args.orders.now.orders p c.order_of-order.result.now c.args.places.now.items c.args.early.now.items c.requires.seated;
     }
 
@@ -100,7 +100,7 @@ loop-before-preserved c =
           let passes : applies x ≡ true = applies_claim d p x ∙ some in
           let P = λ (o : List ℕ). IsDistinct nat_eq o in
           let apart : IsDistinct nat_eq order = subst P (sym c.order_of-order.ensures) c.requires.once in
-          let Q = λ (ks : List ℕ). PutAt ℕ 0 ks w.len.result c.loop-before.places.items w.note.new.places.items in
+          let Q = λ (ks : List ℕ). PutAt ℕ 0 ks w.len-then-is_claim.result c.loop-before.places.items w.note.new.places.items in
           let R = λ (ks : List ℕ). PutAt Bool false ks w.is_early-is_early.result c.loop-before.early.items w.note.new.early.items in
           let S = λ (xs : List Span). All (IsWithin (length wishes)) xs in
           record {
@@ -114,10 +114,10 @@ loop-before-preserved c =
                 ∙ sym (picked applies (claim_of d p) order i lt passes));
             seated =
                 rw (w.places-is, w.early-is)
-                (seated_more d orders p order i x lt refl c.loop-before.places.items c.loop-before.early.items w.note.new.places.items w.note.new.early.items w.len.result w.is_early-is_early.result
+                (seated_more d orders p order i x lt refl c.loop-before.places.items c.loop-before.early.items w.note.new.places.items w.note.new.early.items w.len-then-is_claim.result w.is_early-is_early.result
                 c.order_of-order.ensures apart some
                 (w.is_early-is_early.ensures ∙ ap (nat_lt i) c.limit_of-limit.ensures)
-                (omega (arith, w.len.ensures, ap length inv.claims, length-map spans (part_of wishes), length-map front (claim_of d p)))
+                (omega (arith, w.len-then-is_claim.ensures, ap length inv.claims, length-map spans (part_of wishes), length-map front (claim_of d p)))
                 inv.seated (subst Q claimed.is w.note.ensures.places) (subst R claimed.is w.note.ensures.early));
           }
       | else-is_claim w ↦
