@@ -1,9 +1,9 @@
 -- The flags of the proposed wishes, where it is known how far the seats reach.
-use Rattle.std.proofs.Common.{ℕ, ◌≤◌, ◌<◌, ◌≡◌, Bool, true, false, ◌&&◌, ◌||◌, List, [], map, length, get_or, inl, inr, refl, sym, ◌∙◌, ap, arith, nat_lt, subst}
+use Rattle.std.proofs.Common.{ℕ, ◌≤◌, ◌<◌, ◌≡◌, Bool, true, false, ◌&&◌, ◌||◌, List, [], map, length, get_or, replicate, inl, inr, refl, sym, ◌∙◌, ap, arith, nat_lt, subst}
 use Rattle.std.specs.Prelude.{slice_index}
 use Rattle.std.specs.List.{range_with_len}
 use Rattle.std.proofs.lemmas.Bool.{cases_Bool, false≢true}
-use Rattle.std.proofs.lemmas.List.{get_or_default, length-map}
+use Rattle.std.proofs.lemmas.List.{get_or_default, get_or-replicate, length-map, length-replicate}
 use Rattle.std.proofs.lemmas.List.FromFn.{get_or-map-range_with_len, length-map-range_with_len}
 use Rattle.std.proofs.lemmas.Simd.{map-map}
 use Rattle.admit_core.specs.declared.dossier.Wish.{Wish}
@@ -65,21 +65,26 @@ module _ {s : State} {orders : List CallOrder} {opens : List Bool} {reached : Li
         row_within s.dossier orders p (length opens) (get_or claims p []) (row_at p here) right.links.opens_each;
   }
 
-  pub as_many_sure : length sure ≡ length opens
-  as_many_sure = right.links.sure_each ∙ sym right.links.opens_each
+  -- the flags that were set of those who need no seat, and then of those who are reached
+  module _ (test : ℕ → Bool) (blank now flags : List Bool) (blank_is : blank ≡ replicate (length opens) false)
+      (first : SetsAlso test blank now) (second : SetsAlso (reached_open opens claims reached (length claims)) now flags) where
+    now_each : length now ≡ length s.dossier.wishes
+    now_each = first.as_long ∙ ap length blank_is ∙ length-replicate (length opens) false ∙ right.links.opens_each
 
-  pub as_many_flags : (flags old : List Bool) → old ≡ map (sure_open opens sure) (range_with_len 0 (length opens))
-      → SetsAlso (reached_open opens claims reached (length claims)) old flags → length flags ≡ length s.dossier.wishes
-  as_many_flags flags old old_is sets = sets.as_long ∙ ap length old_is ∙ length-map-range_with_len (sure_open opens sure) 0 (length opens) ∙ right.links.opens_each
+    pub as_many_flags : length flags ≡ length s.dossier.wishes
+    as_many_flags = second.as_long ∙ now_each
 
-  flag_read : (flags old : List Bool) → old ≡ map (sure_open opens sure) (range_with_len 0 (length opens)) → SetsAlso (reached_open opens claims reached (length claims)) old flags
-      → (k : ℕ) → k < length s.dossier.wishes → get_or flags k false ≡ (sure_open opens sure k || reached_open opens claims reached (length s.dossier.programmes) k)
-  flag_read flags old old_is sets k lt =
-      let within : k < length opens = omega (arith, lt, right.links.opens_each) in
-      sets.each k (omega (arith, within, ap length old_is, length-map-range_with_len (sure_open opens sure) 0 (length opens)))
-      ∙ ap (λ b. b || reached_open opens claims reached (length claims) k)
-      (ap (λ (fs : List Bool). get_or fs k false) old_is ∙ get_or-map-range_with_len (sure_open opens sure) 0 (length opens) k k false within (omega arith))
-      ∙ ap (λ (n : ℕ). sure_open opens sure k || reached_open opens claims reached n k) many
+    flag_read : (k : ℕ) → k < length s.dossier.wishes → test k ≡ sure_open opens sure k
+        → get_or flags k false ≡ (sure_open opens sure k || reached_open opens claims reached (length s.dossier.programmes) k)
+    flag_read k lt same =
+        let within : k < length blank =
+        omega (arith, lt, right.links.opens_each, ap length blank_is, length-replicate (length opens) false) in
+        let none : get_or blank k false ≡ false =
+        ap (λ (fs : List Bool). get_or fs k false) blank_is ∙ get_or-replicate (length opens) k false false (omega (arith, lt, right.links.opens_each)) in
+        second.each k (omega (arith, lt, now_each))
+        ∙ ap (λ b. b || reached_open opens claims reached (length claims) k)
+        (first.each k within ∙ ap (λ b. b || test k) none ∙ same)
+        ∙ ap (λ (n : ℕ). sure_open opens sure k || reached_open opens claims reached n k) many
 
   -- they say who is proposed
   flag_right : ((k : ℕ) → get_or opens k false ≡ true → (w : Wish) × (m : Mark) × WaitsAt s k w m) → (k : ℕ) → k < length s.dossier.wishes
@@ -111,9 +116,15 @@ module _ {s : State} {orders : List CallOrder} {opens : List Bool} {reached : Li
 
   pub flags_right : (row : LinksRow) → record { state = s; orders = orders; opens = opens } ≡ row
       → ((k : ℕ) → get_or row.opens k false ≡ true → (w : Wish) × (m : Mark) × WaitsAt row.state k w m)
-      → (flags old : List Bool) → old ≡ map (sure_open opens sure) (range_with_len 0 (length opens)) → SetsAlso (reached_open opens claims reached (length claims)) old flags
+      → (test : ℕ → Bool)
+      → (((k : ℕ) → get_or opens k false ≡ true → (w : Wish) × (m : Mark) × WaitsAt s k w m)
+        → (k : ℕ) → k < length s.dossier.wishes → test k ≡ sure_open opens sure k)
+      → (blank now flags : List Bool) → blank ≡ replicate (length opens) false → SetsAlso test blank now
+      → SetsAlso (reached_open opens claims reached (length claims)) now flags
       → (k : ℕ) → k < length row.state.dossier.wishes → get_or flags k false ≡ is_proposed_at row k
-  flags_right row is waits flags old old_is sets =
+  flags_right row is waits test same blank now flags blank_is first second =
       let P = λ (r : LinksRow). (k : ℕ) → k < length r.state.dossier.wishes → get_or flags k false ≡ is_proposed_at r k in
-      let Q = λ (r : LinksRow). (k : ℕ) → get_or r.opens k false ≡ true → (w : Wish) × (m : Mark) × WaitsAt r.state k w m in
-      subst P is (λ k lt. flag_read flags old old_is sets k lt ∙ flag_right (subst Q (sym is) waits) k lt)
+      let Q = λ (r : LinksRow).
+      (k : ℕ) → get_or r.opens k false ≡ true → (w : Wish) × (m : Mark) × WaitsAt r.state k w m in
+      let here = subst Q (sym is) waits in
+      subst P is (λ k lt. flag_read test blank now flags blank_is first second k lt (same here k lt) ∙ flag_right here k lt)

@@ -20,6 +20,7 @@ pub mod Lining
 pub mod Lowered
 pub mod Marked
 pub mod Marking
+pub mod MaybeSure
 pub mod Moving
 pub mod Naming
 pub mod OneFall

@@ -1,11 +1,12 @@
 -- What is known of the wishes of a dossier while the programmes are gone through one after another.
-use Rattle.std.specs.Prelude.{◌≡◌, ℕ, ◌<◌, Bool, true, false, ◌&&◌, ◌||◌, ◌==◌, List, length, map, filter, is_some, nat_eq, nat_lt, nat_le, ◌+◌, Some, slice_get, slice_index, slice_index_or, if◌then◌else◌}
-use Rattle.std.specs.List.{range_with_len, before_first}
+use Rattle.std.specs.Prelude.{◌≡◌, ℕ, ◌<◌, Bool, true, false, not, ◌&&◌, ◌||◌, ◌==◌, List, length, map, filter, is_some, nat_eq, nat_lt, nat_le, ◌+◌, Some, slice_get, slice_index, slice_index_or, if◌then◌else◌}
+use Rattle.std.specs.List.{list_any, range_with_len, before_first}
 use Rattle.day_state.specs.Kept.{wish_in}
 use Rattle.admit_core.specs.declared.dossier.Wish.{Wish}
 use Rattle.admit_core.specs.declared.ranking.CallOrder.{CallOrder}
-use Rattle.admit_core.specs.DossierRows.{DossierRows, limit_of}
+use Rattle.admit_core.specs.DossierRows.{DossierRows, candidate_of, limit_of}
 use Rattle.admit_core.specs.Lists.{is_among}
+use Rattle.admit_core.specs.OwnWishes.{own_places}
 use Rattle.admit_core.specs.Proposals.{order_of}
 use Rattle.linked_demand.specs.Links.{IsSeatPlace, claim_of}
 use Rattle.linked_demand.specs.Opens.{line_of}
@@ -21,6 +22,22 @@ boards_at d k = is_some (wish_in d.wishes k).school
 -- the wishes with a school, by place
 abbrev pub boarders_of : DossierRows → List ℕ
 boarders_of d = filter (boards_at d) (range_with_len 0 (length d.wishes))
+
+-- another wish, of the same programme
+abbrev pub is_beside : DossierRows → ℕ → ℕ → Bool
+is_beside d k j = not (nat_eq j k) && applies_at d (wish_in d.wishes k).programme j
+
+-- the candidate of the wish at a place has another one in its programme
+abbrev pub is_doubled : DossierRows → ℕ → Bool
+is_doubled d k = list_any (is_beside d k) (own_places d (candidate_of d k))
+
+-- where neither this holds nor the candidate is called by a limit, a wish that waits needs a seat
+abbrev pub may_be_sure : DossierRows → List Bool → ℕ → Bool
+may_be_sure d early k = slice_index_or early k false || is_doubled d k
+
+-- the wishes that may need no seat while they wait, by place
+abbrev pub maybe_sure_of : DossierRows → List Bool → List ℕ
+maybe_sure_of d early = filter (may_be_sure d early) (range_with_len 0 (length d.wishes))
 
 -- some places of a list hold a value, and the others what they held
 pub record PutAt (X : Type 0) (d : X) (ks : List ℕ) (x : X) (old new : List X) : Type 0 where

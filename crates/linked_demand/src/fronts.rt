@@ -1,41 +1,54 @@
 //! The proposed wishes as flags: of the open wishes those that need no seat, and those in the claims
 //! that the seats reach.
-ghost use Rattle.std.specs.Prelude.{◌≡◌, ◌≤◌, ◌<◌, ◌&&◌, false, length, map, take, slice_index_or, All, IfOk};
-ghost use Rattle.std.specs.List.{range_with_len};
+ghost use Rattle.std.specs.Prelude.{◌≡◌, ◌≤◌, ◌<◌, ◌&&◌, false, length, replicate, take, slice_index_or, All, IfOk};
 ghost use Rattle.admit_core.specs.Lists.{is_among};
 ghost use Rattle.demand.specs.Flags.{SetsAlso};
 ghost use Rattle.linked_demand.specs.Fronts.{sure_open, claimed_open, reached_open, AreFronts};
+ghost use Rattle.linked_demand.specs.Opens.{all_sure};
 ghost use Rattle.linked_demand.specs.Wants.{AreBelow};
 
 use crate::claims::Claims;
-use crate::seats::is_set;
+use crate::seats::{is_set, needs_no_seat};
 use admit_core::OutOfMemory;
+use day_state::DayState;
 use std::alloc::Global;
 
-/// Whether the wish at a place is open and needs no seat.
-fn is_sure_open(opens: &[bool], sure: &[bool], place: usize) -> bool
-    requires place { place < length opens.now }
-    requires sure { length sure.now ≡ length opens.now }
-    ensures { result ≡ sure_open opens.now sure.now place }
+/// So many flags, of which none is set.
+pub fn no_flags(alloc: Global, count: usize) -> Result<Vec<bool>, OutOfMemory>
+    ensures { IfOk result (λ v. v.items ≡ replicate count false) }
 {
-    opens[place] && sure[place]
+    Ok(vec![in alloc; false; count]?)
 }
 
-/// Whether each wish is open and needs no seat, by place.
-pub fn sure_open_flags(
-    alloc: Global,
-    opens: &[bool],
-    sure: &[bool],
-) -> Result<Vec<bool>, OutOfMemory>
-    requires { length sure.now ≡ length opens.now }
-    ensures { IfOk result (λ v. v.items ≡ map (sure_open opens.now sure.now) (range_with_len 0 (length opens.now))) }
+/// Whether the wish at a place is open and needs no seat.
+fn is_sure_open(state: &DayState<'_>, opens: &[bool], early: &[bool], place: u32) -> bool
+    requires place { place < length state.now.dossier.wishes }
+    requires opens { length opens.now ≡ length state.now.dossier.wishes }
+    requires early { length early.now ≡ length state.now.dossier.wishes }
+    ensures { result ≡ sure_open opens.now (all_sure state.now early.now) place }
 {
-    let count = opens.len();
-    let mut flags = Vec::with_capacity(alloc, count)?;
-    for place in 0..count {
-        flags.push(is_sure_open(opens, sure, place))?;
+    is_set(opens, place) && needs_no_seat(state, early, place)
+}
+
+/// Sets the flags of those of some wishes that are open and need no seat.
+pub fn flag_sure(
+    state: &DayState<'_>,
+    opens: &[bool],
+    early: &[bool],
+    wishes: &[u32],
+    flags: &mut Vec<bool>,
+)
+    requires wishes { All (λ k. k < length state.now.dossier.wishes) wishes.now }
+    requires opens { length opens.now ≡ length state.now.dossier.wishes }
+    requires early { length early.now ≡ length state.now.dossier.wishes }
+    requires flags { length flags.old.items ≡ length opens.now }
+    ensures { SetsAlso (λ k. is_among k wishes.now && sure_open opens.now (all_sure state.now early.now) k) flags.old.items flags.new.items }
+{
+    for wish in wishes {
+        if is_sure_open(state, opens, early, *wish) {
+            flags[*wish as usize] = true;
+        }
     }
-    Ok(flags)
 }
 
 /// Sets the flags of those wishes of a claim that are open.

@@ -16,6 +16,7 @@ mod line;
 mod lineup;
 mod links;
 mod marks;
+mod maybe_sure;
 mod over;
 mod overs;
 mod rising;

@@ -12,6 +12,7 @@ ghost use Rattle.linked_demand.specs.Seats.{PutAt, AreSeated, boards_at, boarder
 
 use crate::claims::{Claims, candidates_of, part, span_of};
 use crate::guesses::Guesses;
+use crate::maybe_sure::maybe_sure_of;
 use crate::wishes::wish_count;
 use crate::wishing::wishes_by_programme;
 use admit_core::{CallOrders, OutOfMemory};
@@ -116,13 +117,14 @@ fn boarders_of(alloc: Global, state: &DayState<'_>) -> Result<Vec<u32>, OutOfMem
 }
 
 /// For each programme those who wish for it, in call order, with their claims; for each wish the place
-/// of its candidate among them, and whether they are called by the programme's limit; and the wishes
-/// with a school.
+/// of its candidate among them, and whether they are called by the programme's limit; the wishes with
+/// a school, and those that may need no seat while they wait.
 pub struct Lineup {
     pub(crate) claims: Vec<Claims>,
     pub(crate) places: Vec<usize>,
     pub(crate) early: Vec<bool>,
     pub(crate) boarders: Vec<u32>,
+    pub(crate) maybe_sure: Vec<u32>,
 }
 
 // Not derived: so a lineup is dropped in one step where it is held, and not by each list.
@@ -133,6 +135,7 @@ impl Drop for Lineup {
             places: _,
             early: _,
             boarders: _,
+            maybe_sure: _,
         } = self;
     }
 }
@@ -173,11 +176,13 @@ impl Lineup {
             claims.push(own)?;
         }
         let boarders = boarders_of(alloc, state)?;
+        let maybe_sure = maybe_sure_of(alloc, state, &early)?;
         Ok(Lineup {
             claims,
             places,
             early,
             boarders,
+            maybe_sure,
         })
     }
 }

@@ -12,11 +12,11 @@ ghost use Rattle.linked_demand.specs.Links.{LinksRow, WaitsAt};
 ghost use Rattle.linked_demand.specs.Demand.{is_proposed_at};
 
 use crate::fresh::note_fresh;
-use crate::fronts::{flag_fronts, sure_open_flags};
+use crate::fronts::{flag_fronts, flag_sure, no_flags};
 use crate::line::{is_reached, last_wanting, leaves_seat, next_wanting, wants_seat};
 use crate::lineup::Lineup;
 use crate::marks::Marks;
-use crate::seats::seats_of;
+use crate::seats::{needs_no_seat, reached_of};
 use admit_core::{CallOrders, Mark, OutOfMemory, Steps};
 use day_state::DayState;
 use demand::{is_open, wish_at};
@@ -67,18 +67,17 @@ pub struct SeatLinks<'a, 'd> {
     opens: Vec<bool>,
     lineup: &'a Lineup,
     reached: Vec<usize>,
-    sure: Vec<bool>,
 }
 
 impl<'a, 'd> Model for SeatLinks<'a, 'd> {
     ghost use Rattle.linked_demand.specs.Links.{LinksRow};
-    ghost use Rattle.linked_demand.specs.Wants.{IsReached};
+    ghost use Rattle.linked_demand.specs.Wants.{AreKept};
 
     ghost Value = { LinksRow };
 
     ghost view = { λ l. record { state = l.state.now; orders = l.orders.now.orders; opens = l.opens.items } };
 
-    ghost invariant = { λ l. IsReached l.state.now l.orders.now.orders l.opens.items l.reached.items l.lineup.now.claims.items l.lineup.now.places.items l.sure.items };
+    ghost invariant = { λ l. AreKept l.state.now l.orders.now.orders l.opens.items l.reached.items l.lineup.now.claims.items l.lineup.now.places.items l.lineup.now.early.items l.lineup.now.maybe_sure.items };
 }
 
 impl<'a, 'd> SeatLinks<'a, 'd> {
@@ -95,14 +94,13 @@ impl<'a, 'd> SeatLinks<'a, 'd> {
         ensures { IfOk result (λ l. l ≡ record { state = state.now; orders = orders.now.orders; opens = opens_of state.now bars.now }) }
     {
         let opens = open_flags(alloc, state, &lineup.boarders, bars)?;
-        let seats = seats_of(alloc, state, orders, lineup, &opens)?;
+        let reached = reached_of(alloc, state, orders, lineup, &opens)?;
         Ok(SeatLinks {
             state,
             orders,
             opens,
             lineup,
-            reached: seats.reached,
-            sure: seats.sure,
+            reached,
         })
     }
 
@@ -139,7 +137,7 @@ impl<'a, 'd> SeatLinks<'a, 'd> {
                     self.state,
                     bars,
                     &self.opens,
-                    &self.sure,
+                    &lineup.early,
                     claims.at(next),
                     marked,
                     steps,
@@ -170,7 +168,8 @@ impl<'a, 'd> SeatLinks<'a, 'd> {
         ensures each { IfOk result (λ v. (k : ℕ) → k < length self.now.state.dossier.wishes → slice_index_or v.items k false ≡ is_proposed_at self.now k) }
     {
         let lineup = self.lineup;
-        let mut flags = sure_open_flags(alloc, &self.opens, &self.sure)?;
+        let mut flags = no_flags(alloc, self.opens.len())?;
+        flag_sure(self.state, &self.opens, &lineup.early, &lineup.maybe_sure, &mut flags);
         flag_fronts(&self.opens, &lineup.claims, &self.reached, &mut flags);
         Ok(flags)
     }
@@ -184,7 +183,7 @@ impl<'a, 'd> SeatLinks<'a, 'd> {
         let programme = wish_at(self.state, wish).programme as usize;
         let place = lineup.places[wish as usize];
         let open = self.opens[wish as usize];
-        let sure = self.sure[wish as usize];
+        let sure = needs_no_seat(self.state, &lineup.early, wish);
         let reached = is_reached(place, self.reached[programme]);
         is_served(open, sure, reached)
     }

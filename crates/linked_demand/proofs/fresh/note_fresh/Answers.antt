@@ -4,6 +4,7 @@ use Rattle.admit_core.specs.declared.dossier.Wish.{Wish}
 use Rattle.std.proofs.Common.{ap, length}
 use Rattle.admit_core.specs.Lists.{is_among}
 use Rattle.linked_demand.specs.Marks.{is_fresh}
+use Rattle.linked_demand.specs.Opens.{all_sure}
 use Rattle.linked_demand.proofs.Marking.{marks_nothing, marks_more, marks_left}
 use Rattle.linked_demand.proofs.fresh.note_fresh.Goals as goal
 use Rattle.linked_demand.proofs.fresh.note_fresh.Goals.{then-is_fresh, else-is_fresh}
@@ -12,14 +13,14 @@ pub loop-wish-init : goal.loop-wish-init
 loop-wish-init g c =
     record {
       steps = omega arith;
-      marked = marks_nothing c.args.state.now (λ x. is_among x.0 (take 0 c.args.claim.now) && is_fresh c.args.state.now c.args.bars.now c.args.opens.now c.args.sure.now x.0) c.args.marked.now (λ k e at. refl);
+      marked = marks_nothing c.args.state.now (λ x. is_among x.0 (take 0 c.args.claim.now) && is_fresh c.args.state.now c.args.bars.now c.args.opens.now (all_sure c.args.state.now c.args.early.now) x.0) c.args.marked.now (λ k e at. refl);
     }
 
 pub loop-wish-preserved : goal.loop-wish-preserved
 loop-wish-preserved g c =
     let s = c.args.state.now in
     let claim = c.args.claim.now in
-    let q = is_fresh s c.args.bars.now c.args.opens.now c.args.sure.now in
+    let q = is_fresh s c.args.bars.now c.args.opens.now (all_sure c.args.state.now c.args.early.now) in
     let i = c.loop-wish.wish-index in
     let lt : i < length claim = c.loop-wish-test.true in
     elim c.if-is_fresh.branch [

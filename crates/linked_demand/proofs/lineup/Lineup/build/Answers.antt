@@ -1,4 +1,5 @@
-use Rattle.std.proofs.Common.{ℕ, ◌+◌, List, sym, arith, subst}
+use Rattle.std.proofs.Common.{ℕ, ◌+◌, Bool, List, length, sym, ◌∙◌, ap, arith, subst}
+use Rattle.linked_demand.specs.Seats.{maybe_sure_of}
 use Rattle.linked_demand.proofs.Seating.{IsBuilt, built_more, built_all}
 use Rattle.linked_demand.proofs.ClaimSpans.{wishes_later}
 use Rattle.linked_demand.proofs.lineup.Lineup.build.Goals as goal
@@ -17,6 +18,10 @@ loop-programme-preserved c =
     c.call_everyone.ensures c.loop-programme.invariant.built c.in_ok-own.ensures.claims c.in_ok-own.ensures.seated) in
     record { built = built; wishes = wishes_later d n c.loop-programme.rows.items c.replace-wishes.new.dest c.loop-programme.invariant.wishes }
 
+pub maybe_sure_of-requires : goal.maybe_sure_of-requires
+maybe_sure_of-requires c =
+    ap length c.deref.ensures.value ∙ c.loop-programme.invariant.built.seated.early_each
+
 pub returns : goal.returns
 returns c =
     record {
@@ -25,4 +30,6 @@ returns c =
           (omega (arith, c.loop-programme-test.false, c.loop-programme.auto.programme-end, c.programme_count-programmes.ensures.count))
           (λ k lt. omega (arith, c.programme_count-programmes.ensures.each k lt, c.programme_count-programmes.ensures.count)) c.loop-programme.invariant.built;
       boarders = c.in_ok-boarders.ensures;
+      maybe_sure =
+          c.in_ok-maybe_sure.ensures ∙ ap (maybe_sure_of c.args.state.now.dossier) c.deref.ensures.value;
     }

@@ -1,10 +1,10 @@
 use Rattle.std.proofs.Common.{ℕ, ◌≡◌, ◌<◌, Bool, List, length, map, refl, ◌∙◌, ap, arith}
 use Rattle.std.specs.List.{range_with_len}
 use Rattle.linked_demand.specs.Line.{reach}
-use Rattle.linked_demand.specs.Opens.{seat_row, sure_at}
+use Rattle.linked_demand.specs.Opens.{all_sure, seat_row}
 use Rattle.linked_demand.specs.Wants.{wants_along, reach_in}
 use Rattle.linked_demand.proofs.Flagging.{more_of, wants_right, row_right, row_within, claims_each, all_reached}
-use Rattle.linked_demand.proofs.seats.seats_of.Goals as goal
+use Rattle.linked_demand.proofs.seats.reached_of.Goals as goal
 
 pub index-claims-requires : goal.index-claims-requires
 index-claims-requires c =
@@ -36,7 +36,10 @@ loop-programme-preserved c =
 
 pub returns : goal.returns
 returns c =
-    all_reached c.args.state.now c.args.orders.now.orders c.args.opens.now c.loop-programme.reached.items c.args.lineup.now.claims.items c.args.lineup.now.places.items c.args.lineup.now.early.items c.in_ok-sure.sure.items
-    c.loop-programme.programme (rw c.marks.ensures.marks at c.marks.ensures.one_each) c.requires.opens c.requires.lineup.lines
+    let early = c.args.lineup.now.early.items in
+    all_reached c.args.state.now c.args.orders.now.orders c.args.opens.now c.loop-programme.reached.items
+    c.args.lineup.now.claims.items c.args.lineup.now.places.items early (all_sure c.args.state.now early)
+    c.loop-programme.programme (rw c.marks.ensures.marks at c.marks.ensures.one_each) c.requires.opens
+    c.requires.lineup.lines
     (omega (arith, c.loop-programme-test.false, c.loop-programme.auto.programme-end, c.programme_count-programmes.ensures.count))
-    c.loop-programme.invariant (c.in_ok-sure.ensures ∙ ap (λ (es : List Bool). map (sure_at c.args.state.now es) (range_with_len 0 (length c.args.state.now.dossier.wishes))) c.deref.ensures.value)
+    c.loop-programme.invariant refl
