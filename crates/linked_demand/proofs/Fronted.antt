@@ -28,12 +28,15 @@ closed_flag false sure true t = refl
 closed_flag false sure false t = refl
 closed_flag true sure reached t = absurd (false≢true (sym t))
 
-module _ {s : State} {orders : List CallOrder} {opens : List Bool} {reached : List ℕ} {claims : List (List (List ℕ))} {places : List ℕ} {sure : List Bool}
+module _ {s : State} {orders : List CallOrder} {opens : List Bool} {reached : List ℕ}
+    {claims : List (List (List ℕ))} {places : List ℕ} {sure : List Bool}
     (right : IsReached s orders opens reached claims places sure) where
-  row_at : (p : ℕ) → p < length s.dossier.programmes → get_or claims p [] ≡ map (claim_of s.dossier p) (line_of s.dossier orders p)
+  row_at : (p : ℕ) → p < length s.dossier.programmes
+      → get_or claims p [] ≡ map (claim_of s.dossier p) (line_of s.dossier orders p)
   row_at p lt =
       ap (λ (rows : List (List (List ℕ))). get_or rows p []) right.links.claims_are
-      ∙ get_or-map-range_with_len (λ q. map (claim_of s.dossier q) (line_of s.dossier orders q)) 0 (length s.dossier.programmes) p p [] lt (omega arith)
+      ∙ get_or-map-range_with_len (λ q. map (claim_of s.dossier q) (line_of s.dossier orders q)) 0
+      (length s.dossier.programmes) p p [] lt (omega arith)
 
   many : length claims ≡ length s.dossier.programmes
   many =
@@ -42,12 +45,19 @@ module _ {s : State} {orders : List CallOrder} {opens : List Bool} {reached : Li
 
   number_at : (p : ℕ) → p < length s.dossier.programmes → slice_index reached p ≡ reach_in (seat_row s orders opens p)
   number_at p lt =
-      ap (λ (ns : List ℕ). get_or ns p 0) (right.reached_are ∙ map-map reach_in (seat_row s orders opens) (range_with_len 0 (length s.dossier.programmes)))
-      ∙ get_or-map-range_with_len (λ q. reach_in (seat_row s orders opens q)) 0 (length s.dossier.programmes) p p 0 lt (omega arith)
+      ap (λ (ns : List ℕ). get_or ns p 0)
+      (right.reached_are ∙ map-map reach_in (seat_row s orders opens) (range_with_len 0 (length s.dossier.programmes)))
+      ∙ get_or-map-range_with_len (λ q. reach_in (seat_row s orders opens q)) 0
+      (length s.dossier.programmes) p p 0 lt (omega arith)
 
   within_line : (p : ℕ) → p < length s.dossier.programmes → slice_index reached p ≤ length (line_of s.dossier orders p)
   within_line p lt =
-      omega (arith, number_at p lt, reach_within (seats_left s p) (seat_row s orders opens p).flags, length-map (line_of s.dossier orders p) (wants_by s opens p))
+      omega (
+        arith,
+        number_at p lt,
+        reach_within (seats_left s p) (seat_row s orders opens p).flags,
+        length-map (line_of s.dossier orders p) (wants_by s opens p),
+      )
 
   -- the fronts of the lines
   pub fronts : AreFronts (length opens) claims reached
@@ -59,7 +69,13 @@ module _ {s : State} {orders : List CallOrder} {opens : List Bool} {reached : Li
         ∙ sym many;
     within = λ p lt.
         let here : p < length s.dossier.programmes = omega (arith, lt, many) in
-        omega (arith, within_line p here, ap length (row_at p here), length-map (line_of s.dossier orders p) (claim_of s.dossier p));
+        omega (
+          arith,
+          within_line p here,
+          ap length (row_at p here),
+          length-map (line_of s.dossier orders p)
+              (claim_of s.dossier p),
+        );
     below = λ p lt.
         let here : p < length s.dossier.programmes = omega (arith, lt, many) in
         row_within s.dossier orders p (length opens) (get_or claims p []) (row_at p here) right.links.opens_each;
@@ -80,15 +96,18 @@ module _ {s : State} {orders : List CallOrder} {opens : List Bool} {reached : Li
         let within : k < length blank =
         omega (arith, lt, right.links.opens_each, ap length blank_is, length-replicate (length opens) false) in
         let none : get_or blank k false ≡ false =
-        ap (λ (fs : List Bool). get_or fs k false) blank_is ∙ get_or-replicate (length opens) k false false (omega (arith, lt, right.links.opens_each)) in
+        ap (λ (fs : List Bool). get_or fs k false) blank_is
+        ∙ get_or-replicate (length opens) k false false (omega (arith, lt, right.links.opens_each)) in
         second.each k (omega (arith, lt, now_each))
         ∙ ap (λ b. b || reached_open opens claims reached (length claims) k)
         (first.each k within ∙ ap (λ b. b || test k) none ∙ same)
         ∙ ap (λ (n : ℕ). sure_open opens sure k || reached_open opens claims reached n k) many
 
   -- they say who is proposed
-  flag_right : ((k : ℕ) → get_or opens k false ≡ true → (w : Wish) × (m : Mark) × WaitsAt s k w m) → (k : ℕ) → k < length s.dossier.wishes
-      → (sure_open opens sure k || reached_open opens claims reached (length s.dossier.programmes) k) ≡ is_proposed_at (record { state = s; orders = orders; opens = opens }) k
+  flag_right : ((k : ℕ) → get_or opens k false ≡ true → (w : Wish) × (m : Mark) × WaitsAt s k w m) → (k : ℕ)
+      → k < length s.dossier.wishes
+      → (sure_open opens sure k || reached_open opens claims reached (length s.dossier.programmes)
+      k) ≡ is_proposed_at (record { state = s; orders = orders; opens = opens }) k
   flag_right waits k lt =
       let row : LinksRow = record { state = s; orders = orders; opens = opens } in
       let flag = get_or opens k false in
@@ -97,18 +116,23 @@ module _ {s : State} {orders : List CallOrder} {opens : List Bool} {reached : Li
         | inl opened ↦
             let (w, m, at) = waits k opened in
             let here = wish_of s.dossier.wishes s.marks k w m at.here in
-            let closes : Closes s orders opens (seat_rows s orders opens) claims places sure k w = record { links = right.links; mark = m; at = at } in
+            let closes : Closes s orders opens (seat_rows s orders opens) claims places sure k w =
+            record { links = right.links; mark = m; at = at } in
             let place : ℕ = slice_index places k in
             let stands = right.links.places_are k w here in
             let line = seat_row s orders opens w.programme in
             let reach : nat_lt place (slice_index reached w.programme) ≡ is_reached line place =
-            reached_is s orders opens w.programme place (slice_index reached w.programme) (nat_lt place (slice_index reached w.programme))
+            reached_is s orders opens w.programme place (slice_index reached w.programme)
+            (nat_lt place (slice_index reached w.programme))
             (number_at w.programme (programme_within closes)) stands.within refl in
             ap (λ b. (flag && needless) || (b && flag))
-            (any_reached s.dossier orders k w here place stands claims reached (length s.dossier.programmes) right.links.claims_are within_line (programme_within closes) ∙ reach)
+            (any_reached s.dossier orders k w here place stands claims reached (length s.dossier.programmes)
+            right.links.claims_are within_line (programme_within closes) ∙ reach)
             ∙ gathered flag needless (is_reached line place)
-            ∙ proposed_right closes place stands line (row_there s orders opens w.programme (programme_within closes)) flag needless (is_reached line place)
-            (get_or_default opens k false flag (omega (arith, lt, right.links.opens_each))) (get_or_default sure k false needless (omega (arith, lt, right.links.sure_each))) refl
+            ∙ proposed_right closes place stands line
+            (row_there s orders opens w.programme (programme_within closes)) flag needless (is_reached line place)
+            (get_or_default opens k false flag (omega (arith, lt, right.links.opens_each)))
+            (get_or_default sure k false needless (omega (arith, lt, right.links.sure_each))) refl
             ∙ sym (proposed_at_is row k w m at)
         | inr closed ↦
             closed_flag flag needless _ closed ∙ sym (closed_at row k closed)
@@ -118,7 +142,7 @@ module _ {s : State} {orders : List CallOrder} {opens : List Bool} {reached : Li
       → ((k : ℕ) → get_or row.opens k false ≡ true → (w : Wish) × (m : Mark) × WaitsAt row.state k w m)
       → (test : ℕ → Bool)
       → (((k : ℕ) → get_or opens k false ≡ true → (w : Wish) × (m : Mark) × WaitsAt s k w m)
-        → (k : ℕ) → k < length s.dossier.wishes → test k ≡ sure_open opens sure k)
+      → (k : ℕ) → k < length s.dossier.wishes → test k ≡ sure_open opens sure k)
       → (blank now flags : List Bool) → blank ≡ replicate (length opens) false → SetsAlso test blank now
       → SetsAlso (reached_open opens claims reached (length claims)) now flags
       → (k : ℕ) → k < length row.state.dossier.wishes → get_or flags k false ≡ is_proposed_at row k

@@ -1,36 +1,25 @@
 -- Which wishes may need no seat while they wait.
-use Rattle.std.proofs.Common.{ℕ, ◌<◌, ◌≡◌, Bool, true, false, ◌&&◌, ◌||◌, List, [], ◌∷◌, filter, length, get_or, inl, inr, refl, sym, ◌∙◌, ap, arith, nat_eq, not, subst}
-use Rattle.std.specs.Prelude.{All, ◌==◌}
-use Rattle.std.specs.List.{list_any, range_with_len}
+use Rattle.std.proofs.Common.{ℕ, ◌<◌, ◌≡◌, Bool, true, false, ◌&&◌, ◌||◌, List, [], ◌∷◌, length, get_or, inl, inr, refl, sym, ◌∙◌, ap, arith, nat_eq, not}
+use Rattle.std.specs.Prelude.{◌==◌}
+use Rattle.std.specs.List.{list_any}
 use Rattle.std.proofs.lemmas.Bool.{cases_Bool, eqb-true, or_from, or_parts, false≢true}
-use Rattle.std.proofs.lemmas.List.Elements.{All-filter}
-use Rattle.std.proofs.lemmas.List.FromFn.{get_or-map-range_with_len, get_or-range_with_len, length-range_with_len}
+use Rattle.std.proofs.lemmas.List.FromFn.{get_or-map-range_with_len}
 use Rattle.admit_core.specs.declared.dossier.Wish.{Wish}
 use Rattle.admit_core.specs.declared.state.Mark.{Mark}
 use Rattle.admit_core.specs.declared.state.Stamp.{Stamp}
 use Rattle.admit_core.specs.declared.state.Status.{Status}
 use Rattle.admit_core.specs.declared.state.Status.TheVariants.{Waiting, Offered, Accepted, Refused, Withdrawn, Quit, AutoRefused, AutoWithdrawn, Lapsed}
 use Rattle.admit_core.specs.DossierRows.{DossierRows, candidate_of}
-use Rattle.admit_core.specs.Lists.{is_among}
 use Rattle.admit_core.specs.OwnWishes.{own_places}
 use Rattle.admit_core.specs.State.{State, is_live, is_live_status, is_waiting, is_waiting_status, holds_seat}
 use Rattle.day_state.specs.Kept.{mark_in, wish_in, lives_at, has_seat_there}
 use Rattle.day_state.proofs.Along.{among-filter}
 use Rattle.day_state.proofs.Places.{own_any, candidate_in as candidate_is}
 use Rattle.linked_demand.specs.Links.{WaitsAt}
-use Rattle.linked_demand.specs.Fronts.{sure_open}
+use Rattle.linked_demand.specs.Fronts.{listed_open, sure_open}
 use Rattle.linked_demand.specs.Opens.{sure_at, all_sure}
 use Rattle.linked_demand.specs.Seats.{is_beside, is_doubled, may_be_sure, maybe_sure_of}
 use Rattle.linked_demand.proofs.Filling.{entry_is}
-
--- places below a count that pass a test are below it
-pub passing_within : (q : ℕ → Bool) (n : ℕ) (ks : List ℕ) → ks ≡ filter q (range_with_len 0 n) → All (λ k. k < n) ks
-passing_within q n ks is =
-    let P = λ (js : List ℕ). All (λ k. k < n) js in
-    let many = length-range_with_len 0 n in
-    subst P (sym is)
-    (All-filter q (λ k. k < n) (range_with_len 0 n)
-    (λ j e lt. omega (arith, get_or-range_with_len 0 n j e (omega (arith, lt, many)), lt, many)))
 
 -- whether a wish needs no seat, read from the list of all
 pub sure_read : (s : State) (early : List Bool) (k : ℕ) → k < length s.dossier.wishes
@@ -102,11 +91,11 @@ pub listed_sure : (s : State) → length s.marks ≡ length s.dossier.wishes →
     → maybe_sure ≡ maybe_sure_of s.dossier early → (opens : List Bool)
     → ((k : ℕ) → get_or opens k false ≡ true → (w : Wish) × (m : Mark) × WaitsAt s k w m)
     → (k : ℕ) → k < length s.dossier.wishes
-    → (is_among k maybe_sure && sure_open opens (all_sure s early) k) ≡ sure_open opens (all_sure s early) k
+    → listed_open opens (all_sure s early) maybe_sure k ≡ sure_open opens (all_sure s early) k
 listed_sure s long early maybe_sure is opens waits k lt =
     let d = s.dossier in
     let sure = get_or (all_sure s early) k false in
-    ap (λ (ks : List ℕ). is_among k ks && sure_open opens (all_sure s early) k) is
+    ap (λ (ks : List ℕ). listed_open opens (all_sure s early) ks k) is
     ∙ ap (λ b. b && sure_open opens (all_sure s early) k) (among-filter (may_be_sure d early) k (length d.wishes) lt)
     ∙ kept (may_be_sure d early k) (get_or opens k false) sure (λ opened unsure.
     let (w, m, at) = waits k opened in

@@ -8,6 +8,10 @@ use Rattle.linked_demand.specs.Wants.{AreBelow}
 abbrev pub sure_open : List Bool → List Bool → ℕ → Bool
 sure_open opens sure k = slice_index_or opens k false && slice_index_or sure k false
 
+-- it is one of some wishes too
+abbrev pub listed_open : List Bool → List Bool → List ℕ → ℕ → Bool
+listed_open opens sure wishes k = is_among k wishes && sure_open opens sure k
+
 -- it is open, and in one of some claims
 abbrev pub claimed_open : List Bool → List (List ℕ) → ℕ → Bool
 claimed_open opens claims k = list_any (is_among k) claims && slice_index_or opens k false

@@ -5,8 +5,7 @@ use Rattle.admit_core.specs.declared.ranking.CallOrder.{CallOrder}
 use Rattle.admit_core.specs.State.{State}
 use Rattle.linked_demand.specs.Line.{LineRow, reach}
 use Rattle.linked_demand.specs.Links.{IsLinked}
-use Rattle.linked_demand.specs.Opens.{all_sure, seat_row, wanting_at}
-use Rattle.linked_demand.specs.Seats.{maybe_sure_of}
+use Rattle.linked_demand.specs.Opens.{seat_row, wanting_at}
 
 -- one who has a claim wants a seat by one of its wishes
 abbrev pub wants_along : State → List Bool → List (List ℕ) → List Bool
@@ -25,13 +24,7 @@ abbrev pub reach_in : LineRow → ℕ
 reach_in row = reach row.quota row.flags
 
 -- for each programme it is known how many places of its line are reached
-pub record IsReached (s : State) (orders : List CallOrder) (opens : List Bool) (reached : List ℕ) (claims : List (List (List ℕ))) (places : List ℕ) (sure : List Bool) : Type 0 where
+pub record IsReached (s : State) (orders : List CallOrder) (opens : List Bool) (reached : List ℕ)
+    (claims : List (List (List ℕ))) (places : List ℕ) (sure : List Bool) : Type 0 where
   pub links : IsLinked s orders opens (seat_rows s orders opens) claims places sure
   pub reached_are : reached ≡ map reach_in (seat_rows s orders opens)
-
--- and the wishes that may need no seat are listed
-pub record AreKept (s : State) (orders : List CallOrder) (opens : List Bool) (reached : List ℕ)
-    (claims : List (List (List ℕ))) (places : List ℕ) (early : List Bool) (maybe_sure : List ℕ) : Type 0 where
-  pub reach : IsReached s orders opens reached claims places (all_sure s early)
-  pub early_each : length early ≡ length s.dossier.wishes
-  pub maybe_sure_are : maybe_sure ≡ maybe_sure_of s.dossier early

@@ -3,7 +3,7 @@
 ghost use Rattle.std.specs.Prelude.{◌≡◌, ◌≤◌, ◌<◌, ◌&&◌, false, length, replicate, take, slice_index_or, All, IfOk};
 ghost use Rattle.admit_core.specs.Lists.{is_among};
 ghost use Rattle.demand.specs.Flags.{SetsAlso};
-ghost use Rattle.linked_demand.specs.Fronts.{sure_open, claimed_open, reached_open, AreFronts};
+ghost use Rattle.linked_demand.specs.Fronts.{sure_open, listed_open, claimed_open, reached_open, AreFronts};
 ghost use Rattle.linked_demand.specs.Opens.{all_sure};
 ghost use Rattle.linked_demand.specs.Wants.{AreBelow};
 
@@ -42,7 +42,8 @@ pub fn flag_sure(
     requires opens { length opens.now ≡ length state.now.dossier.wishes }
     requires early { length early.now ≡ length state.now.dossier.wishes }
     requires flags { length flags.old.items ≡ length opens.now }
-    ensures { SetsAlso (λ k. is_among k wishes.now && sure_open opens.now (all_sure state.now early.now) k) flags.old.items flags.new.items }
+    ensures { SetsAlso (listed_open opens.now (all_sure state.now early.now) wishes.now)
+        flags.old.items flags.new.items }
 {
     for wish in wishes {
         if is_sure_open(state, opens, early, *wish) {

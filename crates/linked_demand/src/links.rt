@@ -71,13 +71,13 @@ pub struct SeatLinks<'a, 'd> {
 
 impl<'a, 'd> Model for SeatLinks<'a, 'd> {
     ghost use Rattle.linked_demand.specs.Links.{LinksRow};
-    ghost use Rattle.linked_demand.specs.Wants.{AreKept};
+    ghost use Rattle.linked_demand.specs.Lineups.{AreKept};
 
     ghost Value = { LinksRow };
 
     ghost view = { λ l. record { state = l.state.now; orders = l.orders.now.orders; opens = l.opens.items } };
 
-    ghost invariant = { λ l. AreKept l.state.now l.orders.now.orders l.opens.items l.reached.items l.lineup.now.claims.items l.lineup.now.places.items l.lineup.now.early.items l.lineup.now.maybe_sure.items };
+    ghost invariant = { λ l. AreKept l.state.now l.orders.now.orders l.opens.items l.reached.items l.lineup.now };
 }
 
 impl<'a, 'd> SeatLinks<'a, 'd> {
@@ -169,7 +169,13 @@ impl<'a, 'd> SeatLinks<'a, 'd> {
     {
         let lineup = self.lineup;
         let mut flags = no_flags(alloc, self.opens.len())?;
-        flag_sure(self.state, &self.opens, &lineup.early, &lineup.maybe_sure, &mut flags);
+        flag_sure(
+            self.state,
+            &self.opens,
+            &lineup.early,
+            &lineup.maybe_sure,
+            &mut flags,
+        );
         flag_fronts(&self.opens, &lineup.claims, &self.reached, &mut flags);
         Ok(flags)
     }

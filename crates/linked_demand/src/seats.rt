@@ -1,7 +1,6 @@
 //! Who has a seat while no wish is closed yet.
 ghost use Rattle.std.specs.Prelude.{◌≡◌, ◌<◌, ◌||◌, false, length, IfOk, slice_index_or};
-ghost use Rattle.linked_demand.specs.Lineups.{IsLineupOf};
-ghost use Rattle.linked_demand.specs.Wants.{IsReached};
+ghost use Rattle.linked_demand.specs.Lineups.{IsLineupOf, IsReachedIn};
 ghost use Rattle.linked_demand.specs.Opens.{all_sure};
 
 use crate::line::reach_of;
@@ -49,7 +48,7 @@ pub fn reached_of(
 ) -> Result<Vec<usize>, OutOfMemory>
     requires lineup { IsLineupOf state.now.dossier orders.now.orders lineup.now }
     requires opens { length opens.now ≡ length state.now.dossier.wishes }
-    ensures { IfOk result (λ v. IsReached state.now orders.now.orders opens.now v.items lineup.now.claims.items lineup.now.places.items (all_sure state.now lineup.now.early.items)) }
+    ensures { IfOk result (λ v. IsReachedIn state.now orders.now.orders opens.now v.items lineup.now) }
 {
     let _ = state.marks(); // one for each wish
     let programmes = programme_count(state);

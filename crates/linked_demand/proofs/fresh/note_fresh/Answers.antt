@@ -13,7 +13,9 @@ pub loop-wish-init : goal.loop-wish-init
 loop-wish-init g c =
     record {
       steps = omega arith;
-      marked = marks_nothing c.args.state.now (λ x. is_among x.0 (take 0 c.args.claim.now) && is_fresh c.args.state.now c.args.bars.now c.args.opens.now (all_sure c.args.state.now c.args.early.now) x.0) c.args.marked.now (λ k e at. refl);
+      marked = marks_nothing c.args.state.now
+          (λ x. is_among x.0 (take 0 c.args.claim.now) && is_fresh c.args.state.now c.args.bars.now
+          c.args.opens.now (all_sure c.args.state.now c.args.early.now) x.0) c.args.marked.now (λ k e at. refl);
     }
 
 pub loop-wish-preserved : goal.loop-wish-preserved
@@ -28,7 +30,9 @@ loop-wish-preserved g c =
           let passes : q (get_or claim i 0) ≡ true = sym c.is_fresh.ensures ∙ w.if-is_fresh.true in
           rw (w.steps-is, w.marked-is) (record {
             steps = omega (arith, w.tick.ensures, c.loop-wish.invariant.steps, count_by_more_yes q claim i 0 lt passes);
-            marked = marks_more s claim q i lt c.args.marked.now c.loop-wish.marked c.loop-wish.invariant.marked w.wish_at.result.school (ap (λ (v : Wish). v.school) w.wish_at.ensures.wish) w.mark.new.marked w.mark.ensures;
+            marked = marks_more s claim q i lt c.args.marked.now c.loop-wish.marked
+                c.loop-wish.invariant.marked w.wish_at.result.school
+                (ap (λ (v : Wish). v.school) w.wish_at.ensures.wish) w.mark.new.marked w.mark.ensures;
           })
       | else-is_fresh w ↦
           let fails : q (get_or claim i 0) ≡ false = sym c.is_fresh.ensures ∙ w.if-is_fresh.false in

@@ -12,9 +12,11 @@ loop-place-init c = sets_none (claimed_open c.args.opens.now (take 0 c.args.clai
 
 pub flag_claim-requires : goal.flag_claim-requires
 flag_claim-requires c =
-    let lt : c.loop-place.place < length c.args.claims.now = omega (arith, c.loop-place-test.true, c.loop-place.auto.place-end, c.requires.reached) in
+    let lt : c.loop-place.place < length c.args.claims.now = omega
+    (arith, c.loop-place-test.true, c.loop-place.auto.place-end, c.requires.reached) in
     record {
-      claim = below_read (length c.args.opens.now) c.args.claims.now c.requires.claims c.loop-place.place c.at.result.now lt c.at.ensures;
+      claim = below_read (length c.args.opens.now) c.args.claims.now c.requires.claims c.loop-place.place
+          c.at.result.now lt c.at.ensures;
       flags = c.loop-place.invariant.as_long ∙ c.requires.flags;
     }
 
@@ -24,12 +26,14 @@ loop-place-preserved c =
     let claims = c.args.claims.now in
     let i : ℕ = c.loop-place.place in
     let lt : i < length claims = omega (arith, c.loop-place-test.true, c.loop-place.auto.place-end, c.requires.reached) in
-    sets_then (claimed_open opens (take i claims)) (λ k. is_among k c.at.result.now && get_or opens k false) (claimed_open opens (take (i + 1) claims))
+    sets_then (claimed_open opens (take i claims)) (λ k. is_among k c.at.result.now && get_or opens k false)
+    (claimed_open opens (take (i + 1) claims))
     c.args.flags.now.items c.loop-place.flags.items c.flag_claim.new.flags.items c.loop-place.invariant c.flag_claim.ensures
     (λ k k_lt. claimed_more opens claims i c.at.result.now k lt c.at.ensures)
 
 pub returns : goal.returns
 returns c =
     let all : c.loop-place.place ≡ c.args.reached = omega (arith, c.loop-place-test.false, c.loop-place.auto.place-end) in
-    let P = λ (j : ℕ). SetsAlso (claimed_open c.args.opens.now (take j c.args.claims.now)) c.args.flags.now.items c.loop-place.flags.items in
+    let P = λ (j : ℕ). SetsAlso (claimed_open c.args.opens.now (take j c.args.claims.now))
+    c.args.flags.now.items c.loop-place.flags.items in
     subst P all c.loop-place.invariant

@@ -1,7 +1,7 @@
 use Rattle.std.proofs.Common.{ℕ, length}
 use Rattle.std.specs.Prelude.{◌==◌}
 use Rattle.admit_core.specs.DossierRows.{candidate_of}
-use Rattle.linked_demand.proofs.MaybeSure.{passing_within}
+use Rattle.linked_demand.proofs.Keeping.{passing_within}
 use Rattle.linked_demand.proofs.maybe_sure.is_doubled.Goals as goal
 
 pub any_beside-requires-clause-wishes : goal.any_beside-requires-clause-wishes

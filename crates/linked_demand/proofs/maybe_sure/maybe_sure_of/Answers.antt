@@ -15,11 +15,13 @@ loop-place-preserved c =
           (w.in_ok-push.ensures.items
           ∙ ap (λ (xs : List ℕ). xs ++ k ∷ []) c.loop-place.invariant
           ∙ sym (range_kept q k (sym c.may_be_sure.ensures ∙ w.if-may_be_sure.true)))
-      | else-may_be_sure w ↦ rw w.places-is (c.loop-place.invariant ∙ sym (range_left q k (sym c.may_be_sure.ensures ∙ w.if-may_be_sure.false)))
+      | else-may_be_sure w ↦
+          rw w.places-is (c.loop-place.invariant ∙ sym (range_left q k (sym c.may_be_sure.ensures ∙ w.if-may_be_sure.false)))
     ]
 
 pub returns : goal.returns
 returns c =
     let d = c.args.state.now.dossier in
-    let all : c.loop-place.place ≡ length d.wishes = omega (arith, c.loop-place-test.false, c.loop-place.auto.place-end, c.wish_count-count.ensures) in
+    let all : c.loop-place.place ≡ length d.wishes = omega
+    (arith, c.loop-place-test.false, c.loop-place.auto.place-end, c.wish_count-count.ensures) in
     c.loop-place.invariant ∙ ap (λ n. filter (may_be_sure d c.args.early.now) (range_with_len 0 n)) all

@@ -8,7 +8,8 @@ loop-row-init T c = rw c.in_ok-rows.ensures.items (empty_none _)
 
 pub loop-row-preserved : goal.loop-row-preserved
 loop-row-preserved T c =
-    rw c.in_ok-push.ensures.items (empty_more c.loop-row._row c.loop-row.rows.items c.new-empty.result c.loop-row.invariant c.new-empty.ensures.items)
+    rw c.in_ok-push.ensures.items
+    (empty_more c.loop-row._row c.loop-row.rows.items c.new-empty.result c.loop-row.invariant c.new-empty.ensures.items)
 
 pub returns : goal.returns
 returns T c =

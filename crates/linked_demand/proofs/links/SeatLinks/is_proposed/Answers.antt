@@ -11,12 +11,14 @@ wish_at-programme-requires c =
 
 pub index-place-requires : goal.index-place-requires
 index-place-requires c =
-    let k = closes_read c.self.invariant.reach.links c.args.self.now c.self.view_is c.args.wish c.requires c.wish_at-programme.result c.wish_at-programme.ensures.wish in
+    let k = closes_read c.self.invariant.reach.links c.args.self.now c.self.view_is c.args.wish c.requires
+    c.wish_at-programme.result c.wish_at-programme.ensures.wish in
     omega (arith, wish_within k, c.self.invariant.reach.links.places_each)
 
 pub index-open-requires : goal.index-open-requires
 index-open-requires c =
-    let k = closes_read c.self.invariant.reach.links c.args.self.now c.self.view_is c.args.wish c.requires c.wish_at-programme.result c.wish_at-programme.ensures.wish in
+    let k = closes_read c.self.invariant.reach.links c.args.self.now c.self.view_is c.args.wish c.requires
+    c.wish_at-programme.result c.wish_at-programme.ensures.wish in
     omega (arith, wish_within k, c.self.invariant.reach.links.opens_each)
 
 pub needs_no_seat-sure-requires : goal.needs_no_seat-sure-requires
@@ -28,7 +30,8 @@ needs_no_seat-sure-requires c =
 
 pub index-requires : goal.index-requires
 index-requires c =
-    let k = closes_read c.self.invariant.reach.links c.args.self.now c.self.view_is c.args.wish c.requires c.wish_at-programme.result c.wish_at-programme.ensures.wish in
+    let k = closes_read c.self.invariant.reach.links c.args.self.now c.self.view_is c.args.wish c.requires
+    c.wish_at-programme.result c.wish_at-programme.ensures.wish in
     omega (arith, programme_within k, reached_each k c.self.inside.reached.items c.self.invariant.reach.reached_are)
 
 pub returns : goal.returns
@@ -39,17 +42,23 @@ returns c =
     let orders = r.orders.now.orders in
     let opens = r.opens.items in
     let p : ℕ = c.wish_at-programme.result.programme in
-    let k = closes_read c.self.invariant.reach.links c.args.self.now c.self.view_is c.args.wish c.requires c.wish_at-programme.result c.wish_at-programme.ensures.wish in
+    let k = closes_read c.self.invariant.reach.links c.args.self.now c.self.view_is c.args.wish c.requires
+    c.wish_at-programme.result c.wish_at-programme.ensures.wish in
     let at = place_right k c.index-place.result.now c.index-place.ensures in
-    let reach = reach_right k r.reached.items c.self.invariant.reach.reached_are c.index.result.now c.index.ensures in
-    let reached = reached_is s orders opens p c.index-place.result.now c.index.result.now c.is_reached-reached.result reach at.within c.is_reached-reached.ensures in
+    let reach = reach_right k r.reached.items c.self.invariant.reach.reached_are
+    c.index.result.now c.index.ensures in
+    let reached = reached_is s orders opens p c.index-place.result.now c.index.result.now
+    c.is_reached-reached.result reach at.within c.is_reached-reached.ensures in
     let early = r.lineup.now.early.items in
     let sure =
     c.needs_no_seat-sure.ensures
     ∙ ap (λ (es : List Bool). get_or (all_sure s es) c.args.wish false) c.deref.ensures.value
     ∙ get_or_default (all_sure s early) c.args.wish false c.needs_no_seat-sure.result
     (omega (arith, wish_within k, sure_each k)) in
-    proposed_goal c.self.invariant.reach.links c.args.self.now c.self.view_is c.args.wish w m waits c.wish_at-programme.result c.wish_at-programme.ensures.wish
-    c.index-place.result.now c.index-place.ensures (seat_row s orders opens p) (row_there s orders opens p (programme_within k)) c.index-open.result.now c.needs_no_seat-sure.result c.is_reached-reached.result c.is_served.result
+    proposed_goal c.self.invariant.reach.links c.args.self.now c.self.view_is c.args.wish w m waits
+    c.wish_at-programme.result c.wish_at-programme.ensures.wish
+    c.index-place.result.now c.index-place.ensures (seat_row s orders opens p)
+    (row_there s orders opens p (programme_within k)) c.index-open.result.now
+    c.needs_no_seat-sure.result c.is_reached-reached.result c.is_served.result
     c.index-open.ensures sure reached c.is_served.ensures
     ∙ sym (proposed_at_is c.args.self.now c.args.wish w m waits)

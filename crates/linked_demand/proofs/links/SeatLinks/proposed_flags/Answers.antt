@@ -1,13 +1,13 @@
-use Rattle.std.proofs.Common.{ℕ, ◌≡◌, Bool, false, ◌&&◌, List, length, replicate, sym, ◌∙◌, ap}
+use Rattle.std.proofs.Common.{ℕ, ◌≡◌, Bool, false, List, length, replicate, sym, ◌∙◌, ap}
 use Rattle.std.proofs.lemmas.List.{length-replicate}
-use Rattle.admit_core.specs.Lists.{is_among}
 use Rattle.demand.specs.Flags.{SetsAlso}
-use Rattle.linked_demand.specs.Fronts.{sure_open, reached_open}
+use Rattle.linked_demand.specs.Fronts.{listed_open, reached_open}
 use Rattle.linked_demand.specs.Links.{LinksRow}
 use Rattle.linked_demand.specs.Opens.{all_sure}
 use Rattle.linked_demand.specs.Seats.{may_be_sure}
 use Rattle.linked_demand.proofs.Fronted.{as_many_flags, flags_right, fronts}
-use Rattle.linked_demand.proofs.MaybeSure.{listed_sure, passing_within}
+use Rattle.linked_demand.proofs.Keeping.{passing_within}
+use Rattle.linked_demand.proofs.MaybeSure.{listed_sure}
 use Rattle.linked_demand.proofs.links.SeatLinks.proposed_flags.Goals as goal
 
 pub flag_sure-requires : goal.flag_sure-requires
@@ -52,7 +52,7 @@ returns c =
     let sure = all_sure s early in
     let opens = r.opens.items in
     let lines = r.lineup.now.claims.items in
-    let test = λ (k : ℕ). is_among k listed && sure_open opens sure k in
+    let test = listed_open opens sure listed in
     let blank = c.in_ok-flags.flags.items in
     let now = c.flag_sure.new.flags.items in
     let flags = c.flag_fronts.new.flags.items in
