@@ -14,14 +14,17 @@ use Rattle.std.proofs.lemmas.List.Sums.{length-filter, count_by-le-length}
 use Rattle.linked_demand.specs.Listed.{answered, AnswersAreListed}
 
 -- whether a place that is read has an answer
-pub was_answered : (ranks : List (Option ℕ)) (k : ℕ) (x : Option ℕ) (b : Bool) → k < length ranks → x ≡ get_or ranks k x → b ≡ is_some x → is_some (get_or ranks k None) ≡ b
+pub was_answered : (ranks : List (Option ℕ)) (k : ℕ) (x : Option ℕ) (b : Bool) → k < length ranks
+    → x ≡ get_or ranks k x → b ≡ is_some x → is_some (get_or ranks k None) ≡ b
 was_answered ranks k x b lt read told = sym (told ∙ ap is_some (get_or_read ranks k x lt read None))
 
 -- the same filter over numbers in a row
-pub filter_agree : (p q : ℕ → Bool) (a n : ℕ) → ((h : ℕ) → a ≤ h → h < a + n → p h ≡ q h) → filter p (range_with_len a n) ≡ filter q (range_with_len a n)
+pub filter_agree : (p q : ℕ → Bool) (a n : ℕ) → ((h : ℕ) → a ≤ h → h < a + n → p h ≡ q h)
+    → filter p (range_with_len a n) ≡ filter q (range_with_len a n)
 filter_agree p q a zero same = refl
 filter_agree p q a (suc n) same =
-    rw (same a (omega arith) (omega arith)) (ap (λ ks. cond (q a) (a ∷ ks) ks) (filter_agree p q (a + 1) n (λ h ge lt. same h (omega arith) (omega arith))))
+    rw (same a (omega arith) (omega arith))
+    (ap (λ ks. cond (q a) (a ∷ ks) ks) (filter_agree p q (a + 1) n (λ h ge lt. same h (omega arith) (omega arith))))
 
 range_parts : (a k m n b : ℕ) → n ≡ k + m → b ≡ a + k → range_with_len a n ≡ range_with_len a k ++ range_with_len b m
 range_parts a zero m n b n_is b_is = let long : n ≡ m = omega arith in let from : b ≡ a = omega arith in rw (long, from) refl
@@ -37,7 +40,8 @@ above p k n = filter p (range_with_len (k + 1) (n - (k + 1)))
 
 -- those below a place, the place itself, and those above
 parts : (p : ℕ → Bool) (k n : ℕ) → k < n → filter p (range_with_len 0 n) ≡ below p k ++ cond (p k) (k ∷ above p k n) (above p k n)
-parts p k n lt = ap (filter p) (range_parts 0 k (suc (n - (k + 1))) n k (omega arith) (omega arith)) ∙ filter-append p (range_with_len 0 k) (range_with_len k (suc (n - (k + 1))))
+parts p k n lt = ap (filter p) (range_parts 0 k (suc (n - (k + 1))) n k (omega arith) (omega arith))
+    ∙ filter-append p (range_with_len 0 k) (range_with_len k (suc (n - (k + 1))))
 
 all_below : (p : ℕ → Bool) (k : ℕ) → All (λ h. nat_lt h k ≡ true) (below p k)
 all_below p k =
@@ -58,18 +62,22 @@ none_below_own p k n lt own =
     subst P (ap (λ b. cond b (k ∷ above p k n) (above p k n)) own) (none_below p k k (suc (n - (k + 1))) (omega arith))
 
 -- what is found between those below a number and the others
-point_between : (xs ys : List ℕ) (k i : ℕ) → All (λ h. nat_lt h k ≡ true) xs → All (λ h. nat_lt h k ≡ false) ys → i ≤ length (xs ++ ys)
+point_between : (xs ys : List ℕ) (k i : ℕ) → All (λ h. nat_lt h k ≡ true) xs
+    → All (λ h. nat_lt h k ≡ false) ys → i ≤ length (xs ++ ys)
     → IsPartitionPoint (λ h. nat_lt h k ≡ true) (λ h. nat_lt h k ≡ false) (xs ++ ys) i → i ≡ length xs
 point_between xs ys k i low high within point =
     elim (cases_lt i (length xs)) [
       | inl early ↦
           let lt : i < length (xs ++ ys) = omega (arith, early, length-append xs ys) in
-          absurd (false≢true (sym (point.1 i 0 (omega arith) lt) ∙ ap (λ h. nat_lt h k) (get_or_append_left xs ys 0 i early) ∙ low i 0 early))
+          absurd (false≢true (sym (point.1 i 0 (omega arith) lt)
+          ∙ ap (λ h. nat_lt h k) (get_or_append_left xs ys 0 i early) ∙ low i 0 early))
       | inr late ↦ elim (cases_eq i (length xs)) [
         | inl here ↦ here
         | inr past ↦
-            let read : get_or (xs ++ ys) (length xs) 0 ≡ get_or ys 0 0 = get_or-append_right xs ys (length xs) (length xs) 0 refl (omega arith) ∙ ap (λ j. get_or ys j 0) (omega arith) in
-            absurd (false≢true (sym (high 0 0 (omega (arith, late, past, within, length-append xs ys))) ∙ ap (λ h. nat_lt h k) (sym read) ∙ point.0 (length xs) 0 (omega arith) (omega (arith, late, past))))
+            let read : get_or (xs ++ ys) (length xs) 0 ≡ get_or ys 0 0 = get_or-append_right xs ys
+            (length xs) (length xs) 0 refl (omega arith) ∙ ap (λ j. get_or ys j 0) (omega arith) in
+            absurd (false≢true (sym (high 0 0 (omega (arith, late, past, within, length-append xs ys)))
+            ∙ ap (λ h. nat_lt h k) (sym read) ∙ point.0 (length xs) 0 (omega arith) (omega (arith, late, past))))
       ]
     ]
 
@@ -94,9 +102,11 @@ none_pass (k ∷ ks) = none_pass ks
 -- no place has an answer yet
 none_answered : (n a : ℕ) → filter (λ h. is_some (get_or {A = Option ℕ} (replicate n None) h None)) (range_with_len a n) ≡ []
 none_answered n a =
-    filter_agree (λ h. is_some (get_or {A = Option ℕ} (replicate n None) h None)) (λ h. false) a n (λ h ge lt. ap is_some (get_or-none n h)) ∙ none_pass (range_with_len a n)
+    filter_agree (λ h. is_some (get_or {A = Option ℕ} (replicate n None) h None)) (λ h. false) a n
+    (λ h ge lt. ap is_some (get_or-none n h)) ∙ none_pass (range_with_len a n)
 
-pub none_listed_yet : (n : ℕ) (ranks : List (Option ℕ)) (places : List ℕ) (room : ℕ) → ranks ≡ replicate n None → places ≡ [] → n ≤ room → AnswersAreListed ranks places room
+pub none_listed_yet : (n : ℕ) (ranks : List (Option ℕ)) (places : List ℕ) (room : ℕ)
+    → ranks ≡ replicate n None → places ≡ [] → n ≤ room → AnswersAreListed ranks places room
 none_listed_yet n ranks places room ranks_are places_are le =
     let long : length ranks ≡ n = ap length ranks_are ∙ length-replicate n None in
     record {
@@ -106,7 +116,9 @@ none_listed_yet n ranks places room ranks_are places_are le =
 
 module _ (ranks : List (Option ℕ)) (places : List ℕ) (room : ℕ) (right : AnswersAreListed ranks places room) where
   pub listed_rises : IsNonDecreasing places
-  listed_rises = let P = λ (ks : List ℕ). IsNonDecreasing ks in subst P (sym right.listed) (IsNonDecreasingBy-filter (λ (h : ℕ). h) (λ h. is_some (get_or ranks h None)) (range_with_len 0 (length ranks)) (range_rises (length ranks)))
+  listed_rises = let P = λ (ks : List ℕ). IsNonDecreasing ks in subst P (sym right.listed)
+      (IsNonDecreasingBy-filter (λ (h : ℕ). h) (λ h. is_some (get_or ranks h None))
+      (range_with_len 0 (length ranks)) (range_rises (length ranks)))
 
   module _ (k : ℕ) (x : Option ℕ) (lt : k < length ranks) where
     abbrev has : ℕ → Bool
@@ -129,8 +141,10 @@ module _ (ranks : List (Option ℕ)) (places : List ℕ) (room : ℕ) (right : A
         let n = length ranks in
         let here : has_now k ≡ is_some x = ap is_some (get_or-set_same ranks k x None lt) in
         let same_low : below has_now k ≡ low = filter_agree has_now has 0 k (λ h ge less. elsewhere h (omega arith)) in
-        let same_high : above has_now k n ≡ high = filter_agree has_now has (k + 1) (n - (k + 1)) (λ h ge less. elsewhere h (omega arith)) in
-        ap (λ m. filter has_now (range_with_len 0 m)) (length-set ranks k x) ∙ parts has_now k n lt ∙ rw (here, same_low, same_high) refl
+        let same_high : above has_now k n ≡ high = filter_agree has_now has (k + 1) (n - (k + 1))
+        (λ h ge less. elsewhere h (omega arith)) in
+        ap (λ m. filter has_now (range_with_len 0 m)) (length-set ranks k x) ∙ parts has_now k n lt
+        ∙ rw (here, same_low, same_high) refl
 
     listed_before : places ≡ low ++ cond (has k) (k ∷ high) high
     listed_before = right.listed ∙ parts has k (length ranks) lt
@@ -145,12 +159,14 @@ module _ (ranks : List (Option ℕ)) (places : List ℕ) (room : ℕ) (right : A
       room = omega (arith, long_now, right.room);
     }
 
-    module _ (seen : List ℕ) (seen_is : seen ≡ places) (i : ℕ) (within : i ≤ length seen) (point : IsPartitionPoint (λ h. nat_lt h k ≡ true) (λ h. nat_lt h k ≡ false) seen i) where
+    module _ (seen : List ℕ) (seen_is : seen ≡ places) (i : ℕ) (within : i ≤ length seen)
+        (point : IsPartitionPoint (λ h. nat_lt h k ≡ true) (λ h. nat_lt h k ≡ false) seen i) where
       -- the list around the place
       found : (rest : List ℕ) → places ≡ low ++ rest → All (λ h. nat_lt h k ≡ false) rest → i ≡ length low
       found rest are fails =
           let P = λ (ks : List ℕ). IsPartitionPoint (λ h. nat_lt h k ≡ true) (λ h. nat_lt h k ≡ false) ks i in
-          point_between low rest k i (all_below has k) fails (omega (arith, within, ap length seen_is, ap length are)) (subst P (seen_is ∙ are) point)
+          point_between low rest k i (all_below has k) fails
+          (omega (arith, within, ap length seen_is, ap length are)) (subst P (seen_is ∙ are) point)
 
       high_fails : All (λ h. nat_lt h k ≡ false) high
       high_fails = none_below has k (k + 1) (length ranks - (k + 1)) (omega arith)
@@ -177,11 +193,13 @@ module _ (ranks : List (Option ℕ)) (places : List ℕ) (room : ℕ) (right : A
               length-range_with_len (k + 1) (n - (k + 1)),
             )
 
-        pub one_listed : is_some x ≡ true → (new : List ℕ) (now_room : ℕ) → new ≡ insert places i k → room ≤ now_room → AnswersAreListed (set ranks k x) new now_room
+        pub one_listed : is_some x ≡ true → (new : List ℕ) (now_room : ℕ) → new ≡ insert places i k
+            → room ≤ now_room → AnswersAreListed (set ranks k x) new now_room
         one_listed some new now_room new_is le =
             let at = found high before high_fails in
             record {
-              listed = new_is ∙ rw (at, before, take-append_seam low high, drop-append_seam low high) refl ∙ ap (λ b. low ++ cond b (k ∷ high) high) (sym some) ∙ sym listed_now;
+              listed = new_is ∙ rw (at, before, take-append_seam low high, drop-append_seam low high) refl
+                  ∙ ap (λ b. low ++ cond b (k ∷ high) high) (sym some) ∙ sym listed_now;
               room = omega (arith, long_now, right.room, le);
             }
 
@@ -196,10 +214,12 @@ module _ (ranks : List (Option ℕ)) (places : List ℕ) (room : ℕ) (right : A
         pub listed_within : i < length places
         listed_within = omega (arith, found (k ∷ high) there own_fails, ap length there, length-append low (k ∷ high))
 
-        pub one_dropped : is_some x ≡ false → (new : List ℕ) (now_room : ℕ) → new ≡ remove places i → room ≤ now_room → AnswersAreListed (set ranks k x) new now_room
+        pub one_dropped : is_some x ≡ false → (new : List ℕ) (now_room : ℕ) → new ≡ remove places i
+            → room ≤ now_room → AnswersAreListed (set ranks k x) new now_room
         one_dropped none new now_room new_is le =
             let at = found (k ∷ high) there own_fails in
             record {
-              listed = new_is ∙ rw (at, there, take-append_seam low (k ∷ high), drop_past low high k) refl ∙ ap (λ b. low ++ cond b (k ∷ high) high) (sym none) ∙ sym listed_now;
+              listed = new_is ∙ rw (at, there, take-append_seam low (k ∷ high), drop_past low high k) refl
+                  ∙ ap (λ b. low ++ cond b (k ∷ high) high) (sym none) ∙ sym listed_now;
               room = omega (arith, long_now, right.room, le);
             }

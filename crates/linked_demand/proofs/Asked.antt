@@ -16,7 +16,8 @@ no_more true = refl
 no_more false = refl
 
 -- the schools whose marks were taken away are asked
-pub record AskedSoFar (l : LinksRow) (rows : List (Vec RowWish Global)) (free : List ℕ) (old now : List Bool) (start overs : List (Option ℕ)) : Type 0 where
+pub record AskedSoFar (l : LinksRow) (rows : List (Vec RowWish Global)) (free : List ℕ)
+    (old now : List Bool) (start overs : List (Option ℕ)) : Type 0 where
   pub as_long : length now ≡ length old
   pub fewer : (h : ℕ) → get_or now h false ≡ true → get_or old h false ≡ true
   pub asked : IsAsked l rows free (λ h. get_or old h false && not (get_or now h false)) start overs
@@ -31,25 +32,32 @@ module _ (l : LinksRow) (rows : List (Vec RowWish Global)) (free : List ℕ) (ol
 
   module _ (now : List Bool) (overs : List (Option ℕ)) (so_far : AskedSoFar l rows free old now start overs) where
     pub asked_more : (h : ℕ) → get_or now h false ≡ true → h < length rows → length start ≡ length rows
-        → (row : Vec RowWish Global) (items : List RowWish) (x : Option ℕ) → row ≡ get_or rows h row → items ≡ row.items → x ≡ row_over l items (slice_index free h)
-        → (marks : List Bool) (new : List (Option ℕ)) → marks ≡ set now h false → new ≡ set overs h x → AskedSoFar l rows free old marks start new
+        → (row : Vec RowWish Global) (items : List RowWish) (x : Option ℕ) → row ≡ get_or rows h row
+        → items ≡ row.items → x ≡ row_over l items (slice_index free h)
+        → (marks : List Bool) (new : List (Option ℕ)) → marks ≡ set now h false → new ≡ set overs h x
+        → AskedSoFar l rows free old marks start new
     asked_more h marked lt one_each row items x read items_are x_is marks new marks_are new_is =
         let within : h < length now = marked_within now h marked in
         record {
           as_long = ap length marks_are ∙ length-set now h false ∙ so_far.as_long;
           fewer = λ g t. elim (cases_eq g h) [
             | inl here ↦ rw here (so_far.fewer h marked)
-            | inr other ↦ so_far.fewer g (sym (get_or-set_other now h g false false other) ∙ ap (λ bs. get_or bs g false) (sym marks_are) ∙ t)
+            | inr other ↦ so_far.fewer g
+                (sym (get_or-set_other now h g false false other) ∙ ap (λ bs. get_or bs g false) (sym marks_are) ∙ t)
           ];
           asked = record {
             as_long = ap length new_is ∙ length-set overs h x ∙ so_far.asked.as_long;
             each = λ g other_row at. elim (cases_eq g h) [
               | inl here ↦
                   let found : slice_get rows h ≡ Some row = slice_get_read rows (length rows) h row refl lt read in
-                  let same : row ≡ other_row = ap (λ (o : Option (Vec RowWish Global)). unwrap_or o row) (sym found ∙ rw here at at) in
+                  let same : row ≡ other_row = ap (λ (o : Option (Vec RowWish Global)). unwrap_or o row)
+                  (sym found ∙ rw here at at) in
                   rw (new_is, marks_are, here, so_far.fewer h marked, get_or-set_same now h false false within)
-                  (get_or-set_same overs h x None (omega (arith, lt, one_each, so_far.asked.as_long)) ∙ x_is ∙ ap (λ (xs : List RowWish). row_over l xs (slice_index free h)) (items_are ∙ ap (λ (v : Vec RowWish Global). v.items) same))
-              | inr other ↦ rw (new_is, marks_are, get_or-set_other now h g false false other) (get_or-set_other overs h g x None other ∙ so_far.asked.each g other_row at)
+                  (get_or-set_same overs h x None (omega (arith, lt, one_each, so_far.asked.as_long)) ∙ x_is
+                  ∙ ap (λ (xs : List RowWish). row_over l xs (slice_index free h))
+                  (items_are ∙ ap (λ (v : Vec RowWish Global). v.items) same))
+              | inr other ↦ rw (new_is, marks_are, get_or-set_other now h g false false other)
+                  (get_or-set_other overs h g x None other ∙ so_far.asked.each g other_row at)
             ];
           };
         }

@@ -40,7 +40,8 @@ or_false true = refl
 or_false false = refl
 
 -- none is asked yet
-pub asked_none : (s : State) (bars : List ℕ) (flags : List Bool) → length s.marks ≡ length s.dossier.wishes → flags ≡ map is_waiting s.marks → AreAsked s bars [] flags
+pub asked_none : (s : State) (bars : List ℕ) (flags : List Bool) → length s.marks ≡ length s.dossier.wishes
+    → flags ≡ map is_waiting s.marks → AreAsked s bars [] flags
 asked_none s bars flags long are = record {
   as_long = ap length are ∙ length-map s.marks is_waiting ∙ long;
   each = λ k lt.
@@ -51,7 +52,8 @@ asked_none s bars flags long are = record {
 }
 
 -- one more is asked
-pub asked_more : (s : State) (bars places : List ℕ) (i : ℕ) (flags : List Bool) (flag : Bool) → i < length places → get_or places i 0 < length s.dossier.wishes
+pub asked_more : (s : State) (bars places : List ℕ) (i : ℕ) (flags : List Bool) (flag : Bool)
+    → i < length places → get_or places i 0 < length s.dossier.wishes
     → flag ≡ is_open s bars (wish_in s.dossier.wishes (get_or places i 0)) (mark_in s.marks (get_or places i 0))
     → AreAsked s bars (take i places) flags → AreAsked s bars (take (i + 1) places) (set flags (get_or places i 0) flag)
 asked_more s bars places i flags flag lt within flag_is asked =
@@ -63,14 +65,16 @@ asked_more s bars places i flags flag lt within flag_is asked =
           elim (cases_Bool (nat_eq k p)) [
             | inl here ↦
                 let k_is : k ≡ p = eqb-true k p here in
-                let among : is_among k (take (i + 1) places) ≡ true = more ∙ ap (λ b. is_among k (take i places) || b) here ∙ or_true (is_among k (take i places)) in
+                let among : is_among k (take (i + 1) places) ≡ true = more
+                ∙ ap (λ b. is_among k (take i places) || b) here ∙ or_true (is_among k (take i places)) in
                 ap (λ n. get_or (set flags p flag) n false) k_is
                 ∙ get_or-set_same flags p flag false (omega (arith, within, asked.as_long))
                 ∙ flag_is
                 ∙ ap (λ n. open_if s bars n true) (sym k_is)
                 ∙ ap (open_if s bars k) (sym among)
             | inr other ↦
-                let among : is_among k (take (i + 1) places) ≡ is_among k (take i places) = more ∙ ap (λ b. is_among k (take i places) || b) other ∙ or_false (is_among k (take i places)) in
+                let among : is_among k (take (i + 1) places) ≡ is_among k (take i places) = more
+                ∙ ap (λ b. is_among k (take i places) || b) other ∙ or_false (is_among k (take i places)) in
                 get_or-set_other flags p k flag false (eqb-false k p other)
                 ∙ asked.each k k_lt
                 ∙ ap (open_if s bars k) (sym among)
@@ -79,13 +83,15 @@ asked_more s bars places i flags flag lt within flag_is asked =
 
 -- one without a school has no bar
 settled : (s : State) (bars : List ℕ) (w : Wish) (waits : Bool) (school : Option ℕ)
-    → (waits && not (is_some school && (waits && is_behind_bar s bars w school))) ≡ (waits && not (waits && is_behind_bar s bars w school))
+    → (waits && not (is_some
+    school && (waits && is_behind_bar s bars w school))) ≡ (waits && not (waits && is_behind_bar s bars w school))
 settled s bars w true None = refl
 settled s bars w false None = refl
 settled s bars w waits (Some h) = refl
 
 -- all that have a school are asked
-pub asked_all : (s : State) (bars places : List ℕ) (flags : List Bool) → length s.marks ≡ length s.dossier.wishes → places ≡ boarders_of s.dossier
+pub asked_all : (s : State) (bars places : List ℕ) (flags : List Bool)
+    → length s.marks ≡ length s.dossier.wishes → places ≡ boarders_of s.dossier
     → AreAsked s bars places flags → flags ≡ opens_of s bars
 asked_all s bars places flags long places_are asked =
     let n = length s.dossier.wishes in

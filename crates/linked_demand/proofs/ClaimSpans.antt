@@ -1,10 +1,10 @@
 -- The lists of the wishes by programme, and the claims in them.
-use Rattle.std.proofs.Common.{ℕ, ◌+◌, ◌≤◌, ◌<◌, ◌≡◌, Bool, true, false, not, ◌&&◌, List, [], ◌∷◌, map, length, get_or, inl, inr, refl, sym, ◌∙◌, ap, arith, nat_lt, nat_eq, filter, subst, Vec, ltb, leb}
+use Rattle.std.proofs.Common.{ℕ, ◌+◌, ◌-◌, ◌≤◌, ◌<◌, ◌≡◌, Bool, true, false, not, ◌&&◌, List, [], ◌∷◌, map, length, get_or, inl, inr, refl, sym, ◌∙◌, ap, arith, nat_lt, nat_eq, filter, subst, Vec, ltb, leb}
 use Rattle.std.specs.Prelude.{◌==◌, ◌^◌}
 use Rattle.std.specs.declared.alloc.Global.{Global}
 use Rattle.std.specs.List.Sorted.{IsNonDecreasingBy, IsPartitionPoint}
 use Rattle.std.proofs.Math.ListN.{set}
-use Rattle.std.proofs.lemmas.Bool.{cases_lt, le-leb, lt-leb, lt-ltb, ltb-true, ltb-false, ne_eqb, false≢true}
+use Rattle.std.proofs.lemmas.Bool.{and_parts, cases_lt, eqb-true, le-leb, le-ltb, lt-leb, lt-ltb, ltb-true, ltb-false, ne_eqb, or_cases, false≢true}
 use Rattle.std.proofs.lemmas.List.{get_or-map, get_or_default, length-map, length-set, map-id}
 use Rattle.std.proofs.lemmas.List.Elements.{All-filter}
 use Rattle.std.proofs.lemmas.List.Filters.{length-filter_both}
@@ -14,7 +14,7 @@ use Rattle.day_state.specs.Kept.{candidate_in, IsIndex}
 use Rattle.day_state.proofs.Ordering.{between}
 use Rattle.day_state.specs.declared.spans.Span.{Span}
 use Rattle.day_state.specs.Spans.{IsWithin, part_of}
-use Rattle.linked_demand.specs.Claims.{IsSpanOf, AreWishesFor, AreWishesFrom}
+use Rattle.linked_demand.specs.Claims.{IsSpanOf, AreWishesFor, AreWishesFrom, begins_at, lower_before}
 use Rattle.linked_demand.specs.Keyed.{AreRowsOf}
 use Rattle.linked_demand.specs.Links.{claim_of}
 use Rattle.linked_demand.specs.Seats.{applies_at}
@@ -50,7 +50,8 @@ wishes_in s order p wishes few index is =
     subst P (sym is) right
 
 -- the rows by programme of an order by candidate
-pub wishes_from : (s : DossierRows) (order : List ℕ) (rows : List (Vec ℕ Global)) → length s.wishes < 2 ^ 32 → IsIndex s.wishes order
+pub wishes_from : (s : DossierRows) (order : List ℕ) (rows : List (Vec ℕ Global)) → length s.wishes < 2 ^ 32
+    → IsIndex s.wishes order
     → AreRowsOf (λ k. k) (applies_at s) (length s.programmes) order rows → AreWishesFrom s 0 rows
 wishes_from s order rows few index are = record {
   one_each = are.one_each;
@@ -58,7 +59,8 @@ wishes_from s order rows few index are = record {
 }
 
 -- once the list of a programme is taken out, the later ones are left
-pub wishes_later : (s : DossierRows) (n : ℕ) (rows : List (Vec ℕ Global)) (row : Vec ℕ Global) → AreWishesFrom s n rows → AreWishesFrom s (n + 1) (set rows n row)
+pub wishes_later : (s : DossierRows) (n : ℕ) (rows : List (Vec ℕ Global)) (row : Vec ℕ Global)
+    → AreWishesFrom s n rows → AreWishesFrom s (n + 1) (set rows n row)
 wishes_later s n rows row are = record {
   one_each = length-set rows n row ∙ are.one_each;
   each = λ p other le at. are.each p other (omega arith) (get_set_other rows n p row other (λ e. omega (arith, le, e)) at);
@@ -79,7 +81,8 @@ pub record IsAlike (xs : List ℕ) (c from to : ℕ) : Type 0 where
 pub alike_none : (xs : List ℕ) (c from : ℕ) → from ≤ length xs → IsAlike xs c from from
 alike_none xs c from le = record { rises = omega arith; within = le; alike = λ k low high. absurd (omega (arith, low, high)) }
 
-pub alike_more : (xs : List ℕ) (c from to : ℕ) → IsAlike xs c from to → to < length xs → get_or xs to 0 ≡ c → IsAlike xs c from (to + 1)
+pub alike_more : (xs : List ℕ) (c from to : ℕ) → IsAlike xs c from to → to < length xs → get_or xs to 0 ≡ c
+    → IsAlike xs c from (to + 1)
 alike_more xs c from to are lt is = record {
   rises = omega (arith, are.rises);
   within = omega (arith, lt);
@@ -90,7 +93,8 @@ alike_more xs c from to are lt is = record {
 }
 
 -- where such a stretch from the first place that is not below the number ends, there is the first that is above
-pub alike_ends : (xs : List ℕ) (c from to : ℕ) → IsNonDecreasingBy (λ k. k) xs → IsPartitionPoint (λ k. ltb k c ≡ true) (λ k. ltb k c ≡ false) xs from → IsAlike xs c from to
+pub alike_ends : (xs : List ℕ) (c from to : ℕ) → IsNonDecreasingBy (λ k. k) xs
+    → IsPartitionPoint (λ k. ltb k c ≡ true) (λ k. ltb k c ≡ false) xs from → IsAlike xs c from to
     → (to < length xs → get_or xs to 0 ≡ c → ⊥) → IsPartitionPoint (λ k. leb k c ≡ true) (λ k. leb k c ≡ false) xs to
 alike_ends xs c from to rises point are other = (
   λ k d low high. elim (cases_lt k from) [
@@ -102,18 +106,50 @@ alike_ends xs c from to rises point are other = (
   λ k d low high.
       let to_in : to < length xs = omega (arith, low, high) in
       let not_below : c ≤ get_or xs to 0 = ltb-false (get_or xs to 0) c (point.1 to 0 are.rises to_in) in
-      let above : c < get_or xs to 0 = elim (cases_lt c (get_or xs to 0)) [ inl above ↦ above | inr le ↦ absurd (other to_in (omega (arith, le, not_below))) ] in
+      let above : c < get_or xs to 0 = elim (cases_lt c (get_or xs to 0)) [
+        | inl above ↦
+            above
+        | inr le ↦ absurd (other to_in (omega (arith, le, not_below)))
+      ] in
       lt-leb (get_or xs k d) c (omega (arith, above, rises to k 0 low high, get_or_default xs k d 0 high)),
 )
 
-point_of_keys : (key : ℕ → ℕ) (xs : List ℕ) (P Q : ℕ → Type 0) (i : ℕ) → i ≤ length xs → IsPartitionPoint P Q (map key xs) i → IsPartitionPoint (λ k. P (key k)) (λ k. Q (key k)) xs i
+-- where a candidate stands, and those before are below them, they begin
+pub begins_there : (xs : List ℕ) (c k : ℕ) → IsNonDecreasingBy (λ k. k) xs → begins_at xs c k ≡ true
+    → (k ≤ length xs) × IsPartitionPoint (λ j. ltb j c ≡ true) (λ j. ltb j c ≡ false) xs k
+begins_there xs c k rises begins =
+    let parts = and_parts (ltb k (length xs)) (nat_eq (get_or xs k 0) c && lower_before xs c k) begins in
+    let rest = and_parts (nat_eq (get_or xs k 0) c) (lower_before xs c k) parts.1 in
+    let within : k < length xs = ltb-true k (length xs) parts.0 in
+    let here : get_or xs k 0 ≡ c = eqb-true (get_or xs k 0) c rest.0 in
+    let below : (j : ℕ) → j < k → get_or xs j 0 < c =
+    λ j lt. elim (or_cases (nat_eq k 0) (ltb (get_or xs (k - 1) 0) c) rest.1) [
+      | inl front ↦ absurd (omega (arith, lt, eqb-true k 0 front))
+      | inr last ↦ omega (
+        arith,
+        ltb-true (get_or xs (k - 1) 0) c last,
+        rises j (k - 1) 0
+            (omega (arith, lt)) (omega (arith, lt, within)),
+      )
+    ] in (
+      omega (arith, within),
+      (
+        λ j d low high. lt-ltb (get_or xs j d) c
+            (omega (arith, get_or_default xs j d 0 (omega (arith, high, within)), below j high)),
+        λ j d low high. le-ltb (get_or xs j d) c (omega (arith, here, get_or_default xs j d 0 high, rises k j 0 low high)),
+      ),
+    )
+
+point_of_keys : (key : ℕ → ℕ) (xs : List ℕ) (P Q : ℕ → Type 0) (i : ℕ) → i ≤ length xs
+    → IsPartitionPoint P Q (map key xs) i → IsPartitionPoint (λ k. P (key k)) (λ k. Q (key k)) xs i
 point_of_keys key xs P Q i le point = (
   λ k d low high. subst P (get_or-map key xs k d 0 (omega (arith, le, high))) (point.0 k 0 low high),
   λ k d low high. subst Q (get_or-map key xs k d 0 high) (point.1 k 0 low (omega (arith, high, length-map xs key))),
 )
 
 -- where a candidate stands in the list of candidates, there their claim stands in that of the wishes
-pub span_is_claim : (s : DossierRows) (p : ℕ) (wishes candidates : List ℕ) (c : ℕ) (span : Span) → AreWishesFor s p wishes → candidates ≡ map (candidate_in s.wishes) wishes → IsSpanOf candidates c span
+pub span_is_claim : (s : DossierRows) (p : ℕ) (wishes candidates : List ℕ) (c : ℕ) (span : Span)
+    → AreWishesFor s p wishes → candidates ≡ map (candidate_in s.wishes) wishes → IsSpanOf candidates c span
     → IsWithin (length wishes) span × (part_of wishes span ≡ claim_of s p c)
 span_is_claim s p wishes candidates c span waiting are is =
     let key = candidate_in s.wishes in
@@ -132,23 +168,29 @@ pub record IsClaimed (s : DossierRows) (p : ℕ) (wishes : List ℕ) (c : ℕ) (
   pub part : part_of wishes span ≡ claim_of s p c
   pub is : claim ≡ claim_of s p c
 
-pub claim_there : {s : DossierRows} {p : ℕ} {wishes : List ℕ} → AreWishesFor s p wishes → (c : ℕ) (candidates : List ℕ) → candidates ≡ map (candidate_in s.wishes) wishes
-    → (span : Span) → IsSpanOf candidates c span → (read claim : List ℕ) → read ≡ wishes → claim ≡ part_of read span → IsClaimed s p wishes c span claim
+pub claim_there : {s : DossierRows} {p : ℕ} {wishes : List ℕ} → AreWishesFor s p wishes
+    → (c : ℕ) (candidates : List ℕ) → candidates ≡ map (candidate_in s.wishes) wishes
+    → (span : Span) → IsSpanOf candidates c span → (read claim : List ℕ) → read ≡ wishes
+    → claim ≡ part_of read span → IsClaimed s p wishes c span claim
 claim_there {s} {p} {wishes} waiting c candidates are span is read claim same claim_is =
     let found = span_is_claim s p wishes candidates c span waiting are is in
     record { within = found.0; part = found.1; is = claim_is ∙ ap (λ (ks : List ℕ). part_of ks span) same ∙ found.1 }
 
 -- where there is no wish nobody has a claim
-pub nobody_there : (s : DossierRows) (p : ℕ) (wishes : List ℕ) → AreWishesFor s p wishes → length wishes ≡ 0 → (c : ℕ) → nat_lt 0 (length (claim_of s p c)) ≡ false
+pub nobody_there : (s : DossierRows) (p : ℕ) (wishes : List ℕ) → AreWishesFor s p wishes → length wishes ≡ 0
+    → (c : ℕ) → nat_lt 0 (length (claim_of s p c)) ≡ false
 nobody_there s p [] waiting none c = ap (λ (ks : List ℕ). nat_lt 0 (length ks)) (sym (waiting.own c))
 nobody_there s p (k ∷ wishes) waiting none c = absurd (omega arith)
 
 -- a claim that is read has a wish, or has none
-pub claim_some : (read claim : List ℕ) → read ≡ claim → (empty : Bool) → empty ≡ nat_eq (length read) 0 → empty ≡ false → nat_lt 0 (length claim) ≡ true
+pub claim_some : (read claim : List ℕ) → read ≡ claim → (empty : Bool) → empty ≡ nat_eq (length read) 0
+    → empty ≡ false → nat_lt 0 (length claim) ≡ true
 claim_some [] claim is empty empty_is t = absurd (false≢true (sym t ∙ empty_is))
-claim_some (x ∷ read) claim is empty empty_is t = ap (λ (ks : List ℕ). nat_lt 0 (length ks)) (sym is) ∙ lt-ltb 0 (length (x ∷ read)) (omega arith)
+claim_some (x ∷ read) claim is empty empty_is t = ap (λ (ks : List ℕ). nat_lt 0 (length ks)) (sym is)
+    ∙ lt-ltb 0 (length (x ∷ read)) (omega arith)
 
-pub claim_none : (read claim : List ℕ) → read ≡ claim → (empty : Bool) → empty ≡ nat_eq (length read) 0 → empty ≡ true → nat_lt 0 (length claim) ≡ false
+pub claim_none : (read claim : List ℕ) → read ≡ claim → (empty : Bool) → empty ≡ nat_eq (length read) 0
+    → empty ≡ true → nat_lt 0 (length claim) ≡ false
 claim_none [] claim is empty empty_is t = ap (λ (ks : List ℕ). nat_lt 0 (length ks)) (sym is)
 claim_none (x ∷ read) claim is empty empty_is t =
     absurd (false≢true (sym (ne_eqb (length (x ∷ read)) 0 (λ e. omega (arith, e))) ∙ sym empty_is ∙ t))

@@ -31,37 +31,45 @@ pub so_far_start : (to : ℕ) (row : List RowWish) (start : LinksRow) (end : ℕ
 so_far_start to row start end is =
     record {
       within = omega arith;
-      now_is = ap (λ (os : List Bool). let r : LinksRow = record start { opens = os } in r) (sym (closed_none row end start.opens is));
+      now_is = ap (λ (os : List Bool). let r : LinksRow = record start { opens = os } in r)
+          (sym (closed_none row end start.opens is));
       past = λ k x le at. absurd (omega (arith, slice_get_within row k x at));
     }
 
 pub same_at : (row : List RowWish) (n : ℕ) (x y : RowWish) → slice_get row n ≡ Some x → slice_get row n ≡ Some y → x ≡ y
 same_at row n x y a b = ap (λ (o : Option RowWish). unwrap_or o x) (sym a ∙ b)
 
-pub so_far_step : (to : ℕ) (row : List RowWish) (start now new : LinksRow) (end n : ℕ) (x y : RowWish) → SoFar to row start now end → end ≡ suc n
-    → x ≡ get_or row n x → to < x.rank → y ≡ get_or row n y → new ≡ record now { opens = slice_set now.opens y.wish false } → SoFar to row start new n
+pub so_far_step : (to : ℕ) (row : List RowWish) (start now new : LinksRow) (end n : ℕ) (x y : RowWish)
+    → SoFar to row start now end → end ≡ suc n
+    → x ≡ get_or row n x → to < x.rank → y ≡ get_or row n y
+    → new ≡ record now { opens = slice_set now.opens y.wish false } → SoFar to row start new n
 so_far_step to row start now new end n x y far is read past read_again new_is =
     let at = slice_get_read row (length row) n x refl (omega (arith, far.within)) read in
     let at_again = slice_get_read row (length row) n y refl (omega (arith, far.within)) read_again in
-    let old : now.opens ≡ closed (drop (suc n) row) start.opens = ap (λ (r : LinksRow). r.opens) far.now_is ∙ ap (λ e. closed (drop e row) start.opens) is in
-    let opens : slice_set now.opens y.wish false ≡ closed (drop n row) start.opens = rw old (sym (closed_one row n y start.opens at_again)) in
+    let old : now.opens ≡ closed (drop (suc n) row) start.opens = ap (λ (r : LinksRow). r.opens) far.now_is
+    ∙ ap (λ e. closed (drop e row) start.opens) is in
+    let opens : slice_set now.opens y.wish false ≡ closed (drop n row) start.opens = rw old
+    (sym (closed_one row n y start.opens at_again)) in
     record {
       within = omega (arith, far.within);
-      now_is = new_is ∙ ap (λ (os : List Bool). let r : LinksRow = record now { opens = os } in r) opens ∙ ap (λ (r : LinksRow). let q : LinksRow = record r { opens = closed (drop n row) start.opens } in q) far.now_is;
+      now_is = new_is ∙ ap (λ (os : List Bool). let r : LinksRow = record now { opens = os } in r) opens
+          ∙ ap (λ (r : LinksRow). let q : LinksRow = record r { opens = closed (drop n row) start.opens } in q) far.now_is;
       past = λ k z le found. elim (cases_eq k n) [
         | inl here ↦ rw (← same_at row n x z at (rw here at found)) past
         | inr other ↦ far.past k z (omega (arith, other)) found
       ];
     }
 
-pub waits_still : (to : ℕ) (row : List RowWish) (start now : LinksRow) (end n : ℕ) (y : RowWish) → SoFar to row start now end → end ≡ suc n
+pub waits_still : (to : ℕ) (row : List RowWish) (start now : LinksRow) (end n : ℕ) (y : RowWish)
+    → SoFar to row start now end → end ≡ suc n
     → y ≡ get_or row n y → AllWait start.state row → (w : Wish) × (m : Mark) × WaitsAt now.state y.wish w m
 waits_still to row start now end n y far is read all =
     let (w, m, at) = all n y (slice_get_read row (length row) n y refl (omega (arith, far.within)) read) in
     let P = λ (r : LinksRow). WaitsAt r.state y.wish w m in
     (w, m, subst P (sym far.now_is) at)
 
-pub so_far_cuts : (to : ℕ) (row : List RowWish) (start now : LinksRow) (end : ℕ) (kept : List RowWish) → SoFar to row start now end → kept ≡ take end row
+pub so_far_cuts : (to : ℕ) (row : List RowWish) (start now : LinksRow) (end : ℕ) (kept : List RowWish)
+    → SoFar to row start now end → kept ≡ take end row
     → ((x : RowWish) → 0 < end → slice_get row (end - 1) ≡ Some x → x.rank ≤ to) → CutsAt to row start.opens kept now.opens
 so_far_cuts to row start now end kept far is last =
     record {
@@ -73,7 +81,8 @@ so_far_cuts to row start now end kept far is last =
       last = last;
     }
 
-pub last_at : (to : ℕ) (row : List RowWish) (end : ℕ) (y : RowWish) → 0 < end → end ≤ length row → y ≡ get_or row (end - 1) y → y.rank ≤ to
+pub last_at : (to : ℕ) (row : List RowWish) (end : ℕ) (y : RowWish) → 0 < end → end ≤ length row
+    → y ≡ get_or row (end - 1) y → y.rank ≤ to
     → (x : RowWish) → 0 < end → slice_get row (end - 1) ≡ Some x → x.rank ≤ to
 last_at to row end y some within read le x _ at =
     rw (← same_at row (end - 1) y x (slice_get_read row (length row) (end - 1) y refl (omega arith) read) at) le

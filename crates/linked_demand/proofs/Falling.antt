@@ -21,7 +21,8 @@ and_none : (b : Bool) → (b && false) ≡ false
 and_none true = refl
 and_none false = refl
 
-same_flags : (xs ys : List Bool) → length xs ≡ length ys → ((i : ℕ) → i < length xs → get_or xs i false ≡ get_or ys i false) → xs ≡ ys
+same_flags : (xs ys : List Bool) → length xs ≡ length ys
+    → ((i : ℕ) → i < length xs → get_or xs i false ≡ get_or ys i false) → xs ≡ ys
 same_flags [] [] e h = refl
 same_flags [] (y ∷ ys) e h = absurd (omega arith)
 same_flags (x ∷ xs) [] e h = absurd (omega arith)
@@ -38,17 +39,25 @@ pub length_closed : (xs : List RowWish) (opens : List Bool) → length (closed x
 length_closed [] opens = refl
 length_closed (x ∷ xs) opens = length-set (closed xs opens) x.wish false ∙ length_closed xs opens
 
-pub flag_closed : (xs : List RowWish) (opens : List Bool) (i : ℕ) → i < length opens → get_or (closed xs opens) i false ≡ (get_or opens i false && not (is_wish_of i xs))
+pub flag_closed : (xs : List RowWish) (opens : List Bool) (i : ℕ) → i < length opens
+    → get_or (closed xs opens) i false ≡ (get_or opens i false && not (is_wish_of i xs))
 flag_closed [] opens i lt = and_end (get_or opens i false)
 flag_closed (x ∷ xs) opens i lt =
     elim (cases_Bool (nat_eq i x.wish)) [
       | inl here ↦
           let same = eqb-true i x.wish here in
-          rw (here, same, get_or-set_same (closed xs opens) x.wish false false (omega (arith, length_closed xs opens))) (sym (and_none (get_or opens x.wish false)))
-      | inr other ↦ rw other (get_or-set_other (closed xs opens) x.wish i false false (eqb-false i x.wish other) ∙ flag_closed xs opens i lt)
+          rw (
+            here,
+            same,
+            get_or-set_same (closed xs opens) x.wish false false
+                (omega (arith, length_closed xs opens)),
+          ) (sym (and_none (get_or opens x.wish false)))
+      | inr other ↦ rw other
+          (get_or-set_other (closed xs opens) x.wish i false false (eqb-false i x.wish other) ∙ flag_closed xs opens i lt)
     ]
 
-pub flag_map : (f : Wish × Mark → Bool) (es : List (Wish × Mark)) (i : ℕ) (e : Wish × Mark) → slice_get es i ≡ Some e → get_or (map f es) i false ≡ f e
+pub flag_map : (f : Wish × Mark → Bool) (es : List (Wish × Mark)) (i : ℕ) (e : Wish × Mark)
+    → slice_get es i ≡ Some e → get_or (map f es) i false ≡ f e
 flag_map f [] i e at = absurd (omega (arith, slice_get_within [] i e at))
 flag_map f (y ∷ es) zero e at = ap (λ (o : Option (Wish × Mark)). f (unwrap_or o y)) at
 flag_map f (y ∷ es) (suc i) e at = flag_map f es i e at
@@ -65,28 +74,34 @@ found_behind (x ∷ row) zero i t =
     ]
 found_behind (x ∷ row) (suc end) i t = let (k, y, le, at, same) = found_behind row end i t in (suc k, y, omega arith, at, same)
 
-behind_found : (row : List RowWish) (end k : ℕ) (x : RowWish) → end ≤ k → slice_get row k ≡ Some x → is_wish_of x.wish (drop end row) ≡ true
+behind_found : (row : List RowWish) (end k : ℕ) (x : RowWish) → end ≤ k → slice_get row k ≡ Some x
+    → is_wish_of x.wish (drop end row) ≡ true
 behind_found [] end k x le at = absurd (omega (arith, slice_get_within [] k x at))
 behind_found (y ∷ row) zero zero x le at =
-    or_left (nat_eq x.wish y.wish) (is_wish_of x.wish row) (eq-eqb x.wish y.wish (ap (λ (o : Option RowWish). (unwrap_or o y).wish) (sym at)))
-behind_found (y ∷ row) zero (suc k) x le at = or_right (nat_eq x.wish y.wish) (is_wish_of x.wish row) (behind_found row 0 k x (omega arith) at)
+    or_left (nat_eq x.wish y.wish) (is_wish_of x.wish row)
+    (eq-eqb x.wish y.wish (ap (λ (o : Option RowWish). (unwrap_or o y).wish) (sym at)))
+behind_found (y ∷ row) zero (suc k) x le at = or_right (nat_eq x.wish y.wish) (is_wish_of x.wish row)
+    (behind_found row 0 k x (omega arith) at)
 behind_found (y ∷ row) (suc end) zero x le at = absurd (omega arith)
 behind_found (y ∷ row) (suc end) (suc k) x le at = behind_found row end k x (omega arith) at
 
-in_front : (row : List RowWish) (end k : ℕ) (x : RowWish) → slice_get (take end row) k ≡ Some x → (k < end) × (slice_get row k ≡ Some x)
+in_front : (row : List RowWish) (end k : ℕ) (x : RowWish) → slice_get (take end row) k ≡ Some x
+    → (k < end) × (slice_get row k ≡ Some x)
 in_front [] zero k x at = absurd (omega (arith, slice_get_within [] k x at))
 in_front [] (suc end) k x at = absurd (omega (arith, slice_get_within [] k x at))
 in_front (y ∷ row) zero k x at = absurd (omega (arith, slice_get_within [] k x at))
 in_front (y ∷ row) (suc end) zero x at = (omega arith, at)
 in_front (y ∷ row) (suc end) (suc k) x at = let (lt, found) = in_front row end k x at in (omega arith, found)
 
-front_at : (row : List RowWish) (end k : ℕ) (x : RowWish) → k < end → slice_get row k ≡ Some x → slice_get (take end row) k ≡ Some x
+front_at : (row : List RowWish) (end k : ℕ) (x : RowWish) → k < end → slice_get row k ≡ Some x
+    → slice_get (take end row) k ≡ Some x
 front_at [] end k x lt at = absurd (omega (arith, slice_get_within [] k x at))
 front_at (y ∷ row) zero k x lt at = absurd (omega arith)
 front_at (y ∷ row) (suc end) zero x lt at = at
 front_at (y ∷ row) (suc end) (suc k) x lt at = front_at row end k x (omega arith) at
 
-below_bit : (waits free behind : Bool) → waits ≡ true → free ≡ true → (waits && not (waits && (free && behind))) ≡ true → behind ≡ false
+below_bit : (waits free behind : Bool) → waits ≡ true → free ≡ true
+    → (waits && not (waits && (free && behind))) ≡ true → behind ≡ false
 below_bit true true true a b t = sym t
 below_bit true true false a b t = refl
 below_bit true false behind a b t = absurd (false≢true b)
@@ -101,18 +116,22 @@ same_bits true false false a b = refl
 
 -- an open wish with a school where its candidate has no bed ranks at most at the bar
 pub open_below : (s : State) (bars : List ℕ) (w : Wish) (m : Mark) (school : Option ℕ) (h : ℕ) → is_school school h ≡ true
-    → not (holds_bed s w.candidate h) ≡ true → (is_waiting m && not (is_waiting m && is_behind_bar s bars w school)) ≡ true → w.board_rank ≤ slice_index bars h
+    → not (holds_bed s w.candidate h) ≡ true
+    → (is_waiting m && not (is_waiting m && is_behind_bar s bars w school)) ≡ true → w.board_rank ≤ slice_index bars h
 open_below s bars w m None h has no_bed t = absurd (false≢true has)
 open_below s bars w m (Some g) h has no_bed t =
     let same : g ≡ h = eqb-true g h has in
     let waits = (and_parts (is_waiting m) (not (is_waiting m && is_behind_bar s bars w (Some g))) t).0 in
     let free : not (holds_bed s w.candidate g) ≡ true = rw same no_bed in
-    ltb-false (slice_index bars h) w.board_rank (rw (← same) (below_bit (is_waiting m) (not (holds_bed s w.candidate g)) (nat_lt (slice_index bars g) w.board_rank) waits free t))
+    ltb-false (slice_index bars h) w.board_rank
+    (rw (← same) (below_bit (is_waiting m) (not (holds_bed s w.candidate g))
+    (nat_lt (slice_index bars g) w.board_rank) waits free t))
 
 module _ (s : State) (bars : List ℕ) (h to : ℕ) (row kept : List RowWish) (after : List Bool) (right : IsRow s bars h row)
     (cut : CutsAt to row (opens_of s bars) kept after) (within : h < length bars) (le : to ≤ slice_index bars h) where
   -- a wish that is closed is past the bar
-  closed_past : (i : ℕ) (w : Wish) (m : Mark) → slice_get (entries s) i ≡ Some (w, m) → is_wish_of i (drop cut.end row) ≡ true → is_past s h to w ≡ true
+  closed_past : (i : ℕ) (w : Wish) (m : Mark) → slice_get (entries s) i ≡ Some (w, m)
+      → is_wish_of i (drop cut.end row) ≡ true → is_past s h to w ≡ true
   closed_past i w m at t =
       let (k, x, far, found, same) = found_behind row cut.end i t in
       let (v, n, waits) = right.each k x found in
@@ -125,7 +144,8 @@ module _ (s : State) (bars : List ℕ) (h to : ℕ) (row kept : List RowWish) (a
       (lt-ltb to v.board_rank (omega (arith, cut.past k x far found, waits.rank)))))
 
   -- an open wish that is past the bar is closed
-  past_closed : (i : ℕ) (w : Wish) (m : Mark) → slice_get (entries s) i ≡ Some (w, m) → is_open s bars w m ≡ true → is_past s h to w ≡ true
+  past_closed : (i : ℕ) (w : Wish) (m : Mark) → slice_get (entries s) i ≡ Some (w, m)
+      → is_open s bars w m ≡ true → is_past s h to w ≡ true
       → is_wish_of i (drop cut.end row) ≡ true
   past_closed i w m at opens past =
       let outer = and_parts (has_school w h) (not (holds_bed s w.candidate h) && nat_lt to w.board_rank) past in
@@ -133,7 +153,14 @@ module _ (s : State) (bars : List ℕ) (h to : ℕ) (row kept : List RowWish) (a
       let behind : to < w.board_rank = ltb-true to w.board_rank inner.1 in
       let waits = (and_parts (is_waiting m) (not (is_waiting m && is_behind_bar s bars w w.school)) opens).0 in
       let x : RowWish = record { rank = w.board_rank; wish = i } in
-      let (k, found) = right.all x w m (record { waits = record { here = at; waits = waits }; has = outer.0; no_bed = inner.0; rank = refl }) (open_below s bars w m w.school h outer.0 inner.0 opens) in
+      let (k, found) = right.all x w m
+      (record {
+        waits = record { here = at; waits = waits };
+        has = outer.0;
+        no_bed = inner.0;
+        rank =
+            refl;
+      }) (open_below s bars w m w.school h outer.0 inner.0 opens) in
       elim (cases_lt k cut.end) [
         | inl front ↦
             elim (slice_get_cases row (cut.end - 1)).1 [
@@ -147,7 +174,8 @@ module _ (s : State) (bars : List ℕ) (h to : ℕ) (row kept : List RowWish) (a
 
   one_flag : (i : ℕ) (w : Wish) (m : Mark) → slice_get (entries s) i ≡ Some (w, m)
       → (is_open s bars w m && not (is_wish_of i (drop cut.end row))) ≡ (is_open s bars w m && not (is_past s h to w))
-  one_flag i w m at = same_bits (is_open s bars w m) (is_wish_of i (drop cut.end row)) (is_past s h to w) (closed_past i w m at) (past_closed i w m at)
+  one_flag i w m at = same_bits (is_open s bars w m) (is_wish_of i (drop cut.end row)) (is_past s h to w)
+      (closed_past i w m at) (past_closed i w m at)
 
   -- the flags are those of the new bars
   pub flags_fallen : after ≡ opens_of s (slice_set bars h to)
@@ -155,7 +183,8 @@ module _ (s : State) (bars : List ℕ) (h to : ℕ) (row kept : List RowWish) (a
       let f = λ (e : Wish × Mark). is_open s bars e.0 e.1 in
       let g = λ (e : Wish × Mark). is_open s bars e.0 e.1 && not (is_past s h to e.0) in
       let xs = drop cut.end row in
-      let each : (i : ℕ) → i < length (closed xs (opens_of s bars)) → get_or (closed xs (opens_of s bars)) i false ≡ get_or (map g (entries s)) i false =
+      let each : (i : ℕ) → i < length (closed xs (opens_of s bars))
+      → get_or (closed xs (opens_of s bars)) i false ≡ get_or (map g (entries s)) i false =
       λ i lt.
       elim (slice_get_cases (entries s) i).1 [
         | inl there ↦
@@ -166,7 +195,8 @@ module _ (s : State) (bars : List ℕ) (h to : ℕ) (row kept : List RowWish) (a
         | inr past_end ↦ absurd (omega (arith, past_end.0, length_closed xs (opens_of s bars), length-map (entries s) f))
       ] in
       cut.after_is
-      ∙ same_flags (closed xs (opens_of s bars)) (map g (entries s)) (length_closed xs (opens_of s bars) ∙ length-map (entries s) f ∙ sym (length-map (entries s) g)) each
+      ∙ same_flags (closed xs (opens_of s bars)) (map g (entries s))
+      (length_closed xs (opens_of s bars) ∙ length-map (entries s) f ∙ sym (length-map (entries s) g)) each
       ∙ sym (opens_fallen s bars h to within le)
 
   -- the row keeps those of at most the new bar
@@ -184,8 +214,14 @@ module _ (s : State) (bars : List ℕ) (h to : ℕ) (row kept : List RowWish) (a
             rw now (elim (slice_get_cases row (cut.end - 1)).1 [
               | inl there ↦
                   let found = was k x at in
-                  omega (arith, cut.last there.0 (omega (arith, found.0)) there.2, right.rises k (cut.end - 1) x there.0 (omega (arith, found.0)) found.1 there.2)
-              | inr past_end ↦ absurd (omega (arith, past_end.0, cut.within, (was k x at).0, slice_get_within row k x (was k x at).1))
+                  omega (
+                    arith,
+                    cut.last there.0 (omega (arith, found.0)) there.2,
+                    right.rises k
+                        (cut.end - 1) x there.0 (omega (arith, found.0)) found.1 there.2,
+                  )
+              | inr past_end ↦ absurd
+                  (omega (arith, past_end.0, cut.within, (was k x at).0, slice_get_within row k x (was k x at).1))
             ]);
         all = λ x w m waits low.
             let low_now : x.rank ≤ to = rw now at low in
@@ -197,7 +233,8 @@ module _ (s : State) (bars : List ℕ) (h to : ℕ) (row kept : List RowWish) (a
       }
 
 -- the row of another school stays
-pub row_stays : (s : State) (bars : List ℕ) (h to g : ℕ) (row : List RowWish) → g ≢ h → IsRow s bars g row → IsRow s (slice_set bars h to) g row
+pub row_stays : (s : State) (bars : List ℕ) (h to g : ℕ) (row : List RowWish) → g ≢ h → IsRow s bars g row
+    → IsRow s (slice_set bars h to) g row
 row_stays s bars h to g row other right =
     let kept : slice_index (slice_set bars h to) g ≡ slice_index bars g = get_or-set_other bars h g to 0 other in
     record {

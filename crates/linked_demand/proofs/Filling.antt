@@ -39,14 +39,16 @@ record StandsIn (s : State) (bars : List ℕ) (h : ℕ) (w : Wish) (m : Mark) (s
   no_bed : not (holds_bed s w.candidate h) ≡ true
   low : w.board_rank ≤ slice_index bars h
 
-stands : (s : State) (bars : List ℕ) (h : ℕ) (w : Wish) (m : Mark) (school : Option ℕ) → is_school (row_school s bars w m school) h ≡ true → StandsIn s bars h w m school
+stands : (s : State) (bars : List ℕ) (h : ℕ) (w : Wish) (m : Mark) (school : Option ℕ)
+    → is_school (row_school s bars w m school) h ≡ true → StandsIn s bars h w m school
 stands s bars h w m None t = absurd (false≢true t)
 stands s bars h w m (Some g) t =
     elim (cases_Bool (is_waiting m && not (holds_bed s w.candidate g) && nat_le w.board_rank (slice_index bars g))) [
       | inl passes ↦
           let same : nat_eq g h ≡ true = rw passes at t in
           let is : g ≡ h = eqb-true g h same in
-          let outer = and_parts (is_waiting m && not (holds_bed s w.candidate g)) (nat_le w.board_rank (slice_index bars g)) passes in
+          let outer = and_parts (is_waiting m && not (holds_bed s w.candidate g))
+          (nat_le w.board_rank (slice_index bars g)) passes in
           let inner = and_parts (is_waiting m) (not (holds_bed s w.candidate g)) outer.0 in
           let P = λ (n : ℕ). not (holds_bed s w.candidate n) ≡ true in
           let Q = λ (n : ℕ). w.board_rank ≤ slice_index bars n in
@@ -59,7 +61,8 @@ stands s bars h w m (Some g) t =
       | inr fails ↦ absurd (false≢true (rw fails at t))
     ]
 
-stands_back : (s : State) (bars : List ℕ) (h : ℕ) (w : Wish) (m : Mark) (school : Option ℕ) → StandsIn s bars h w m school → is_school (row_school s bars w m school) h ≡ true
+stands_back : (s : State) (bars : List ℕ) (h : ℕ) (w : Wish) (m : Mark) (school : Option ℕ)
+    → StandsIn s bars h w m school → is_school (row_school s bars w m school) h ≡ true
 stands_back s bars h w m None in_row = absurd (false≢true in_row.has)
 stands_back s bars h w m (Some g) in_row =
     let is : g ≡ h = eqb-true g h in_row.has in
@@ -83,16 +86,19 @@ among_kept q k (x ∷ ks) passes t =
           elim (cases_Bool (q x)) [ inl kept ↦ rw (kept, other) later | inr dropped ↦ rw dropped later ]
     ]
 
-pub entry_there : (ws : List Wish) (ms : List Mark) (k : ℕ) → length ms ≡ length ws → k < length ws → slice_get (zip ws ms) k ≡ Some (wish_in ws k, mark_in ms k)
+pub entry_there : (ws : List Wish) (ms : List Mark) (k : ℕ) → length ms ≡ length ws → k < length ws
+    → slice_get (zip ws ms) k ≡ Some (wish_in ws k, mark_in ms k)
 entry_there [] ms k long lt = absurd (omega arith)
 entry_there (w ∷ ws) [] k long lt = absurd (omega arith)
 entry_there (w ∷ ws) (m ∷ ms) zero long lt = refl
 entry_there (w ∷ ws) (m ∷ ms) (suc k) long lt = entry_there ws ms k (omega arith) (omega arith)
 
-pub entry_is : (ws : List Wish) (ms : List Mark) (k : ℕ) (w : Wish) (m : Mark) → slice_get (zip ws ms) k ≡ Some (w, m) → (wish_in ws k ≡ w) × (mark_in ms k ≡ m)
+pub entry_is : (ws : List Wish) (ms : List Mark) (k : ℕ) (w : Wish) (m : Mark)
+    → slice_get (zip ws ms) k ≡ Some (w, m) → (wish_in ws k ≡ w) × (mark_in ms k ≡ m)
 entry_is [] ms k w m at = absurd (omega (arith, slice_get_within (zip [] ms) k (w, m) at))
 entry_is (v ∷ ws) [] k w m at = absurd (omega (arith, slice_get_within (zip (v ∷ ws) []) k (w, m) at))
-entry_is (v ∷ ws) (n ∷ ms) zero w m at = (ap (λ (o : Option (Wish × Mark)). (unwrap_or o (w, m)).0) at, ap (λ (o : Option (Wish × Mark)). (unwrap_or o (w, m)).1) at)
+entry_is (v ∷ ws) (n ∷ ms) zero w m at =
+    (ap (λ (o : Option (Wish × Mark)). (unwrap_or o (w, m)).0) at, ap (λ (o : Option (Wish × Mark)). (unwrap_or o (w, m)).1) at)
 entry_is (v ∷ ws) (n ∷ ms) (suc k) w m at = entry_is ws ms k w m at
 
 -- what holds of each item of the row of a school
@@ -102,7 +108,8 @@ record IsInRow (s : State) (bars : List ℕ) (h : ℕ) (x : RowWish) : Type 0 wh
   waits : WaitsFor s h x wish mark
   low : x.rank ≤ slice_index bars h
 
-row_each : (s : State) (bars : List ℕ) (h : ℕ) → length s.marks ≡ length s.dossier.wishes → All (IsInRow s bars h) (row_by_place s bars h)
+row_each : (s : State) (bars : List ℕ) (h : ℕ) → length s.marks ≡ length s.dossier.wishes
+    → All (IsInRow s bars h) (row_by_place s bars h)
 row_each s bars h long k d lt =
     let ws = s.dossier.wishes in
     let n = length ws in
@@ -111,9 +118,17 @@ row_each s bars h long k d lt =
     let f = row_wish ws in
     let k_in : k < length ys = omega (arith, lt, length-map ys f) in
     let p = get_or ys k 0 in
-    let below : All (λ j. j < n) ys = All-filter q (λ j. j < n) (range_with_len 0 n) (λ j e j_lt. omega (arith, get_or-range_with_len 0 n j e (omega (arith, j_lt, length-range_with_len 0 n)), j_lt, length-range_with_len 0 n)) in
+    let below : All (λ j. j < n) ys = All-filter q (λ j. j < n) (range_with_len 0 n)
+    (λ j e j_lt. omega (
+      arith,
+      get_or-range_with_len 0 n j e
+          (omega (arith, j_lt, length-range_with_len 0 n)),
+      j_lt,
+      length-range_with_len 0 n,
+    )) in
     let p_in : p < n = below k 0 k_in in
-    let in_row = stands s bars h (wish_in ws p) (mark_in s.marks p) (wish_in ws p).school (filter_passes q (range_with_len 0 n) k 0 k_in) in
+    let in_row = stands s bars h (wish_in ws p) (mark_in s.marks p) (wish_in ws p).school
+    (filter_passes q (range_with_len 0 n) k 0 k_in) in
     let P = λ (x : RowWish). IsInRow s bars h x in
     subst P (sym (get_or-map f ys k 0 d k_in)) (record {
       wish = wish_in ws p;
@@ -131,14 +146,17 @@ row_each s bars h long k d lt =
 abbrev is_item : RowWish → RowWish → Bool
 is_item x y = nat_eq x.rank y.rank && nat_eq x.wish y.wish
 
-any_item : (x : RowWish) (f : ℕ → RowWish) (p : ℕ) (ks : List ℕ) → f p ≡ x → is_among p ks ≡ true → list_any (is_item x) (map f ks) ≡ true
+any_item : (x : RowWish) (f : ℕ → RowWish) (p : ℕ) (ks : List ℕ) → f p ≡ x → is_among p ks ≡ true
+    → list_any (is_item x) (map f ks) ≡ true
 any_item x f p [] is t = absurd (false≢true t)
 any_item x f p (k ∷ ks) is t =
     elim (or_cases (nat_eq p k) (is_among p ks) t) [
       | inl here ↦
           let same : f k ≡ x = ap f (sym (eqb-true p k here)) ∙ is in
           or_left (is_item x (f k)) (list_any (is_item x) (map f ks))
-          (and_from (nat_eq x.rank (f k).rank) (nat_eq x.wish (f k).wish) (eq-eqb x.rank (f k).rank (ap (λ (z : RowWish). z.rank) (sym same))) (eq-eqb x.wish (f k).wish (ap (λ (z : RowWish). z.wish) (sym same))))
+          (and_from (nat_eq x.rank (f k).rank) (nat_eq x.wish (f k).wish)
+          (eq-eqb x.rank (f k).rank (ap (λ (z : RowWish). z.rank) (sym same)))
+          (eq-eqb x.wish (f k).wish (ap (λ (z : RowWish). z.wish) (sym same))))
       | inr later ↦ or_right (is_item x (f k)) (list_any (is_item x) (map f ks)) (any_item x f p ks is later)
     ]
 
@@ -150,12 +168,14 @@ item_place x (y ∷ xs) t =
           let parts = and_parts (nat_eq x.rank y.rank) (nat_eq x.wish y.wish) here in
           let rank : y.rank ≡ x.rank = sym (eqb-true x.rank y.rank parts.0) in
           let wish : y.wish ≡ x.wish = sym (eqb-true x.wish y.wish parts.1) in
-          let item : y ≡ x = ap (λ (r : ℕ). let z : RowWish = record { rank = r; wish = y.wish } in z) rank ∙ ap (λ (k : ℕ). let z : RowWish = record { rank = x.rank; wish = k } in z) wish in
+          let item : y ≡ x = ap (λ (r : ℕ). let z : RowWish = record { rank = r; wish = y.wish } in z) rank
+          ∙ ap (λ (k : ℕ). let z : RowWish = record { rank = x.rank; wish = k } in z) wish in
           (0, ap (λ (z : RowWish). Some z) item)
       | inr later ↦ let (k, at) = item_place x xs later in (suc k, at)
     ]
 
-row_all : (s : State) (bars : List ℕ) (h : ℕ) (x : RowWish) (w : Wish) (m : Mark) → WaitsFor s h x w m → x.rank ≤ slice_index bars h → list_any (is_item x) (row_by_place s bars h) ≡ true
+row_all : (s : State) (bars : List ℕ) (h : ℕ) (x : RowWish) (w : Wish) (m : Mark) → WaitsFor s h x w m
+    → x.rank ≤ slice_index bars h → list_any (is_item x) (row_by_place s bars h) ≡ true
 row_all s bars h x w m waits low =
     let ws = s.dossier.wishes in
     let ms = s.marks in
@@ -164,27 +184,34 @@ row_all s bars h x w m waits low =
     let (wish, mark) = entry_is ws ms p w m waits.waits.here in
     let p_in : p < n = slice_get_within ws p w (wish_of ws ms p w m waits.waits.here) in
     let school : is_school (row_school s bars w m w.school) h ≡ true =
-    stands_back s bars h w m w.school (record { waits = waits.waits.waits; has = waits.has; no_bed = waits.no_bed; low = omega (arith, waits.rank, low) }) in
+    stands_back s bars h w m w.school
+    (record { waits = waits.waits.waits; has = waits.has; no_bed = waits.no_bed; low = omega (arith, waits.rank, low) }) in
     let P = λ (v : Wish). is_school (row_school s bars v m v.school) h ≡ true in
     let Q = λ (o : Mark). is_school (row_school s bars (wish_in ws p) o (wish_in ws p).school) h ≡ true in
     let in_row : is_in_row s bars h p ≡ true = subst Q (sym mark) (subst P (sym wish) school) in
     let at_p : get_or (range_with_len 0 n) p 0 ≡ p = get_or-range_with_len 0 n p 0 p_in ∙ zero-add p in
-    let in_range : is_among p (range_with_len 0 n) ≡ true = list_any_at (nat_eq p) (range_with_len 0 n) p 0 (omega (arith, p_in, length-range_with_len 0 n)) (eq-eqb p (get_or (range_with_len 0 n) p 0) (sym at_p)) in
+    let in_range : is_among p (range_with_len 0 n) ≡ true = list_any_at (nat_eq p) (range_with_len 0 n) p 0
+    (omega (arith, p_in, length-range_with_len 0 n)) (eq-eqb p (get_or (range_with_len 0 n) p 0) (sym at_p)) in
     let rank : (wish_in ws p).board_rank ≡ x.rank = ap (λ (v : Wish). v.board_rank) wish ∙ sym waits.rank in
-    any_item x (row_wish ws) p (filter (is_in_row s bars h) (range_with_len 0 n)) (ap (λ (r : ℕ). let z : RowWish = record { rank = r; wish = p } in z) rank)
+    any_item x (row_wish ws) p (filter (is_in_row s bars h) (range_with_len 0 n))
+    (ap (λ (r : ℕ). let z : RowWish = record { rank = r; wish = p } in z) rank)
     (among_kept (is_in_row s bars h) p (range_with_len 0 n) in_row in_range)
 
 -- those items that pass a test, by place
-places_kept : (f : ℕ → RowWish) (q : RowWish → Bool) (ks : List ℕ) → ((k : ℕ) → (f k).wish ≡ k) → map (λ x. x.wish) (filter q (map f ks)) ≡ filter (λ k. q (f k)) ks
+places_kept : (f : ℕ → RowWish) (q : RowWish → Bool) (ks : List ℕ) → ((k : ℕ) → (f k).wish ≡ k)
+    → map (λ x. x.wish) (filter q (map f ks)) ≡ filter (λ k. q (f k)) ks
 places_kept f q [] own = refl
 places_kept f q (k ∷ ks) own =
     elim (cases_Bool (q (f k))) [
-      | inl kept ↦ rw kept (ap (λ (j : ℕ). j ∷ map (λ (x : RowWish). x.wish) (filter q (map f ks))) (own k) ∙ ap (λ (js : List ℕ). k ∷ js) (places_kept f q ks own))
+      | inl kept ↦ rw kept
+          (ap (λ (j : ℕ). j ∷ map (λ (x : RowWish). x.wish) (filter q (map f ks))) (own k)
+          ∙ ap (λ (js : List ℕ). k ∷ js) (places_kept f q ks own))
       | inr dropped ↦ rw dropped (places_kept f q ks own)
     ]
 
 -- a row that is put in order by rank is that of its school
-row_sorted : (s : State) (bars : List ℕ) (h : ℕ) (row : List RowWish) → length s.marks ≡ length s.dossier.wishes → IsPermutation (row_by_place s bars h) row
+row_sorted : (s : State) (bars : List ℕ) (h : ℕ) (row : List RowWish)
+    → length s.marks ≡ length s.dossier.wishes → IsPermutation (row_by_place s bars h) row
     → IsNonDecreasingBy (λ x. x.rank) row → IsStableByKey (λ x. x.rank) nat_cmp (row_by_place s bars h) row → IsRow s bars h row
 row_sorted s bars h row long moved rises stable =
     let ws = s.dossier.wishes in
@@ -195,13 +222,18 @@ row_sorted s bars h row long moved rises stable =
     let all : All (IsInRow s bars h) row = All-permutation (IsInRow s bars h) items row moved (row_each s bars h long) in
     let read : (k : ℕ) (x : RowWish) → slice_get row k ≡ Some x → (k < length row) × (get_or row k x ≡ x) =
     λ k x at. (slice_get_within row k x at, sym (unwrap_or-slice_get row k x) ∙ ap (λ (o : Option RowWish). unwrap_or o x) at) in
-    let in_row : (k : ℕ) (x : RowWish) → slice_get row k ≡ Some x → IsInRow s bars h x = λ k x at. let P = λ (z : RowWish). IsInRow s bars h z in subst P (read k x at).1 (all k x (read k x at).0) in
+    let in_row : (k : ℕ) (x : RowWish) → slice_get row k ≡ Some x
+    → IsInRow s bars h x = λ k x at. let P = λ (z : RowWish). IsInRow s bars h z in subst P
+    (read k x at).1 (all k x (read k x at).0) in
     let order : InPlaceOrder rank_of (λ x. x.wish) row =
     in_order_from rank_of (λ x. x.wish) row (λ r.
-    let same : map (λ (x : RowWish). x.wish) (filter (λ x. nat_eq x.rank r) row) ≡ filter (λ k. nat_eq (row_wish ws k).rank r) (filter q range) =
-    ap (map (λ (x : RowWish). x.wish)) (stable_own rank_of items row moved stable r) ∙ places_kept (row_wish ws) (λ x. nat_eq x.rank r) (filter q range) (λ k. refl) in
+    let same : map (λ (x : RowWish). x.wish) (filter (λ x. nat_eq x.rank r) row) ≡ filter
+    (λ k. nat_eq (row_wish ws k).rank r) (filter q range) =
+    ap (map (λ (x : RowWish). x.wish)) (stable_own rank_of items row moved stable r)
+    ∙ places_kept (row_wish ws) (λ x. nat_eq x.rank r) (filter q range) (λ k. refl) in
     let P = λ (ks : List ℕ). Ascends ks in
-    subst P (sym same) (ascends-filter (λ k. nat_eq (row_wish ws k).rank r) (filter q range) (ascends-filter q range (ascends-range 0 (length ws))))) in
+    subst P (sym same) (ascends-filter (λ k. nat_eq (row_wish ws k).rank r) (filter q range)
+    (ascends-filter q range (ascends-range 0 (length ws))))) in
     record {
       rises = λ j k x y le a b.
           let (k_in, k_is) = read k y b in
@@ -210,7 +242,8 @@ row_sorted s bars h row long moved rises stable =
       in_order = λ j k x y lt a b same. in_place_order rank_of (λ x. x.wish) row order j k x y lt a b same;
       each = λ k x at. let one = in_row k x at in (one.wish, one.mark, one.waits);
       below = λ k x at. (in_row k x at).low;
-      all = λ x w m waits low. item_place x row (sym (list_any-IsPermutation (is_item x) items row moved) ∙ row_all s bars h x w m waits low);
+      all = λ x w m waits low. item_place x row
+          (sym (list_any-IsPermutation (is_item x) items row moved) ∙ row_all s bars h x w m waits low);
     }
 
 -- the rows below a number are in order by rank, and the others by place
@@ -219,17 +252,28 @@ pub record AreSortedBelow (s : State) (bars : List ℕ) (n : ℕ) (rows : List (
   pub done : (h : ℕ) (row : Vec RowWish Global) → h < n → slice_get rows h ≡ Some row → IsRow s bars h row.items
   pub rest : (h : ℕ) (row : Vec RowWish Global) → n ≤ h → slice_get rows h ≡ Some row → row.items ≡ row_by_place s bars h
 
-pub sorted_none : (s : State) (bars : List ℕ) (rows : List (Vec RowWish Global)) → AreFilled s bars rows → AreSortedBelow s bars 0 rows
-sorted_none s bars rows filled = record { one_each = filled.one_each; done = λ h row lt at. absurd (omega (arith, lt)); rest = λ h row le at. filled.each h row at }
+pub sorted_none : (s : State) (bars : List ℕ) (rows : List (Vec RowWish Global)) → AreFilled s bars rows
+    → AreSortedBelow s bars 0 rows
+sorted_none s bars rows filled =
+    record {
+      one_each = filled.one_each;
+      done = λ h row lt at. absurd (omega (arith, lt));
+      rest =
+          λ h row le at. filled.each h row at;
+    }
 
-pub sorted_more : (s : State) (bars : List ℕ) (n : ℕ) (rows : List (Vec RowWish Global)) (before after : Vec RowWish Global) → length s.marks ≡ length s.dossier.wishes
+pub sorted_more : (s : State) (bars : List ℕ) (n : ℕ) (rows : List (Vec RowWish Global))
+    (before after : Vec RowWish Global) → length s.marks ≡ length s.dossier.wishes
     → AreSortedBelow s bars n rows → n < length rows → before ≡ get_or rows n before → IsPermutation before.items after.items
-    → IsNonDecreasingBy (λ x. x.rank) after.items → IsStableByKey (λ x. x.rank) nat_cmp before.items after.items → AreSortedBelow s bars (n + 1) (set rows n after)
+    → IsNonDecreasingBy (λ x. x.rank) after.items
+    → IsStableByKey (λ x. x.rank) nat_cmp before.items after.items → AreSortedBelow s bars (n + 1) (set rows n after)
 sorted_more s bars n rows before after long are lt read moved rises stable =
-    let was : before.items ≡ row_by_place s bars n = are.rest n before (omega arith) (slice_get_read rows (length rows) n before refl lt read) in
+    let was : before.items ≡ row_by_place s bars n = are.rest n before (omega arith)
+    (slice_get_read rows (length rows) n before refl lt read) in
     let P = λ (xs : List RowWish). IsPermutation xs after.items in
     let Q = λ (xs : List RowWish). IsStableByKey (λ x. x.rank) nat_cmp xs after.items in
-    let right : IsRow s bars n after.items = row_sorted s bars n after.items long (subst P was moved) rises (subst Q was stable) in
+    let right : IsRow s bars n after.items = row_sorted s bars n after.items long (subst P was moved) rises
+    (subst Q was stable) in
     record {
       one_each = length-set rows n after ∙ are.one_each;
       done = λ h row h_lt at. elim (cases_eq h n) [
@@ -243,19 +287,22 @@ sorted_more s bars n rows before after long are lt read moved rises stable =
       rest = λ h row le at. are.rest h row (omega (arith, le)) (get_set_other rows n h after row (λ e. omega (arith, le, e)) at);
     }
 
-pub sorted_all : (s : State) (bars : List ℕ) (n : ℕ) (rows : List (Vec RowWish Global)) → AreSortedBelow s bars n rows → length rows ≤ n → AreRows s bars rows
+pub sorted_all : (s : State) (bars : List ℕ) (n : ℕ) (rows : List (Vec RowWish Global))
+    → AreSortedBelow s bars n rows → length rows ≤ n → AreRows s bars rows
 sorted_all s bars n rows are le = record {
   one_each = are.one_each;
   each = λ h row at. are.done h row (omega (arith, le, slice_get_within rows h row at)) at;
 }
 
 -- a wish in a row has a school
-row_boards : (s : State) (bars : List ℕ) (w : Wish) (m : Mark) (h : ℕ) (o : Option ℕ) → (is_some o && is_school (row_school s bars w m o) h) ≡ is_school (row_school s bars w m o) h
+row_boards : (s : State) (bars : List ℕ) (w : Wish) (m : Mark) (h : ℕ) (o : Option ℕ)
+    → (is_some o && is_school (row_school s bars w m o) h) ≡ is_school (row_school s bars w m o) h
 row_boards s bars w m h None = refl
 row_boards s bars w m h (Some school) = refl
 
 -- the wishes with a school are in their order all that stand in rows
-pub filled_all : (s : State) (bars : List ℕ) (rows : List (Vec RowWish Global)) → AreRowsOf (row_wish s.dossier.wishes) (is_in_row s bars) (length s.dossier.schools) (boarders_of s.dossier) rows
+pub filled_all : (s : State) (bars : List ℕ) (rows : List (Vec RowWish Global))
+    → AreRowsOf (row_wish s.dossier.wishes) (is_in_row s bars) (length s.dossier.schools) (boarders_of s.dossier) rows
     → AreFilled s bars rows
 filled_all s bars rows are =
     let ws = s.dossier.wishes in
@@ -266,13 +313,6 @@ filled_all s bars rows are =
           are.each h row at
           ∙ ap (map (row_wish ws))
           (filter_twice (is_in_row s bars h) (boards_at s.dossier) range
-          ∙ filter_same (λ k. boards_at s.dossier k && is_in_row s bars h k) (is_in_row s bars h) (λ k. row_boards s bars (wish_in ws k) (mark_in s.marks k) h (wish_in ws k).school) range);
+          ∙ filter_same (λ k. boards_at s.dossier k && is_in_row s bars h k) (is_in_row s bars h)
+          (λ k. row_boards s bars (wish_in ws k) (mark_in s.marks k) h (wish_in ws k).school) range);
     }
-
--- they are places of wishes
-pub boarders_within : (d : DossierRows) (boarders : List ℕ) → boarders ≡ boarders_of d → All (λ k. k < length d.wishes) boarders
-boarders_within d boarders is =
-    let n = length d.wishes in
-    let P = λ (ks : List ℕ). All (λ k. k < n) ks in
-    subst P (sym is)
-    (All-filter (boards_at d) (λ k. k < n) (range_with_len 0 n) (λ j e j_lt. omega (arith, get_or-range_with_len 0 n j e (omega (arith, j_lt, length-range_with_len 0 n)), j_lt, length-range_with_len 0 n)))

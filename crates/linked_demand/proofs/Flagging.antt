@@ -22,7 +22,8 @@ use Rattle.linked_demand.proofs.Opens.{map_same}
 use Rattle.linked_demand.proofs.Seating.{wish_in_is}
 
 -- one more value of a function of places
-pub more_of : {X : Type 0} (f : ℕ → X) (n : ℕ) (xs new : List X) (x : X) → new ≡ xs ++ x ∷ [] → xs ≡ map f (range_with_len 0 n) → x ≡ f n → new ≡ map f (range_with_len 0 (n + 1))
+pub more_of : {X : Type 0} (f : ℕ → X) (n : ℕ) (xs new : List X) (x : X) → new ≡ xs ++ x ∷ []
+    → xs ≡ map f (range_with_len 0 n) → x ≡ f n → new ≡ map f (range_with_len 0 (n + 1))
 more_of {X} f n xs new x pushed are is =
     pushed
     ∙ ap (λ (ys : List X). ys ++ x ∷ []) are
@@ -30,31 +31,36 @@ more_of {X} f n xs new x pushed are is =
     ∙ sym (map-range_with_len_more f 0 n n (omega arith))
 
 -- one more of a list that a function is taken over
-pub map_take_more : {X Y : Type 0} (f : X → Y) (xs : List X) (i : ℕ) (d : X) → i < length xs → map f (take (i + 1) xs) ≡ map f (take i xs) ++ f (get_or xs i d) ∷ []
+pub map_take_more : {X Y : Type 0} (f : X → Y) (xs : List X) (i : ℕ) (d : X) → i < length xs
+    → map f (take (i + 1) xs) ≡ map f (take i xs) ++ f (get_or xs i d) ∷ []
 map_take_more {X} f xs i d lt = ap (map f) (take_more xs i d lt) ∙ map-append f (take i xs) (get_or xs i d ∷ [])
 
-share : (a b c : Bool) → ((a && c) || (b && c)) ≡ ((a || b) && c)
+pub share : (a b c : Bool) → ((a && c) || (b && c)) ≡ ((a || b) && c)
 share true b true = refl
 share true true false = refl
 share true false false = refl
 share false b c = refl
 
 -- flags that are those of a list where a fact holds are found where it holds
-any_scaled : (f g : ℕ → Bool) (b : Bool) (ks : List ℕ) → AllByRecursion (λ k. f k ≡ (g k && b)) ks → list_any f ks ≡ (list_any g ks && b)
+any_scaled : (f g : ℕ → Bool) (b : Bool) (ks : List ℕ) → AllByRecursion (λ k. f k ≡ (g k && b)) ks
+    → list_any f ks ≡ (list_any g ks && b)
 any_scaled f g b [] all = refl
 any_scaled f g b (k ∷ ks) all = rw (all.0, any_scaled f g b ks all.1) (share (g k) (list_any g ks) b)
 
-all_placed : (P : ℕ → Type 0) (t : Wish → Bool) (ws : List Wish) (a : ℕ) → ((j : ℕ) (w : Wish) → slice_get ws j ≡ Some w → t w ≡ true → P (a + j))
+all_placed : (P : ℕ → Type 0) (t : Wish → Bool) (ws : List Wish) (a : ℕ)
+    → ((j : ℕ) (w : Wish) → slice_get ws j ≡ Some w → t w ≡ true → P (a + j))
     → AllByRecursion P (map (λ x. x.0) (filter (λ x. t x.1) (enumerate_from a ws)))
 all_placed P t [] a h = tt
 all_placed P t (w ∷ ws) a h =
-    let rest = all_placed P t ws (a + 1) (λ j v at passes. subst P (let z : a + suc j ≡ a + 1 + j = omega arith in z) (h (suc j) v at passes)) in
+    let rest = all_placed P t ws (a + 1)
+    (λ j v at passes. subst P (let z : a + suc j ≡ a + 1 + j = omega arith in z) (h (suc j) v at passes)) in
     elim (cases_Bool (t w)) [
       | inl passes ↦ rw passes (subst P (let z : a + 0 ≡ a = omega arith in z) (h 0 w refl passes), rest)
       | inr fails ↦ rw fails rest
     ]
 
-module _ (s : State) (orders : List CallOrder) (opens : List Bool) (long : length opens ≡ length s.dossier.wishes) (marks : length s.marks ≡ length s.dossier.wishes) where
+module _ (s : State) (orders : List CallOrder) (opens : List Bool)
+    (long : length opens ≡ length s.dossier.wishes) (marks : length s.marks ≡ length s.dossier.wishes) where
   -- a candidate wants a seat where a wish of their claim does
   pub wants_claim : (p c : ℕ) → list_any (wanting_at s opens) (claim_of s.dossier p c) ≡ wants_by s opens p c
   wants_claim p c =
@@ -72,33 +78,44 @@ module _ (s : State) (orders : List CallOrder) (opens : List Bool) (long : lengt
       ∙ ap (λ b. b && not (holds_seat s c p)) (claim_flagged s opens p c long marks)
 
   -- who of a programme's line wants a seat, as the claims tell it
-  pub wants_right : (p : ℕ) (row : List (List ℕ)) → row ≡ map (claim_of s.dossier p) (line_of s.dossier orders p) → wants_along s opens row ≡ map (wants_by s opens p) (line_of s.dossier orders p)
+  pub wants_right : (p : ℕ) (row : List (List ℕ))
+      → row ≡ map (claim_of s.dossier p) (line_of s.dossier orders p)
+      → wants_along s opens row ≡ map (wants_by s opens p) (line_of s.dossier orders p)
   wants_right p row row_is =
       ap (map (list_any (wanting_at s opens))) row_is
       ∙ map-map (list_any (wanting_at s opens)) (claim_of s.dossier p) (line_of s.dossier orders p)
-      ∙ map_same (λ c. list_any (wanting_at s opens) (claim_of s.dossier p c)) (wants_by s opens p) (λ c. wants_claim p c) (line_of s.dossier orders p)
+      ∙ map_same (λ c. list_any (wanting_at s opens) (claim_of s.dossier p c)) (wants_by s opens p)
+      (λ c. wants_claim p c) (line_of s.dossier orders p)
 
-pub claims_each : {d : DossierRows} {orders : List CallOrder} {claims : List (List (List ℕ))} {places : List ℕ} {early : List Bool} → IsLineup d orders claims places early
+pub claims_each : {d : DossierRows} {orders : List CallOrder} {claims : List (List (List ℕ))}
+    {places : List ℕ} {early : List Bool} → IsLineup d orders claims places early
     → length claims ≡ length d.programmes
-claims_each {d} {orders} are = ap length are.claims_are ∙ length-map-range_with_len (λ q. map (claim_of d q) (line_of d orders q)) 0 (length d.programmes)
+claims_each {d} {orders} are = ap length are.claims_are
+    ∙ length-map-range_with_len (λ q. map (claim_of d q) (line_of d orders q)) 0 (length d.programmes)
 
 -- the claims of a programme that are read
-pub row_right : {d : DossierRows} {orders : List CallOrder} {claims : List (List (List ℕ))} {places : List ℕ} {early : List Bool} → IsLineup d orders claims places early
-    → (p : ℕ) → p < length d.programmes → (row : List (List ℕ)) → row ≡ get_or claims p row → row ≡ map (claim_of d p) (line_of d orders p)
+pub row_right : {d : DossierRows} {orders : List CallOrder} {claims : List (List (List ℕ))}
+    {places : List ℕ} {early : List Bool} → IsLineup d orders claims places early
+    → (p : ℕ) → p < length d.programmes → (row : List (List ℕ)) → row ≡ get_or claims p row
+    → row ≡ map (claim_of d p) (line_of d orders p)
 row_right {d} {orders} {claims} are p lt row read =
     read_range (λ q. map (claim_of d q) (line_of d orders q)) (length d.programmes) p claims row are.claims_are lt read
 
-pub row_within : (d : DossierRows) (orders : List CallOrder) (p n : ℕ) (row : List (List ℕ)) → row ≡ map (claim_of d p) (line_of d orders p) → n ≡ length d.wishes
+pub row_within : (d : DossierRows) (orders : List CallOrder) (p n : ℕ) (row : List (List ℕ))
+    → row ≡ map (claim_of d p) (line_of d orders p) → n ≡ length d.wishes
     → (j : ℕ) → j < length row → All (λ k. k < n) (get_or row j [])
 row_within d orders p n row is n_is j lt =
     let line = line_of d orders p in
     let in_line : j < length line = omega (arith, lt, ap length is, length-map line (claim_of d p)) in
     let P = λ (ks : List ℕ). All (λ k. k < n) ks in
-    subst P (sym (ap (λ (r : List (List ℕ)). get_or r j []) is ∙ get_or-map (claim_of d p) line j 0 [] in_line)) (claim_within d p (get_or line j 0) n n_is)
+    subst P (sym (ap (λ (r : List (List ℕ)). get_or r j []) is
+    ∙ get_or-map (claim_of d p) line j 0 [] in_line)) (claim_within d p (get_or line j 0) n n_is)
 
 -- the links of a lineup with its lines and the flags of those who need no seat
-linked : (s : State) (orders : List CallOrder) (opens : List Bool) (lines : List LineRow) (claims : List (List (List ℕ))) (places : List ℕ) (early sure : List Bool) (n : ℕ)
-    → length s.marks ≡ length s.dossier.wishes → length opens ≡ length s.dossier.wishes → IsLineup s.dossier orders claims places early
+linked : (s : State) (orders : List CallOrder) (opens : List Bool) (lines : List LineRow)
+    (claims : List (List (List ℕ))) (places : List ℕ) (early sure : List Bool) (n : ℕ)
+    → length s.marks ≡ length s.dossier.wishes → length opens ≡ length s.dossier.wishes
+    → IsLineup s.dossier orders claims places early
     → n ≡ length s.dossier.programmes → lines ≡ map (seat_row s orders opens) (range_with_len 0 n)
     → sure ≡ map (sure_at s early) (range_with_len 0 (length s.dossier.wishes))
     → IsLinked s orders opens lines claims places sure
@@ -121,15 +138,18 @@ linked s orders opens lines claims places early sure n marks long lineup n_is li
     }
 
 -- how far the seats reach of all programmes up to one
-pub all_reached : (s : State) (orders : List CallOrder) (opens : List Bool) (reached : List ℕ) (claims : List (List (List ℕ))) (places : List ℕ) (early sure : List Bool) (n : ℕ)
-    → length s.marks ≡ length s.dossier.wishes → length opens ≡ length s.dossier.wishes → IsLineup s.dossier orders claims places early
+pub all_reached : (s : State) (orders : List CallOrder) (opens : List Bool) (reached : List ℕ)
+    (claims : List (List (List ℕ))) (places : List ℕ) (early sure : List Bool) (n : ℕ)
+    → length s.marks ≡ length s.dossier.wishes → length opens ≡ length s.dossier.wishes
+    → IsLineup s.dossier orders claims places early
     → n ≡ length s.dossier.programmes → reached ≡ map (λ p. reach_in (seat_row s orders opens p)) (range_with_len 0 n)
     → sure ≡ map (sure_at s early) (range_with_len 0 (length s.dossier.wishes))
     → IsReached s orders opens reached claims places sure
 all_reached s orders opens reached claims places early sure n marks long lineup n_is reached_are sure_are =
     let count = length s.dossier.programmes in
     record {
-      links = linked s orders opens (seat_rows s orders opens) claims places early sure count marks long lineup refl refl sure_are;
+      links = linked s orders opens (seat_rows s orders opens) claims places early sure count marks long
+          lineup refl refl sure_are;
       reached_are =
           reached_are
           ∙ ap (λ k. map (λ p. reach_in (seat_row s orders opens p)) (range_with_len 0 k)) n_is

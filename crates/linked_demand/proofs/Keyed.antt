@@ -12,16 +12,22 @@ use Rattle.linked_demand.proofs.Keeping.{add_none}
 use Rattle.linked_demand.proofs.RoundFalls.{get_set_here, get_set_other}
 
 -- empty rows, and one more
-get_push : {X : Type 0} (xs : List X) (x y : X) (h : ℕ) → slice_get (xs ++ x ∷ []) h ≡ Some y → (slice_get xs h ≡ Some y) ⊎ (x ≡ y)
+get_push : {X : Type 0} (xs : List X) (x y : X) (h : ℕ) → slice_get (xs ++ x ∷ []) h ≡ Some y
+    → (slice_get xs h ≡ Some y) ⊎ (x ≡ y)
 get_push [] x y zero at = inr (ap (λ o. unwrap_or o x) at)
 get_push [] x y (suc h) at = absurd (omega (arith, slice_get_within (x ∷ []) (suc h) y at))
 get_push (z ∷ xs) x y zero at = inl at
 get_push (z ∷ xs) x y (suc h) at = get_push xs x y h at
 
 pub empty_none : (X : Type 0) → AreEmpty {X = X} 0 []
-empty_none X = record { as_many = refl; each = λ h row at. absurd (omega (arith, slice_get_within {A = Vec X Global} [] h row at)) }
+empty_none X = record {
+  as_many = refl;
+  each = λ h row at. absurd
+      (omega (arith, slice_get_within {A = Vec X Global} [] h row at));
+}
 
-pub empty_more : {X : Type 0} (n : ℕ) (rows : List (Vec X Global)) (row : Vec X Global) → AreEmpty n rows → row.items ≡ [] → AreEmpty (n + 1) (rows ++ row ∷ [])
+pub empty_more : {X : Type 0} (n : ℕ) (rows : List (Vec X Global)) (row : Vec X Global) → AreEmpty n rows
+    → row.items ≡ [] → AreEmpty (n + 1) (rows ++ row ∷ [])
 empty_more {X} n rows row are none = record {
   as_many = omega (arith, length-append rows (row ∷ []), are.as_many);
   each = λ h other at. elim (get_push rows row other h at) [
@@ -34,7 +40,8 @@ empty_more {X} n rows row are none = record {
 pub put_nowhere : {X : Type 0} (x : X) (rows : List (Vec X Global)) → IsPutIn (λ h. false) x rows rows
 put_nowhere x rows = record { as_many = refl; each = λ h row at. (row, at, add_none row.items) }
 
-pub put_somewhere : {X : Type 0} (g : ℕ) (x : X) (rows : List (Vec X Global)) (before after : Vec X Global) → g < length rows → before ≡ get_or rows g before
+pub put_somewhere : {X : Type 0} (g : ℕ) (x : X) (rows : List (Vec X Global)) (before after : Vec X Global)
+    → g < length rows → before ≡ get_or rows g before
     → after.items ≡ before.items ++ x ∷ [] → IsPutIn (λ h. nat_eq g h) x rows (set rows g after)
 put_somewhere {X} g x rows before after lt read pushed = record {
   as_many = length-set rows g after;
@@ -42,19 +49,23 @@ put_somewhere {X} g x rows before after lt read pushed = record {
     | inl here ↦
         let is : after ≡ row = get_set_here rows g after row (rw here at at) in
         let found : slice_get rows h ≡ Some before = rw here (slice_get_read rows (length rows) g before refl lt read) in
-        let items : row.items ≡ before.items ++ (if nat_eq g h then x ∷ [] else []) = rw (eq-eqb g h (sym here)) (ap (λ (v : Vec X Global). v.items) (sym is) ∙ pushed) in
+        let items : row.items ≡ before.items ++ (if nat_eq g h then x ∷ [] else []) =
+        rw (eq-eqb g h (sym here)) (ap (λ (v : Vec X Global). v.items) (sym is) ∙ pushed) in
         (before, found, items)
     | inr other ↦
-        let items : row.items ≡ row.items ++ (if nat_eq g h then x ∷ [] else []) = rw (ne_eqb g h (λ e. other (sym e))) (add_none row.items) in
+        let items : row.items ≡ row.items ++ (if nat_eq g h then x ∷ [] else []) =
+        rw (ne_eqb g h (λ e. other (sym e))) (add_none row.items) in
         (row, get_set_other rows g h after row other at, items)
   ];
 }
 
 -- rows of no place, and of one more that is put in or belongs nowhere
-pub rows_none : {X : Type 0} (item : ℕ → X) (belongs : ℕ → ℕ → Bool) (n : ℕ) (rows : List (Vec X Global)) → AreEmpty n rows → AreRowsOf item belongs n [] rows
+pub rows_none : {X : Type 0} (item : ℕ → X) (belongs : ℕ → ℕ → Bool) (n : ℕ) (rows : List (Vec X Global))
+    → AreEmpty n rows → AreRowsOf item belongs n [] rows
 rows_none item belongs n rows none = record { one_each = none.as_many; each = none.each }
 
-pub rows_more : {X : Type 0} (item : ℕ → X) (belongs : ℕ → ℕ → Bool) (n : ℕ) (places : List ℕ) (i : ℕ) (here : ℕ → Bool) (x : X) (rows new : List (Vec X Global)) → i < length places
+pub rows_more : {X : Type 0} (item : ℕ → X) (belongs : ℕ → ℕ → Bool) (n : ℕ) (places : List ℕ) (i : ℕ)
+    (here : ℕ → Bool) (x : X) (rows new : List (Vec X Global)) → i < length places
     → ((h : ℕ) → here h ≡ belongs h (get_or places i 0)) → x ≡ item (get_or places i 0)
     → AreRowsOf item belongs n (take i places) rows → IsPutIn here x rows new → AreRowsOf item belongs n (take (i + 1) places) new
 rows_more {X} item belongs n places i here x rows new lt here_is x_is are put = record {
@@ -75,8 +86,10 @@ rows_more {X} item belongs n places i here x rows new lt here_is x_is are put = 
       ];
 }
 
-pub rows_over : {X : Type 0} (item : ℕ → X) (belongs : ℕ → ℕ → Bool) (n : ℕ) (places : List ℕ) (i : ℕ) (rows : List (Vec X Global)) → i < length places
-    → ((h : ℕ) → belongs h (get_or places i 0) ≡ false) → AreRowsOf item belongs n (take i places) rows → AreRowsOf item belongs n (take (i + 1) places) rows
+pub rows_over : {X : Type 0} (item : ℕ → X) (belongs : ℕ → ℕ → Bool) (n : ℕ) (places : List ℕ) (i : ℕ)
+    (rows : List (Vec X Global)) → i < length places
+    → ((h : ℕ) → belongs h (get_or places i 0) ≡ false) → AreRowsOf item belongs n (take i places) rows
+    → AreRowsOf item belongs n (take (i + 1) places) rows
 rows_over item belongs n places i rows lt nowhere are = record {
   one_each = are.one_each;
   each = λ h row at. are.each h row at ∙ sym (passed_over (belongs h) item places i lt (nowhere h));

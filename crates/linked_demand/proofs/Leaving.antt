@@ -19,10 +19,12 @@ use Rattle.linked_demand.proofs.Moving.{and_not_same}
 use Rattle.linked_demand.proofs.Reach.{reach_within, reach_behind, reach_moved, reached_by_count, fresh_none, fresh_some}
 
 -- one who leaves their seat wanted one, wants none any more, and was reached
-not_before : (wanted wants before : Bool) → (wanted && (not wants && before)) ≡ false → wanted ≡ true → wants ≡ false → before ≡ false
+not_before : (wanted wants before : Bool) → (wanted && (not wants && before)) ≡ false → wanted ≡ true
+    → wants ≡ false → before ≡ false
 not_before wanted wants before e had stopped = rw (had, stopped) at e
 
-module _ {s : State} {orders : List CallOrder} {opens : List Bool} {claims : List (List (List ℕ))} {places : List ℕ} {sure : List Bool} {i : ℕ} {w : Wish}
+module _ {s : State} {orders : List CallOrder} {opens : List Bool} {claims : List (List (List ℕ))}
+    {places : List ℕ} {sure : List Bool} {i : ℕ} {w : Wish}
     (k : Closes s orders opens (seat_rows s orders opens) claims places sure i w) where
   -- the line of the wish's programme before and after
   abbrev old : LineRow
@@ -32,47 +34,60 @@ module _ {s : State} {orders : List CallOrder} {opens : List Bool} {claims : Lis
   new = seat_row s orders (set opens i false) w.programme
 
   -- the claims that are read are those of the programme
-  pub claims_right : (row : List (List ℕ)) → row ≡ get_or claims w.programme row → row ≡ map (claim_of s.dossier w.programme) (line_of s.dossier orders w.programme)
+  pub claims_right : (row : List (List ℕ)) → row ≡ get_or claims w.programme row
+      → row ≡ map (claim_of s.dossier w.programme) (line_of s.dossier orders w.programme)
   claims_right row read =
-      read_range (λ p. map (claim_of s.dossier p) (line_of s.dossier orders p)) (length s.dossier.programmes) w.programme claims row k.links.claims_are (programme_within k) read
+      read_range (λ p. map (claim_of s.dossier p) (line_of s.dossier orders p))
+      (length s.dossier.programmes) w.programme claims row k.links.claims_are (programme_within k) read
 
   -- so many of them are in the line
-  pub in_claims : (row : List (List ℕ)) → row ≡ get_or claims w.programme row → length row ≡ length (line_of s.dossier orders w.programme)
-  in_claims row read = ap length (claims_right row read) ∙ length-map (line_of s.dossier orders w.programme) (claim_of s.dossier w.programme)
+  pub in_claims : (row : List (List ℕ)) → row ≡ get_or claims w.programme row
+      → length row ≡ length (line_of s.dossier orders w.programme)
+  in_claims row read = ap length (claims_right row read)
+      ∙ length-map (line_of s.dossier orders w.programme) (claim_of s.dossier w.programme)
 
   -- the claim at a place is that of the one who stands there
-  pub claim_there : (row : List (List ℕ)) → row ≡ get_or claims w.programme row → (at : ℕ) → at < length row → (claim : List ℕ) → claim ≡ get_or row at []
+  pub claim_there : (row : List (List ℕ)) → row ≡ get_or claims w.programme row → (at : ℕ) → at < length row
+      → (claim : List ℕ) → claim ≡ get_or row at []
       → claim ≡ claim_of s.dossier w.programme (get_or (line_of s.dossier orders w.programme) at 0)
   claim_there row row_read at lt claim read =
       read
       ∙ ap (λ (r : List (List ℕ)). get_or r at []) (claims_right row row_read)
-      ∙ get_or-map (claim_of s.dossier w.programme) (line_of s.dossier orders w.programme) at 0 [] (omega (arith, lt, in_claims row row_read))
+      ∙ get_or-map (claim_of s.dossier w.programme) (line_of s.dossier orders w.programme) at 0 []
+      (omega (arith, lt, in_claims row row_read))
 
   -- whether the wish's candidate wants a seat under flags, as their claim tells it
-  pub wants_here : (flags : List Bool) → length flags ≡ length s.dossier.wishes → (claim : List ℕ) → claim ≡ claim_of s.dossier w.programme w.candidate
+  pub wants_here : (flags : List Bool) → length flags ≡ length s.dossier.wishes → (claim : List ℕ)
+      → claim ≡ claim_of s.dossier w.programme w.candidate
       → (found : Bool) → found ≡ list_any (wanting_at s flags) claim → found ≡ wants_by s flags w.programme w.candidate
   wants_here flags long claim is found found_is =
-      found_is ∙ ap (list_any (wanting_at s flags)) is ∙ wants_claim s orders flags long k.links.marks_each w.programme w.candidate
+      found_is ∙ ap (list_any (wanting_at s flags)) is
+      ∙ wants_claim s orders flags long k.links.marks_each w.programme w.candidate
 
   -- and who of the line does
-  pub wants_there : (flags : List Bool) → length flags ≡ length s.dossier.wishes → (row : List (List ℕ)) → row ≡ get_or claims w.programme row
+  pub wants_there : (flags : List Bool) → length flags ≡ length s.dossier.wishes → (row : List (List ℕ))
+      → row ≡ get_or claims w.programme row
       → wants_along s flags row ≡ (seat_row s orders flags w.programme).flags
   wants_there flags long row read = wants_right s orders flags long k.links.marks_each w.programme row (claims_right row read)
 
-  pub reached_each : (reached : List ℕ) → reached ≡ map reach_in (seat_rows s orders opens) → length reached ≡ length s.dossier.programmes
+  pub reached_each : (reached : List ℕ) → reached ≡ map reach_in (seat_rows s orders opens)
+      → length reached ≡ length s.dossier.programmes
   reached_each reached are =
       ap length are
       ∙ length-map (seat_rows s orders opens) reach_in
       ∙ length-map-range_with_len (seat_row s orders opens) 0 (length s.dossier.programmes)
 
   -- the number that is read is that of the programme
-  pub reach_right : (reached : List ℕ) → reached ≡ map reach_in (seat_rows s orders opens) → (before : ℕ) → before ≡ get_or reached w.programme before → before ≡ reach_in old
+  pub reach_right : (reached : List ℕ) → reached ≡ map reach_in (seat_rows s orders opens) → (before : ℕ)
+      → before ≡ get_or reached w.programme before → before ≡ reach_in old
   reach_right reached are before read =
       read_range (λ p. reach_in (seat_row s orders opens p)) (length s.dossier.programmes) w.programme reached before
-      (are ∙ map-map reach_in (seat_row s orders opens) (range_with_len 0 (length s.dossier.programmes))) (programme_within k) read
+      (are ∙ map-map reach_in (seat_row s orders opens) (range_with_len 0 (length s.dossier.programmes)))
+      (programme_within k) read
 
   -- the number of the programme is put in its place
-  pub reach_put : (reached : List ℕ) → reached ≡ map reach_in (seat_rows s orders opens) → (now : ℕ) → now ≡ reach_in new → IsReached s orders (set opens i false) (set reached w.programme now) claims places sure
+  pub reach_put : (reached : List ℕ) → reached ≡ map reach_in (seat_rows s orders opens) → (now : ℕ)
+      → now ≡ reach_in new → IsReached s orders (set opens i false) (set reached w.programme now) claims places sure
   reach_put reached are now is =
       let rows = seat_rows s orders opens in
       record {
@@ -85,7 +100,8 @@ module _ {s : State} {orders : List CallOrder} {opens : List Bool} {claims : Lis
       }
 
   -- a number that stays right stays
-  pub reach_kept : (reached : List ℕ) → reached ≡ map reach_in (seat_rows s orders opens) → (before : ℕ) → before ≡ get_or reached w.programme before → before ≡ reach_in new
+  pub reach_kept : (reached : List ℕ) → reached ≡ map reach_in (seat_rows s orders opens) → (before : ℕ)
+      → before ≡ get_or reached w.programme before → before ≡ reach_in new
       → IsReached s orders (set opens i false) reached claims places sure
   reach_kept reached are before read is =
       let lt : w.programme < length reached = omega (arith, programme_within k, reached_each reached are) in
@@ -94,8 +110,10 @@ module _ {s : State} {orders : List CallOrder} {opens : List Bool} {claims : Lis
       let P = λ (ns : List ℕ). IsReached s orders (set opens i false) ns claims places sure in
       subst P same (reach_put reached are before is)
 
-module _ {s : State} {orders : List CallOrder} {opens : List Bool} {claims : List (List (List ℕ))} {places : List ℕ} {sure : List Bool} {i : ℕ} {w : Wish}
-    (k : Closes s orders opens (seat_rows s orders opens) claims places sure i w) (place : ℕ) (at : IsSeatPlace s.dossier orders w place) where
+module _ {s : State} {orders : List CallOrder} {opens : List Bool} {claims : List (List (List ℕ))}
+    {places : List ℕ} {sure : List Bool} {i : ℕ} {w : Wish}
+    (k : Closes s orders opens (seat_rows s orders opens) claims places sure i w) (place : ℕ)
+    (at : IsSeatPlace s.dossier orders w place) where
   -- so many places are reached now; of those who want a seat the one at the answer is reached anew, and no other
   pub record Moves (now : ℕ) (answer : Option ℕ) : Type 0 where
     pub reach : now ≡ reach_in (new k)
@@ -103,7 +121,8 @@ module _ {s : State} {orders : List CallOrder} {opens : List Bool} {claims : Lis
         → (is_reached (new k) j && not (is_reached (old k) j)) ≡ is_answer answer j
 
   flag_was : get_or (old k).flags place false ≡ wants_by s opens w.programme w.candidate
-  flag_was = get_or-map (wants_by s opens w.programme) (line_of s.dossier orders w.programme) place 0 false at.within ∙ ap (wants_by s opens w.programme) at.here
+  flag_was = get_or-map (wants_by s opens w.programme) (line_of s.dossier orders w.programme) place 0 false
+      at.within ∙ ap (wants_by s opens w.programme) at.here
 
   -- nobody wants a seat who wanted none
   wanted_before : wants_by s (set opens i false) w.programme w.candidate ≡ true → wants_by s opens w.programme w.candidate ≡ true
@@ -117,9 +136,11 @@ module _ {s : State} {orders : List CallOrder} {opens : List Bool} {claims : Lis
   same_row same =
       let flags : set (old k).flags place (wants_by s (set opens i false) w.programme w.candidate) ≡ (old k).flags =
       ap (set (old k).flags place) (same ∙ sym flag_was) ∙ set-get_or (old k).flags place false in
-      row_is k place at ∙ ap (λ (fs : List Bool). let r : LineRow = record { flags = fs; quota = seats_left s w.programme } in r) flags
+      row_is k place at ∙ ap (λ (fs : List Bool). let r : LineRow =
+      record { flags = fs; quota = seats_left s w.programme } in r) flags
 
-  cleared_row : wants_by s (set opens i false) w.programme w.candidate ≡ false → new k ≡ record { flags = set (old k).flags place false; quota = seats_left s w.programme }
+  cleared_row : wants_by s (set opens i false) w.programme w.candidate ≡ false
+      → new k ≡ record { flags = set (old k).flags place false; quota = seats_left s w.programme }
   cleared_row none = rw none at (row_is k place at)
 
   none_fresh : new k ≡ old k → (j : ℕ) → (is_reached (new k) j && not (is_reached (old k) j)) ≡ false
@@ -133,11 +154,13 @@ module _ {s : State} {orders : List CallOrder} {opens : List Bool} {claims : Lis
   in_flags : (j : ℕ) → j < length (line_of s.dossier orders w.programme) → j < length (old k).flags
   in_flags j lt = omega (arith, lt, length-map (line_of s.dossier orders w.programme) (wants_by s opens w.programme))
 
-  stays_behind : (before : ℕ) → before ≡ reach_in (old k) → before ≤ place → wants_by s (set opens i false) w.programme w.candidate ≡ false → Moves before None
+  stays_behind : (before : ℕ) → before ≡ reach_in (old k) → before ≤ place
+      → wants_by s (set opens i false) w.programme w.candidate ≡ false → Moves before None
   stays_behind before is behind none =
       let row = cleared_row none in
       let quota = seats_left s w.programme in
-      let stay : before ≡ reach quota (set (old k).flags place false) = is ∙ sym (reach_behind quota (old k).flags place false (omega (arith, is, behind))) in
+      let stay : before ≡ reach quota (set (old k).flags place false) = is
+      ∙ sym (reach_behind quota (old k).flags place false (omega (arith, is, behind))) in
       record {
         reach = stay ∙ ap reach_in (sym row);
         fresh = λ j lt t.
@@ -146,20 +169,24 @@ module _ {s : State} {orders : List CallOrder} {opens : List Bool} {claims : Lis
       }
 
   -- where none leaves a seat, all stays
-  pub nobody_leaves : (wanted wants : Bool) (before : ℕ) → wanted ≡ wants_by s opens w.programme w.candidate → wants ≡ wants_by s (set opens i false) w.programme w.candidate
+  pub nobody_leaves : (wanted wants : Bool) (before : ℕ) → wanted ≡ wants_by s opens w.programme w.candidate
+      → wants ≡ wants_by s (set opens i false) w.programme w.candidate
       → before ≡ reach_in (old k) → (wanted && (not wants && nat_lt place before)) ≡ false → Moves before None
   nobody_leaves wanted wants before wanted_is wants_is is stays =
       elim (cases_Bool wants) [
         | inl still ↦ let now = sym wants_is ∙ still in stays_same before is (same_row (now ∙ sym (wanted_before now)))
         | inr stopped ↦ elim (cases_Bool wanted) [
-          | inl had ↦ stays_behind before is (ltb-false place before (not_before wanted wants (nat_lt place before) stays had stopped)) (sym wants_is ∙ stopped)
+          | inl had ↦ stays_behind before is
+              (ltb-false place before (not_before wanted wants (nat_lt place before) stays had stopped)) (sym wants_is ∙ stopped)
           | inr never ↦ stays_same before is (same_row ((sym wants_is ∙ stopped) ∙ sym (sym wanted_is ∙ never)))
         ]
       ]
 
   -- where one does, the next who wants it is reached
-  pub one_leaves : (wanted wants : Bool) (before now : ℕ) (after : List Bool) (answer : Option ℕ) → wanted ≡ wants_by s opens w.programme w.candidate
-      → wants ≡ wants_by s (set opens i false) w.programme w.candidate → before ≡ reach_in (old k) → (wanted && (not wants && nat_lt place before)) ≡ true
+  pub one_leaves : (wanted wants : Bool) (before now : ℕ) (after : List Bool) (answer : Option ℕ)
+      → wanted ≡ wants_by s opens w.programme w.candidate
+      → wants ≡ wants_by s (set opens i false) w.programme w.candidate → before ≡ reach_in (old k)
+      → (wanted && (not wants && nat_lt place before)) ≡ true
       → after ≡ (new k).flags → now ≡ before + next (drop before after) → answer ≡ last_new after before now → Moves now answer
   one_leaves wanted wants before now after answer wanted_is wants_is is leaves after_is now_is answer_is =
       let quota = seats_left s w.programme in
@@ -168,18 +195,23 @@ module _ {s : State} {orders : List CallOrder} {opens : List Bool} {claims : Lis
       let row = cleared_row (sym wants_is ∙ not-true wants rest.0) in
       let flags : after ≡ set (old k).flags place false = after_is ∙ ap (λ (r : LineRow). r.flags) row in
       let step : now ≡ before + next (drop before (set (old k).flags place false)) = rw flags at now_is in
-      let moved = reach_moved quota (old k).flags place before is (flag_was ∙ sym wanted_is ∙ parts.0) (ltb-true place before rest.1) in
+      let moved = reach_moved quota (old k).flags place before is (flag_was ∙ sym wanted_is ∙ parts.0)
+      (ltb-true place before rest.1) in
       record {
         reach = step ∙ moved ∙ ap reach_in (sym row);
         fresh = λ j lt t.
             let P = λ (r : LineRow). (is_reached r j && not (is_reached (old k) j)) ≡ is_answer answer j in
-            let flag : get_or (set (old k).flags place false) j false ≡ true = ap (λ (r : LineRow). get_or r.flags j false) (sym row) ∙ t in
-            subst P (sym row) (fresh_some (old k) quota (old k).flags place before refl is now step (step ∙ moved) after flags answer answer_is j (in_flags j lt) flag);
+            let flag : get_or (set (old k).flags place false) j false ≡ true =
+            ap (λ (r : LineRow). get_or r.flags j false) (sym row) ∙ t in
+            subst P (sym row) (fresh_some (old k) quota (old k).flags place before refl is now step
+            (step ∙ moved) after flags answer answer_is j (in_flags j lt) flag);
       }
 
 -- what the calls of a closing read and answer
-pub record Reads {s : State} {orders : List CallOrder} {opens : List Bool} {claims : List (List (List ℕ))} {places : List ℕ} {sure : List Bool} {i : ℕ} {w : Wish}
-    (k : Closes s orders opens (seat_rows s orders opens) claims places sure i w) (place : ℕ) (row : List (List ℕ)) (claim : List ℕ) (reached : List ℕ) (before : ℕ) (wanted wants leaves : Bool) : Type 0 where
+pub record Reads {s : State} {orders : List CallOrder} {opens : List Bool} {claims : List (List (List ℕ))}
+    {places : List ℕ} {sure : List Bool} {i : ℕ} {w : Wish}
+    (k : Closes s orders opens (seat_rows s orders opens) claims places sure i w) (place : ℕ)
+    (row : List (List ℕ)) (claim : List ℕ) (reached : List ℕ) (before : ℕ) (wanted wants leaves : Bool) : Type 0 where
   pub stands : IsSeatPlace s.dossier orders w place
   pub row_read : row ≡ get_or claims w.programme row
   pub claim_read : claim ≡ get_or row place []
@@ -189,8 +221,10 @@ pub record Reads {s : State} {orders : List CallOrder} {opens : List Bool} {clai
   pub wants_is : wants ≡ list_any (wanting_at s (set opens i false)) claim
   pub leaves_is : leaves ≡ (wanted && (not wants && nat_lt place before))
 
-module _ {s : State} {orders : List CallOrder} {opens : List Bool} {claims : List (List (List ℕ))} {places : List ℕ} {sure : List Bool} {i : ℕ} {w : Wish}
-    {k : Closes s orders opens (seat_rows s orders opens) claims places sure i w} {place : ℕ} {row : List (List ℕ)} {claim : List ℕ} {reached : List ℕ} {before : ℕ} {wanted wants leaves : Bool}
+module _ {s : State} {orders : List CallOrder} {opens : List Bool} {claims : List (List (List ℕ))}
+    {places : List ℕ} {sure : List Bool} {i : ℕ} {w : Wish}
+    {k : Closes s orders opens (seat_rows s orders opens) claims places sure i w} {place : ℕ}
+    {row : List (List ℕ)} {claim : List ℕ} {reached : List ℕ} {before : ℕ} {wanted wants leaves : Bool}
     (r : Reads k place row claim reached before wanted wants leaves) where
   own_claim : claim ≡ claim_of s.dossier w.programme w.candidate
   own_claim = claim_right k place r.stands row r.row_read claim r.claim_read
@@ -203,32 +237,48 @@ module _ {s : State} {orders : List CallOrder} {opens : List Bool} {claims : Lis
 
   pub before_within : before ≤ length row
   before_within =
-      omega (arith, reach_was, reach_within (seats_left s w.programme) (old k).flags, length-map (line_of s.dossier orders w.programme) (wants_by s opens w.programme), in_claims k row r.row_read)
+      omega (
+        arith,
+        reach_was,
+        reach_within (seats_left s w.programme) (old k).flags,
+        length-map
+            (line_of s.dossier orders w.programme) (wants_by s opens w.programme),
+        in_claims k row r.row_read,
+      )
 
   pub row_below : AreBelow (length s.dossier.wishes) row
   row_below = row_within s.dossier orders w.programme (length s.dossier.wishes) row (claims_right k row r.row_read) refl
 
   pub stays_closed : leaves ≡ false → Moves k place r.stands before None
   stays_closed stays =
-      nobody_leaves k place r.stands wanted wants before (wants_here k opens k.links.opens_each claim own_claim wanted r.wanted_is) (wants_here k (set opens i false) long claim own_claim wants r.wants_is)
+      nobody_leaves k place r.stands wanted wants before
+      (wants_here k opens k.links.opens_each claim own_claim wanted r.wanted_is)
+      (wants_here k (set opens i false) long claim own_claim wants r.wants_is)
       reach_was (sym r.leaves_is ∙ stays)
 
-  pub moves_closed : leaves ≡ true → (now : ℕ) (answer : Option ℕ) → now ≡ before + next (drop before (wants_along s (set opens i false) row))
+  pub moves_closed : leaves ≡ true → (now : ℕ) (answer : Option ℕ)
+      → now ≡ before + next (drop before (wants_along s (set opens i false) row))
       → answer ≡ last_new (wants_along s (set opens i false) row) before now → Moves k place r.stands now answer
   moves_closed goes now answer now_is answer_is =
-      one_leaves k place r.stands wanted wants before now (wants_along s (set opens i false) row) answer (wants_here k opens k.links.opens_each claim own_claim wanted r.wanted_is)
-      (wants_here k (set opens i false) long claim own_claim wants r.wants_is) reach_was (sym r.leaves_is ∙ goes) (wants_there k (set opens i false) long row r.row_read) now_is answer_is
+      one_leaves k place r.stands wanted wants before now (wants_along s (set opens i false) row) answer
+      (wants_here k opens k.links.opens_each claim own_claim wanted r.wanted_is)
+      (wants_here k (set opens i false) long claim own_claim wants r.wants_is) reach_was
+      (sym r.leaves_is ∙ goes) (wants_there k (set opens i false) long row r.row_read) now_is answer_is
 
 -- whether a place is reached, by the number that is kept
-pub reached_is : (s : State) (orders : List CallOrder) (opens : List Bool) (p place : ℕ) (n : ℕ) (reached : Bool) → n ≡ reach_in (seat_row s orders opens p)
-    → place < length (line_of s.dossier orders p) → reached ≡ nat_lt place n → reached ≡ is_reached (seat_row s orders opens p) place
+pub reached_is : (s : State) (orders : List CallOrder) (opens : List Bool) (p place : ℕ) (n : ℕ)
+    (reached : Bool) → n ≡ reach_in (seat_row s orders opens p)
+    → place < length (line_of s.dossier orders p) → reached ≡ nat_lt place n
+    → reached ≡ is_reached (seat_row s orders opens p) place
 reached_is s orders opens p place n reached is lt by =
     by
     ∙ ap (nat_lt place) is
-    ∙ reached_by_count (seats_left s p) (seat_row s orders opens p).flags place (omega (arith, lt, length-map (line_of s.dossier orders p) (wants_by s opens p)))
+    ∙ reached_by_count (seats_left s p) (seat_row s orders opens p).flags place
+    (omega (arith, lt, length-map (line_of s.dossier orders p) (wants_by s opens p)))
 
 -- the line of a programme stands among all lines
 pub row_there : (s : State) (orders : List CallOrder) (opens : List Bool) (p : ℕ) → p < length s.dossier.programmes
     → seat_row s orders opens p ≡ get_or (seat_rows s orders opens) p (seat_row s orders opens p)
 row_there s orders opens p lt =
-    sym (get_or-map-range_with_len (seat_row s orders opens) 0 (length s.dossier.programmes) p p (seat_row s orders opens p) lt (omega arith))
+    sym (get_or-map-range_with_len (seat_row s orders opens) 0 (length s.dossier.programmes) p p
+    (seat_row s orders opens p) lt (omega arith))

@@ -11,6 +11,8 @@ pub mod Demanded
 pub mod Falling
 pub mod Filling
 pub mod Flagging
+pub mod Fronted
+pub mod Fronting
 pub mod Keeping
 pub mod Keyed
 pub mod Leaving
@@ -18,6 +20,7 @@ pub mod Lining
 pub mod Lowered
 pub mod Marked
 pub mod Marking
+pub mod MaybeSure
 pub mod Moving
 pub mod Naming
 pub mod OneFall

@@ -25,11 +25,14 @@ use Rattle.linked_demand.proofs.Closing.{places_below}
 
 -- the wishes by place
 pub wishes_by_place : (ws : List Wish) → ws ≡ map (wish_in ws) (range_with_len 0 (length ws))
-wishes_by_place ws = fill_by_all (wish_in ws) ws (length ws) (wish_in [] 0) refl (λ k lt. sym (unwrap_or-slice_get ws k (wish_in [] 0)))
+wishes_by_place ws = fill_by_all (wish_in ws) ws (length ws) (wish_in [] 0) refl
+    (λ k lt. sym (unwrap_or-slice_get ws k (wish_in [] 0)))
 
 -- the places of those who pass, counted from the first place or taken from a range
 pub numbered : {X : Type 0} (t : X → Bool) (f : ℕ → X) (n a : ℕ)
-    → map (λ (x : ℕ × X). x.0) (filter (λ (x : ℕ × X). t x.1) (enumerate_from a (map f (range_with_len a n)))) ≡ filter (λ k. t (f k)) (range_with_len a n)
+    → map (λ (x : ℕ × X). x.0)
+    (filter (λ (x : ℕ × X). t x.1) (enumerate_from a (map f (range_with_len a n)))) ≡ filter
+    (λ k. t (f k)) (range_with_len a n)
 numbered t f zero a = refl
 numbered t f (suc n) a =
     let later = numbered t f n (a + 1) in
@@ -43,7 +46,11 @@ filter_twice p q [] = refl
 filter_twice {X} p q (x ∷ xs) =
     let later = filter_twice p q xs in
     elim (cases_Bool (q x)) [
-      | inl kept ↦ rw kept (elim (cases_Bool (p x)) [ inl passes ↦ rw passes (ap (λ (ys : List X). x ∷ ys) later) | inr fails ↦ rw fails later ])
+      | inl kept ↦ rw kept (elim (cases_Bool (p x)) [
+        | inl passes ↦
+            rw passes (ap (λ (ys : List X). x ∷ ys) later)
+        | inr fails ↦ rw fails later
+      ])
       | inr dropped ↦ rw dropped later
     ]
 
@@ -53,9 +60,11 @@ claim_own d p c =
     let n = length d.wishes in
     let t = λ (w : Wish). (nat_eq w.candidate c) && (nat_eq w.programme p) in
     filter_twice (applies_at d p) (λ k. candidate_of d k == c) (range_with_len 0 n)
-    ∙ filter_same (λ k. (candidate_of d k == c) && applies_at d p k) (λ k. t (wish_in d.wishes k)) (λ k. rw (candidate_in d.wishes k) refl) (range_with_len 0 n)
+    ∙ filter_same (λ k. (candidate_of d k == c) && applies_at d p k) (λ k. t (wish_in d.wishes k))
+    (λ k. rw (candidate_in d.wishes k) refl) (range_with_len 0 n)
     ∙ sym (numbered t (wish_in d.wishes) n 0)
-    ∙ ap (λ (ws : List Wish). map (λ (x : ℕ × Wish). x.0) (filter (λ (x : ℕ × Wish). t x.1) (enumerate_from 0 ws))) (sym (wishes_by_place d.wishes))
+    ∙ ap (λ (ws : List Wish). map (λ (x : ℕ × Wish). x.0)
+    (filter (λ (x : ℕ × Wish). t x.1) (enumerate_from 0 ws))) (sym (wishes_by_place d.wishes))
 
 none_below : {X : Type 0} (t : X → Bool) (es : List X) (a k : ℕ) → k < a
     → is_among k (map (λ (x : ℕ × X). x.0) (filter (λ (x : ℕ × X). t x.1) (enumerate_from a es))) ≡ false
@@ -85,8 +94,10 @@ among_numbered t (x ∷ es) a (suc i) k e at is =
     ]
 
 -- a wish is in the claim of its candidate in its programme, and in no other
-pub among_claim : (d : DossierRows) (p c i : ℕ) (w : Wish) → slice_get d.wishes i ≡ Some w → is_among i (claim_of d p c) ≡ (nat_eq w.candidate c && nat_eq w.programme p)
-among_claim d p c i w at = among_numbered (λ (v : Wish). (nat_eq v.candidate c) && (nat_eq v.programme p)) d.wishes 0 i i w at (omega arith)
+pub among_claim : (d : DossierRows) (p c i : ℕ) (w : Wish) → slice_get d.wishes i ≡ Some w
+    → is_among i (claim_of d p c) ≡ (nat_eq w.candidate c && nat_eq w.programme p)
+among_claim d p c i w at = among_numbered (λ (v : Wish). (nat_eq v.candidate c) && (nat_eq v.programme p))
+    d.wishes 0 i i w at (omega arith)
 
 pub among_some : (k : ℕ) (ks : List ℕ) → is_among k ks ≡ true → nat_lt 0 (length ks) ≡ true
 among_some k [] t = absurd (false≢true t)
@@ -112,10 +123,12 @@ all_get P [] all j lt = absurd (omega arith)
 all_get P (y ∷ ys) all zero lt = all.0
 all_get P (y ∷ ys) all (suc j) lt = all_get P ys all.1 j (omega arith)
 
-all_at : (c : ℕ) (ys : List ℕ) → AllByRecursion (λ y. nat_eq c y ≡ false) ys → (j : ℕ) → j < length ys → nat_eq c (get_or ys j 0) ≡ false
+all_at : (c : ℕ) (ys : List ℕ) → AllByRecursion (λ y. nat_eq c y ≡ false) ys → (j : ℕ) → j < length ys
+    → nat_eq c (get_or ys j 0) ≡ false
 all_at c ys all j lt = all_get (λ y. nat_eq c y ≡ false) ys all j lt
 
-all_kept : (c : ℕ) (f : ℕ → Bool) (ys : List ℕ) → AllByRecursion (λ y. nat_eq c y ≡ false) ys → AllByRecursion (λ y. nat_eq c y ≡ false) (filter f ys)
+all_kept : (c : ℕ) (f : ℕ → Bool) (ys : List ℕ) → AllByRecursion (λ y. nat_eq c y ≡ false) ys
+    → AllByRecursion (λ y. nat_eq c y ≡ false) (filter f ys)
 all_kept c f [] all = tt
 all_kept c f (y ∷ ys) all =
     elim (cases_Bool (f y)) [
@@ -123,11 +136,13 @@ all_kept c f (y ∷ ys) all =
       | inr dropped ↦ rw dropped (all_kept c f ys all.1)
     ]
 
-once_first : (c x : ℕ) (ys : List ℕ) → AllByRecursion (λ y. nat_eq c y ≡ false) ys → (j : ℕ) → j < length (x ∷ ys) → nat_eq j 0 ≡ false → nat_eq c (get_or (x ∷ ys) j 0) ≡ false
+once_first : (c x : ℕ) (ys : List ℕ) → AllByRecursion (λ y. nat_eq c y ≡ false) ys → (j : ℕ)
+    → j < length (x ∷ ys) → nat_eq j 0 ≡ false → nat_eq c (get_or (x ∷ ys) j 0) ≡ false
 once_first c x ys all zero lt ne = absurd (false≢true (sym ne))
 once_first c x ys all (suc j) lt ne = all_at c ys all j (omega arith)
 
-once_later : (c x k : ℕ) (ys : List ℕ) → nat_eq c x ≡ false → IsPlaceOf c ys k → (j : ℕ) → j < length (x ∷ ys) → nat_eq j (suc k) ≡ false → nat_eq c (get_or (x ∷ ys) j 0) ≡ false
+once_later : (c x k : ℕ) (ys : List ℕ) → nat_eq c x ≡ false → IsPlaceOf c ys k → (j : ℕ)
+    → j < length (x ∷ ys) → nat_eq j (suc k) ≡ false → nat_eq c (get_or (x ∷ ys) j 0) ≡ false
 once_later c x k ys not_x at zero lt ne = not_x
 once_later c x k ys not_x at (suc j) lt ne = at.once j (omega arith) (ne_eqb j k (λ e. eqb-false (suc j) (suc k) ne (ap suc e)))
 
@@ -171,13 +186,17 @@ le_next i limit =
     ]
 
 -- whether one who stands at a place of the call order is called by the limit
-pub early_at : (d : DossierRows) (orders : List CallOrder) (w : Wish) (order : List ℕ) (i : ℕ) → order ≡ order_of d orders w.programme
+pub early_at : (d : DossierRows) (orders : List CallOrder) (w : Wish) (order : List ℕ) (i : ℕ)
+    → order ≡ order_of d orders w.programme
     → IsDistinct nat_eq order → i < length order → get_or order i 0 ≡ w.candidate
     → is_early d orders w ≡ nat_lt i (limit_of d w.programme)
 early_at d orders w order i is apart lt at =
-    let none : is_among w.candidate (take i order) ≡ false = ap (λ c. is_among c (take i order)) (sym at) ∙ fresh order i apart lt in
-    let front : before_first (nat_eq w.candidate) (order_of d orders w.programme) ≡ take i order = rw (← is) (front_same w.candidate order i lt at none) in
-    let long : length (before_first (nat_eq w.candidate) (order_of d orders w.programme)) ≡ i = ap length front ∙ length-take-le i order (omega (arith, lt)) in
+    let none : is_among w.candidate (take i order) ≡ false = ap (λ c. is_among c (take i order)) (sym at)
+    ∙ fresh order i apart lt in
+    let front : before_first (nat_eq w.candidate) (order_of d orders w.programme) ≡ take i order = rw (← is)
+    (front_same w.candidate order i lt at none) in
+    let long : length (before_first (nat_eq w.candidate) (order_of d orders w.programme)) ≡ i = ap length
+    front ∙ length-take-le i order (omega (arith, lt)) in
     ap (λ n. nat_le (n + 1) (limit_of d w.programme)) long ∙ le_next i (limit_of d w.programme)
 
 -- a claim's wishes are places of wishes

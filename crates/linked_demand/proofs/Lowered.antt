@@ -34,20 +34,26 @@ same_entry : (P : Wish × Mark → Type 0) (e f : Wish × Mark) → Some e ≡ S
 same_entry P e f same p = let is : e ≡ f = ap (λ (o : Option (Wish × Mark)). unwrap_or o e) same in subst P is p
 
 -- the wishes of all rows wait
-pub rows_wait : (links : LinksRow) (bars free : List ℕ) (rows : List (Vec RowWish Global)) → IsRound links bars free rows → (h : ℕ) (row : Vec RowWish Global) → slice_get rows h ≡ Some row
+pub rows_wait : (links : LinksRow) (bars free : List ℕ) (rows : List (Vec RowWish Global))
+    → IsRound links bars free rows → (h : ℕ) (row : Vec RowWish Global) → slice_get rows h ≡ Some row
     → AllWait links.state row.items
 rows_wait links bars free rows right h row at k x found =
     let (w, m, waits) = (right.rows_are h row at).each k x found in
     (w, m, waits.waits)
 
-pub one_free_each : (links : LinksRow) (bars free : List ℕ) (rows : List (Vec RowWish Global)) → IsRound links bars free rows → length free ≡ length rows
+pub one_free_each : (links : LinksRow) (bars free : List ℕ) (rows : List (Vec RowWish Global))
+    → IsRound links bars free rows → length free ≡ length rows
 one_free_each links bars free rows right =
-    ap length right.free_are ∙ length-map-range_with_len (free_beds links.state) 0 (length links.state.dossier.schools) ∙ sym right.bars_each ∙ sym right.rows_each
+    ap length right.free_are ∙ length-map-range_with_len (free_beds links.state) 0
+    (length links.state.dossier.schools) ∙ sym right.bars_each ∙ sym right.rows_each
 
 -- the rows and links of a state are a round
-pub round_built : (s : State) (orders : List CallOrder) (links : LinksRow) (ceilings free : List ℕ) (rows : List (Vec RowWish Global))
-    → links ≡ record { state = s; orders = orders; opens = opens_of s ceilings } → length s.marks ≡ length s.dossier.wishes → length ceilings ≡ length s.dossier.schools
-    → free ≡ map (free_beds s) (range_with_len 0 (length s.dossier.schools)) → AreRows s ceilings rows → IsRound links ceilings free rows
+pub round_built : (s : State) (orders : List CallOrder) (links : LinksRow) (ceilings free : List ℕ)
+    (rows : List (Vec RowWish Global))
+    → links ≡ record { state = s; orders = orders; opens = opens_of s ceilings }
+    → length s.marks ≡ length s.dossier.wishes → length ceilings ≡ length s.dossier.schools
+    → free ≡ map (free_beds s) (range_with_len 0 (length s.dossier.schools)) → AreRows s ceilings rows
+    → IsRound links ceilings free rows
 round_built s orders links ceilings free rows is long each free_are rows_are =
     let P = λ (l : LinksRow). IsRound l ceilings free rows in
     subst P (sym is) (record {
@@ -60,9 +66,12 @@ round_built s orders links ceilings free rows is long each free_are rows_are =
     })
 
 -- a round that is built has all answers, since all schools were asked
-pub answers_built : (links : LinksRow) (bars free : List ℕ) (rows : List (Vec RowWish Global)) → IsRound links bars free rows → (overs : List (Option ℕ)) (marked : List Bool)
-    → length overs ≡ length bars → marked ≡ replicate (length bars) true → (beds : List ℕ) (now : List (Vec RowWish Global)) → beds ≡ free → now ≡ rows
-    → (answers : List (Option ℕ)) (last : List Bool) → IsAsked links now beds (λ h. get_or marked h false) overs answers → last ≡ replicate (length marked) false
+pub answers_built : (links : LinksRow) (bars free : List ℕ) (rows : List (Vec RowWish Global))
+    → IsRound links bars free rows → (overs : List (Option ℕ)) (marked : List Bool)
+    → length overs ≡ length bars → marked ≡ replicate (length bars) true
+    → (beds : List ℕ) (now : List (Vec RowWish Global)) → beds ≡ free → now ≡ rows
+    → (answers : List (Option ℕ)) (last : List Bool)
+    → IsAsked links now beds (λ h. get_or marked h false) overs answers → last ≡ replicate (length marked) false
     → IsRoundUnder links bars bars free rows answers last
 answers_built links bars free rows right overs marked long all beds now beds_are now_is answers last asked unmarked =
     let asked_now : IsAsked links rows free (λ h. get_or marked h false) overs answers = rw (← beds_are, ← now_is) asked in
@@ -70,14 +79,21 @@ answers_built links bars free rows right overs marked long all beds now beds_are
       round = right;
       ceilings_each = right.bars_each;
       overs_are =
-          answers_all links bars free rows right (λ h. get_or marked h false) overs answers (long ∙ right.bars_each) asked_now (λ h lt none.
-          absurd (false≢true (sym none ∙ ap (λ (bs : List Bool). get_or bs h false) all ∙ get_or-replicate (length bars) h true false (omega (arith, lt, right.bars_each)))));
-      marked_each = ap length unmarked ∙ length-replicate (length marked) false ∙ ap length all ∙ length-replicate (length bars) true ∙ right.bars_each;
+          answers_all links bars free rows right (λ h. get_or marked h false) overs answers
+          (long ∙ right.bars_each) asked_now (λ h lt none.
+          absurd (false≢true (sym none ∙ ap (λ (bs : List Bool). get_or bs h false) all
+          ∙ get_or-replicate (length bars) h true false (omega (arith, lt, right.bars_each)))));
+      marked_each = ap length unmarked ∙ length-replicate (length marked) false ∙ ap length all
+          ∙ length-replicate (length bars) true ∙ right.bars_each;
     }
 
-module _ (links : LinksRow) (ceilings bars free : List ℕ) (rows : List (Vec RowWish Global)) (overs : List (Option ℕ)) (marked : List Bool) (seen : Round)
-    (right : IsRoundUnder links ceilings bars free rows overs marked) (is : record { state = links.state; orders = links.orders; ceilings = ceilings; bars = bars } ≡ seen)
-    (i to : ℕ) (lt : i < length seen.ceilings) (falls : to < slice_index (bar_each seen.ceilings seen.bars) i) (row : Vec RowWish Global) (read : row ≡ get_or rows i row) where
+module _ (links : LinksRow) (ceilings bars free : List ℕ) (rows : List (Vec RowWish Global))
+    (overs : List (Option ℕ)) (marked : List Bool) (seen : Round)
+    (right : IsRoundUnder links ceilings bars free rows overs marked)
+    (is : record { state = links.state; orders = links.orders; ceilings = ceilings; bars = bars } ≡ seen)
+    (i to : ℕ) (lt : i < length seen.ceilings)
+    (falls : to < slice_index (bar_each seen.ceilings seen.bars) i) (row : Vec RowWish Global)
+    (read : row ≡ get_or rows i row) where
   pub within : i < length bars
   within = bar_within links ceilings bars free rows overs marked seen right is i lt
 
@@ -102,11 +118,13 @@ module _ (links : LinksRow) (ceilings bars free : List ℕ) (rows : List (Vec Ro
         let entry : Some (w, m) ≡ Some e = sym waits.waits.here ∙ there in
         let closed = past_is_closed links.state bars i to within le w m
         (and_from (has_school w i) (not (holds_bed links.state w.candidate i) && nat_lt to w.board_rank) waits.has
-        (and_from (not (holds_bed links.state w.candidate i)) (nat_lt to w.board_rank) waits.no_bed (lt-ltb to w.board_rank (omega (arith, past, waits.rank))))) in
+        (and_from (not (holds_bed links.state w.candidate i)) (nat_lt to w.board_rank) waits.no_bed
+        (lt-ltb to w.board_rank (omega (arith, past, waits.rank))))) in
         same_entry (λ f. is_open links.state (set bars i to) f.0 f.1 ≡ false) (w, m) e entry closed;
   })
 
-  module _ (new : LinksRow) (kept : Vec RowWish Global) (state : new.state ≡ links.state) (orders : new.orders ≡ links.orders) (cut : CutsAt to row.items links.opens kept.items new.opens) where
+  module _ (new : LinksRow) (kept : Vec RowWish Global) (state : new.state ≡ links.state)
+      (orders : new.orders ≡ links.orders) (cut : CutsAt to row.items links.opens kept.items new.opens) where
     pub round_now : IsRound new (set bars i to) free (set rows i kept)
     round_now = round_fallen links bars free i to rows row right.round within read le new kept state cut
 
@@ -118,13 +136,22 @@ module _ (links : LinksRow) (ceilings bars free : List ℕ) (rows : List (Vec Ro
 
     pub system_now : boarding new.state new.orders ceilings ≡ boarding seen.state seen.orders seen.ceilings
     system_now =
-        ap (λ (s : State). boarding s new.orders ceilings) state ∙ ap (λ (o : List CallOrder). boarding links.state o ceilings) orders
+        ap (λ (s : State). boarding s new.orders ceilings) state
+        ∙ ap (λ (o : List CallOrder). boarding links.state o ceilings) orders
         ∙ ap (λ (r : Round). boarding r.state r.orders r.ceilings) is
 
-    pub seen_now : record { state = new.state; orders = new.orders; ceilings = ceilings; bars = set bars i to } ≡ record seen { bars = set seen.bars i to }
+    pub seen_now : record {
+      state = new.state;
+      orders = new.orders;
+      ceilings = ceilings;
+      bars = set bars i
+          to;
+    } ≡ record seen { bars = set seen.bars i to }
     seen_now =
-        ap (λ (s : State). let r : Round = record { state = s; orders = new.orders; ceilings = ceilings; bars = set bars i to } in r) state
-        ∙ ap (λ (o : List CallOrder). let r : Round = record { state = links.state; orders = o; ceilings = ceilings; bars = set bars i to } in r) orders
+        ap (λ (s : State). let r : Round =
+        record { state = s; orders = new.orders; ceilings = ceilings; bars = set bars i to } in r) state
+        ∙ ap (λ (o : List CallOrder). let r : Round =
+        record { state = links.state; orders = o; ceilings = ceilings; bars = set bars i to } in r) orders
         ∙ ap (λ (r : Round). let q : Round = record r { bars = set r.bars i to } in q) is
 
     pub offers_now : proposed new.state new.orders ≡ proposed seen.state seen.orders
@@ -132,33 +159,57 @@ module _ (links : LinksRow) (ceilings bars free : List ℕ) (rows : List (Vec Ro
 
     -- the steps are the changes
     pub steps_now : (low : List ℕ) → low ≡ set bars i to → (before after : ℕ)
-        → after + length kept.items ≡ before + length row.items + count_by (is_new links.state low links new) (enumerate_from 0 (entries links.state))
+        → after + length kept.items ≡ before + length row.items + count_by
+        (is_new links.state low links new) (enumerate_from 0 (entries links.state))
         → after ≡ before + changes_between seen.state seen.orders seen.bars (set bars i to)
     steps_now low low_is before after told =
         let P = λ (r : Round). after ≡ before + changes_between r.state r.orders r.bars (set bars i to) in
-        let Q = λ (bs : List ℕ). after + length kept.items ≡ before + length row.items + count_by (is_new links.state bs links new) (enumerate_from 0 (entries links.state)) in
-        subst P is (steps_spent links new bars i to within le state orders right.round.opens_are now_opens row.items kept.items own cut before after (subst Q low_is told))
+        let Q = λ (bs : List ℕ). after + length kept.items ≡ before + length row.items + count_by
+        (is_new links.state bs links new) (enumerate_from 0 (entries links.state)) in
+        subst P is (steps_spent links new bars i to within le state orders right.round.opens_are now_opens
+        row.items kept.items own cut before after (subst Q low_is told))
 
-    module _ (low : List ℕ) (low_is : low ≡ set bars i to) (after : List Bool) (marks : MarksSchools links.state (is_new links.state low links new) marked after) where
+    module _ (low : List ℕ) (low_is : low ≡ set bars i to) (after : List Bool)
+        (marks : MarksSchools links.state (is_new links.state low links new) marked after) where
       pub marks_long : length (set after i true) ≡ length (set rows i kept)
-      marks_long = omega (arith, length-set after i true, length-set {A = Vec RowWish Global} rows i kept, marks.as_long, right.marked_each, right.round.rows_each, right.round.bars_each)
+      marks_long = omega (
+        arith,
+        length-set after i true,
+        length-set {A = Vec RowWish Global} rows i kept,
+        marks.as_long,
+        right.marked_each,
+        right.round.rows_each,
+        right.round.bars_each,
+      )
 
       pub overs_long : length overs ≡ length (set rows i kept)
       overs_long =
-          omega (arith, length-set {A = Vec RowWish Global} rows i kept, ap length right.overs_are, length-map-range_with_len (over_at links.state links.orders bars) 0 (length links.state.dossier.schools), right.round.rows_each, right.round.bars_each)
+          omega (
+            arith,
+            length-set {A = Vec RowWish Global} rows i kept,
+            ap length right.overs_are,
+            length-map-range_with_len (over_at links.state links.orders bars) 0
+                (length links.state.dossier.schools),
+            right.round.rows_each,
+            right.round.bars_each,
+          )
 
       -- a school that is not marked has the answer that it had
-      answer_kept : (h : ℕ) → h < length new.state.dossier.schools → get_or (set after i true) h false ≡ false → get_or overs h None ≡ over_at new.state new.orders (set bars i to) h
+      answer_kept : (h : ℕ) → h < length new.state.dossier.schools
+          → get_or (set after i true) h false ≡ false → get_or overs h None ≡ over_at new.state new.orders (set bars i to) h
       answer_kept h h_in unmarked =
           let n = length links.state.dossier.schools in
           let h_lt : h < n = omega (arith, h_in, schools) in
           let other : h ≢ i = λ same.
-          let set_true : get_or (set after i true) h false ≡ true = rw same (get_or-set_same after i true false (omega (arith, within, marks.as_long, right.marked_each, right.round.bars_each))) in
+          let set_true : get_or (set after i true) h false ≡ true = rw same
+          (get_or-set_same after i true false
+          (omega (arith, within, marks.as_long, right.marked_each, right.round.bars_each))) in
           false≢true (sym unmarked ∙ set_true) in
           let plain : get_or after h false ≡ false = sym (get_or-set_other after i h true false other) ∙ unmarked in
           let Q = λ (bs : List ℕ). MarksSchools links.state (is_new links.state bs links new) marked after in
           let ranks =
-          ranks_stay links new bars i to h within le state orders right.round.opens_are now_opens marked after (subst Q low_is marks) (omega (arith, h_lt, right.marked_each)) plain other in
+          ranks_stay links new bars i to h within le state orders right.round.opens_are now_opens marked
+          after (subst Q low_is marks) (omega (arith, h_lt, right.marked_each)) plain other in
           ap (λ (os : List (Option ℕ)). get_or os h None) right.overs_are
           ∙ get_or-map-range_with_len (over_at links.state links.orders bars) 0 n h h None h_lt (omega arith)
           ∙ ap (λ (rs : List ℕ). slice_get rs (free_beds links.state h)) (sym ranks)
@@ -166,17 +217,28 @@ module _ (links : LinksRow) (ceilings bars free : List ℕ) (rows : List (Vec Ro
           ∙ ap (λ (o : List CallOrder). over_at new.state o (set bars i to) h) (sym orders)
 
       -- the whole round
-      pub lowered : (beds : List ℕ) (now : List (Vec RowWish Global)) → beds ≡ free → now ≡ set rows i kept → (marks_now : List Bool) → marks_now ≡ set after i true → (answers : List (Option ℕ)) (last : List Bool)
+      pub lowered : (beds : List ℕ) (now : List (Vec RowWish Global)) → beds ≡ free → now ≡ set rows i kept
+          → (marks_now : List Bool) → marks_now ≡ set after i true → (answers : List (Option ℕ)) (last : List Bool)
           → IsAsked new now beds (λ h. get_or marks_now h false) overs answers → last ≡ replicate (length marks_now) false
           → IsRoundUnder new ceilings (set bars i to) free (set rows i kept) answers last
       lowered beds now beds_are now_is marks_now marks_are answers last asked unmarked =
           let P = λ (ms : List Bool). IsAsked new now beds (λ h. get_or ms h false) overs answers in
-          let asked_now : IsAsked new (set rows i kept) free (λ h. get_or (set after i true) h false) overs answers = rw (← beds_are, ← now_is) (subst P marks_are asked) in
+          let asked_now : IsAsked new (set rows i kept) free (λ h. get_or (set after i true) h false) overs
+          answers = rw (← beds_are, ← now_is) (subst P marks_are asked) in
           record {
             round = round_now;
             ceilings_each = right.ceilings_each ∙ schools;
             overs_are =
-                answers_all new (set bars i to) free (set rows i kept) round_now (λ h. get_or (set after i true) h false) overs answers
+                answers_all new (set bars i to) free (set rows i kept) round_now
+                (λ h. get_or (set after i true) h false) overs answers
                 (omega (arith, overs_long, round_now.rows_each, round_now.bars_each)) asked_now answer_kept;
-            marked_each = omega (arith, ap length unmarked, length-replicate (length marks_now) false, ap length marks_are, marks_long, round_now.rows_each, round_now.bars_each);
+            marked_each = omega (
+              arith,
+              ap length unmarked,
+              length-replicate (length marks_now) false,
+              ap length marks_are,
+              marks_long,
+              round_now.rows_each,
+              round_now.bars_each,
+            );
           }

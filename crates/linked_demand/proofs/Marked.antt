@@ -19,8 +19,13 @@ marked_within (b ∷ flags) zero marked = omega arith
 marked_within (b ∷ flags) (suc h) marked = omega (arith, marked_within flags h marked)
 
 -- one mark less
-pub count_cleared : (flags : List Bool) (h : ℕ) → get_or flags h false ≡ true → count_by (λ b. b) flags ≡ 1 + count_by (λ b. b) (set flags h false)
-count_cleared flags h marked = omega (arith, sum_by-set (λ (b : Bool). cond b 1 0) flags h false false (marked_within flags h marked), ap {B = ℕ} (λ (b : Bool). cond b 1 0) marked)
+pub count_cleared : (flags : List Bool) (h : ℕ) → get_or flags h false ≡ true
+    → count_by (λ b. b) flags ≡ 1 + count_by (λ b. b) (set flags h false)
+count_cleared flags h marked = omega (
+  arith,
+  sum_by-set (λ (b : Bool). cond b 1 0) flags h false false (marked_within flags h marked),
+  ap {B = ℕ} (λ (b : Bool). cond b 1 0) marked,
+)
 
 none_counted : (n : ℕ) → count_by (λ b. b) (replicate n false) ≡ 0
 none_counted zero = refl
@@ -37,14 +42,25 @@ module _ (flags : List Bool) (places : List ℕ) (room : ℕ) (right : MarksAreL
   has_room h lt clear =
       let more = count_cleared (set flags h true) h (get_or-set_same flags h true false lt) in
       let back = ap (count_by (λ (b : Bool). b)) (set_back flags h clear) in
-      omega (arith, listed_count (reverse places) flags right.listed, length-reverse places, more, back, count_by-le-length (λ (b : Bool). b) (set flags h true), length-set flags h true, right.room)
+      omega (
+        arith,
+        listed_count (reverse places) flags right.listed,
+        length-reverse places,
+        more,
+        back,
+        count_by-le-length (λ (b : Bool). b) (set flags h true),
+        length-set flags h true,
+        right.room,
+      )
 
-  pub one_marked : (h : ℕ) → h < length flags → get_or flags h false ≡ false → (new : List ℕ) (now_room : ℕ) → new ≡ places ++ h ∷ [] → room ≤ now_room → MarksAreListed (set flags h true) new now_room
+  pub one_marked : (h : ℕ) → h < length flags → get_or flags h false ≡ false → (new : List ℕ) (now_room : ℕ)
+      → new ≡ places ++ h ∷ [] → room ≤ now_room → MarksAreListed (set flags h true) new now_room
   one_marked h lt clear new now_room new_is le =
       let P = λ (hs : List ℕ). AreMarked hs (set flags h true) in
       let Q = λ (fs : List Bool). AreMarked (reverse places) fs in
       record {
-        listed = subst P (sym (ap reverse new_is ∙ reverse-append places (h ∷ []))) (get_or-set_same flags h true false lt, subst Q (sym (set_back flags h clear)) right.listed);
+        listed = subst P (sym (ap reverse new_is ∙ reverse-append places (h ∷ [])))
+            (get_or-set_same flags h true false lt, subst Q (sym (set_back flags h clear)) right.listed);
         room = omega (arith, length-set flags h true, right.room, le);
       }
 
@@ -53,7 +69,8 @@ set_next : (i m : ℕ) → set (replicate i true ++ replicate (suc m) false) i t
 set_next zero m = refl
 set_next (suc i) m = ap (λ bs. true ∷ bs) (set_next i m)
 
-pub all_more : (n i : ℕ) → i < n → set (replicate i true ++ replicate (n - i) false) i true ≡ replicate (i + 1) true ++ replicate (n - (i + 1)) false
+pub all_more : (n i : ℕ) → i < n
+    → set (replicate i true ++ replicate (n - i) false) i true ≡ replicate (i + 1) true ++ replicate (n - (i + 1)) false
 all_more n i lt =
     let rest : n - i ≡ suc (n - (i + 1)) = omega arith in
     let more : i + 1 ≡ suc i = omega arith in

@@ -12,7 +12,8 @@ use Rattle.linked_demand.specs.Marks.{MarksSchools, with_mark}
 use Rattle.linked_demand.proofs.Filling.{entry_is}
 
 -- where nothing passes
-pub marks_nothing : (s : State) (test : ℕ × (Wish × Mark) → Bool) (marked : List Bool) → ((k : ℕ) (e : Wish × Mark) → slice_get (entries s) k ≡ Some e → test (k, e) ≡ false)
+pub marks_nothing : (s : State) (test : ℕ × (Wish × Mark) → Bool) (marked : List Bool)
+    → ((k : ℕ) (e : Wish × Mark) → slice_get (entries s) k ≡ Some e → test (k, e) ≡ false)
     → MarksSchools s test marked marked
 marks_nothing s test marked none = record {
   as_long = refl;
@@ -22,7 +23,8 @@ marks_nothing s test marked none = record {
 
 -- what passes a test passes the other
 pub marks_weaker : (s : State) (test other : ℕ × (Wish × Mark) → Bool) (old new : List Bool)
-    → ((k : ℕ) (e : Wish × Mark) → slice_get (entries s) k ≡ Some e → other (k, e) ≡ true → test (k, e) ≡ true) → MarksSchools s test old new → MarksSchools s other old new
+    → ((k : ℕ) (e : Wish × Mark) → slice_get (entries s) k ≡ Some e → other (k, e) ≡ true
+    → test (k, e) ≡ true) → MarksSchools s test old new → MarksSchools s other old new
 marks_weaker s test other old new weaker marks = record {
   as_long = marks.as_long;
   grows = marks.grows;
@@ -31,7 +33,8 @@ marks_weaker s test other old new weaker marks = record {
 
 -- one after the other: what passes the whole passes one of both
 pub marks_both : (s : State) (first second whole : ℕ × (Wish × Mark) → Bool) (old now new : List Bool)
-    → ((k : ℕ) (e : Wish × Mark) → slice_get (entries s) k ≡ Some e → whole (k, e) ≡ true → first (k, e) ≡ false → second (k, e) ≡ true)
+    → ((k : ℕ) (e : Wish × Mark) → slice_get (entries s) k ≡ Some e → whole (k, e) ≡ true
+    → first (k, e) ≡ false → second (k, e) ≡ true)
     → MarksSchools s first old now → MarksSchools s second now new → MarksSchools s whole old new
 marks_both s first second whole old now new either one two = record {
   as_long = two.as_long ∙ one.as_long;
@@ -46,7 +49,8 @@ mark_long : (school : Option ℕ) (marked : List Bool) → length (with_mark sch
 mark_long None marked = refl
 mark_long (Some h) marked = length-set marked h true
 
-mark_grows : (school : Option ℕ) (marked : List Bool) (h : ℕ) → get_or marked h false ≡ true → get_or (with_mark school marked) h false ≡ true
+mark_grows : (school : Option ℕ) (marked : List Bool) (h : ℕ) → get_or marked h false ≡ true
+    → get_or (with_mark school marked) h false ≡ true
 mark_grows None marked h t = t
 mark_grows (Some g) marked h t =
     elim (cases_eq h g) [
@@ -57,14 +61,19 @@ mark_grows (Some g) marked h t =
       | inr other ↦ get_or-set_other marked g h true false other ∙ t
     ]
 
-mark_here : (school : Option ℕ) (marked : List Bool) (h : ℕ) → is_school school h ≡ true → h < length marked → get_or (with_mark school marked) h false ≡ true
+mark_here : (school : Option ℕ) (marked : List Bool) (h : ℕ) → is_school school h ≡ true → h < length marked
+    → get_or (with_mark school marked) h false ≡ true
 mark_here None marked h has lt = absurd (false≢true has)
 mark_here (Some g) marked h has lt =
     let same : g ≡ h = eqb-true g h has in
     rw same (get_or-set_same marked h true false lt)
 
 among_push : (k v : ℕ) (ks : List ℕ) → is_among k (ks ++ v ∷ []) ≡ true → is_among k ks ≡ false → k ≡ v
-among_push k v [] t none = elim (or_cases (nat_eq k v) false t) [ inl here ↦ eqb-true k v here | inr later ↦ absurd (false≢true later) ]
+among_push k v [] t none = elim (or_cases (nat_eq k v) false t) [
+  | inl here ↦
+      eqb-true k v here
+  | inr later ↦ absurd (false≢true later)
+]
 among_push k v (x ∷ ks) t none =
     elim (or_cases (nat_eq k x) (is_among k (ks ++ v ∷ [])) t) [
       | inl here ↦ absurd (false≢true (sym none ∙ rw here refl))
@@ -77,10 +86,12 @@ module _ (s : State) (claim : List ℕ) (q : ℕ → Bool) (i : ℕ) (lt : i < l
   v = get_or claim i 0
 
   among_more : (k : ℕ) → is_among k (take (i + 1) claim) ≡ true → is_among k (take i claim) ≡ false → k ≡ v
-  among_more k t none = let P = λ (ks : List ℕ). is_among k ks ≡ true in among_push k v (take i claim) (subst P (take_more claim i 0 lt) t) none
+  among_more k t none = let P = λ (ks : List ℕ). is_among k ks ≡ true in among_push k v (take i claim)
+      (subst P (take_more claim i 0 lt) t) none
 
   -- one more that passes
-  pub marks_more : (school : Option ℕ) → school ≡ (wish_in s.dossier.wishes v).school → (new : List Bool) → new ≡ with_mark school now
+  pub marks_more : (school : Option ℕ) → school ≡ (wish_in s.dossier.wishes v).school → (new : List Bool)
+      → new ≡ with_mark school now
       → MarksSchools s (λ x. is_among x.0 (take (i + 1) claim) && q x.0) start new
   marks_more school school_is new new_is = record {
     as_long = ap length new_is ∙ mark_long school now ∙ so_far.as_long;
@@ -88,11 +99,14 @@ module _ (s : State) (claim : List ℕ) (q : ℕ → Bool) (i : ℕ) (lt : i < l
     each = λ k e h at t has within. rw new_is (
         let parts = and_parts (is_among k (take (i + 1) claim)) (q k) t in
         elim (cases_Bool (is_among k (take i claim))) [
-          | inl early ↦ mark_grows school now h (so_far.each k e h at (and_from (is_among k (take i claim)) (q k) early parts.1) has within)
+          | inl early ↦ mark_grows school now h
+              (so_far.each k e h at (and_from (is_among k (take i claim)) (q k) early parts.1) has within)
           | inr late ↦
               let is = among_more k parts.0 late in
-              let wish : wish_in s.dossier.wishes v ≡ e.0 = ap (wish_in s.dossier.wishes) (sym is) ∙ (entry_is s.dossier.wishes s.marks k e.0 e.1 at).0 in
-              let own : is_school school h ≡ true = ap (λ (o : Option ℕ). is_school o h) (school_is ∙ ap (λ (w : Wish). w.school) wish) ∙ has in
+              let wish : wish_in s.dossier.wishes v ≡ e.0 = ap (wish_in s.dossier.wishes) (sym is)
+              ∙ (entry_is s.dossier.wishes s.marks k e.0 e.1 at).0 in
+              let own : is_school school h ≡ true = ap (λ (o : Option ℕ). is_school o h)
+              (school_is ∙ ap (λ (w : Wish). w.school) wish) ∙ has in
               mark_here school now h own (omega (arith, within, so_far.as_long))
         ]);
   }

@@ -19,7 +19,8 @@ use Rattle.linked_demand.specs.Demand.{is_proposed_at}
 use Rattle.linked_demand.proofs.Opens.{row_other, reached_in_line}
 use Rattle.linked_demand.proofs.Closing.{Closes, any_at, wish_of}
 
-at_zip : {X Y : Type 0} (xs : List X) (ys : List Y) (i : ℕ) (x : X) (y : Y) → slice_get xs i ≡ Some x → slice_get ys i ≡ Some y → slice_get (zip xs ys) i ≡ Some (x, y)
+at_zip : {X Y : Type 0} (xs : List X) (ys : List Y) (i : ℕ) (x : X) (y : Y) → slice_get xs i ≡ Some x
+    → slice_get ys i ≡ Some y → slice_get (zip xs ys) i ≡ Some (x, y)
 at_zip [] ys i x y a b = absurd (omega (arith, slice_get_within [] i x a))
 at_zip (u ∷ xs) [] i x y a b = absurd (omega (arith, slice_get_within [] i y b))
 at_zip (u ∷ xs) (v ∷ ys) zero x y a b =
@@ -29,7 +30,8 @@ at_zip (u ∷ xs) (v ∷ ys) zero x y a b =
 at_zip (u ∷ xs) (v ∷ ys) (suc i) x y a b = at_zip xs ys i x y a b
 
 -- a flagged waiting wish finds its candidate
-flag_found : (s : State) (opens : List Bool) (j : ℕ) (v : Wish) (n : Mark) → WaitsAt s j v n → j < length opens → get_or opens j false ≡ true
+flag_found : (s : State) (opens : List Bool) (j : ℕ) (v : Wish) (n : Mark) → WaitsAt s j v n
+    → j < length opens → get_or opens j false ≡ true
     → list_any (is_flagged_in v.programme v.candidate) (flagged s opens) ≡ true
 flag_found s opens j v n waits lt t =
     any_at (is_flagged_in v.programme v.candidate) (flagged s opens) j ((v, n), true)
@@ -38,7 +40,8 @@ flag_found s opens j v n waits lt t =
 
 waits_here : (s : State) (j : ℕ) (v : Wish) (n : Mark) → WaitsAt s j v n → applies_in s.dossier v.programme v.candidate ≡ true
 waits_here s j v n waits =
-    any_at (λ (w : Wish). (nat_eq w.candidate v.candidate) && (nat_eq w.programme v.programme)) s.dossier.wishes j v (wish_of s.dossier.wishes s.marks j v n waits.here)
+    any_at (λ (w : Wish). (nat_eq w.candidate v.candidate) && (nat_eq w.programme v.programme))
+    s.dossier.wishes j v (wish_of s.dossier.wishes s.marks j v n waits.here)
     (rw (eq-eqb v.candidate v.candidate refl, eq-eqb v.programme v.programme refl) refl)
 
 and_one : (b : Bool) → b ≡ (b && true)
@@ -49,32 +52,40 @@ no_left : (a b : Bool) → (a || b) ≡ false → a ≡ false
 no_left true b t = t
 no_left false b t = refl
 
-module _ {s : State} {orders : List CallOrder} {opens : List Bool} {lines : List LineRow} {claims : List (List (List ℕ))} {places : List ℕ} {sure : List Bool} {i : ℕ} {w : Wish}
-    (k : Closes s orders opens lines claims places sure i w) (j : ℕ) (v : Wish) (n : Mark) (waits : WaitsAt s j v n) (place : ℕ) (at : IsSeatPlace s.dossier orders v place)
+module _ {s : State} {orders : List CallOrder} {opens : List Bool} {lines : List LineRow}
+    {claims : List (List (List ℕ))} {places : List ℕ} {sure : List Bool} {i : ℕ} {w : Wish}
+    (k : Closes s orders opens lines claims places sure i w) (j : ℕ) (v : Wish) (n : Mark)
+    (waits : WaitsAt s j v n) (place : ℕ) (at : IsSeatPlace s.dossier orders v place)
     (lt : j < length opens) (other : nat_eq j i ≡ false) where
   flag_same : get_or (set opens i false) j false ≡ get_or opens j false
   flag_same = get_or-set_other opens i j false false (eqb-false j i other)
 
   by_reach : (os : List Bool) → is_proposed_by s orders os v n (get_or opens j false)
-      ≡ ((is_waiting n && get_or opens j false) && (needs_no_seat s orders v || is_reached (seat_row s orders os v.programme) place))
+      ≡ ((is_waiting n && get_or opens j false) && (needs_no_seat s orders v || is_reached
+      (seat_row s orders os v.programme) place))
   by_reach os = rw (reached_in_line s orders os v place (waits_here s j v n waits) at) refl
 
   -- an open wish that needs a seat has its place set
-  flag_set : needs_no_seat s orders v ≡ false → get_or opens j false ≡ true → get_or (seat_row s orders (set opens i false) v.programme).flags place false ≡ true
+  flag_set : needs_no_seat s orders v ≡ false → get_or opens j false ≡ true
+      → get_or (seat_row s orders (set opens i false) v.programme).flags place false ≡ true
   flag_set unsure t =
       let found : list_any (is_flagged_in v.programme v.candidate) (flagged s (set opens i false)) ≡ true =
       flag_found s (set opens i false) j v n waits (omega (arith, lt, length-set opens i false)) (flag_same ∙ t) in
-      let no_seat : holds_seat s v.candidate v.programme ≡ false = no_left (holds_seat s v.candidate v.programme) (nat_le (position_of s orders v) (limit_of s.dossier v.programme)) unsure in
+      let no_seat : holds_seat s v.candidate v.programme ≡ false = no_left
+      (holds_seat s v.candidate v.programme) (nat_le (position_of s orders v) (limit_of s.dossier v.programme)) unsure in
       let wants : wants_by s (set opens i false) v.programme v.candidate ≡ true = rw (found, no_seat) refl in
       get_or-map (wants_by s (set opens i false) v.programme) (line_of s.dossier orders v.programme) place 0 false at.within
       ∙ ap (wants_by s (set opens i false) v.programme) at.here ∙ wants
 
   -- in another programme nothing becomes proposed
   pub stays_proposed : nat_eq w.programme v.programme ≡ false
-      → is_proposed_by s orders (set opens i false) v n (get_or (set opens i false) j false) ≡ is_proposed_by s orders opens v n (get_or opens j false)
+      → is_proposed_by s orders (set opens i false) v n
+      (get_or (set opens i false) j false) ≡ is_proposed_by s orders opens v n (get_or opens j false)
   stays_proposed apart =
       rw flag_same (by_reach (set opens i false)
-      ∙ ap (λ (r : LineRow). (is_waiting n && get_or opens j false) && (needs_no_seat s orders v || is_reached r place)) (row_other s opens i w k.mark k.at.here orders v.programme apart)
+      ∙ ap (λ (r : LineRow).
+      (is_waiting n && get_or opens j false) && (needs_no_seat s orders v || is_reached r place))
+      (row_other s opens i w k.mark k.at.here orders v.programme apart)
       ∙ sym (by_reach opens))
 
 and_nothing : (b : Bool) → (b && false) ≡ false
@@ -86,7 +97,8 @@ none_bits true true q = refl
 none_bits true false q = refl
 none_bits false own q = refl
 
-turn_bits : (waits own next cand q : Bool) → (waits ≡ true → own ≡ true → next ≡ cand) → (waits && ((own && next) && q)) ≡ (((waits && cand) && own) && q)
+turn_bits : (waits own next cand q : Bool) → (waits ≡ true → own ≡ true → next ≡ cand)
+    → (waits && ((own && next) && q)) ≡ (((waits && cand) && own) && q)
 turn_bits false own next cand q h = refl
 turn_bits true true next cand q h = rw (h refl refl) (ap (λ b. b && q) (and_one cand))
 turn_bits true false next cand q h = rw (and_nothing cand) refl
@@ -107,79 +119,124 @@ pub and_not_same : (b : Bool) → (b && not b) ≡ false
 and_not_same true = refl
 and_not_same false = refl
 
-module _ {s : State} {orders : List CallOrder} {opens : List Bool} {lines : List LineRow} {claims : List (List (List ℕ))} {places : List ℕ} {sure : List Bool} {i : ℕ} {w : Wish}
+module _ {s : State} {orders : List CallOrder} {opens : List Bool} {lines : List LineRow}
+    {claims : List (List (List ℕ))} {places : List ℕ} {sure : List Bool} {i : ℕ} {w : Wish}
     (k : Closes s orders opens lines claims places sure i w) (answer : Option ℕ)
-    (fresh : (place : ℕ) → place < length (line_of s.dossier orders w.programme) → get_or (seat_row s orders (set opens i false) w.programme).flags place false ≡ true
-    → (is_reached (seat_row s orders (set opens i false) w.programme) place && not (is_reached (seat_row s orders opens w.programme) place)) ≡ is_answer answer place) where
+    (fresh : (place : ℕ) → place < length (line_of s.dossier orders w.programme)
+    → get_or (seat_row s orders (set opens i false) w.programme).flags place false ≡ true
+    → (is_reached (seat_row s orders (set opens i false) w.programme)
+    place && not (is_reached (seat_row s orders opens w.programme) place)) ≡ is_answer answer place) where
   -- a wish becomes proposed where it stands in the programme at the place that is the answer, is open, and needs a seat
   newly_at : (j : ℕ) (v : Wish) (n : Mark) → WaitsAt s j v n → nat_eq j i ≡ false
-      → (is_proposed_by s orders (set opens i false) v n (get_or (set opens i false) j false) && not (is_proposed_by s orders opens v n (get_or opens j false)))
-      ≡ (is_waiting n && ((nat_eq v.programme w.programme && is_answer answer (slice_index places j)) && (get_or opens j false && not (needs_no_seat s orders v))))
+      → (is_proposed_by s orders (set opens i false) v n
+      (get_or (set opens i false) j false) && not (is_proposed_by s orders opens v n (get_or opens j false)))
+      ≡ (is_waiting n && ((nat_eq v.programme w.programme && is_answer answer
+      (slice_index places j)) && (get_or opens j false && not (needs_no_seat s orders v))))
   newly_at j v n waits other =
       let at = k.links.places_are j v (wish_of s.dossier.wishes s.marks j v n waits.here) in
       let place = slice_index places j in
-      let lt : j < length opens = omega (arith, k.links.opens_each, slice_get_within s.dossier.wishes j v (wish_of s.dossier.wishes s.marks j v n waits.here)) in
+      let lt : j < length opens = omega (
+        arith,
+        k.links.opens_each,
+        slice_get_within s.dossier.wishes j v
+            (wish_of s.dossier.wishes s.marks j v n waits.here),
+      ) in
       elim (cases_Bool (nat_eq v.programme w.programme)) [
         | inl own ↦
             let same : v.programme ≡ w.programme = eqb-true v.programme w.programme own in
             let new = seat_row s orders (set opens i false) v.programme in
             let old = seat_row s orders opens v.programme in
-            let moved : get_or new.flags place false ≡ true → (is_reached new place && not (is_reached old place)) ≡ is_answer answer place =
+            let moved : get_or new.flags place false ≡ true
+            → (is_reached new place && not (is_reached old place)) ≡ is_answer answer place =
             rw same (fresh place (rw same at at.within)) in
-            rw (own, flag_same k j v n waits place at lt other, by_reach k j v n waits place at lt other (set opens i false), by_reach k j v n waits place at lt other opens)
-            (newly_bits (is_waiting n) (get_or opens j false) (needs_no_seat s orders v) (is_reached old place) (is_reached new place) (is_answer answer place)
+            rw (
+              own,
+              flag_same k j v n waits place at lt other,
+              by_reach k j v n waits place at lt other
+                  (set opens i false),
+              by_reach k j v n waits place at lt other opens,
+            )
+            (newly_bits (is_waiting n) (get_or opens j false) (needs_no_seat s orders v)
+            (is_reached old place) (is_reached new place) (is_answer answer place)
             (λ unsure t. moved (flag_set k j v n waits place at lt other unsure t)))
         | inr apart ↦
-            rw (apart, stays_proposed k j v n waits place at lt other (ne_eqb w.programme v.programme (λ e. eqb-false v.programme w.programme apart (sym e))))
+            rw (
+              apart,
+              stays_proposed k j v n waits place at lt other
+                  (ne_eqb w.programme v.programme (λ e. eqb-false v.programme w.programme apart (sym e))),
+            )
             (and_not_same (is_proposed_by s orders opens v n (get_or opens j false)) ∙ sym (and_nothing (is_waiting n)))
       ]
 
   -- the same for every wish, as the rows of the links say it
   newly_all : (j : ℕ) (v : Wish) (n : Mark) → slice_get (entries s) j ≡ Some (v, n)
-      → (is_proposed_at (record { state = s; orders = orders; opens = set opens i false }) j && not (is_proposed_at (record { state = s; orders = orders; opens = opens }) j))
-      ≡ (is_waiting n && ((nat_eq v.programme w.programme && is_answer answer (slice_index places j)) && (get_or (set opens i false) j false && not (get_or sure j false))))
+      → (is_proposed_at (record { state = s; orders = orders; opens = set opens i false })
+      j && not (is_proposed_at (record { state = s; orders = orders; opens = opens }) j))
+      ≡ (is_waiting n && ((nat_eq v.programme w.programme && is_answer answer
+      (slice_index places j)) && (get_or (set opens i false) j false && not (get_or sure j false))))
   newly_all j v n here =
       let l0 : LinksRow = record { state = s; orders = orders; opens = opens } in
       let l1 : LinksRow = record { state = s; orders = orders; opens = set opens i false } in
       let new_is : is_proposed_at l1 j ≡ is_proposed_by s orders (set opens i false) v n (get_or (set opens i false) j false) =
-      ap (λ (o : Option (Wish × Mark)). unwrap_or (option_map (λ e. is_proposed_by s orders (set opens i false) e.0 e.1 (get_or (set opens i false) j false)) o) false) here in
+      ap (λ (o : Option (Wish × Mark)). unwrap_or
+      (option_map (λ e. is_proposed_by s orders (set opens i false) e.0 e.1
+      (get_or (set opens i false) j false)) o) false) here in
       let old_is : is_proposed_at l0 j ≡ is_proposed_by s orders opens v n (get_or opens j false) =
-      ap (λ (o : Option (Wish × Mark)). unwrap_or (option_map (λ e. is_proposed_by s orders opens e.0 e.1 (get_or opens j false)) o) false) here in
+      ap (λ (o : Option (Wish × Mark)). unwrap_or
+      (option_map (λ e. is_proposed_by s orders opens e.0 e.1 (get_or opens j false)) o) false) here in
       let closed_at : get_or (set opens i false) i false ≡ false =
-      get_or-set_same opens i false false (omega (arith, k.links.opens_each, slice_get_within s.dossier.wishes i w (wish_of s.dossier.wishes s.marks i w k.mark k.at.here))) in
+      get_or-set_same opens i false false
+      (omega (
+        arith,
+        k.links.opens_each,
+        slice_get_within s.dossier.wishes i w
+            (wish_of s.dossier.wishes s.marks i w k.mark k.at.here),
+      )) in
       elim (cases_Bool (is_waiting n)) [
         | inl waits ↦ elim (cases_Bool (nat_eq j i)) [
           | inl here_it_is ↦
               let flag : get_or (set opens i false) j false ≡ false = rw (eqb-true j i here_it_is) closed_at in
-              rw (new_is, flag) (closed_bits (is_waiting n) (needs_no_seat s orders v || nat_lt (ahead_by s orders (set opens i false) v) (seats_left s v.programme))
+              rw (new_is, flag) (closed_bits (is_waiting n)
+              (needs_no_seat s orders v || nat_lt (ahead_by s orders (set opens i false) v) (seats_left s v.programme))
               (not (is_proposed_at l0 j)) (nat_eq v.programme w.programme && is_answer answer (slice_index places j)))
           | inr other ↦
-              let flag : get_or (set opens i false) j false ≡ get_or opens j false = get_or-set_other opens i j false false (eqb-false j i other) in
-              let sure_is : get_or sure j false ≡ needs_no_seat s orders v = k.links.sure_are j v (wish_of s.dossier.wishes s.marks j v n here) in
+              let flag : get_or (set opens i false) j false ≡ get_or opens j false = get_or-set_other opens
+              i j false false (eqb-false j i other) in
+              let sure_is : get_or sure j false ≡ needs_no_seat s orders v = k.links.sure_are j v
+              (wish_of s.dossier.wishes s.marks j v n here) in
               let moved = newly_at j v n (record { here = here; waits = waits }) other in
-              rw (new_is, old_is, sure_is) (moved ∙ ap (λ b. is_waiting n && ((nat_eq v.programme w.programme && is_answer answer (slice_index places j)) && (b && not (needs_no_seat s orders v)))) (sym flag))
+              rw (new_is, old_is, sure_is)
+              (moved ∙ ap (λ b. is_waiting
+              n && ((nat_eq v.programme w.programme && is_answer answer
+              (slice_index places j)) && (b && not (needs_no_seat s orders v)))) (sym flag))
         ]
         | inr gone ↦ rw (new_is, gone) refl
       ]
 
   abbrev newly : ℕ × (Wish × Mark) → Bool
   newly x =
-      is_proposed_at (record { state = s; orders = orders; opens = set opens i false }) x.0 && not (is_proposed_at (record { state = s; orders = orders; opens = opens }) x.0)
+      is_proposed_at (record { state = s; orders = orders; opens = set opens i false })
+      x.0 && not (is_proposed_at (record { state = s; orders = orders; opens = opens }) x.0)
 
   -- where no place is the answer, nothing becomes proposed
   pub newly_none : answer ≡ None → (j : ℕ) (e : Wish × Mark) → slice_get (entries s) j ≡ Some e → newly (j, e) ≡ false
   newly_none none j e here =
-      newly_all j e.0 e.1 here ∙ rw none (none_bits (is_waiting e.1) (nat_eq e.0.programme w.programme) (get_or (set opens i false) j false && not (get_or sure j false)))
+      newly_all j e.0 e.1 here ∙ rw none
+      (none_bits (is_waiting e.1) (nat_eq e.0.programme w.programme)
+      (get_or (set opens i false) j false && not (get_or sure j false)))
 
   -- else the wishes of the claim at that place that are open and need a seat
-  pub newly_some : (next : ℕ) → answer ≡ Some next → next < length (line_of s.dossier orders w.programme) → (j : ℕ) (e : Wish × Mark) → slice_get (entries s) j ≡ Some e
+  pub newly_some : (next : ℕ) → answer ≡ Some next → next < length (line_of s.dossier orders w.programme)
+      → (j : ℕ) (e : Wish × Mark) → slice_get (entries s) j ≡ Some e
       → newly (j, e)
-      ≡ ((is_waiting e.1 && (nat_eq e.0.candidate (get_or (line_of s.dossier orders w.programme) next 0)) && (nat_eq e.0.programme w.programme))
+      ≡ ((is_waiting e.1 && (nat_eq e.0.candidate
+      (get_or (line_of s.dossier orders w.programme) next 0)) && (nat_eq e.0.programme w.programme))
       && (get_or (set opens i false) j false && not (get_or sure j false)))
   newly_some next some lt j e here =
       let c = get_or (line_of s.dossier orders w.programme) next 0 in
       newly_all j e.0 e.1 here
-      ∙ rw some (turn_bits (is_waiting e.1) (nat_eq e.0.programme w.programme) (nat_eq next (slice_index places j)) (nat_eq e.0.candidate c)
+      ∙ rw some (turn_bits (is_waiting e.1) (nat_eq e.0.programme w.programme)
+      (nat_eq next (slice_index places j)) (nat_eq e.0.candidate c)
       (get_or (set opens i false) j false && not (get_or sure j false)) (λ waits own.
       let at = k.links.places_are j e.0 (wish_of s.dossier.wishes s.marks j e.0 e.1 here) in
       let same : e.0.programme ≡ w.programme = eqb-true e.0.programme w.programme own in

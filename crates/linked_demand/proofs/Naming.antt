@@ -43,15 +43,18 @@ second true b t none = none
 second false b t none = absurd (false≢true t)
 
 -- with one more before, which does not pass where it has the rank
-before : (p : ℕ → Bool) (x z : RowWish) (xs : List RowWish) (place : ℕ) → ((j : ℕ) (u : RowWish) → j < place → slice_get xs j ≡ Some u → u.rank ≡ z.rank → p u.wish ≡ false)
-    → (x.rank ≡ z.rank → p x.wish ≡ false) → (j : ℕ) (u : RowWish) → j < suc place → slice_get (x ∷ xs) j ≡ Some u → u.rank ≡ z.rank → p u.wish ≡ false
+before : (p : ℕ → Bool) (x z : RowWish) (xs : List RowWish) (place : ℕ)
+    → ((j : ℕ) (u : RowWish) → j < place → slice_get xs j ≡ Some u → u.rank ≡ z.rank → p u.wish ≡ false)
+    → (x.rank ≡ z.rank → p x.wish ≡ false) → (j : ℕ) (u : RowWish) → j < suc place
+    → slice_get (x ∷ xs) j ≡ Some u → u.rank ≡ z.rank → p u.wish ≡ false
 before p x z xs place alone first zero u lt there same =
     let is : x ≡ u = ap (λ (o : Option RowWish). unwrap_or o x) there in
     let P = λ (v : RowWish). v.rank ≡ z.rank → p v.wish ≡ false in
     subst P is first same
 before p x z xs place alone first (suc j) u lt there same = alone j u (omega arith) there same
 
-further : (p : ℕ → Bool) (last : ℕ) (x : RowWish) (xs : List RowWish) (y : Demand) (low : ℕ) → last ≤ low → ((z : RowWish) → low < z.rank → x.rank ≡ z.rank → p x.wish ≡ false)
+further : (p : ℕ → Bool) (last : ℕ) (x : RowWish) (xs : List RowWish) (y : Demand) (low : ℕ) → last ≤ low
+    → ((z : RowWish) → low < z.rank → x.rank ≡ z.rank → p x.wish ≡ false)
     → (z : RowWish) × (demand_of z ≡ y) × Leads p low xs z → (z : RowWish) × (demand_of z ≡ y) × Leads p last (x ∷ xs) z
 further p last x xs y low le first (z, is, leads) = (
   z,
@@ -67,7 +70,8 @@ further p last x xs y low le first (z, is, leads) = (
 
 leads_counted : (p : ℕ → Bool) (last : ℕ) (x : RowWish) (xs : List RowWish) → (nat_lt last x.rank && p x.wish) ≡ true
     → ((i : ℕ) (y : Demand) → slice_get (firsts p x.rank xs) i ≡ Some y → (z : RowWish) × (demand_of z ≡ y) × Leads p x.rank xs z)
-    → (i : ℕ) (y : Demand) → slice_get (demand_of x ∷ firsts p x.rank xs) i ≡ Some y → (z : RowWish) × (demand_of z ≡ y) × Leads p last (x ∷ xs) z
+    → (i : ℕ) (y : Demand) → slice_get (demand_of x ∷ firsts p x.rank xs) i ≡ Some y
+    → (z : RowWish) × (demand_of z ≡ y) × Leads p last (x ∷ xs) z
 leads_counted p last x xs counts later zero y at =
     let parts = and_parts (nat_lt last x.rank) (p x.wish) counts in (
       x,
@@ -91,13 +95,15 @@ leads_first p last (x ∷ xs) i y at =
     elim (cases_Bool (nat_lt last x.rank && p x.wish)) [
       | inl counts ↦ leads_counted p last x xs counts (leads_first p x.rank xs) i y (rw counts at at)
       | inr not_so ↦
-          further p last x xs y last (omega arith) (λ z high same. second (nat_lt last x.rank) (p x.wish) (lt-ltb last x.rank (omega (arith, high, same))) not_so)
+          further p last x xs y last (omega arith)
+          (λ z high same. second (nat_lt last x.rank) (p x.wish) (lt-ltb last x.rank (omega (arith, high, same))) not_so)
           (leads_first p last xs i y (rw not_so at at))
     ]
 
 -- what is found first is what passes, and nothing before it does
 found_first : {X : Type 0} (t : ℕ × X → Bool) (xs : List X) (a k : ℕ) (x : X) → slice_get xs k ≡ Some x → t (a + k, x) ≡ true
-    → ((j : ℕ) (y : X) → j < k → slice_get xs j ≡ Some y → t (a + j, y) ≡ false) → unwrap_or (option_map (λ z. z.0) (find t (enumerate_from a xs))) 0 ≡ a + k
+    → ((j : ℕ) (y : X) → j < k → slice_get xs j ≡ Some y → t (a + j, y) ≡ false)
+    → unwrap_or (option_map (λ z. z.0) (find t (enumerate_from a xs))) 0 ≡ a + k
 found_first {X} t [] a k x at passes none = absurd (omega (arith, slice_get_within {A = X} [] k x at))
 found_first {X} t (y ∷ xs) a zero x at passes none =
     let is : y ≡ x = ap (λ (o : Option X). unwrap_or o y) at in
@@ -125,19 +131,23 @@ named name [] all = refl
 named name (z ∷ zs) all =
     let with_wish = λ (n : ℕ). let d : Demand = record { rank = z.rank; wish = n } in d in
     ap (λ (ys : List Demand). z ∷ ys) (named name zs (λ i y at. all (suc i) y at))
-    ∙ ap (λ (y : Demand). y ∷ map (λ r. record { rank = r; wish = name r }) (map (λ x. x.rank) zs)) (sym (ap with_wish (all 0 z refl)))
+    ∙ ap (λ (y : Demand). y ∷ map (λ r. record { rank = r; wish = name r }) (map (λ x. x.rank) zs))
+    (sym (ap with_wish (all 0 z refl)))
 
-module _ (l : LinksRow) (bars : List ℕ) (h : ℕ) (row : List RowWish) (right : IsRow l.state bars h row) (opens_are : l.opens ≡ opens_of l.state bars) where
+module _ (l : LinksRow) (bars : List ℕ) (h : ℕ) (row : List RowWish) (right : IsRow l.state bars h row)
+    (opens_are : l.opens ≡ opens_of l.state bars) where
   abbrev named_by : ℕ → ℕ × (Wish × Mark) → Bool
   named_by r x = demands_bed l.state l.orders bars h x.1.0 x.1.1 && nat_eq x.1.0.board_rank r
 
   turned : (r : ℕ) (e : Wish × Mark) (k : ℕ) → named_by r (k, e) ≡ true → demands_at l.state l.orders bars h r e ≡ true
   turned r e k t =
       let parts = and_parts (demands_bed l.state l.orders bars h e.0 e.1) (nat_eq e.0.board_rank r) t in
-      and_from (demands_bed l.state l.orders bars h e.0 e.1) (nat_eq r e.0.board_rank) parts.0 (eq-eqb r e.0.board_rank (sym (eqb-true e.0.board_rank r parts.1)))
+      and_from (demands_bed l.state l.orders bars h e.0 e.1) (nat_eq r e.0.board_rank) parts.0
+      (eq-eqb r e.0.board_rank (sym (eqb-true e.0.board_rank r parts.1)))
 
   -- none of a lesser place demands the rank of one that leads
-  none_less : (x : RowWish) (leads : Leads (is_proposed_at l) 0 row x) (j : ℕ) (e : Wish × Mark) → j < x.wish → slice_get (entries l.state) j ≡ Some e
+  none_less : (x : RowWish) (leads : Leads (is_proposed_at l) 0 row x) (j : ℕ) (e : Wish × Mark)
+      → j < x.wish → slice_get (entries l.state) j ≡ Some e
       → demands_at l.state l.orders bars h x.rank e ≡ true → ⊥
   none_less x leads j e lt there demands =
       let z : RowWish = record { rank = x.rank; wish = j } in
@@ -149,18 +159,21 @@ module _ (l : LinksRow) (bars : List ℕ) (h : ℕ) (row : List RowWish) (right 
             omega (arith, lt, same)
         | inr differ ↦ elim differ [
           | inl below ↦ false≢true (sym (leads.alone i z below found refl) ∙ passed)
-          | inr above ↦ let behind : x.wish < j = right.in_order leads.place i x z above leads.here found refl in omega (arith, lt, behind)
+          | inr above ↦ let behind : x.wish < j = right.in_order leads.place i x z above leads.here found
+              refl in omega (arith, lt, behind)
         ]
       ]
 
-  name_right : (i : ℕ) (y : Demand) → slice_get (firsts (is_proposed_at l) 0 row) i ≡ Some y → name_of l.state l.orders bars h y.rank ≡ y.wish
+  name_right : (i : ℕ) (y : Demand) → slice_get (firsts (is_proposed_at l) 0 row) i ≡ Some y
+      → name_of l.state l.orders bars h y.rank ≡ y.wish
   name_right i y at =
       let (x, is, leads) = leads_first (is_proposed_at l) 0 row i y at in
       let (e, there, both) = demands_back l bars h row right opens_are leads.place x leads.here leads.passes leads.above in
       let t = named_by x.rank in
       let parts = and_parts (demands_bed l.state l.orders bars h e.0 e.1) (nat_eq x.rank e.0.board_rank) both in
       let here : t (x.wish, e) ≡ true =
-      and_from (demands_bed l.state l.orders bars h e.0 e.1) (nat_eq e.0.board_rank x.rank) parts.0 (eq-eqb e.0.board_rank x.rank (sym (eqb-true x.rank e.0.board_rank parts.1))) in
+      and_from (demands_bed l.state l.orders bars h e.0 e.1) (nat_eq e.0.board_rank x.rank) parts.0
+      (eq-eqb e.0.board_rank x.rank (sym (eqb-true x.rank e.0.board_rank parts.1))) in
       let P = λ (n : ℕ). t (n, e) ≡ true in
       let none : (j : ℕ) (f : Wish × Mark) → j < x.wish → slice_get (entries l.state) j ≡ Some f → t (0 + j, f) ≡ false =
       λ j f lt at_j. elim (cases_Bool (t (0 + j, f))) [
@@ -174,4 +187,5 @@ module _ (l : LinksRow) (bars : List ℕ) (h : ℕ) (row : List RowWish) (right 
   pub demands_told : firsts (is_proposed_at l) 0 row ≡ demands_of l.state l.orders bars h
   demands_told =
       named (name_of l.state l.orders bars h) (firsts (is_proposed_at l) 0 row) name_right
-      ∙ ap (map (λ r. record { rank = r; wish = name_of l.state l.orders bars h r })) (ranks_first (is_proposed_at l) 0 row ∙ ranks_told l bars h row right opens_are)
+      ∙ ap (map (λ r. record { rank = r; wish = name_of l.state l.orders bars h r }))
+      (ranks_first (is_proposed_at l) 0 row ∙ ranks_told l bars h row right opens_are)

@@ -46,9 +46,11 @@ filter_same p q h (x ∷ xs) = rw (h x) (ap (λ n. cond (q x) (x ∷ n) n) (filt
 pub count_same : {X : Type 0} (p q : X → Bool) → ((x : X) → p x ≡ q x) → (xs : List X) → count_by p xs ≡ count_by q xs
 count_same p q h xs = omega (arith, length-filter p xs, length-filter q xs, ap length (filter_same p q h xs))
 
-pub ahead_by_bars : (s : State) (orders : List CallOrder) (bars : List ℕ) (w : Wish) → ahead_by s orders (opens_of s bars) w ≡ ahead s orders bars w
+pub ahead_by_bars : (s : State) (orders : List CallOrder) (bars : List ℕ) (w : Wish)
+    → ahead_by s orders (opens_of s bars) w ≡ ahead s orders bars w
 ahead_by_bars s orders bars w =
-    count_same (wants_by s (opens_of s bars) w.programme) (wants_seat s bars w.programme) (wants_by_bars s bars w.programme) (before s orders w)
+    count_same (wants_by s (opens_of s bars) w.programme) (wants_seat s bars w.programme)
+    (wants_by_bars s bars w.programme) (before s orders w)
 
 pub proposed_by_bars : (s : State) (orders : List CallOrder) (bars : List ℕ) (w : Wish) (m : Mark)
     → is_proposed_by s orders (opens_of s bars) w m (is_open s bars w m) ≡ is_proposed s orders bars w m
@@ -74,7 +76,8 @@ pub wants_applies : (s : State) (opens : List Bool) (p c : ℕ) → wants_by s o
 wants_applies s opens p c t =
     let r = λ (w : Wish). (nat_eq w.candidate c) && (nat_eq w.programme p) in
     any_zip_first (λ (e : Wish × Mark). r e.0) r (λ w m u. u) s.dossier.wishes s.marks
-    (any_zip_first (is_flagged_in p c) (λ (e : Wish × Mark). r e.0) (λ e flag. and_drop flag (nat_eq e.0.candidate c) (nat_eq e.0.programme p))
+    (any_zip_first (is_flagged_in p c) (λ (e : Wish × Mark). r e.0)
+    (λ e flag. and_drop flag (nat_eq e.0.candidate c) (nat_eq e.0.programme p))
     (entries s) opens (and_parts (list_any (is_flagged_in p c) (flagged s opens)) (not (holds_seat s c p)) t).0)
 
 -- those who fail a test that the counted pass may be left out
@@ -107,7 +110,8 @@ up_to_take c (x ∷ xs) (suc k) at =
     })))
 
 -- the set places of a front are those of the front who pass
-front_count : (f : ℕ → Bool) (xs : List ℕ) (k : ℕ) → length (filter (λ (b : Bool). b) (take k (map f xs))) ≡ length (filter f (take k xs))
+front_count : (f : ℕ → Bool) (xs : List ℕ) (k : ℕ)
+    → length (filter (λ (b : Bool). b) (take k (map f xs))) ≡ length (filter f (take k xs))
 front_count f [] zero = refl
 front_count f [] (suc k) = refl
 front_count f (x ∷ xs) zero = refl
@@ -128,8 +132,10 @@ ahead_in_line s orders opens w k waits at =
     let c = w.candidate in
     let whole : length (filter wants (up_to c order)) ≡ length (filter wants (up_to c line)) =
     filter_up_to wants (applies_in s.dossier w.programme) c (wants_applies s opens w.programme) waits order in
-    let front : length (filter wants (up_to c line)) ≡ length (filter wants (take k line)) = ap (λ ys. length (filter wants ys)) (up_to_take c line k at) in
-    let all : length (filter wants (before_first (nat_eq c) order)) ≡ length (filter wants (up_to c order)) = ap (λ ys. length (filter wants ys)) (before_is c order) in
+    let front : length (filter wants (up_to c line)) ≡ length (filter wants (take k line)) =
+    ap (λ ys. length (filter wants ys)) (up_to_take c line k at) in
+    let all : length (filter wants (before_first (nat_eq c) order)) ≡ length
+    (filter wants (up_to c order)) = ap (λ ys. length (filter wants ys)) (before_is c order) in
     omega (
       arith,
       whole,
@@ -144,10 +150,12 @@ ahead_in_line s orders opens w k waits at =
 pub reached_in_line : (s : State) (orders : List CallOrder) (opens : List Bool) (w : Wish) (k : ℕ)
     → applies_in s.dossier w.programme w.candidate ≡ true → IsSeatPlace s.dossier orders w k
     → is_reached (seat_row s orders opens w.programme) k ≡ nat_lt (ahead_by s orders opens w) (seats_left s w.programme)
-reached_in_line s orders opens w k waits at = ap (λ n. nat_lt n (seats_left s w.programme)) (ahead_in_line s orders opens w k waits at)
+reached_in_line s orders opens w k waits at = ap (λ n. nat_lt n (seats_left s w.programme))
+    (ahead_in_line s orders opens w k waits at)
 
 -- closing one wish changes nothing for another candidate or programme
-pub any_set_other : {X Y : Type 0} (q : X × Y → Bool) (xs : List X) (ys : List Y) (i : ℕ) (x : X) (y : Y) → slice_get xs i ≡ Some x
+pub any_set_other : {X Y : Type 0} (q : X × Y → Bool) (xs : List X) (ys : List Y) (i : ℕ) (x : X) (y : Y)
+    → slice_get xs i ≡ Some x
     → ((z : Y) → q (x, z) ≡ false) → list_any q (zip xs (set ys i y)) ≡ list_any q (zip xs ys)
 any_set_other q [] ys i x y at h = refl
 any_set_other q (v ∷ xs) [] i x y at h = refl
@@ -164,31 +172,39 @@ pub map_same : {X Y : Type 0} (f g : X → Y) → ((x : X) → f x ≡ g x) → 
 map_same f g h [] = refl
 map_same f g h (x ∷ xs) = rw (h x, map_same f g h xs) refl
 
-map_all : {Y : Type 0} (f g : ℕ → Y) (xs : List ℕ) → ((j : ℕ) → j < length xs → g (get_or xs j 0) ≡ f (get_or xs j 0)) → map g xs ≡ map f xs
+map_all : {Y : Type 0} (f g : ℕ → Y) (xs : List ℕ)
+    → ((j : ℕ) → j < length xs → g (get_or xs j 0) ≡ f (get_or xs j 0)) → map g xs ≡ map f xs
 map_all f g [] h = refl
 map_all f g (x ∷ xs) h = rw (h 0 (omega arith), map_all f g xs (λ j lt. h (suc j) (omega arith))) refl
 
 -- two functions that differ on one place of a list
 pub map_at : {Y : Type 0} (f g : ℕ → Y) (xs : List ℕ) (k : ℕ) → k < length xs
-    → ((j : ℕ) → j < length xs → nat_eq j k ≡ false → g (get_or xs j 0) ≡ f (get_or xs j 0)) → map g xs ≡ set (map f xs) k (g (get_or xs k 0))
+    → ((j : ℕ) → j < length xs → nat_eq j k ≡ false → g (get_or xs j 0) ≡ f (get_or xs j 0))
+    → map g xs ≡ set (map f xs) k (g (get_or xs k 0))
 map_at f g [] k lt h = absurd (omega arith)
-map_at f g (x ∷ xs) zero lt h = ap (λ ys. g x ∷ ys) (map_all f g xs (λ j within. h (suc j) (omega arith) (ne_eqb (suc j) 0 (λ e. omega (arith, e)))))
+map_at f g (x ∷ xs) zero lt h = ap (λ ys. g x ∷ ys)
+    (map_all f g xs (λ j within. h (suc j) (omega arith) (ne_eqb (suc j) 0 (λ e. omega (arith, e)))))
 map_at f g (x ∷ xs) (suc k) lt h =
     rw (h 0 (omega arith) (ne_eqb 0 (suc k) (λ e. omega (arith, e))))
-    (ap (λ ys. f x ∷ ys) (map_at f g xs k (omega arith) (λ j within ne. h (suc j) (omega arith) (ne_eqb (suc j) (suc k) (λ e. omega (arith, e, eqb-false j k ne))))))
+    (ap (λ ys. f x ∷ ys)
+    (map_at f g xs k (omega arith)
+    (λ j within ne. h (suc j) (omega arith) (ne_eqb (suc j) (suc k) (λ e. omega (arith, e, eqb-false j k ne))))))
 
 module _ (s : State) (opens : List Bool) (i : ℕ) (w : Wish) (m : Mark) (at : slice_get (entries s) i ≡ Some (w, m)) where
-  pub wants_other : (p c : ℕ) → (nat_eq w.candidate c && nat_eq w.programme p) ≡ false → wants_by s (set opens i false) p c ≡ wants_by s opens p c
+  pub wants_other : (p c : ℕ) → (nat_eq w.candidate c && nat_eq w.programme p) ≡ false
+      → wants_by s (set opens i false) p c ≡ wants_by s opens p c
   wants_other p c t =
       ap (λ b. b && not (holds_seat s c p))
       (any_set_other (is_flagged_in p c) (entries s) opens i (w, m) false at
       (λ z. and_middle z (nat_eq w.candidate c) (nat_eq w.programme p) t))
 
   -- so the line of another programme stays
-  pub row_other : (orders : List CallOrder) (p : ℕ) → nat_eq w.programme p ≡ false → seat_row s orders (set opens i false) p ≡ seat_row s orders opens p
+  pub row_other : (orders : List CallOrder) (p : ℕ) → nat_eq w.programme p ≡ false
+      → seat_row s orders (set opens i false) p ≡ seat_row s orders opens p
   row_other orders p t =
       ap (λ (flags : List Bool). let r : LineRow = record { flags = flags; quota = seats_left s p } in r)
-      (map_same (wants_by s (set opens i false) p) (wants_by s opens p) (λ c. wants_other p c (and_right (nat_eq w.candidate c) (nat_eq w.programme p) t)) (line_of s.dossier orders p))
+      (map_same (wants_by s (set opens i false) p) (wants_by s opens p)
+      (λ c. wants_other p c (and_right (nat_eq w.candidate c) (nat_eq w.programme p) t)) (line_of s.dossier orders p))
 
   -- and that of its own programme changes at most at the place of its candidate
   pub row_own : (orders : List CallOrder) (k : ℕ) → IsSeatPlace s.dossier orders w k
@@ -198,7 +214,9 @@ module _ (s : State) (opens : List Bool) (i : ℕ) (w : Wish) (m : Mark) (at : s
       let new = wants_by s (set opens i false) w.programme in
       let old = wants_by s opens w.programme in
       let line = line_of s.dossier orders w.programme in
-      map_at old new line k place.within (λ j lt ne. wants_other w.programme (get_or line j 0) (and_left (nat_eq w.candidate (get_or line j 0)) (nat_eq w.programme w.programme) (place.once j lt ne)))
+      map_at old new line k place.within
+      (λ j lt ne. wants_other w.programme (get_or line j 0)
+      (and_left (nat_eq w.candidate (get_or line j 0)) (nat_eq w.programme w.programme) (place.once j lt ne)))
       ∙ ap (λ c. set (map old line) k (new c)) place.here
 
 -- a bar falls: the open wishes that are past the new bar, and no others, are barred
@@ -215,19 +233,24 @@ and_true : (b : Bool) → b ≡ (b && true)
 and_true true = refl
 and_true false = refl
 
-pub fallen_open : (s : State) (bars : List ℕ) (h to : ℕ) (w : Wish) (m : Mark) (school : Option ℕ) → h < length bars → to ≤ slice_index bars h
+pub fallen_open : (s : State) (bars : List ℕ) (h to : ℕ) (w : Wish) (m : Mark) (school : Option ℕ)
+    → h < length bars → to ≤ slice_index bars h
     → (is_waiting m && not (is_waiting m && is_behind_bar s (slice_set bars h to) w school))
-    ≡ ((is_waiting m && not (is_waiting m && is_behind_bar s bars w school)) && not (is_school school h && (not (holds_bed s w.candidate h) && nat_lt to w.board_rank)))
+    ≡ ((is_waiting m && not (is_waiting m && is_behind_bar s bars w school)) && not (is_school school
+    h && (not (holds_bed s w.candidate h) && nat_lt to w.board_rank)))
 fallen_open s bars h to w m None within le = and_true (is_waiting m && not (is_waiting m && false))
 fallen_open s bars h to w m (Some g) within le =
     elim (cases_Bool (nat_eq g h)) [
       | inl here ↦
           let same : g ≡ h = eqb-true g h here in
           let now : slice_index (slice_set bars h to) g ≡ to = rw same (get_or-set_same bars h to 0 within) in
-          rw (here, same, rw same at now) (no_longer_open (is_waiting m) (holds_bed s w.candidate h) (nat_lt to w.board_rank) (nat_lt (slice_index bars h) w.board_rank) (nat_lt to w.board_rank)
+          rw (here, same, rw same at now)
+          (no_longer_open (is_waiting m) (holds_bed s w.candidate h) (nat_lt to w.board_rank)
+          (nat_lt (slice_index bars h) w.board_rank) (nat_lt to w.board_rank)
           (λ t. lt-ltb to w.board_rank (omega (arith, ltb-true (slice_index bars h) w.board_rank t))) refl)
       | inr other ↦
-          let kept : slice_index (slice_set bars h to) g ≡ slice_index bars g = get_or-set_other bars h g to 0 (eqb-false g h other) in
+          let kept : slice_index (slice_set bars h to) g ≡ slice_index bars g = get_or-set_other bars h g to
+          0 (eqb-false g h other) in
           rw (other, kept) (and_true (is_waiting m && not (is_waiting m && is_behind_bar s bars w (Some g))))
     ]
 
@@ -235,5 +258,6 @@ fallen_open s bars h to w m (Some g) within le =
 pub opens_fallen : (s : State) (bars : List ℕ) (h to : ℕ) → h < length bars → to ≤ slice_index bars h
     → opens_of s (slice_set bars h to) ≡ map (λ (w, m). is_open s bars w m && not (is_past s h to w)) (entries s)
 opens_fallen s bars h to within le =
-    map_same (λ (e : Wish × Mark). is_open s (slice_set bars h to) e.0 e.1) (λ (e : Wish × Mark). is_open s bars e.0 e.1 && not (is_past s h to e.0))
+    map_same (λ (e : Wish × Mark). is_open s (slice_set bars h to) e.0 e.1)
+    (λ (e : Wish × Mark). is_open s bars e.0 e.1 && not (is_past s h to e.0))
     (λ e. fallen_open s bars h to e.0 e.1 e.0.school within le) (entries s)

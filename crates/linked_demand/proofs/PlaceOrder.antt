@@ -26,7 +26,11 @@ above_later key place t x [] own all = tt
 above_later key place t x (y ∷ ys) own all =
     elim (cases_Bool (t y)) [
       | inl kept ↦ let both = rw kept at all in (λ same. both.0, above_later key place t x ys own both.1)
-      | inr dropped ↦ (λ same. absurd (both_ways (t y) dropped (own y same)), above_later key place t x ys own (rw dropped at all))
+      | inr dropped ↦ (
+        λ same. absurd (both_ways (t y) dropped (own y same)),
+        above_later key place t x ys
+            own (rw dropped at all),
+      )
     ]
 
 pub ascends-filter : (t : ℕ → Bool) (ks : List ℕ) → Ascends ks → Ascends (filter t ks)
@@ -46,7 +50,8 @@ ascends-range a zero = tt
 ascends-range a (suc n) = (range_above a (a + 1) n (omega arith), ascends-range (a + 1) n)
 
 -- where the places of each key ascend
-pub in_order_from : {X : Type 0} (key place : X → ℕ) (xs : List X) → ((r : ℕ) → Ascends (map place (filter (λ x. nat_eq (key x) r) xs))) → InPlaceOrder key place xs
+pub in_order_from : {X : Type 0} (key place : X → ℕ) (xs : List X)
+    → ((r : ℕ) → Ascends (map place (filter (λ x. nat_eq (key x) r) xs))) → InPlaceOrder key place xs
 in_order_from key place [] rises = tt
 in_order_from key place (x ∷ xs) rises =
     let own = rw (eq-eqb (key x) (key x) refl) at (rises (key x)) in (
@@ -62,11 +67,13 @@ all_read P [] all j y at = absurd (omega (arith, slice_get_within [] j y at))
 all_read P (x ∷ xs) all zero y at = subst P (ap (λ o. unwrap_or o x) at) all.0
 all_read P (x ∷ xs) all (suc j) y at = all_read P xs all.1 j y at
 
-pub in_place_order : {X : Type 0} (key place : X → ℕ) (xs : List X) → InPlaceOrder key place xs → (i j : ℕ) (x y : X) → i < j → slice_get xs i ≡ Some x → slice_get xs j ≡ Some y
+pub in_place_order : {X : Type 0} (key place : X → ℕ) (xs : List X) → InPlaceOrder key place xs
+    → (i j : ℕ) (x y : X) → i < j → slice_get xs i ≡ Some x → slice_get xs j ≡ Some y
     → key x ≡ key y → place x < place y
 in_place_order key place [] order i j x y lt at_i at_j same = absurd (omega (arith, slice_get_within [] j y at_j))
 in_place_order key place (z ∷ xs) order i zero x y lt at_i at_j same = absurd (omega arith)
 in_place_order {X} key place (z ∷ xs) order zero (suc j) x y lt at_i at_j same =
     let P = λ (u : X). key u ≡ key y → place u < place y in
     subst P (ap (λ o. unwrap_or o z) at_i) (all_read (λ u. key z ≡ key u → place z < place u) xs order.0 j y at_j) same
-in_place_order key place (z ∷ xs) order (suc i) (suc j) x y lt at_i at_j same = in_place_order key place xs order.1 i j x y (omega arith) at_i at_j same
+in_place_order key place (z ∷ xs) order (suc i) (suc j) x y lt at_i at_j same = in_place_order key place xs
+    order.1 i j x y (omega arith) at_i at_j same

@@ -19,7 +19,8 @@ or_false : (a b : Bool) → b ≡ false → (a || b) ≡ a
 or_false true b t = refl
 or_false false b t = t
 
-pub put_more : (X : Type 0) (d : X) (ks : List ℕ) (i : ℕ) (x : X) (old now new : List X) → i < length ks → get_or ks i 0 < length old
+pub put_more : (X : Type 0) (d : X) (ks : List ℕ) (i : ℕ) (x : X) (old now new : List X) → i < length ks
+    → get_or ks i 0 < length old
     → PutAt X d (take i ks) x old now → new ≡ set now (get_or ks i 0) x → PutAt X d (take (i + 1) ks) x old new
 put_more X d ks i x old now new lt within put is =
     let p = get_or ks i 0 in
@@ -42,7 +43,8 @@ put_more X d ks i x old now new lt within put is =
           ];
     }
 
-pub put_all : (X : Type 0) (d : X) (ks : List ℕ) (i : ℕ) (x : X) (old new : List X) → length ks ≤ i → PutAt X d (take i ks) x old new → PutAt X d ks x old new
+pub put_all : (X : Type 0) (d : X) (ks : List ℕ) (i : ℕ) (x : X) (old new : List X) → length ks ≤ i
+    → PutAt X d (take i ks) x old new → PutAt X d ks x old new
 put_all X d ks i x old new le put =
     let P = λ (js : List ℕ). PutAt X d js x old new in
     subst P (take_all i ks le) put

@@ -14,7 +14,8 @@ drop_cleared (b ∷ flags) zero (suc n) h = refl
 drop_cleared (b ∷ flags) (suc k) (suc n) h = drop_cleared flags k n (omega arith)
 
 -- one more in the quota reaches to the next that is set
-pub reach_more : (quota : ℕ) (flags : List Bool) → reach (suc quota) flags ≡ reach quota flags + next (drop (reach quota flags) flags)
+pub reach_more : (quota : ℕ) (flags : List Bool)
+    → reach (suc quota) flags ≡ reach quota flags + next (drop (reach quota flags) flags)
 reach_more zero [] = refl
 reach_more zero (true ∷ flags) = refl
 reach_more zero (false ∷ flags) = omega (arith, reach_more zero flags)
@@ -33,7 +34,8 @@ reach_cleared (suc quota) (false ∷ flags) zero t h = cc
 reach_cleared (suc quota) (false ∷ flags) (suc k) t h = omega (arith, reach_cleared (suc quota) flags k t (omega arith))
 
 -- what changes at a place that is not reached changes no reach
-pub reach_behind : (quota : ℕ) (flags : List Bool) (k : ℕ) (b : Bool) → reach quota flags ≤ k → reach quota (set flags k b) ≡ reach quota flags
+pub reach_behind : (quota : ℕ) (flags : List Bool) (k : ℕ) (b : Bool) → reach quota flags ≤ k
+    → reach quota (set flags k b) ≡ reach quota flags
 reach_behind zero flags k b h = refl
 reach_behind (suc quota) [] k b h = refl
 reach_behind (suc quota) (true ∷ flags) zero b h = absurd (omega arith)
@@ -59,15 +61,19 @@ few_before (suc quota) [] k h = absurd (omega arith)
 few_before (suc quota) (true ∷ flags) zero h = omega arith
 few_before (suc quota) (true ∷ flags) (suc k) h = omega (arith, count_true (take k flags), few_before quota flags k (omega arith))
 few_before (suc quota) (false ∷ flags) zero h = omega arith
-few_before (suc quota) (false ∷ flags) (suc k) h = omega (arith, count_false (take k flags), few_before (suc quota) flags k (omega arith))
+few_before (suc quota) (false ∷ flags) (suc k) h = omega
+    (arith, count_false (take k flags), few_before (suc quota) flags k (omega arith))
 
-many_before : (quota : ℕ) (flags : List Bool) (k : ℕ) → k < length flags → reach quota flags ≤ k → quota ≤ set_count (take k flags)
+many_before : (quota : ℕ) (flags : List Bool) (k : ℕ) → k < length flags → reach quota flags ≤ k
+    → quota ≤ set_count (take k flags)
 many_before zero flags k within h = omega arith
 many_before (suc quota) [] k within h = absurd (omega arith)
 many_before (suc quota) (true ∷ flags) zero within h = absurd (omega arith)
-many_before (suc quota) (true ∷ flags) (suc k) within h = omega (arith, count_true (take k flags), many_before quota flags k (omega arith) (omega arith))
+many_before (suc quota) (true ∷ flags) (suc k) within h = omega
+    (arith, count_true (take k flags), many_before quota flags k (omega arith) (omega arith))
 many_before (suc quota) (false ∷ flags) zero within h = absurd (omega arith)
-many_before (suc quota) (false ∷ flags) (suc k) within h = omega (arith, count_false (take k flags), many_before (suc quota) flags k (omega arith) (omega arith))
+many_before (suc quota) (false ∷ flags) (suc k) within h = omega
+    (arith, count_false (take k flags), many_before (suc quota) flags k (omega arith) (omega arith))
 
 -- a place is reached exactly where fewer than the quota are set before it
 pub reached_by_count : (quota : ℕ) (flags : List Bool) (k : ℕ) → k < length flags
@@ -75,9 +81,11 @@ pub reached_by_count : (quota : ℕ) (flags : List Bool) (k : ℕ) → k < lengt
 reached_by_count quota flags k within =
     elim (cases_Bool (nat_lt k (reach quota flags))) [
       | inl reached ↦
-          reached ∙ sym (lt-ltb (set_count (take k flags)) quota (few_before quota flags k (ltb-true k (reach quota flags) reached)))
+          reached ∙ sym (lt-ltb (set_count (take k flags)) quota
+          (few_before quota flags k (ltb-true k (reach quota flags) reached)))
       | inr behind ↦
-          behind ∙ sym (le-ltb (set_count (take k flags)) quota (many_before quota flags k within (ltb-false k (reach quota flags) behind)))
+          behind ∙ sym (le-ltb (set_count (take k flags)) quota
+          (many_before quota flags k within (ltb-false k (reach quota flags) behind)))
     ]
 
 -- the same, for the fields of a line
@@ -87,7 +95,8 @@ is_reached_by row quota flags reached k same by within =
     rw (← same, by) (reached_by_count quota flags k (rw (← same) at within))
 
 -- where the place that is cleared is set and reached, clearing it moves the reach to the next one set behind
-pub reach_moved : (quota : ℕ) (flags : List Bool) (k reached : ℕ) → reached ≡ reach quota flags → get_or flags k false ≡ true → k < reached
+pub reach_moved : (quota : ℕ) (flags : List Bool) (k reached : ℕ) → reached ≡ reach quota flags
+    → get_or flags k false ≡ true → k < reached
     → reached + next (drop reached (set flags k false)) ≡ reach quota (set flags k false)
 reach_moved quota flags k reached by t h =
     rw (by, drop_cleared flags k (reach quota flags) (rw by at h)) (sym (reach_cleared quota flags k t (rw by at h)))
@@ -102,13 +111,15 @@ next_flag (false ∷ flags) (suc d) lt t = omega (arith, next_flag flags d (omeg
 drop_flag : (flags : List Bool) (n d : ℕ) → get_or (drop n flags) d false ≡ get_or flags (n + d) false
 drop_flag flags zero d = ap (λ k. get_or flags k false) (let e : d ≡ 0 + d = omega arith in e)
 drop_flag [] (suc n) d = refl
-drop_flag (b ∷ flags) (suc n) d = drop_flag flags n d ∙ ap (λ k. get_or (b ∷ flags) k false) (let e : suc (n + d) ≡ suc n + d = omega arith in e)
+drop_flag (b ∷ flags) (suc n) d = drop_flag flags n d
+    ∙ ap (λ k. get_or (b ∷ flags) k false) (let e : suc (n + d) ≡ suc n + d = omega arith in e)
 
 and_none : (b : Bool) → (b && false) ≡ false
 and_none true = refl
 and_none false = refl
 
-answer_other : (flags : List Bool) (before reached j : ℕ) → (before < reached → reached - 1 ≡ j → ⊥) → is_answer (last_new flags before reached) j ≡ false
+answer_other : (flags : List Bool) (before reached j : ℕ) → (before < reached → reached - 1 ≡ j → ⊥)
+    → is_answer (last_new flags before reached) j ≡ false
 answer_other flags before reached j h =
     elim (cases_lt before reached) [
       | inl lt ↦ rw (lt-ltb before reached lt) (elim (cases_Bool (get_or flags (reached - 1) false)) [
@@ -123,14 +134,26 @@ fresh_one : (flags : List Bool) (before reached j : ℕ) → reached ≡ before 
     → (nat_lt j reached && not (nat_lt j before)) ≡ is_answer (last_new flags before reached) j
 fresh_one flags before reached j is t =
     elim (cases_lt j before) [
-      | inl old ↦ rw (lt-ltb j before old, and_none (nat_lt j reached)) (sym (answer_other flags before reached j (λ lt e. omega (arith, lt, e, old))))
+      | inl old ↦ rw (lt-ltb j before old, and_none (nat_lt j reached))
+          (sym (answer_other flags before reached j (λ lt e. omega (arith, lt, e, old))))
       | inr far ↦ elim (cases_lt j reached) [
         | inl here ↦
-            let at : get_or (drop before flags) (j - before) false ≡ true = drop_flag flags before (j - before) ∙ ap (λ k. get_or flags k false) (let e : before + (j - before) ≡ j = omega (arith, far) in e) ∙ t in
-            let last : suc (j - before) ≡ next (drop before flags) = next_flag (drop before flags) (j - before) (omega (arith, far, here, is)) at in
+            let at : get_or (drop before flags) (j - before) false ≡ true = drop_flag flags before
+            (j - before) ∙ ap (λ k. get_or flags k false) (let e : before + (j - before) ≡ j = omega (arith, far) in e) ∙ t in
+            let last : suc (j - before) ≡ next (drop before flags) = next_flag (drop before flags)
+            (j - before) (omega (arith, far, here, is)) at in
             let place : reached - 1 ≡ j = omega (arith, far, here, is, last) in
-            rw (lt-ltb j reached here, le-ltb j before far, lt-ltb before reached (omega (arith, far, here)), place, t, eq-eqb j j refl) refl
-        | inr behind ↦ rw (le-ltb j reached behind) (sym (answer_other flags before reached j (λ lt e. omega (arith, lt, e, behind))))
+            rw (
+              lt-ltb j reached here,
+              le-ltb j before far,
+              lt-ltb before reached
+                  (omega (arith, far, here)),
+              place,
+              t,
+              eq-eqb j j refl,
+            ) refl
+        | inr behind ↦ rw (le-ltb j reached behind)
+            (sym (answer_other flags before reached j (λ lt e. omega (arith, lt, e, behind))))
       ]
     ]
 
@@ -138,13 +161,16 @@ and_not : (b : Bool) → (b && not b) ≡ false
 and_not true = refl
 and_not false = refl
 
-module _ (row : LineRow) (quota : ℕ) (flags : List Bool) (k reached : ℕ) (same : record { flags = flags; quota = quota } ≡ row) (by : reached ≡ reach quota flags) where
+module _ (row : LineRow) (quota : ℕ) (flags : List Bool) (k reached : ℕ)
+    (same : record { flags = flags; quota = quota } ≡ row) (by : reached ≡ reach quota flags) where
   old_reached : (j : ℕ) → j < length row.flags → is_reached row j ≡ nat_lt j reached
   old_reached j within = sym (is_reached_by row quota flags reached j same by within)
 
-  new_reached : (j now : ℕ) → j < length row.flags → now ≡ reach quota (set flags k false) → is_reached (record { flags = set flags k false; quota = quota }) j ≡ nat_lt j now
+  new_reached : (j now : ℕ) → j < length row.flags → now ≡ reach quota (set flags k false)
+      → is_reached (record { flags = set flags k false; quota = quota }) j ≡ nat_lt j now
   new_reached j now within now_by =
-      rw now_by (sym (reached_by_count quota (set flags k false) j (omega (arith, within, length-set flags k false, ap (λ (r : LineRow). length r.flags) same))))
+      rw now_by (sym (reached_by_count quota (set flags k false) j
+      (omega (arith, within, length-set flags k false, ap (λ (r : LineRow). length r.flags) same))))
 
   -- no place is reached anew where the reach stays
   pub fresh_none : reached ≡ reach quota (set flags k false) → (j : ℕ) → j < length row.flags
@@ -152,11 +178,14 @@ module _ (row : LineRow) (quota : ℕ) (flags : List Bool) (k reached : ℕ) (sa
   fresh_none stays j within = rw (old_reached j within, new_reached j reached within stays) (and_not (nat_lt j reached))
 
   -- one place at most is reached anew, and set
-  pub fresh_some : (now : ℕ) → now ≡ reached + next (drop reached (set flags k false)) → now ≡ reach quota (set flags k false) → (after : List Bool) → after ≡ set flags k false
-      → (answer : Option ℕ) → answer ≡ last_new after reached now → (j : ℕ) → j < length row.flags → get_or (set flags k false) j false ≡ true
+  pub fresh_some : (now : ℕ) → now ≡ reached + next (drop reached (set flags k false))
+      → now ≡ reach quota (set flags k false) → (after : List Bool) → after ≡ set flags k false
+      → (answer : Option ℕ) → answer ≡ last_new after reached now → (j : ℕ) → j < length row.flags
+      → get_or (set flags k false) j false ≡ true
       → (is_reached (record { flags = set flags k false; quota = quota }) j && not (is_reached row j)) ≡ is_answer answer j
   fresh_some now step now_by after after_is answer answer_is j within t =
-      rw (answer_is, after_is, old_reached j within, new_reached j now within now_by) (fresh_one (set flags k false) reached now j step t)
+      rw (answer_is, after_is, old_reached j within, new_reached j now within now_by)
+      (fresh_one (set flags k false) reached now j step t)
 
 pub reach_past : (left : ℕ) (flags : List Bool) (n : ℕ) → length flags ≤ n → reach left (drop n flags) ≡ 0
 reach_past zero [] zero le = refl
@@ -176,10 +205,12 @@ walk_unset : (left : ℕ) (flags : List Bool) → 0 < left → reach left (false
 walk_unset zero flags some = absurd (omega arith)
 walk_unset (suc left) flags some = omega arith
 
-split_at : (flags : List Bool) (i : ℕ) (b : Bool) → i < length flags → get_or flags i false ≡ b → drop i flags ≡ b ∷ drop (i + 1) flags
+split_at : (flags : List Bool) (i : ℕ) (b : Bool) → i < length flags → get_or flags i false ≡ b
+    → drop i flags ≡ b ∷ drop (i + 1) flags
 split_at flags i b lt at = rw (add-one, drop-cons flags i false lt) (ap (λ (x : Bool). x ∷ drop (suc i) flags) at)
 
-pub walked_set : (quota : ℕ) (flags : List Bool) (i left next : ℕ) → i < length flags → get_or flags i false ≡ true → left ≡ next + 1
+pub walked_set : (quota : ℕ) (flags : List Bool) (i left next : ℕ) → i < length flags
+    → get_or flags i false ≡ true → left ≡ next + 1
     → reach quota flags ≡ i + reach left (drop i flags) → reach quota flags ≡ (i + 1) + reach next (drop (i + 1) flags)
 walked_set quota flags i left next lt at is so_far =
     omega (arith, so_far, ap (reach left) (split_at flags i true lt at), walk_set left next (drop (i + 1) flags) is)
@@ -193,5 +224,6 @@ walked_unset quota flags i left lt at some so_far =
 pub next_found : (flags : List Bool) (i : ℕ) → i < length flags → get_or flags i false ≡ true → i + next (drop i flags) ≡ i + 1
 next_found flags i lt at = omega (arith, ap next (split_at flags i true lt at))
 
-pub next_passed : (flags : List Bool) (i : ℕ) → i < length flags → get_or flags i false ≡ false → (i + 1) + next (drop (i + 1) flags) ≡ i + next (drop i flags)
+pub next_passed : (flags : List Bool) (i : ℕ) → i < length flags → get_or flags i false ≡ false
+    → (i + 1) + next (drop (i + 1) flags) ≡ i + next (drop i flags)
 next_passed flags i lt at = omega (arith, ap next (split_at flags i false lt at))

@@ -21,14 +21,16 @@ get_set_here [] i x y at = absurd (omega (arith, slice_get_within {A = _} [] i y
 get_set_here (z ∷ xs) zero x y at = ap (λ o. unwrap_or o x) at
 get_set_here (z ∷ xs) (suc i) x y at = get_set_here xs i x y at
 
-pub get_set_other : {X : Type 0} (xs : List X) (i j : ℕ) (x y : X) → j ≢ i → slice_get (set xs i x) j ≡ Some y → slice_get xs j ≡ Some y
+pub get_set_other : {X : Type 0} (xs : List X) (i j : ℕ) (x y : X) → j ≢ i
+    → slice_get (set xs i x) j ≡ Some y → slice_get xs j ≡ Some y
 get_set_other [] i j x y ne at = at
 get_set_other (z ∷ xs) zero zero x y ne at = absurd (ne refl)
 get_set_other (z ∷ xs) zero (suc j) x y ne at = at
 get_set_other (z ∷ xs) (suc i) zero x y ne at = at
 get_set_other (z ∷ xs) (suc i) (suc j) x y ne at = get_set_other xs i j x y (λ e. ne (ap suc e)) at
 
-module _ (links : LinksRow) (bars free : List ℕ) (h to : ℕ) (rows : List (Vec RowWish Global)) (row : Vec RowWish Global) (right : IsRound links bars free rows)
+module _ (links : LinksRow) (bars free : List ℕ) (h to : ℕ) (rows : List (Vec RowWish Global))
+    (row : Vec RowWish Global) (right : IsRound links bars free rows)
     (within : h < length bars) (read : row ≡ get_or rows h row) where
   found : slice_get rows h ≡ Some row
   found = slice_get_read rows (length rows) h row refl (omega (arith, within, right.rows_each)) read
@@ -58,21 +60,27 @@ module _ (links : LinksRow) (bars free : List ℕ) (h to : ℕ) (rows : List (Ve
               let is : kept ≡ v = get_set_here rows h kept v (rw here at at) in
               let P = λ (u : Vec RowWish Global). IsRow links.state (slice_set bars h to) h u.items in
               rw here (subst P is new_row)
-          | inr other ↦ row_stays links.state bars h to g v.items other (right.rows_are g v (get_set_other rows h g kept v other at))
+          | inr other ↦ row_stays links.state bars h to g v.items other
+              (right.rows_are g v (get_set_other rows h g kept v other at))
         ]);
       }
 
-pub scan_waits : (links : LinksRow) (bars free : List ℕ) (rows : List (Vec RowWish Global)) (ceilings : List ℕ) (seen : Round) → IsRound links bars free rows
-    → record { state = links.state; orders = links.orders; ceilings = ceilings; bars = bars } ≡ seen → (h : ℕ) → h < length seen.bars
-    → (row : Vec RowWish Global) → row ≡ get_or rows h row → (items : List RowWish) → items ≡ row.items → AllWait links.state items
+pub scan_waits : (links : LinksRow) (bars free : List ℕ) (rows : List (Vec RowWish Global))
+    (ceilings : List ℕ) (seen : Round) → IsRound links bars free rows
+    → record { state = links.state; orders = links.orders; ceilings = ceilings; bars = bars } ≡ seen
+    → (h : ℕ) → h < length seen.bars
+    → (row : Vec RowWish Global) → row ≡ get_or rows h row → (items : List RowWish) → items ≡ row.items
+    → AllWait links.state items
 scan_waits links bars free rows ceilings seen right is h lt row read items items_is =
     let within : h < length bars = rw (← is) at lt in
     rw items_is (all_wait links bars free h 0 rows row right within read)
 
 -- what the row tells are the demands of its school
 pub demands_right : (links : LinksRow) (bars free : List ℕ) (rows : List (Vec RowWish Global)) → IsRound links bars free rows
-    → (h : ℕ) → h < length bars → (row : Vec RowWish Global) → row ≡ get_or rows h row → (items : List RowWish) → items ≡ row.items
+    → (h : ℕ) → h < length bars → (row : Vec RowWish Global) → row ≡ get_or rows h row
+    → (items : List RowWish) → items ≡ row.items
     → firsts (is_proposed_at links) 0 items ≡ demands_of links.state links.orders bars h
 demands_right links bars free rows right h within row read items items_is =
-    let found : slice_get rows h ≡ Some row = slice_get_read rows (length rows) h row refl (omega (arith, within, right.rows_each)) read in
+    let found : slice_get rows h ≡ Some row = slice_get_read rows (length rows) h row refl
+    (omega (arith, within, right.rows_each)) read in
     rw items_is (demands_told links bars h row.items (right.rows_are h row found) right.opens_are)

@@ -1,10 +1,10 @@
 -- A round as a system of falling bars.
-use Rattle.std.proofs.Common.{ℕ, ◌<◌, ◌≡◌, Bool, true, false, not, List, [], ◌∷◌, Some, None, map, filter, length, get_or, refl, sym, ◌∙◌, ap, arith, subst, zero-add, Vec}
+use Rattle.std.proofs.Common.{ℕ, ◌<◌, ◌≡◌, Bool, true, false, not, List, [], ◌∷◌, Some, None, map, filter, length, get_or, inl, inr, refl, sym, ◌∙◌, ap, arith, subst, zero-add, Vec}
 use Rattle.std.specs.Prelude.{slice_get, slice_index, slice_set, Option, is_some}
 use Rattle.std.specs.List.{enumerate_from, range_with_len}
 use Rattle.std.specs.declared.alloc.Global.{Global}
-use Rattle.std.proofs.lemmas.Bool.{and_parts}
-use Rattle.std.proofs.lemmas.List.{get_or_read}
+use Rattle.std.proofs.lemmas.Bool.{and_parts, cases_Bool}
+use Rattle.std.proofs.lemmas.List.{get_or_read, length-map}
 use Rattle.std.proofs.lemmas.List.FromFn.{get_or-map-range_with_len, length-map-range_with_len}
 use Rattle.admit_core.specs.declared.dossier.Wish.{Wish}
 use Rattle.admit_core.specs.declared.state.Mark.{Mark}
@@ -25,9 +25,10 @@ use Rattle.linked_demand.specs.Opens.{opens_of, is_proposed_by}
 use Rattle.linked_demand.specs.Rounds.{Round, IsRoundUnder, bar_each, is_proposed_in}
 use Rattle.linked_demand.specs.Demand.{is_proposed_at, over_at}
 use Rattle.linked_demand.proofs.BarEach.{bar_each_is, bar_each_set}
-use Rattle.linked_demand.proofs.Closing.{proposed_at_is}
+use Rattle.linked_demand.proofs.Closing.{length_entries, proposed_at_is}
 use Rattle.linked_demand.proofs.Falling.{flag_map}
 use Rattle.linked_demand.proofs.Filling.{entry_there}
+use Rattle.linked_demand.proofs.Fronting.{closed_at, open_within}
 use Rattle.linked_demand.proofs.Lining.{numbered}
 use Rattle.linked_demand.proofs.Opens.{proposed_by_bars}
 
@@ -37,7 +38,8 @@ map_twice {X} {Y} g f (k ∷ ks) = ap (λ (ys : List Y). g (f k) ∷ ys) (map_tw
 
 -- the flags by place are those of the bars
 pub opens_by_place : (s : State) (bars : List ℕ) (n : ℕ) (flags : List Bool) → length s.marks ≡ length s.dossier.wishes
-    → flags ≡ map (λ k. is_open s bars (wish_in s.dossier.wishes k) (mark_in s.marks k)) (range_with_len 0 n) → n ≡ length s.dossier.wishes → flags ≡ opens_of s bars
+    → flags ≡ map (λ k. is_open s bars (wish_in s.dossier.wishes k) (mark_in s.marks k))
+    (range_with_len 0 n) → n ≡ length s.dossier.wishes → flags ≡ opens_of s bars
 opens_by_place s bars n flags long are n_is =
     let g = λ (e : Wish × Mark). is_open s bars e.0 e.1 in
     are
@@ -47,13 +49,17 @@ opens_by_place s bars n flags long are n_is =
 
 -- the proposed wishes, place by place
 pub proposed_by_place : (s : State) (orders : List CallOrder) (bars : List ℕ) → length s.marks ≡ length s.dossier.wishes
-    → filter (λ k. is_proposed s orders bars (wish_in s.dossier.wishes k) (mark_in s.marks k)) (range_with_len 0 (length s.dossier.wishes)) ≡ proposed s orders bars
+    → filter (λ k. is_proposed s orders bars (wish_in s.dossier.wishes k) (mark_in s.marks k))
+    (range_with_len 0 (length s.dossier.wishes)) ≡ proposed s orders bars
 proposed_by_place s orders bars long =
     let test = λ (e : Wish × Mark). is_proposed s orders bars e.0 e.1 in
     sym (numbered test (entry_in s) (length s.dossier.wishes) 0)
-    ∙ ap (λ (es : List (Wish × Mark)). map (λ (x : ℕ × (Wish × Mark)). x.0) (filter (λ (x : ℕ × (Wish × Mark)). test x.1) (enumerate_from 0 es))) (sym (entries_by_place s long))
+    ∙ ap (λ (es : List (Wish × Mark)). map (λ (x : ℕ × (Wish × Mark)). x.0)
+    (filter (λ (x : ℕ × (Wish × Mark)). test x.1) (enumerate_from 0 es))) (sym (entries_by_place s long))
 
-module _ (links : LinksRow) (ceilings bars free : List ℕ) (rows : List (Vec RowWish Global)) (overs : List (Option ℕ)) (marked : List Bool) (seen : Round) (right : IsRoundUnder links ceilings bars free rows overs marked)
+module _ (links : LinksRow) (ceilings bars free : List ℕ) (rows : List (Vec RowWish Global))
+    (overs : List (Option ℕ)) (marked : List Bool) (seen : Round)
+    (right : IsRoundUnder links ceilings bars free rows overs marked)
     (is : record { state = links.state; orders = links.orders; ceilings = ceilings; bars = bars } ≡ seen) where
   as_long : length bars ≡ length ceilings
   as_long = right.round.bars_each ∙ sym right.ceilings_each
@@ -81,44 +87,69 @@ module _ (links : LinksRow) (ceilings bars free : List ℕ) (rows : List (Vec Ro
   pub falls_seen : (i to : ℕ) → to < slice_index (bar_each seen.ceilings seen.bars) i → to < slice_index bars i
   falls_seen i to falls = omega (arith, falls, bar_seen i (slice_index bars i) refl)
 
-  pub over_seen : (i : ℕ) (over : Option ℕ) → i < length seen.ceilings → over ≡ slice_get (demanded_ranks seen.state seen.orders seen.bars i) (free_beds seen.state i)
+  pub over_seen : (i : ℕ) (over : Option ℕ) → i < length seen.ceilings
+      → over ≡ slice_get (demanded_ranks seen.state seen.orders seen.bars i) (free_beds seen.state i)
       → over ≡ rank_over (boarding seen.state seen.orders seen.ceilings) (bar_each seen.ceilings seen.bars) i
   over_seen i over lt answer =
       answer
-      ∙ ap (slice_get (demanded_ranks seen.state seen.orders seen.bars i)) (sym (get_or-map-range_with_len (free_beds seen.state) 0 (length seen.ceilings) i i 0 lt (zero-add i)))
-      ∙ ap (λ (bs : List ℕ). slice_get (demanded_ranks seen.state seen.orders bs i) (slice_index (map (free_beds seen.state) (range_with_len 0 (length seen.ceilings))) i)) (sym bars_seen)
+      ∙ ap (slice_get (demanded_ranks seen.state seen.orders seen.bars i))
+      (sym (get_or-map-range_with_len (free_beds seen.state) 0 (length seen.ceilings) i i 0 lt (zero-add i)))
+      ∙ ap (λ (bs : List ℕ). slice_get (demanded_ranks seen.state seen.orders bs i)
+      (slice_index (map (free_beds seen.state) (range_with_len 0 (length seen.ceilings))) i)) (sym bars_seen)
 
   -- the answers that are kept
   pub answer_within : (i : ℕ) → i < length seen.bars → i < length overs
   answer_within i lt =
-      omega (arith, lt, ap (λ (r : Round). length r.bars) is, right.round.bars_each, ap length right.overs_are, length-map-range_with_len (over_at links.state links.orders bars) 0 (length links.state.dossier.schools))
+      omega (
+        arith,
+        lt,
+        ap (λ (r : Round). length r.bars) is,
+        right.round.bars_each,
+        ap length
+            right.overs_are,
+        length-map-range_with_len (over_at links.state links.orders bars) 0
+            (length links.state.dossier.schools),
+      )
 
   pub answer_read : (i : ℕ) → i < length seen.bars → get_or overs i None ≡ over_at seen.state seen.orders seen.bars i
   answer_read i lt =
       ap (λ (os : List (Option ℕ)). get_or os i None) right.overs_are
-      ∙ get_or-map-range_with_len (over_at links.state links.orders bars) 0 (length links.state.dossier.schools) i i None (omega (arith, lt, ap (λ (r : Round). length r.bars) is, right.round.bars_each)) (zero-add i)
+      ∙ get_or-map-range_with_len (over_at links.state links.orders bars) 0
+      (length links.state.dossier.schools) i i None
+      (omega (arith, lt, ap (λ (r : Round). length r.bars) is, right.round.bars_each)) (zero-add i)
       ∙ ap (λ (r : Round). over_at r.state r.orders r.bars i) is
 
   -- the proposed wishes, under the bars and under those that the system tells
-  pub all_seen : filter (is_proposed_in seen) (range_with_len 0 (length seen.state.dossier.wishes)) ≡ proposed seen.state seen.orders seen.bars
+  pub all_seen : filter (is_proposed_in seen)
+      (range_with_len 0 (length seen.state.dossier.wishes)) ≡ proposed seen.state seen.orders seen.bars
   all_seen =
-      let P = λ (r : Round). filter (is_proposed_in r) (range_with_len 0 (length r.state.dossier.wishes)) ≡ proposed r.state r.orders r.bars in
+      let P = λ (r : Round). filter (is_proposed_in r)
+      (range_with_len 0 (length r.state.dossier.wishes)) ≡ proposed r.state r.orders r.bars in
       subst P is (proposed_by_place links.state links.orders bars right.round.marks_each)
 
   pub offers_seen : proposed seen.state seen.orders seen.bars ≡ proposed seen.state seen.orders (bar_each seen.ceilings seen.bars)
   offers_seen = ap (proposed seen.state seen.orders) (sym bars_seen)
 
   -- the schools that have an answer are those that are overfilled
-  pub overfilled_seen : answered overs ≡ all_overfilled (boarding seen.state seen.orders seen.ceilings) (bar_each seen.ceilings seen.bars)
+  pub overfilled_seen : answered overs ≡ all_overfilled (boarding seen.state seen.orders seen.ceilings)
+      (bar_each seen.ceilings seen.bars)
   overfilled_seen =
       let sys = boarding seen.state seen.orders seen.ceilings in
       let low = bar_each seen.ceilings seen.bars in
       let long : length overs ≡ length seen.ceilings =
-      omega (arith, ap length right.overs_are, length-map-range_with_len (over_at links.state links.orders bars) 0 (length links.state.dossier.schools), right.ceilings_each, ceilings_seen) in
+      omega (
+        arith,
+        ap length right.overs_are,
+        length-map-range_with_len
+            (over_at links.state links.orders bars) 0 (length links.state.dossier.schools),
+        right.ceilings_each,
+        ceilings_seen,
+      ) in
       ap (λ n. filter (λ h. is_some (get_or overs h None)) (range_with_len 0 n)) long
       ∙ filter_agree (λ h. is_some (get_or overs h None)) (is_overfilled sys low) 0 (length seen.ceilings) (λ h ge less.
       let lt : h < length seen.ceilings = omega (arith, less) in
-      ap is_some (over_seen h (get_or overs h None) lt (answer_read h (seen_within_bars h lt))) ∙ sym (overfilled_by_rank sys low h lt))
+      ap is_some (over_seen h (get_or overs h None) lt (answer_read h (seen_within_bars h lt)))
+      ∙ sym (overfilled_by_rank sys low h lt))
 
   -- after a fall
   pub bars_fallen : (i to : ℕ) → bar_each ceilings (slice_set bars i to) ≡ slice_set (bar_each seen.ceilings seen.bars) i to
@@ -133,10 +164,12 @@ module _ (links : LinksRow) (ceilings bars free : List ℕ) (rows : List (Vec Ro
     here : slice_get (entries links.state) k ≡ Some (wish_in links.state.dossier.wishes k, mark_in links.state.marks k)
     here = entry_there links.state.dossier.wishes links.state.marks k right.round.marks_each k_within
 
-    flag_is : get_or links.opens k false ≡ is_open links.state bars (wish_in links.state.dossier.wishes k) (mark_in links.state.marks k)
+    flag_is : get_or links.opens k false ≡ is_open links.state bars (wish_in links.state.dossier.wishes k)
+        (mark_in links.state.marks k)
     flag_is =
         ap (λ (os : List Bool). get_or os k false) right.round.opens_are
-        ∙ flag_map (λ e. is_open links.state bars e.0 e.1) (entries links.state) k (wish_in links.state.dossier.wishes k, mark_in links.state.marks k) here
+        ∙ flag_map (λ e. is_open links.state bars e.0 e.1) (entries links.state) k
+        (wish_in links.state.dossier.wishes k, mark_in links.state.marks k) here
 
     -- a wish that is not open is not proposed
     pub closed_seen : get_or links.opens k false ≡ false → false ≡ is_proposed_in seen k
@@ -148,17 +181,53 @@ module _ (links : LinksRow) (ceilings bars free : List ℕ) (rows : List (Vec Ro
     pub open_waits : get_or links.opens k false ≡ true → (w : Wish) × (m : Mark) × WaitsAt links.state k w m
     open_waits opens =
         let w = wish_in links.state.dossier.wishes k in
-        let m = mark_in links.state.marks k in
-        (w, m, record { here = here; waits = (and_parts (is_waiting m) (not (is_barred links.state bars w m)) (sym flag_is ∙ opens)).0 })
+        let m = mark_in links.state.marks k in (
+          w,
+          m,
+          record {
+            here = here;
+            waits =
+                (and_parts (is_waiting m) (not (is_barred links.state bars w m)) (sym flag_is ∙ opens)).0;
+          },
+        )
 
     pub proposed_seen : get_or links.opens k false ≡ true → is_proposed_at links k ≡ is_proposed_in seen k
     proposed_seen opens =
         let w = wish_in links.state.dossier.wishes k in
         let m = mark_in links.state.marks k in
-        let waits : WaitsAt links.state k w m = record { here = here; waits = (and_parts (is_waiting m) (not (is_barred links.state bars w m)) (sym flag_is ∙ opens)).0 } in
+        let waits : WaitsAt links.state k w m =
+        record {
+          here = here;
+          waits =
+              (and_parts (is_waiting m) (not (is_barred links.state bars w m)) (sym flag_is ∙ opens)).0;
+        } in
         let P = λ (r : Round). is_proposed_at links k ≡ is_proposed_in r k in
         subst P is (
         proposed_at_is links k w m waits
         ∙ ap (is_proposed_by links.state links.orders links.opens w m) flag_is
-        ∙ ap (λ (os : List Bool). is_proposed_by links.state links.orders os w m (is_open links.state bars w m)) right.round.opens_are
+        ∙ ap (λ (os : List Bool). is_proposed_by links.state links.orders os w m
+        (is_open links.state bars w m)) right.round.opens_are
         ∙ proposed_by_bars links.state links.orders bars w m)
+
+  -- what is open waits
+  pub opens_wait : (k : ℕ) → get_or links.opens k false ≡ true → (w : Wish) × (m : Mark) × WaitsAt links.state k w m
+  opens_wait k opened =
+      let lt : k < length seen.state.dossier.wishes =
+      omega (
+        arith,
+        open_within links.opens k opened,
+        ap length right.round.opens_are,
+        length-map (entries links.state) (λ (e : Wish × Mark). is_open links.state bars e.0 e.1),
+        length_entries links.state.dossier.wishes links.state.marks right.round.marks_each,
+        ap (λ (r : Round). length r.state.dossier.wishes) is,
+      ) in
+      open_waits k lt opened
+
+  -- a flag that says whether a wish is proposed by the links says whether it is at the bars
+  pub flag_seen : (k : ℕ) → k < length seen.state.dossier.wishes → (flag : Bool)
+      → flag ≡ is_proposed_at links k → flag ≡ is_proposed_in seen k
+  flag_seen k lt flag flag_is =
+      elim (cases_Bool (get_or links.opens k false)) [
+        | inl opened ↦ flag_is ∙ proposed_seen k lt opened
+        | inr closed ↦ flag_is ∙ closed_at links k closed ∙ closed_seen k lt closed
+      ]

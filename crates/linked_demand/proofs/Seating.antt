@@ -25,7 +25,8 @@ use Rattle.day_state.proofs.Ordering.{filter_none}
 
 -- what holds of those who are done holds of fewer
 pub seated_by : (s : DossierRows) (orders : List CallOrder) (old new : ℕ → ℕ → Bool) (places : List ℕ) (early : List Bool)
-    → ((i : ℕ) (w : Wish) → slice_get s.wishes i ≡ Some w → new w.programme w.candidate ≡ true → old w.programme w.candidate ≡ true)
+    → ((i : ℕ) (w : Wish) → slice_get s.wishes i ≡ Some w → new w.programme w.candidate ≡ true
+    → old w.programme w.candidate ≡ true)
     → AreSeated s orders old places early → AreSeated s orders new places early
 seated_by s orders old new places early fewer are = record {
   places_each = are.places_each;
@@ -34,16 +35,19 @@ seated_by s orders old new places early fewer are = record {
   called = λ i w at t. are.called i w at (fewer i w at t);
 }
 
-still_passed : (below here among one : Bool) → (below || (here && (among || one))) ≡ true → (one && here) ≡ false → (below || (here && among)) ≡ true
+still_passed : (below here among one : Bool) → (below || (here && (among || one))) ≡ true
+    → (one && here) ≡ false → (below || (here && among)) ≡ true
 still_passed true here among one t differs = refl
 still_passed false true true one t differs = refl
 still_passed false true false true t differs = absurd (false≢true (sym differs))
 still_passed false true false false t differs = t
 still_passed false false among one t differs = t
 
-module _ (s : DossierRows) (orders : List CallOrder) (n : ℕ) (order : List ℕ) (i x : ℕ) (lt : i < length order) (x_is : x ≡ get_or order i 0) where
+module _ (s : DossierRows) (orders : List CallOrder) (n : ℕ) (order : List ℕ) (i x : ℕ)
+    (lt : i < length order) (x_is : x ≡ get_or order i 0) where
   -- one who is done now, and isn't this one in this programme, was done
-  was_done : (w : Wish) → is_passed n (take (i + 1) order) w.programme w.candidate ≡ true → (nat_eq w.candidate x && nat_eq w.programme n) ≡ false
+  was_done : (w : Wish) → is_passed n (take (i + 1) order) w.programme w.candidate ≡ true
+      → (nat_eq w.candidate x && nat_eq w.programme n) ≡ false
       → is_passed n (take i order) w.programme w.candidate ≡ true
   was_done w t differs =
       let more : is_among w.candidate (take (i + 1) order) ≡ (is_among w.candidate (take i order) || nat_eq w.candidate x) =
@@ -53,7 +57,8 @@ module _ (s : DossierRows) (orders : List CallOrder) (n : ℕ) (order : List ℕ
 
   -- one who has no claim is passed over
   pub seated_over : (places : List ℕ) (early : List Bool) → nat_lt 0 (length (claim_of s n x)) ≡ false
-      → AreSeated s orders (is_passed n (take i order)) places early → AreSeated s orders (is_passed n (take (i + 1) order)) places early
+      → AreSeated s orders (is_passed n (take i order)) places early
+      → AreSeated s orders (is_passed n (take (i + 1) order)) places early
   seated_over places early none are =
       seated_by s orders (is_passed n (take i order)) (is_passed n (take (i + 1) order)) places early
       (λ j w at t. was_done w t (elim (cases_Bool (nat_eq w.candidate x && nat_eq w.programme n)) [
@@ -62,7 +67,8 @@ module _ (s : DossierRows) (orders : List CallOrder) (n : ℕ) (order : List ℕ
       ])) are
 
   -- for one who has a claim their place is noted
-  pub seated_more : (places : List ℕ) (early : List Bool) (new_places : List ℕ) (new_early : List Bool) (place : ℕ) (is_early : Bool)
+  pub seated_more : (places : List ℕ) (early : List Bool) (new_places : List ℕ) (new_early : List Bool)
+      (place : ℕ) (is_early : Bool)
       → order ≡ order_of s orders n → IsDistinct nat_eq order → nat_lt 0 (length (claim_of s n x)) ≡ true
       → is_early ≡ nat_lt i (limit_of s n) → place ≡ length (filter (applies_in s n) (take i order))
       → AreSeated s orders (is_passed n (take i order)) places early
@@ -72,10 +78,15 @@ module _ (s : DossierRows) (orders : List CallOrder) (n : ℕ) (order : List ℕ
       let claim = claim_of s n x in
       let within : (j : ℕ) (w : Wish) → slice_get s.wishes j ≡ Some w → j < length s.wishes =
       λ j w at. slice_get_within s.wishes j w at in
-      let put : (j : ℕ) (w : Wish) → slice_get s.wishes j ≡ Some w → get_or new_places j 0 ≡ (if (nat_eq w.candidate x && nat_eq w.programme n) then place else get_or places j 0) =
-      λ j w at. puts.each j (omega (arith, within j w at, are.places_each)) ∙ ap (λ b. if b then place else get_or places j 0) (among_claim s n x j w at) in
-      let put_early : (j : ℕ) (w : Wish) → slice_get s.wishes j ≡ Some w → get_or new_early j false ≡ (if (nat_eq w.candidate x && nat_eq w.programme n) then is_early else get_or early j false) =
-      λ j w at. puts_early.each j (omega (arith, within j w at, are.early_each)) ∙ ap (λ b. if b then is_early else get_or early j false) (among_claim s n x j w at) in
+      let put : (j : ℕ) (w : Wish) → slice_get s.wishes j ≡ Some w
+      → get_or new_places j 0 ≡ (if (nat_eq w.candidate x && nat_eq w.programme n) then place else get_or places j 0) =
+      λ j w at. puts.each j (omega (arith, within j w at, are.places_each))
+      ∙ ap (λ b. if b then place else get_or places j 0) (among_claim s n x j w at) in
+      let put_early : (j : ℕ) (w : Wish) → slice_get s.wishes j ≡ Some w
+      → get_or new_early j
+      false ≡ (if (nat_eq w.candidate x && nat_eq w.programme n) then is_early else get_or early j false) =
+      λ j w at. puts_early.each j (omega (arith, within j w at, are.early_each))
+      ∙ ap (λ b. if b then is_early else get_or early j false) (among_claim s n x j w at) in
       let line_place : IsPlaceOf x (line_of s orders n) place =
       let P = λ (o : List ℕ). IsPlaceOf x (filter (applies_in s n) o) place in
       let Q = λ (k : ℕ). IsPlaceOf x (filter (applies_in s n) order) k in
@@ -90,9 +101,11 @@ module _ (s : DossierRows) (orders : List CallOrder) (n : ℕ) (order : List ℕ
               let P = λ (c : ℕ). IsPlaceOf c (line_of s orders n) place in
               let Q = λ (p : ℕ). IsPlaceOf w.candidate (line_of s orders p) place in
               let R = λ (k : ℕ). IsPlaceOf w.candidate (line_of s orders w.programme) k in
-              subst R (sym value) (subst Q (sym (eqb-true w.programme n parts.1)) (subst P (sym (eqb-true w.candidate x parts.0)) line_place))
+              subst R (sym value)
+              (subst Q (sym (eqb-true w.programme n parts.1)) (subst P (sym (eqb-true w.candidate x parts.0)) line_place))
           | inr other ↦
-              let value : get_or new_places j 0 ≡ get_or places j 0 = put j w at ∙ ap (λ b. if b then place else get_or places j 0) other in
+              let value : get_or new_places j 0 ≡ get_or places j 0 = put j w at
+              ∙ ap (λ b. if b then place else get_or places j 0) other in
               let R = λ (k : ℕ). IsPlaceOf w.candidate (line_of s orders w.programme) k in
               subst R (sym value) (are.place j w at (was_done w t other))
         ];
@@ -104,8 +117,10 @@ module _ (s : DossierRows) (orders : List CallOrder) (n : ℕ) (order : List ℕ
               put_early j w at ∙ ap (λ b. if b then is_early else get_or early j false) own
               ∙ early_is
               ∙ ap (λ p. nat_lt i (limit_of s p)) (sym programme)
-              ∙ sym (early_at s orders w order i (is ∙ ap (order_of s orders) (sym programme)) apart lt (sym x_is ∙ sym candidate))
-          | inr other ↦ put_early j w at ∙ ap (λ b. if b then is_early else get_or early j false) other ∙ are.called j w at (was_done w t other)
+              ∙ sym (early_at s orders w order i (is ∙ ap (order_of s orders) (sym programme)) apart lt
+              (sym x_is ∙ sym candidate))
+          | inr other ↦ put_early j w at ∙ ap (λ b. if b then is_early else get_or early j false) other
+              ∙ are.called j w at (was_done w t other)
         ];
       }
 
@@ -120,7 +135,8 @@ seated_start s orders n order places early are =
     ]) are
 
 -- where there is no wish for a programme all of its order are done
-pub seated_nobody : (s : DossierRows) (orders : List CallOrder) (n : ℕ) (order : List ℕ) (places : List ℕ) (early : List Bool) → ((c : ℕ) → nat_lt 0 (length (claim_of s n c)) ≡ false)
+pub seated_nobody : (s : DossierRows) (orders : List CallOrder) (n : ℕ) (order : List ℕ) (places : List ℕ)
+    (early : List Bool) → ((c : ℕ) → nat_lt 0 (length (claim_of s n c)) ≡ false)
     → AreSeated s orders (is_below n) places early → AreSeated s orders (is_passed n order) places early
 seated_nobody s orders n order places early none are =
     seated_by s orders (is_below n) (is_passed n order) places early
@@ -129,15 +145,19 @@ seated_nobody s orders n order places early none are =
       | inr here ↦
           let same = (and_parts (nat_eq w.programme n) (is_among w.candidate order) here).0 in
           let among : is_among i (claim_of s n w.candidate) ≡ true =
-          among_claim s n w.candidate i w at ∙ and_from (nat_eq w.candidate w.candidate) (nat_eq w.programme n) (eq-eqb w.candidate w.candidate refl) same in
+          among_claim s n w.candidate i w at
+          ∙ and_from (nat_eq w.candidate w.candidate) (nat_eq w.programme n) (eq-eqb w.candidate w.candidate refl) same in
           absurd (false≢true (sym (none w.candidate) ∙ among_some i (claim_of s n w.candidate) among))
     ]) are
 
-pub nobody_applies : (s : DossierRows) (n : ℕ) (order : List ℕ) → ((c : ℕ) → nat_lt 0 (length (claim_of s n c)) ≡ false) → filter (applies_in s n) order ≡ []
-nobody_applies s n order none = filter_none (applies_in s n) order (λ k d lt. applies_claim s n (get_or order k d) ∙ none (get_or order k d))
+pub nobody_applies : (s : DossierRows) (n : ℕ) (order : List ℕ)
+    → ((c : ℕ) → nat_lt 0 (length (claim_of s n c)) ≡ false) → filter (applies_in s n) order ≡ []
+nobody_applies s n order none = filter_none (applies_in s n) order
+    (λ k d lt. applies_claim s n (get_or order k d) ∙ none (get_or order k d))
 
 -- the programmes that are gone through
-pub record IsBuilt (s : DossierRows) (orders : List CallOrder) (n : ℕ) (claims : List (List (List ℕ))) (places : List ℕ) (early : List Bool) : Type 0 where
+pub record IsBuilt (s : DossierRows) (orders : List CallOrder) (n : ℕ) (claims : List (List (List ℕ)))
+    (places : List ℕ) (early : List Bool) : Type 0 where
   pub claims_are : claims ≡ map (λ p. map (claim_of s p) (line_of s orders p)) (range_with_len 0 n)
   pub seated : AreSeated s orders (is_below n) places early
 
@@ -145,7 +165,8 @@ pub wish_in_is : (ws : List Wish) (i : ℕ) (w : Wish) → slice_get ws i ≡ So
 wish_in_is ws i w at = ap (λ (o : Option Wish). unwrap_or o (wish_in [] 0)) at
 
 -- one more
-pub built_more : (s : DossierRows) (orders : List CallOrder) (n : ℕ) (claims : List (List (List ℕ))) (places : List ℕ) (early : List Bool)
+pub built_more : (s : DossierRows) (orders : List CallOrder) (n : ℕ) (claims : List (List (List ℕ)))
+    (places : List ℕ) (early : List Bool)
     (own : List (List ℕ)) (new_places : List ℕ) (new_early : List Bool)
     → AreCalled s orders
     → IsBuilt s orders n claims places early
@@ -166,17 +187,20 @@ built_more s orders n claims places early own new_places new_early called built 
           let P = λ (v : Wish). is_among v.candidate (order_of s orders v.programme) ≡ true in
           subst P is (called.each i (slice_get_within s.wishes i w at)) in
           elim (cases_lt w.programme n) [
-            | inl below ↦ or_left (nat_lt w.programme n) (nat_eq w.programme n && is_among w.candidate (order_of s orders n)) (lt-ltb w.programme n below)
+            | inl below ↦ or_left (nat_lt w.programme n)
+                (nat_eq w.programme n && is_among w.candidate (order_of s orders n)) (lt-ltb w.programme n below)
             | inr not_below ↦
                 let same : w.programme ≡ n = omega (arith, not_below, ltb-true w.programme (n + 1) t) in
                 let Q = λ (p : ℕ). is_among w.candidate (order_of s orders p) ≡ true in
                 or_right (nat_lt w.programme n) (nat_eq w.programme n && is_among w.candidate (order_of s orders n))
-                (and_from (nat_eq w.programme n) (is_among w.candidate (order_of s orders n)) (eq-eqb w.programme n same) (subst Q same among))
+                (and_from (nat_eq w.programme n) (is_among w.candidate (order_of s orders n))
+                (eq-eqb w.programme n same) (subst Q same among))
           ]) seated;
     }
 
 -- and all of them
-pub built_all : (s : DossierRows) (orders : List CallOrder) (n : ℕ) (claims : List (List (List ℕ))) (places : List ℕ) (early : List Bool)
+pub built_all : (s : DossierRows) (orders : List CallOrder) (n : ℕ) (claims : List (List (List ℕ)))
+    (places : List ℕ) (early : List Bool)
     → n ≡ length s.programmes
     → ((k : ℕ) → k < length s.wishes → (wish_in s.wishes k).programme < length s.programmes)
     → IsBuilt s orders n claims places early → IsLineup s orders claims places early
@@ -205,5 +229,6 @@ once_at (g ∷ gs) [] valid are j = absurd are
 once_at (g ∷ gs) (o ∷ os) valid are zero = distinct-order g o (valid zero g (omega arith)).ranking are.0
 once_at (g ∷ gs) (o ∷ os) valid are (suc j) = once_at gs os (λ k d lt. valid (suc k) d (omega arith)) are.1 j
 
-pub called_once : (d : DossierRows) → IsValid d → (orders : List CallOrder) → AreCallOrders d.groups orders → (p : ℕ) → IsDistinct nat_eq (order_of d orders p)
+pub called_once : (d : DossierRows) → IsValid d → (orders : List CallOrder) → AreCallOrders d.groups orders
+    → (p : ℕ) → IsDistinct nat_eq (order_of d orders p)
 called_once d valid orders are p = once_at d.groups orders valid.groups are (group_of d p)

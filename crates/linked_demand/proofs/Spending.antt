@@ -40,12 +40,15 @@ abbrev AreSet : List RowWish → List Bool → Type 0
 AreSet [] opens = Unit {0}
 AreSet (x ∷ xs) opens = (get_or (closed xs opens) x.wish false ≡ true) × AreSet xs opens
 
-closed_count : (xs : List RowWish) (opens : List Bool) → AreSet xs opens → set_count (closed xs opens) + length xs ≡ set_count opens
+closed_count : (xs : List RowWish) (opens : List Bool) → AreSet xs opens
+    → set_count (closed xs opens) + length xs ≡ set_count opens
 closed_count [] opens all = omega arith
 closed_count (x ∷ xs) opens all = omega (arith, set_one (closed xs opens) x.wish all.0, closed_count xs opens all.1)
 
-are_set : (xs : List RowWish) (opens : List Bool) → ((k : ℕ) (x : RowWish) → slice_get xs k ≡ Some x → get_or opens x.wish false ≡ true)
-    → ((j k : ℕ) (x y : RowWish) → j < k → slice_get xs j ≡ Some x → slice_get xs k ≡ Some y → x.wish ≡ y.wish → ⊥) → AreSet xs opens
+are_set : (xs : List RowWish) (opens : List Bool)
+    → ((k : ℕ) (x : RowWish) → slice_get xs k ≡ Some x → get_or opens x.wish false ≡ true)
+    → ((j k : ℕ) (x y : RowWish) → j < k → slice_get xs j ≡ Some x → slice_get xs k ≡ Some y
+    → x.wish ≡ y.wish → ⊥) → AreSet xs opens
 are_set [] opens each apart = tt
 are_set (x ∷ xs) opens each apart =
     let flag : get_or opens x.wish false ≡ true = each 0 x refl in
@@ -61,7 +64,8 @@ are_set (x ∷ xs) opens each apart =
     ] in
     (here, are_set xs opens (λ k y at. each (suc k) y at) (λ j k y z lt a b. apart (suc j) (suc k) y z (omega arith) a b))
 
-behind_at : (row : List RowWish) (end k n : ℕ) (x : RowWish) → n ≡ end + k → slice_get (drop end row) k ≡ Some x → slice_get row n ≡ Some x
+behind_at : (row : List RowWish) (end k n : ℕ) (x : RowWish) → n ≡ end + k
+    → slice_get (drop end row) k ≡ Some x → slice_get row n ≡ Some x
 behind_at row zero k n x is at =
     let P = λ (m : ℕ). slice_get row m ≡ Some x in
     let same : k ≡ n = omega (arith, is) in
@@ -88,14 +92,16 @@ and_none : (b : Bool) → (b && false) ≡ false
 and_none true = refl
 and_none false = refl
 
-not_behind : (s : State) (bars : List ℕ) (h : ℕ) (w : Wish) (school : Option ℕ) → is_school school h ≡ true → w.board_rank ≤ slice_index bars h → is_behind_bar s bars w school ≡ false
+not_behind : (s : State) (bars : List ℕ) (h : ℕ) (w : Wish) (school : Option ℕ) → is_school school h ≡ true
+    → w.board_rank ≤ slice_index bars h → is_behind_bar s bars w school ≡ false
 not_behind s bars h w None has low = refl
 not_behind s bars h w (Some g) has low =
     let same : g ≡ h = eqb-true g h has in
     rw (same, le-ltb (slice_index bars h) w.board_rank low) (and_none (not (holds_bed s w.candidate h)))
 
 split_bits : (waits low high : Bool) → (high ≡ true → low ≡ true)
-    → cond (waits && not (waits && low)) 1 0 + cond ((waits && low) && not (waits && high)) 1 0 ≡ cond (waits && not (waits && high)) 1 0
+    → cond (waits && not (waits && low)) 1 0 + cond ((waits && low) && not (waits && high)) 1 0 ≡ cond
+    (waits && not (waits && high)) 1 0
 split_bits false low high h = omega arith
 split_bits true true true h = omega arith
 split_bits true true false h = omega arith
@@ -113,13 +119,18 @@ module _ (s : State) (bars : List ℕ) (h to : ℕ) (within : h < length bars) (
   low = slice_set bars h to
 
   -- the open wishes are those that stay open and those that become barred
-  opens_split : count_by (λ (e : Wish × Mark). is_open s low e.0 e.1) (entries s) + count_by (becomes_barred s bars low) (entries s)
+  opens_split : count_by (λ (e : Wish × Mark). is_open s low e.0 e.1) (entries s) + count_by
+      (becomes_barred s bars low) (entries s)
       ≡ count_by (λ (e : Wish × Mark). is_open s bars e.0 e.1) (entries s)
   opens_split =
       omega (
         arith,
-        count_sum (λ (x : ℕ × (Wish × Mark)). is_open s low x.1.0 x.1.1) (λ (x : ℕ × (Wish × Mark)). becomes_barred s bars low x.1) (λ (x : ℕ × (Wish × Mark)). is_open s bars x.1.0 x.1.1) (entries s)
-            (λ j e at. split_bits (is_waiting e.1) (is_behind_bar s low e.0 e.0.school) (is_behind_bar s bars e.0 e.0.school) (behind_lower s [] low bars (fall_at_most bars h to within le) e.0 e.0.school)),
+        count_sum (λ (x : ℕ × (Wish × Mark)). is_open s low x.1.0 x.1.1)
+            (λ (x : ℕ × (Wish × Mark)). becomes_barred s bars low x.1)
+            (λ (x : ℕ × (Wish × Mark)). is_open s bars x.1.0 x.1.1) (entries s)
+            (λ j e at. split_bits (is_waiting e.1) (is_behind_bar s low e.0 e.0.school)
+            (is_behind_bar s bars e.0 e.0.school)
+            (behind_lower s [] low bars (fall_at_most bars h to within le) e.0 e.0.school)),
         count_places (λ (e : Wish × Mark). is_open s low e.0 e.1) (entries s) 0,
         count_places (becomes_barred s bars low) (entries s) 0,
         count_places (λ (e : Wish × Mark). is_open s bars e.0 e.1) (entries s) 0,
@@ -130,14 +141,17 @@ module _ (s : State) (bars : List ℕ) (h to : ℕ) (within : h < length bars) (
     row_open k x at =
         let (w, m, waits) = right.each k x at in
         flag_map (λ (e : Wish × Mark). is_open s bars e.0 e.1) (entries s) x.wish (w, m) waits.waits.here
-        ∙ open_bits (is_waiting m) (is_behind_bar s bars w w.school) waits.waits.waits (not_behind s bars h w w.school waits.has (omega (arith, right.below k x at, waits.rank)))
+        ∙ open_bits (is_waiting m) (is_behind_bar s bars w w.school) waits.waits.waits
+        (not_behind s bars h w w.school waits.has (omega (arith, right.below k x at, waits.rank)))
 
     row_apart : (j k : ℕ) (x y : RowWish) → j < k → slice_get row j ≡ Some x → slice_get row k ≡ Some y → x.wish ≡ y.wish → ⊥
     row_apart j k x y lt a b same =
         let (v, n, early) = right.each j x a in
         let (w, m, late) = right.each k y b in
         let P = λ (i : ℕ). slice_get (entries s) i ≡ Some (v, n) in
-        let rank : v.board_rank ≡ w.board_rank = ap (λ (o : Option (Wish × Mark)). (unwrap_or o (v, n)).0.board_rank) (sym (subst P same early.waits.here) ∙ late.waits.here) in
+        let rank : v.board_rank ≡ w.board_rank =
+        ap (λ (o : Option (Wish × Mark)). (unwrap_or o (v, n)).0.board_rank)
+        (sym (subst P same early.waits.here) ∙ late.waits.here) in
         omega (arith, right.in_order j k x y lt a b (early.rank ∙ rank ∙ sym late.rank), same)
 
     -- as many become barred as are dropped from the row
@@ -147,7 +161,8 @@ module _ (s : State) (bars : List ℕ) (h to : ℕ) (within : h < length bars) (
         let count =
         closed_count (drop end row) (opens_of s bars)
         (are_set (drop end row) (opens_of s bars) (λ k x at. row_open (end + k) x (behind_at row end k (end + k) x refl at))
-        (λ j k x y lt a b. row_apart (end + j) (end + k) x y (omega (arith, lt)) (behind_at row end j (end + j) x refl a) (behind_at row end k (end + k) y refl b))) in
+        (λ j k x y lt a b. row_apart (end + j) (end + k) x y (omega (arith, lt))
+        (behind_at row end j (end + j) x refl a) (behind_at row end k (end + k) y refl b))) in
         omega (
           arith,
           count,
@@ -160,8 +175,10 @@ module _ (s : State) (bars : List ℕ) (h to : ℕ) (within : h < length bars) (
         )
 
 -- what is new between the links of two bars
-new_between : (old new : LinksRow) (bars low : List ℕ) → new.state ≡ old.state → new.orders ≡ old.orders → old.opens ≡ opens_of old.state bars → new.opens ≡ opens_of old.state low
-    → count_by (is_new old.state low old new) (enumerate_from 0 (entries old.state)) ≡ count_by (becomes_proposed old.state old.orders bars low) (entries old.state)
+new_between : (old new : LinksRow) (bars low : List ℕ) → new.state ≡ old.state → new.orders ≡ old.orders
+    → old.opens ≡ opens_of old.state bars → new.opens ≡ opens_of old.state low
+    → count_by (is_new old.state low old new) (enumerate_from 0 (entries old.state)) ≡ count_by
+    (becomes_proposed old.state old.orders bars low) (entries old.state)
 new_between old new bars low state orders old_opens new_opens =
     let s = old.state in
     let os = old.orders in
@@ -169,17 +186,23 @@ new_between old new bars low state orders old_opens new_opens =
     let now : (j : ℕ) (e : Wish × Mark) → slice_get (entries s) j ≡ Some e → is_proposed_at new j ≡ is_proposed s os low e.0 e.1 =
     λ j e at.
     let P = λ (t : State). slice_get (entries t) j ≡ Some e in
-    proposed_entry new low now_opens j e (subst P (sym state) at) ∙ ap (λ (t : State). is_proposed t new.orders low e.0 e.1) state ∙ ap (λ (o : List CallOrder). is_proposed s o low e.0 e.1) orders in
+    proposed_entry new low now_opens j e (subst P (sym state) at)
+    ∙ ap (λ (t : State). is_proposed t new.orders low e.0 e.1) state
+    ∙ ap (λ (o : List CallOrder). is_proposed s o low e.0 e.1) orders in
     count_alike (is_new s low old new) (λ (x : ℕ × (Wish × Mark)). becomes_proposed s os bars low x.1) (entries s) (λ j e at.
     rw (now j e at, proposed_entry old bars old_opens j e at)
-    (new_bits (is_open s low e.0 e.1) (needs_no_seat s os e.0 || nat_lt (ahead s os low e.0) (seats_left s e.0.programme)) (is_proposed s os bars e.0 e.1)))
+    (new_bits (is_open s low e.0 e.1)
+    (needs_no_seat s os e.0 || nat_lt (ahead s os low e.0) (seats_left s e.0.programme)) (is_proposed s os bars e.0 e.1)))
     ∙ count_places (becomes_proposed s os bars low) (entries s) 0
 
 -- the steps of a fall are its changes
-pub steps_spent : (old new : LinksRow) (bars : List ℕ) (h to : ℕ) → h < length bars → to ≤ slice_index bars h → new.state ≡ old.state → new.orders ≡ old.orders
-    → old.opens ≡ opens_of old.state bars → new.opens ≡ opens_of old.state (slice_set bars h to) → (row kept : List RowWish) → IsRow old.state bars h row
+pub steps_spent : (old new : LinksRow) (bars : List ℕ) (h to : ℕ) → h < length bars
+    → to ≤ slice_index bars h → new.state ≡ old.state → new.orders ≡ old.orders
+    → old.opens ≡ opens_of old.state bars → new.opens ≡ opens_of old.state (slice_set bars h to)
+    → (row kept : List RowWish) → IsRow old.state bars h row
     → CutsAt to row old.opens kept new.opens → (before after : ℕ)
-    → after + length kept ≡ before + length row + count_by (is_new old.state (slice_set bars h to) old new) (enumerate_from 0 (entries old.state))
+    → after + length kept ≡ before + length row + count_by (is_new old.state (slice_set bars h to) old new)
+    (enumerate_from 0 (entries old.state))
     → after ≡ before + changes_between old.state old.orders bars (slice_set bars h to)
 steps_spent old new bars h to within le state orders old_opens new_opens row kept right cut before after told =
     let is : closed (drop cut.end row) (opens_of old.state bars) ≡ opens_of old.state (slice_set bars h to) =

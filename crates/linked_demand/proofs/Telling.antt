@@ -26,7 +26,8 @@ set_fewer opens i = record {
           let unset : get_or (set opens i false) j false ≡ false = rw here (get_or-set_same opens i false false within) in
           absurd (false≢true (sym unset ∙ t))
       | inr past ↦
-          let unset : get_or (set opens i false) j false ≡ false = get_or_past (set opens i false) j false (omega (arith, here, past, length-set opens i false)) in
+          let unset : get_or (set opens i false) j false ≡ false = get_or_past (set opens i false) j false
+          (omega (arith, here, past, length-set opens i false)) in
           absurd (false≢true (sym unset ∙ t))
     ]
     | inr other ↦ sym (get_or-set_other opens i j false false other) ∙ t
@@ -43,7 +44,8 @@ closed_fewer (x ∷ xs) opens =
 -- the flag of a wish that stays open is set all the while
 open_all_along : (start : LinksRow) (bars : List ℕ) (to : ℕ) (row : List RowWish) → StayOpen start bars to row → (end : ℕ)
     → ((k : ℕ) (x : RowWish) → end ≤ k → slice_get row k ≡ Some x → to < x.rank)
-    → (j : ℕ) (e : Wish × Mark) → slice_get (entries start.state) j ≡ Some e → is_open start.state bars e.0 e.1 ≡ true → get_or (closed (drop end row) start.opens) j false ≡ true
+    → (j : ℕ) (e : Wish × Mark) → slice_get (entries start.state) j ≡ Some e
+    → is_open start.state bars e.0 e.1 ≡ true → get_or (closed (drop end row) start.opens) j false ≡ true
 open_all_along start bars to row stay end past j e at opens =
     let flag : get_or start.opens j false ≡ true = stay.flagged j e at opens in
     elim (cases_lt j (length start.opens)) [
@@ -57,8 +59,10 @@ open_all_along start bars to row stay end past j e at opens =
       | inr outside ↦ absurd (false≢true (sym (get_or_past start.opens j false outside) ∙ flag))
     ]
 
-module _ (start : LinksRow) (bars : List ℕ) (to : ℕ) (row : List RowWish) (stay : StayOpen start bars to row) (now new : LinksRow) (end n y : ℕ)
-    (far : SoFar to row start now end) (further : SoFar to row start new n) (new_is : new ≡ record now { opens = set now.opens y false }) where
+module _ (start : LinksRow) (bars : List ℕ) (to : ℕ) (row : List RowWish)
+    (stay : StayOpen start bars to row) (now new : LinksRow) (end n y : ℕ)
+    (far : SoFar to row start now end) (further : SoFar to row start new n)
+    (new_is : new ≡ record now { opens = set now.opens y false }) where
   abbrev opens : List Bool
   opens = closed (drop end row) start.opens
 
@@ -72,27 +76,33 @@ module _ (start : LinksRow) (bars : List ℕ) (to : ℕ) (row : List RowWish) (s
 
   -- the counts add up
   pub steps_told : (first before tick after : ℕ) → end ≡ suc n
-      → before + end ≡ first + length row + count_by (is_new start.state bars start now) (enumerate_from 0 (entries start.state)) → tick ≡ before + 1
+      → before + end ≡ first + length row + count_by (is_new start.state bars start now)
+      (enumerate_from 0 (entries start.state)) → tick ≡ before + 1
       → after ≡ tick + count_by (is_new now.state bars now new) (enumerate_from 0 (entries now.state))
       → after + n ≡ first + length row + count_by (is_new start.state bars start new) (enumerate_from 0 (entries start.state))
   steps_told first before tick after is so_far ticked more =
       let P = λ (r : LinksRow). after ≡ tick + count_by (is_new r.state bars r new) (enumerate_from 0 (entries r.state)) in
-      let Q = λ (r : LinksRow). after ≡ tick + count_by (is_new start.state bars (with_opens start bars opens) r) (places start bars) in
-      let R = λ (r : LinksRow). before + end ≡ first + length row + count_by (is_new start.state bars start r) (places start bars) in
+      let Q = λ (r : LinksRow). after ≡ tick + count_by
+      (is_new start.state bars (with_opens start bars opens) r) (places start bars) in
+      let R = λ (r : LinksRow). before + end ≡ first + length row + count_by
+      (is_new start.state bars start r) (places start bars) in
       let S = λ (r : LinksRow). after + n ≡ first + length row + count_by (is_new start.state bars start r) (places start bars) in
       let step = subst Q new_opens (subst P far.now_is more) in
       let done = subst R far.now_is so_far in
       let adds =
       new_adds start bars opens (set opens y false) (closed_fewer (drop end row) start.opens) (set_fewer opens y)
-      (λ j e at o. ap (λ (os : List Bool). get_or os j false) same_opens ∙ open_all_along start bars to row stay n further.past j e at o) in
+      (λ j e at o. ap (λ (os : List Bool). get_or os j false) same_opens
+      ∙ open_all_along start bars to row stay n further.past j e at o) in
       subst S (sym new_opens) (omega (arith, step, done, adds, ticked, is))
 
   -- and the marks
   pub marks_told : (marked then after : List Bool) → MarksSchools start.state (is_new start.state bars start now) marked then
-      → MarksSchools now.state (is_new now.state bars now new) then after → MarksSchools start.state (is_new start.state bars start new) marked after
+      → MarksSchools now.state (is_new now.state bars now new) then after
+      → MarksSchools start.state (is_new start.state bars start new) marked after
   marks_told marked then after so_far more =
       let P = λ (t : State). MarksSchools t (is_new t bars now new) then after in
       marks_add start bars now new marked then after so_far (subst P (ap (λ (r : LinksRow). r.state) far.now_is) more)
 
-pub steps_end : (row kept : List RowWish) (end after sum : ℕ) → end ≤ length row → kept ≡ take end row → after + end ≡ sum → after + length kept ≡ sum
+pub steps_end : (row kept : List RowWish) (end after sum : ℕ) → end ≤ length row → kept ≡ take end row
+    → after + end ≡ sum → after + length kept ≡ sum
 steps_end row kept end after sum le kept_is told = omega (arith, told, ap length kept_is, length-take-le end row le)

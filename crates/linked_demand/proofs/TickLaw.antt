@@ -31,7 +31,8 @@ filter_total p (x ∷ xs) =
 count_total : {X : Type 0} (p : X → Bool) (xs : List X) → count_by p xs ≡ total (λ x. cond (p x) 1 0) xs
 count_total p xs = omega (arith, length-filter p xs, filter_total p xs)
 
-total_le : {X : Type 0} (f g h k : X → ℕ) → ((x : X) → f x + g x + h x ≤ k x) → (xs : List X) → total f xs + total g xs + total h xs ≤ total k xs
+total_le : {X : Type 0} (f g h k : X → ℕ) → ((x : X) → f x + g x + h x ≤ k x) → (xs : List X)
+    → total f xs + total g xs + total h xs ≤ total k xs
 total_le f g h k le [] = omega arith
 total_le f g h k le (x ∷ xs) = omega (arith, le x, total_le f g h k le xs)
 
@@ -57,7 +58,8 @@ one true false false false false h k = omega arith
 
 module _ (s : State) (orders : List CallOrder) (lower upper : List ℕ) (at_most : IsAtMost lower upper) where
   one_wish : (e : Wish × Mark)
-      → cond (becomes_barred s upper lower e) 1 0 + cond (becomes_proposed s orders upper lower e) 1 0 + can_cost s orders lower e ≤ can_cost s orders upper e
+      → cond (becomes_barred s upper lower e) 1 0 + cond (becomes_proposed s orders upper lower e) 1
+      0 + can_cost s orders lower e ≤ can_cost s orders upper e
   one_wish e =
       one (is_waiting e.1) (is_behind_bar s lower e.0 e.0.school) (is_behind_bar s upper e.0 e.0.school)
       (needs_no_seat s orders e.0 || nat_lt (ahead s orders lower e.0) (seats_left s e.0.programme))
@@ -66,11 +68,13 @@ module _ (s : State) (orders : List CallOrder) (lower upper : List ℕ) (at_most
       (seat_stays s orders lower upper at_most e.0)
 
   -- where bars fall, what changes is no longer to come
-  pub changes_spent : changes_between s orders upper lower + total (can_cost s orders lower) (entries s) ≤ total (can_cost s orders upper) (entries s)
+  pub changes_spent : changes_between s orders upper lower + total (can_cost s orders lower)
+      (entries s) ≤ total (can_cost s orders upper) (entries s)
   changes_spent =
       omega (
         arith,
-        total_le (λ (e : Wish × Mark). cond (becomes_barred s upper lower e) 1 0) (λ (e : Wish × Mark). cond (becomes_proposed s orders upper lower e) 1 0)
+        total_le (λ (e : Wish × Mark). cond (becomes_barred s upper lower e) 1 0)
+            (λ (e : Wish × Mark). cond (becomes_proposed s orders upper lower e) 1 0)
             (can_cost s orders lower) (can_cost s orders upper) one_wish (entries s),
         count_total (becomes_barred s upper lower) (entries s),
         count_total (becomes_proposed s orders upper lower) (entries s),
@@ -90,7 +94,11 @@ falls_spent : (s : State) (orders : List CallOrder) (bars : List ℕ) (falls : L
     → changes_over s orders bars falls ≤ total (can_cost s orders bars) (entries s)
 falls_spent s orders bars [] all = omega arith
 falls_spent s orders bars (f ∷ fs) all =
-    omega (arith, changes_spent s orders (fallen bars f) bars (fall_at_most bars f.school f.to all.0 all.1), falls_spent s orders (fallen bars f) fs all.2)
+    omega (
+      arith,
+      changes_spent s orders (fallen bars f) bars (fall_at_most bars f.school f.to all.0 all.1),
+      falls_spent s orders (fallen bars f) fs all.2,
+    )
 
 cost_bits : (opens proposed waits : Bool) → (opens ≡ true → waits ≡ true) → cond opens (cond proposed 1 2) 0 ≤ 2 * cond waits 1 0
 cost_bits true true true h = omega arith
@@ -104,24 +112,34 @@ can_cost_waiting s orders bars [] = omega arith
 can_cost_waiting s orders bars (e ∷ es) =
     omega (
       arith,
-      cost_bits (is_open s bars e.0 e.1) (is_proposed s orders bars e.0 e.1) (is_waiting e.1) (λ t. (and_parts (is_waiting e.1) (not (is_barred s bars e.0 e.1)) t).0),
+      cost_bits (is_open s bars e.0 e.1) (is_proposed s orders bars e.0 e.1) (is_waiting e.1)
+          (λ t. (and_parts (is_waiting e.1) (not (is_barred s bars e.0 e.1)) t).0),
       can_cost_waiting s orders bars es,
     )
 
-rest_bits : (opens seat : Bool) → cond opens (cond (opens && seat) 1 2) 0 ≡ 2 * cond (opens && not (opens && seat)) 1 0 + cond (opens && seat) 1 0
+rest_bits : (opens seat : Bool)
+    → cond opens (cond (opens && seat) 1 2) 0 ≡ 2 * cond (opens && not (opens && seat)) 1 0 + cond (opens && seat) 1 0
 rest_bits true true = refl
 rest_bits true false = refl
 rest_bits false seat = refl
 
 total_rest : (s : State) (orders : List CallOrder) (bars : List ℕ) (es : List (Wish × Mark))
     → total (can_cost s orders bars) es
-    ≡ 2 * total (λ (e : Wish × Mark). cond (is_open s bars e.0 e.1 && not (is_proposed s orders bars e.0 e.1)) 1 0) es + total (λ (e : Wish × Mark). cond (is_proposed s orders bars e.0 e.1) 1 0) es
+    ≡ 2 * total (λ (e : Wish × Mark). cond
+    (is_open s bars e.0 e.1 && not (is_proposed s orders bars e.0 e.1)) 1 0) es + total
+    (λ (e : Wish × Mark). cond (is_proposed s orders bars e.0 e.1) 1 0) es
 total_rest s orders bars [] = refl
 total_rest s orders bars (e ∷ es) =
-    omega (arith, rest_bits (is_open s bars e.0 e.1) (needs_no_seat s orders e.0 || nat_lt (ahead s orders bars e.0) (seats_left s e.0.programme)), total_rest s orders bars es)
+    omega (
+      arith,
+      rest_bits (is_open s bars e.0 e.1)
+          (needs_no_seat s orders e.0 || nat_lt (ahead s orders bars e.0) (seats_left s e.0.programme)),
+      total_rest s orders bars es,
+    )
 
 -- the rest is what all wishes can still cost
-rest_is : (s : State) (orders : List CallOrder) (bars : List ℕ) → total (can_cost s orders bars) (entries s) ≡ rest_under s orders bars
+rest_is : (s : State) (orders : List CallOrder) (bars : List ℕ)
+    → total (can_cost s orders bars) (entries s) ≡ rest_under s orders bars
 rest_is s orders bars =
     omega (
       arith,
@@ -132,12 +150,28 @@ rest_is s orders bars =
 
 pub falls_spend_the_rest : FallsSpendTheRest
 falls_spend_the_rest s orders bars i to within le =
-    omega (arith, changes_spent s orders (slice_set bars i to) bars (fall_at_most bars i to within le), rest_is s orders (slice_set bars i to), rest_is s orders bars)
+    omega (
+      arith,
+      changes_spent s orders (slice_set bars i to) bars (fall_at_most bars i to within le),
+      rest_is s orders (slice_set bars i to),
+      rest_is s orders bars,
+    )
 
 pub the_rest_is_small : TheRestIsSmall
 the_rest_is_small s orders bars =
-    omega (arith, can_cost_waiting s orders bars (entries s), count_total (λ (e : Wish × Mark). is_waiting e.1) (entries s), rest_is s orders bars)
+    omega (
+      arith,
+      can_cost_waiting s orders bars (entries s),
+      count_total
+          (λ (e : Wish × Mark). is_waiting e.1) (entries s),
+      rest_is s orders bars,
+    )
 
 pub changes_are_few : ChangesAreFew
 changes_are_few s orders bars falls all =
-    omega (arith, falls_spent s orders bars falls all, can_cost_waiting s orders bars (entries s), count_total (λ (e : Wish × Mark). is_waiting e.1) (entries s))
+    omega (
+      arith,
+      falls_spent s orders bars falls all,
+      can_cost_waiting s orders bars (entries s),
+      count_total (λ (e : Wish × Mark). is_waiting e.1) (entries s),
+    )

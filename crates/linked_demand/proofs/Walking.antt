@@ -11,7 +11,8 @@ pub length-wants : (s : State) (opens : List Bool) (claims : List (List ℕ)) �
 length-wants s opens claims = length-map claims (list_any (wanting_at s opens))
 
 -- what a claim that is read tells of its place
-pub wants_read : (s : State) (opens : List Bool) (claims : List (List ℕ)) (i : ℕ) (claim : List ℕ) (found b : Bool) → i < length claims → claim ≡ get_or claims i []
+pub wants_read : (s : State) (opens : List Bool) (claims : List (List ℕ)) (i : ℕ) (claim : List ℕ)
+    (found b : Bool) → i < length claims → claim ≡ get_or claims i []
     → found ≡ list_any (wanting_at s opens) claim → found ≡ b → get_or (wants_along s opens claims) i false ≡ b
 wants_read s opens claims i claim found b lt read found_is is =
     get_or-map (list_any (wanting_at s opens)) claims i [] false lt
@@ -20,7 +21,8 @@ wants_read s opens claims i claim found b lt read found_is is =
     ∙ is
 
 -- a claim that is read is of places below the number
-pub below_read : (n : ℕ) (claims : List (List ℕ)) → AreBelow n claims → (i : ℕ) (claim : List ℕ) → i < length claims → claim ≡ get_or claims i [] → All (λ k. k < n) claim
+pub below_read : (n : ℕ) (claims : List (List ℕ)) → AreBelow n claims → (i : ℕ) (claim : List ℕ)
+    → i < length claims → claim ≡ get_or claims i [] → All (λ k. k < n) claim
 below_read n claims below i claim lt read =
     let P = λ (ks : List ℕ). All (λ k. k < n) ks in
     subst P (sym read) (below i lt)

@@ -1,5 +1,5 @@
 -- The claims of a programme as spans of the list of the wishes for it.
-use Rattle.std.specs.Prelude.{◌≡◌, ℕ, ◌≤◌, ◌<◌, ◌^◌, true, false, ◌==◌, List, length, filter, nat_lt, nat_le, Some, slice_get, All, Vec}
+use Rattle.std.specs.Prelude.{◌≡◌, ℕ, ◌-◌, ◌≤◌, ◌<◌, ◌^◌, Bool, true, false, ◌&&◌, ◌||◌, ◌==◌, List, length, filter, nat_eq, nat_lt, nat_le, Some, slice_get, slice_index, All, Vec}
 use Rattle.std.specs.declared.alloc.Global.{Global}
 use Rattle.std.specs.List.Sorted.{IsNonDecreasingBy, IsPartitionPoint}
 use Rattle.admit_core.specs.DossierRows.{DossierRows}
@@ -13,6 +13,14 @@ pub record IsSpanOf (xs : List ℕ) (c : ℕ) (span : Span) : Type 0 where
   pub ends : span.to ≤ length xs
   pub lower : IsPartitionPoint (λ k. nat_lt k c ≡ true) (λ k. nat_lt k c ≡ false) xs span.from
   pub upper : IsPartitionPoint (λ k. nat_le k c ≡ true) (λ k. nat_le k c ≡ false) xs span.to
+
+-- in a list that does not fall, what stands before a place is below a number
+abbrev pub lower_before : List ℕ → ℕ → ℕ → Bool
+lower_before xs c k = nat_eq k 0 || nat_lt (slice_index xs (k - 1)) c
+
+-- and the number stands at the place
+abbrev pub begins_at : List ℕ → ℕ → ℕ → Bool
+begins_at xs c k = nat_lt k (length xs) && (nat_eq (slice_index xs k) c && lower_before xs c k)
 
 -- the wishes for a programme, by candidate: each candidate's stand together, and are their claim
 pub record AreWishesFor (d : DossierRows) (p : ℕ) (wishes : List ℕ) : Type 0 where

@@ -12,12 +12,15 @@ use Rattle.linked_demand.specs.Opens.{is_proposed_by}
 -- whether the wish at a place is proposed, by the flags
 abbrev pub is_proposed_at : LinksRow → ℕ → Bool
 is_proposed_at l i =
-    unwrap_or (option_map (λ e. is_proposed_by l.state l.orders l.opens e.0 e.1 (slice_index_or l.opens i false)) (slice_get (entries l.state) i)) false
+    unwrap_or (option_map
+    (λ e. is_proposed_by l.state l.orders l.opens e.0 e.1 (slice_index_or l.opens i false))
+    (slice_get (entries l.state) i)) false
 
 -- of those in a row who pass, the first of each rank above a last one
 abbrev pub firsts : (ℕ → Bool) → ℕ → List RowWish → List Demand
 firsts p last [] = []
-firsts p last (x ∷ xs) = if nat_lt last x.rank && p x.wish then (record { rank = x.rank; wish = x.wish } ∷ firsts p x.rank xs) else firsts p last xs
+firsts p last (x ∷ xs) = if nat_lt last x.rank && p
+    x.wish then (record { rank = x.rank; wish = x.wish } ∷ firsts p x.rank xs) else firsts p last xs
 
 -- the ranks above a last one of those in a row who pass, each once
 abbrev pub counted : (ℕ → Bool) → ℕ → List RowWish → List ℕ
@@ -33,7 +36,8 @@ abbrev pub over_at : State → List CallOrder → List ℕ → ℕ → Option �
 over_at s orders bars h = slice_get (demanded_ranks s orders bars h) (free_beds s h)
 
 -- the answers of the schools that pass a test are those of their rows, and the others stay
-pub record IsAsked (l : LinksRow) (rows : List (Vec RowWish Global)) (free : List ℕ) (test : ℕ → Bool) (old new : List (Option ℕ)) : Type 0 where
+pub record IsAsked (l : LinksRow) (rows : List (Vec RowWish Global)) (free : List ℕ) (test : ℕ → Bool)
+    (old new : List (Option ℕ)) : Type 0 where
   pub as_long : length new ≡ length old
   pub each :
       (h : ℕ) (row : Vec RowWish Global)

@@ -12,11 +12,13 @@ use Rattle.linked_demand.specs.Keyed.{AreRowsOf}
 -- the school in whose row a wish stands: it waits, its candidate has no bed there, and it ranks at most at the bar
 abbrev pub row_school : State → List ℕ → Wish → Mark → Option ℕ → Option ℕ
 row_school s bars w m None = None
-row_school s bars w m (Some h) = if (is_waiting m && not (holds_bed s w.candidate h) && nat_le w.board_rank (slice_index bars h)) then Some h else None
+row_school s bars w m (Some h) =
+    if (is_waiting m && not (holds_bed s w.candidate h) && nat_le w.board_rank (slice_index bars h)) then Some h else None
 
 -- the wish at a place stands in the row of a school
 abbrev pub is_in_row : State → List ℕ → ℕ → ℕ → Bool
-is_in_row s bars h k = is_school (row_school s bars (wish_in s.dossier.wishes k) (mark_in s.marks k) (wish_in s.dossier.wishes k).school) h
+is_in_row s bars h k = is_school
+    (row_school s bars (wish_in s.dossier.wishes k) (mark_in s.marks k) (wish_in s.dossier.wishes k).school) h
 
 abbrev pub row_wish : List Wish → ℕ → RowWish
 row_wish ws k = record { rank = (wish_in ws k).board_rank; wish = k }
@@ -27,4 +29,5 @@ row_by_place s bars h = map (row_wish s.dossier.wishes) (filter (is_in_row s bar
 
 -- one row for each school, in order by place
 abbrev pub AreFilled : State → List ℕ → List (Vec RowWish Global) → Type 0
-AreFilled s bars rows = AreRowsOf (row_wish s.dossier.wishes) (is_in_row s bars) (length s.dossier.schools) (range_with_len 0 (length s.dossier.wishes)) rows
+AreFilled s bars rows = AreRowsOf (row_wish s.dossier.wishes) (is_in_row s bars) (length s.dossier.schools)
+    (range_with_len 0 (length s.dossier.wishes)) rows

@@ -16,6 +16,7 @@ pub record IsPutIn {X : Type 0} (here : ℕ → Bool) (x : X) (old new : List (V
       → (before : Vec X Global) × (slice_get old h ≡ Some before) × (row.items ≡ before.items ++ (if here h then x ∷ [] else []))
 
 -- each row has the items of those of some places that belong in it, in their order
-pub record AreRowsOf {X : Type 0} (item : ℕ → X) (belongs : ℕ → ℕ → Bool) (n : ℕ) (places : List ℕ) (rows : List (Vec X Global)) : Type 0 where
+pub record AreRowsOf {X : Type 0} (item : ℕ → X) (belongs : ℕ → ℕ → Bool) (n : ℕ) (places : List ℕ)
+    (rows : List (Vec X Global)) : Type 0 where
   pub one_each : length rows ≡ n
   pub each : (h : ℕ) (row : Vec X Global) → slice_get rows h ≡ Some row → row.items ≡ map item (filter (belongs h) places)

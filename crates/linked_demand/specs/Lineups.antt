@@ -1,11 +1,26 @@
--- The lineup of a dossier.
-use Rattle.std.specs.Prelude.{◌≡◌, List}
+-- The lineup of a dossier, and what is kept beside it.
+use Rattle.std.specs.Prelude.{◌≡◌, ℕ, Bool, List, length}
 use Rattle.admit_core.specs.declared.ranking.CallOrder.{CallOrder}
 use Rattle.admit_core.specs.DossierRows.{DossierRows}
+use Rattle.admit_core.specs.State.{State}
 use Rattle.linked_demand.specs.declared.lineup.Lineup.{Lineup}
-use Rattle.linked_demand.specs.Seats.{IsLineup, boarders_of}
+use Rattle.linked_demand.specs.Opens.{all_sure}
+use Rattle.linked_demand.specs.Seats.{IsLineup, boarders_of, maybe_sure_of}
+use Rattle.linked_demand.specs.Wants.{IsReached}
 
 -- it is right for the dossier and its call orders
 pub record IsLineupOf (d : DossierRows) (orders : List CallOrder) (l : Lineup) : Type 0 where
   pub lines : IsLineup d orders l.claims.items l.places.items l.early.items
   pub boarders : l.boarders.items ≡ boarders_of d
+  pub maybe_sure : l.maybe_sure.items ≡ maybe_sure_of d l.early.items
+
+-- for each programme it is known how many places of its line are reached
+abbrev pub IsReachedIn : State → List CallOrder → List Bool → List ℕ → Lineup → Type 0
+IsReachedIn s orders opens reached l =
+    IsReached s orders opens reached l.claims.items l.places.items (all_sure s l.early.items)
+
+-- and the wishes that may need no seat are listed
+pub record AreKept (s : State) (orders : List CallOrder) (opens : List Bool) (reached : List ℕ) (l : Lineup) : Type 0 where
+  pub reach : IsReachedIn s orders opens reached l
+  pub early_each : length l.early.items ≡ length s.dossier.wishes
+  pub maybe_sure_are : l.maybe_sure.items ≡ maybe_sure_of s.dossier l.early.items

@@ -36,13 +36,17 @@ pub record WaitsAt (s : State) (i : ℕ) (w : Wish) (m : Mark) : Type 0 where
   pub here : slice_get (entries s) i ≡ Some (w, m)
   pub waits : is_waiting m ≡ true
 
-pub record IsLinked (s : State) (orders : List CallOrder) (opens : List Bool) (lines : List LineRow) (claims : List (List (List ℕ))) (places : List ℕ) (sure : List Bool) : Type 0 where
+pub record IsLinked (s : State) (orders : List CallOrder) (opens : List Bool) (lines : List LineRow)
+    (claims : List (List (List ℕ))) (places : List ℕ) (sure : List Bool) : Type 0 where
   pub marks_each : length s.marks ≡ length s.dossier.wishes
   pub opens_each : length opens ≡ length s.dossier.wishes
   pub places_each : length places ≡ length s.dossier.wishes
   pub programmes_are : (i : ℕ) (w : Wish) → slice_get s.dossier.wishes i ≡ Some w → w.programme < length s.dossier.programmes
   pub lines_are : lines ≡ map (seat_row s orders opens) (range_with_len 0 (length s.dossier.programmes))
-  pub claims_are : claims ≡ map (λ p. map (claim_of s.dossier p) (line_of s.dossier orders p)) (range_with_len 0 (length s.dossier.programmes))
-  pub places_are : (i : ℕ) (w : Wish) → slice_get s.dossier.wishes i ≡ Some w → IsSeatPlace s.dossier orders w (slice_index places i)
+  pub claims_are : claims ≡ map (λ p. map (claim_of s.dossier p) (line_of s.dossier orders p))
+      (range_with_len 0 (length s.dossier.programmes))
+  pub places_are : (i : ℕ) (w : Wish) → slice_get s.dossier.wishes i ≡ Some w
+      → IsSeatPlace s.dossier orders w (slice_index places i)
   pub sure_each : length sure ≡ length s.dossier.wishes
-  pub sure_are : (i : ℕ) (w : Wish) → slice_get s.dossier.wishes i ≡ Some w → slice_index_or sure i false ≡ needs_no_seat s orders w
+  pub sure_are : (i : ℕ) (w : Wish) → slice_get s.dossier.wishes i ≡ Some w
+      → slice_index_or sure i false ≡ needs_no_seat s orders w

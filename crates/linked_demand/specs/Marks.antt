@@ -15,7 +15,8 @@ is_new s bars old new x = (is_proposed_at new x.0 && not (is_proposed_at old x.0
 -- the wish at a place is open by its flag and under bars, and is called by its turn alone
 abbrev pub is_fresh : State → List ℕ → List Bool → List Bool → ℕ → Bool
 is_fresh s bars opens sure k =
-    (slice_index_or opens k false && not (slice_index_or sure k false)) && is_open s bars (wish_in s.dossier.wishes k) (mark_in s.marks k)
+    (slice_index_or opens k false && not (slice_index_or sure k false)) && is_open s bars
+    (wish_in s.dossier.wishes k) (mark_in s.marks k)
 
 -- the flags with that of a school set, if there is one
 abbrev pub with_mark : Option ℕ → List Bool → List Bool

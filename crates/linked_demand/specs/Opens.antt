@@ -1,6 +1,6 @@
 -- Which wishes are open, as a list of flags, and what the rules say by it. A fall closes one wish after another; between two of them no bars belong to the flags.
-use Rattle.std.specs.Prelude.{ℕ, Bool, not, ◌&&◌, ◌||◌, List, map, nat_lt, ◌==◌, filter, zip, count_by, slice_index_or, false}
-use Rattle.std.specs.List.{list_any}
+use Rattle.std.specs.Prelude.{ℕ, Bool, not, ◌&&◌, ◌||◌, List, length, map, nat_lt, ◌==◌, filter, zip, count_by, slice_index_or, false}
+use Rattle.std.specs.List.{list_any, range_with_len}
 use Rattle.admit_core.specs.declared.dossier.Wish.{Wish}
 use Rattle.admit_core.specs.declared.state.Mark.{Mark}
 use Rattle.admit_core.specs.declared.ranking.CallOrder.{CallOrder}
@@ -33,6 +33,10 @@ wanting_at s opens k = slice_index_or opens k false && not (has_seat_there s k)
 -- the candidate of the wish at a place is live in its programme, or is called by its limit, by a flag
 abbrev pub sure_at : State → List Bool → ℕ → Bool
 sure_at s early k = has_seat_there s k || slice_index_or early k false
+
+-- for each wish
+abbrev pub all_sure : State → List Bool → List Bool
+all_sure s early = map (sure_at s early) (range_with_len 0 (length s.dossier.wishes))
 
 -- how many before the wish's candidate want a seat
 abbrev pub ahead_by : State → List CallOrder → List Bool → Wish → ℕ

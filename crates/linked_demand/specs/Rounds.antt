@@ -29,7 +29,8 @@ pub record IsRound (links : LinksRow) (bars free : List ℕ) (rows : List (Vec R
   pub rows_are : (h : ℕ) (row : Vec RowWish Global) → slice_get rows h ≡ Some row → IsRow links.state bars h row.items
 
 -- what holds of the parts of a round: with the answers of the schools, and a mark each
-pub record IsRoundUnder (links : LinksRow) (ceilings bars free : List ℕ) (rows : List (Vec RowWish Global)) (overs : List (Option ℕ)) (marked : List Bool) : Type 0 where
+pub record IsRoundUnder (links : LinksRow) (ceilings bars free : List ℕ) (rows : List (Vec RowWish Global))
+    (overs : List (Option ℕ)) (marked : List Bool) : Type 0 where
   pub round : IsRound links bars free rows
   pub ceilings_each : length ceilings ≡ length links.state.dossier.schools
   pub overs_are : overs ≡ map (over_at links.state links.orders bars) (range_with_len 0 (length links.state.dossier.schools))

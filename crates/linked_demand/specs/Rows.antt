@@ -18,10 +18,12 @@ pub record WaitsFor (s : State) (h : ℕ) (x : RowWish) (w : Wish) (m : Mark) : 
 -- the row of a school: those who wait for it and rank at most at the bar, by rank, and those of one rank by place
 pub record IsRow (s : State) (bars : List ℕ) (h : ℕ) (row : List RowWish) : Type 0 where
   pub rises : (j k : ℕ) (x y : RowWish) → j ≤ k → slice_get row j ≡ Some x → slice_get row k ≡ Some y → x.rank ≤ y.rank
-  pub in_order : (j k : ℕ) (x y : RowWish) → j < k → slice_get row j ≡ Some x → slice_get row k ≡ Some y → x.rank ≡ y.rank → x.wish < y.wish
+  pub in_order : (j k : ℕ) (x y : RowWish) → j < k → slice_get row j ≡ Some x → slice_get row k ≡ Some y
+      → x.rank ≡ y.rank → x.wish < y.wish
   pub each : (k : ℕ) (x : RowWish) → slice_get row k ≡ Some x → (w : Wish) × (m : Mark) × WaitsFor s h x w m
   pub below : (k : ℕ) (x : RowWish) → slice_get row k ≡ Some x → x.rank ≤ slice_index bars h
-  pub all : (x : RowWish) (w : Wish) (m : Mark) → WaitsFor s h x w m → x.rank ≤ slice_index bars h → (k : ℕ) × (slice_get row k ≡ Some x)
+  pub all : (x : RowWish) (w : Wish) (m : Mark) → WaitsFor s h x w m → x.rank ≤ slice_index bars h
+      → (k : ℕ) × (slice_get row k ≡ Some x)
 
 -- the flags after the wishes of a part of a row are closed
 abbrev pub closed : List RowWish → List Bool → List Bool
@@ -43,8 +45,10 @@ AllWait s row = (k : ℕ) (x : RowWish) → slice_get row k ≡ Some x → (w : 
 
 -- what is open under bars has its flag set, and no wish of the row past a number is open under them
 pub record StayOpen (l : LinksRow) (bars : List ℕ) (to : ℕ) (row : List RowWish) : Type 0 where
-  pub flagged : (k : ℕ) (e : Wish × Mark) → slice_get (entries l.state) k ≡ Some e → is_open l.state bars e.0 e.1 ≡ true → slice_index_or l.opens k false ≡ true
-  pub past : (j : ℕ) (x : RowWish) (e : Wish × Mark) → slice_get row j ≡ Some x → to < x.rank → slice_get (entries l.state) x.wish ≡ Some e → is_open l.state bars e.0 e.1 ≡ false
+  pub flagged : (k : ℕ) (e : Wish × Mark) → slice_get (entries l.state) k ≡ Some e
+      → is_open l.state bars e.0 e.1 ≡ true → slice_index_or l.opens k false ≡ true
+  pub past : (j : ℕ) (x : RowWish) (e : Wish × Mark) → slice_get row j ≡ Some x → to < x.rank
+      → slice_get (entries l.state) x.wish ≡ Some e → is_open l.state bars e.0 e.1 ≡ false
 
 -- one row for each school
 pub record AreRows (s : State) (bars : List ℕ) (rows : List (Vec RowWish Global)) : Type 0 where

@@ -1,11 +1,12 @@
 -- What is known of the wishes of a dossier while the programmes are gone through one after another.
-use Rattle.std.specs.Prelude.{◌≡◌, ℕ, ◌<◌, Bool, true, false, ◌&&◌, ◌||◌, ◌==◌, List, length, map, filter, is_some, nat_eq, nat_lt, nat_le, ◌+◌, Some, slice_get, slice_index, slice_index_or, if◌then◌else◌}
-use Rattle.std.specs.List.{range_with_len, before_first}
+use Rattle.std.specs.Prelude.{◌≡◌, ℕ, ◌<◌, Bool, true, false, not, ◌&&◌, ◌||◌, ◌==◌, List, length, map, filter, is_some, nat_eq, nat_lt, nat_le, ◌+◌, Some, slice_get, slice_index, slice_index_or, if◌then◌else◌}
+use Rattle.std.specs.List.{list_any, range_with_len, before_first}
 use Rattle.day_state.specs.Kept.{wish_in}
 use Rattle.admit_core.specs.declared.dossier.Wish.{Wish}
 use Rattle.admit_core.specs.declared.ranking.CallOrder.{CallOrder}
-use Rattle.admit_core.specs.DossierRows.{DossierRows, limit_of}
+use Rattle.admit_core.specs.DossierRows.{DossierRows, candidate_of, limit_of}
 use Rattle.admit_core.specs.Lists.{is_among}
+use Rattle.admit_core.specs.OwnWishes.{own_places}
 use Rattle.admit_core.specs.Proposals.{order_of}
 use Rattle.linked_demand.specs.Links.{IsSeatPlace, claim_of}
 use Rattle.linked_demand.specs.Opens.{line_of}
@@ -22,6 +23,22 @@ boards_at d k = is_some (wish_in d.wishes k).school
 abbrev pub boarders_of : DossierRows → List ℕ
 boarders_of d = filter (boards_at d) (range_with_len 0 (length d.wishes))
 
+-- another wish, of the same programme
+abbrev pub is_beside : DossierRows → ℕ → ℕ → Bool
+is_beside d k j = not (nat_eq j k) && applies_at d (wish_in d.wishes k).programme j
+
+-- the candidate of the wish at a place has another one in its programme
+abbrev pub is_doubled : DossierRows → ℕ → Bool
+is_doubled d k = list_any (is_beside d k) (own_places d (candidate_of d k))
+
+-- where neither this holds nor the candidate is called by a limit, a wish that waits needs a seat
+abbrev pub may_be_sure : DossierRows → List Bool → ℕ → Bool
+may_be_sure d early k = slice_index_or early k false || is_doubled d k
+
+-- the wishes that may need no seat while they wait, by place
+abbrev pub maybe_sure_of : DossierRows → List Bool → List ℕ
+maybe_sure_of d early = filter (may_be_sure d early) (range_with_len 0 (length d.wishes))
+
 -- some places of a list hold a value, and the others what they held
 pub record PutAt (X : Type 0) (d : X) (ks : List ℕ) (x : X) (old new : List X) : Type 0 where
   pub as_long : length new ≡ length old
@@ -29,14 +46,18 @@ pub record PutAt (X : Type 0) (d : X) (ks : List ℕ) (x : X) (old new : List X)
 
 -- the wish's candidate is called by the limit of its programme, whatever seats are left
 abbrev pub is_early : DossierRows → List CallOrder → Wish → Bool
-is_early d orders w = nat_le (length (before_first (nat_eq w.candidate) (order_of d orders w.programme)) + 1) (limit_of d w.programme)
+is_early d orders w = nat_le
+    (length (before_first (nat_eq w.candidate) (order_of d orders w.programme)) + 1) (limit_of d w.programme)
 
 -- the wishes of the programmes and candidates that are done have their place, and whether they are called by the limit
-pub record AreSeated (d : DossierRows) (orders : List CallOrder) (is_done : ℕ → ℕ → Bool) (places : List ℕ) (early : List Bool) : Type 0 where
+pub record AreSeated (d : DossierRows) (orders : List CallOrder) (is_done : ℕ → ℕ → Bool) (places : List ℕ)
+    (early : List Bool) : Type 0 where
   pub places_each : length places ≡ length d.wishes
   pub early_each : length early ≡ length d.wishes
-  pub place : (i : ℕ) (w : Wish) → slice_get d.wishes i ≡ Some w → is_done w.programme w.candidate ≡ true → IsSeatPlace d orders w (slice_index places i)
-  pub called : (i : ℕ) (w : Wish) → slice_get d.wishes i ≡ Some w → is_done w.programme w.candidate ≡ true → slice_index_or early i false ≡ is_early d orders w
+  pub place : (i : ℕ) (w : Wish) → slice_get d.wishes i ≡ Some w → is_done w.programme w.candidate ≡ true
+      → IsSeatPlace d orders w (slice_index places i)
+  pub called : (i : ℕ) (w : Wish) → slice_get d.wishes i ≡ Some w → is_done w.programme w.candidate ≡ true
+      → slice_index_or early i false ≡ is_early d orders w
 
 -- the programmes below one are done
 abbrev pub is_below : ℕ → ℕ → ℕ → Bool
@@ -47,7 +68,8 @@ abbrev pub is_passed : ℕ → List ℕ → ℕ → ℕ → Bool
 is_passed n front p c = nat_lt p n || (nat_eq p n && is_among c front)
 
 -- for each programme the claims of those who wish for it, in call order; and where each wish stands in them
-pub record IsLineup (d : DossierRows) (orders : List CallOrder) (claims : List (List (List ℕ))) (places : List ℕ) (early : List Bool) : Type 0 where
+pub record IsLineup (d : DossierRows) (orders : List CallOrder) (claims : List (List (List ℕ)))
+    (places : List ℕ) (early : List Bool) : Type 0 where
   pub programmes_are : (i : ℕ) (w : Wish) → slice_get d.wishes i ≡ Some w → w.programme < length d.programmes
   pub claims_are : claims ≡ map (λ p. map (claim_of d p) (line_of d orders p)) (range_with_len 0 (length d.programmes))
   pub places_each : length places ≡ length d.wishes

@@ -3,7 +3,7 @@ ghost use Rattle.std.specs.Prelude.{◌≡◌, ◌<◌, ◌≤◌, ◌^◌, ◌&
 ghost use Rattle.std.specs.List.Sorted.{IsNonDecreasingBy, IsPartitionPoint};
 ghost use Rattle.day_state.specs.Kept.{candidate_in};
 ghost use Rattle.day_state.specs.Spans.{IsWithin, part_of};
-ghost use Rattle.linked_demand.specs.Claims.{IsSpanOf};
+ghost use Rattle.linked_demand.specs.Claims.{IsSpanOf, begins_at, lower_before};
 
 use crate::rising::first_not_below;
 use admit_core::OutOfMemory;
@@ -44,13 +44,42 @@ fn first_above(candidates: &[u32], candidate: u32, from: usize) -> usize
     to
 }
 
+/// Whether a place of a rising list is its front, or stands behind one who is below a candidate.
+fn lower_before(candidates: &[u32], candidate: u32, place: usize) -> bool
+    requires { place ≤ length candidates.now }
+    ensures { result ≡ lower_before candidates.now candidate place }
+{
+    place == 0 || candidates[place - 1] < candidate
+}
+
+/// Whether a candidate stands at a place of a rising list, and not before it.
+fn begins_at(candidates: &[u32], candidate: u32, place: usize) -> bool
+    ensures { result ≡ begins_at candidates.now candidate place }
+{
+    place < candidates.len()
+        && (candidates[place] == candidate && lower_before(candidates, candidate, place))
+}
+
+/// The first place in a rising list of candidates that isn't below this one. It searches where the
+/// candidate doesn't begin at the guessed place.
+fn first_of(candidates: &[u32], candidate: u32, guess: usize) -> usize
+    requires { IsNonDecreasingBy (λ k. k) candidates.now }
+    ensures within { result ≤ length candidates.now }
+    ensures point { IsPartitionPoint (λ k. nat_lt k candidate ≡ true) (λ k. nat_lt k candidate ≡ false) candidates.now result }
+{
+    if begins_at(candidates, candidate, guess) {
+        return guess;
+    }
+    first_not_below(candidates, candidate)
+}
+
 /// Where a candidate stands in a rising list of candidates.
-pub fn span_of(candidates: &[u32], candidate: u32) -> Span
+pub fn span_of(candidates: &[u32], candidate: u32, guess: usize) -> Span
     requires rises { IsNonDecreasingBy (λ k. k) candidates.now }
     requires few { length candidates.now < 2 ^ 32 }
     ensures { IsSpanOf candidates.now candidate result }
 {
-    let from = first_not_below(candidates, candidate);
+    let from = first_of(candidates, candidate, guess);
     let to = first_above(candidates, candidate, from);
     Span {
         from: from as u32,

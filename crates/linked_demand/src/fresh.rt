@@ -4,23 +4,25 @@ ghost use Rattle.std.specs.Option.{ForSome};
 ghost use Rattle.admit_core.specs.declared.dossier.Wish.{Wish};
 ghost use Rattle.admit_core.specs.declared.state.Mark.{Mark};
 ghost use Rattle.admit_core.specs.Lists.{is_among};
+ghost use Rattle.linked_demand.specs.Opens.{all_sure};
 ghost use Rattle.linked_demand.specs.Marks.{is_fresh, with_mark, MarksSchools};
 
 use crate::marks::Marks;
+use crate::seats::needs_no_seat;
 use admit_core::Steps;
 use day_state::DayState;
 use demand::{is_open, wish_at};
 use std::sync::ledger::Ledger;
 
 /// Whether a wish is open, by its flag and under bars, and is called by its turn alone.
-fn is_fresh(state: &DayState<'_>, bars: &[u32], opens: &[bool], sure: &[bool], wish: u32) -> bool
+fn is_fresh(state: &DayState<'_>, bars: &[u32], opens: &[bool], early: &[bool], wish: u32) -> bool
     requires wish { wish < length state.now.dossier.wishes }
     requires bars { length bars.now ≡ length state.now.dossier.schools }
     requires opens { length opens.now ≡ length state.now.dossier.wishes }
-    requires sure { length sure.now ≡ length state.now.dossier.wishes }
-    ensures { result ≡ is_fresh state.now bars.now opens.now sure.now wish }
+    requires early { length early.now ≡ length state.now.dossier.wishes }
+    ensures { result ≡ is_fresh state.now bars.now opens.now (all_sure state.now early.now) wish }
 {
-    opens[wish as usize] && !sure[wish as usize] && is_open(state, bars, wish)
+    opens[wish as usize] && !needs_no_seat(state, early, wish) && is_open(state, bars, wish)
 }
 
 /// Marks a school, if there is one.
@@ -38,7 +40,7 @@ pub fn note_fresh<L: Ledger>(
     state: &DayState<'_>,
     bars: &[u32],
     opens: &[bool],
-    sure: &[bool],
+    early: &[bool],
     claim: &[u32],
     marked: &mut Marks,
     steps: &mut Steps<L>,
@@ -46,13 +48,13 @@ pub fn note_fresh<L: Ledger>(
     requires claim { All (λ v. v < length state.now.dossier.wishes) claim.now }
     requires bars { length bars.now ≡ length state.now.dossier.schools }
     requires opens { length opens.now ≡ length state.now.dossier.wishes }
-    requires sure { length sure.now ≡ length state.now.dossier.wishes }
+    requires early { length early.now ≡ length state.now.dossier.wishes }
     requires marked { length marked.old ≡ length state.now.dossier.schools }
-    ensures steps { steps.new ≡ steps.old + count_by (is_fresh state.now bars.now opens.now sure.now) claim.now }
-    ensures marked { MarksSchools state.now (λ x. is_among x.0 claim.now && is_fresh state.now bars.now opens.now sure.now x.0) marked.old marked.new }
+    ensures steps { steps.new ≡ steps.old + count_by (is_fresh state.now bars.now opens.now (all_sure state.now early.now)) claim.now }
+    ensures marked { MarksSchools state.now (λ x. is_among x.0 claim.now && is_fresh state.now bars.now opens.now (all_sure state.now early.now) x.0) marked.old marked.new }
 {
     for wish in claim {
-        if is_fresh(state, bars, opens, sure, *wish) {
+        if is_fresh(state, bars, opens, early, *wish) {
             steps.tick();
             mark(marked, wish_at(state, *wish).school);
         }

@@ -11,6 +11,8 @@ ghost use Rattle.linked_demand.specs.Opens.{line_of};
 ghost use Rattle.linked_demand.specs.Seats.{PutAt, AreSeated, boards_at, boarders_of, is_below, is_passed};
 
 use crate::claims::{Claims, candidates_of, span_of};
+use crate::guesses::Guesses;
+use crate::maybe_sure::maybe_sure_of;
 use crate::wishes::wish_count;
 use crate::wishing::wishes_by_programme;
 use admit_core::{CallOrders, OutOfMemory};
@@ -59,6 +61,7 @@ fn line_up(
     wishes: Vec<u32>,
     places: &mut Vec<usize>,
     early: &mut Vec<bool>,
+    guesses: &mut Guesses,
 ) -> Result<Claims, OutOfMemory>
     requires programme { programme < length state.now.dossier.programmes }
     requires orders { AreCalled state.now.dossier orders.now.orders }
@@ -68,7 +71,7 @@ fn line_up(
     ensures claims { IfOk result (λ x. x ≡ map (claim_of state.now.dossier programme) (line_of state.now.dossier orders.now.orders programme)) }
     ensures seated { OnOk result (AreSeated state.now.dossier orders.now.orders (is_passed programme (order_of state.now.dossier orders.now.orders programme)) places.new.items early.new.items) }
 {
-    let mut spans = Vec::new(alloc);
+    let mut spans = Vec::with_capacity(alloc, wishes.len())?;
     if wishes.is_empty() {
         let claims = Claims::new(wishes, spans);
         return Ok(claims);
@@ -76,8 +79,9 @@ fn line_up(
     let order = order_of(state, orders, programme);
     let limit = limit_of(state, programme);
     let candidates = candidates_of(alloc, state, &wishes)?;
+    guesses.renew(&candidates);
     for (before, candidate) in order.iter().enumerate() {
-        let span = span_of(&candidates, *candidate);
+        let span = span_of(&candidates, *candidate, guesses.of(*candidate));
         let claim = part(&wishes, span);
         let is_claim = !claim.is_empty();
         if is_claim {
@@ -113,13 +117,14 @@ fn boarders_of(alloc: Global, state: &DayState<'_>) -> Result<Vec<u32>, OutOfMem
 }
 
 /// For each programme those who wish for it, in call order, with their claims; for each wish the place
-/// of its candidate among them, and whether they are called by the programme's limit; and the wishes
-/// with a school.
+/// of its candidate among them, and whether they are called by the programme's limit; the wishes with
+/// a school, and those that may need no seat while they wait.
 pub struct Lineup {
     pub(crate) claims: Vec<Claims>,
     pub(crate) places: Vec<usize>,
     pub(crate) early: Vec<bool>,
     pub(crate) boarders: Vec<u32>,
+    pub(crate) maybe_sure: Vec<u32>,
 }
 
 // Not derived: so a lineup is dropped in one step where it is held, and not by each list.
@@ -130,6 +135,7 @@ impl Drop for Lineup {
             places: _,
             early: _,
             boarders: _,
+            maybe_sure: _,
         } = self;
     }
 }
@@ -151,9 +157,10 @@ impl Lineup {
         let count = state.dossier().wishes.len();
         let mut places = vec![in alloc; 0; count]?;
         let mut early = vec![in alloc; false; count]?;
-        let mut claims = Vec::new(alloc);
+        let mut guesses = Guesses::of_wishes(alloc, state)?;
         let mut rows = wishes_by_programme(alloc, state)?;
         let programmes = programme_count(state);
+        let mut claims = Vec::with_capacity(alloc, programmes as usize)?;
         for programme in 0..programmes {
             let wishes = mem::replace(&mut rows[programme as usize], Vec::new(alloc));
             let own = line_up(
@@ -164,15 +171,18 @@ impl Lineup {
                 wishes,
                 &mut places,
                 &mut early,
+                &mut guesses,
             )?;
             claims.push(own)?;
         }
         let boarders = boarders_of(alloc, state)?;
+        let maybe_sure = maybe_sure_of(alloc, state, &early)?;
         Ok(Lineup {
             claims,
             places,
             early,
             boarders,
+            maybe_sure,
         })
     }
 }

@@ -1,5 +1,5 @@
 //! Who is served in each programme while wishes are closed.
-ghost use Rattle.std.specs.Prelude.{◌≡◌, ◌+◌, ◌<◌, ◌&&◌, ◌||◌, false, length, map, All, slice_set, slice_index_or, count_by, IfOk};
+ghost use Rattle.std.specs.Prelude.{◌≡◌, ℕ, ◌+◌, ◌<◌, ◌&&◌, ◌||◌, true, false, length, map, All, slice_set, slice_index_or, count_by, IfOk};
 ghost use Rattle.std.specs.List.{enumerate_from};
 ghost use Rattle.admit_core.specs.State.{entries, is_waiting};
 ghost use Rattle.linked_demand.specs.Marks.{is_new, MarksSchools};
@@ -12,10 +12,11 @@ ghost use Rattle.linked_demand.specs.Links.{LinksRow, WaitsAt};
 ghost use Rattle.linked_demand.specs.Demand.{is_proposed_at};
 
 use crate::fresh::note_fresh;
+use crate::fronts::{flag_fronts, flag_sure, no_flags};
 use crate::line::{is_reached, last_wanting, leaves_seat, next_wanting, wants_seat};
 use crate::lineup::Lineup;
 use crate::marks::Marks;
-use crate::seats::seats_of;
+use crate::seats::{needs_no_seat, reached_of};
 use admit_core::{CallOrders, Mark, OutOfMemory, Steps};
 use day_state::DayState;
 use demand::{is_open, wish_at};
@@ -66,18 +67,17 @@ pub struct SeatLinks<'a, 'd> {
     opens: Vec<bool>,
     lineup: &'a Lineup,
     reached: Vec<usize>,
-    sure: Vec<bool>,
 }
 
 impl<'a, 'd> Model for SeatLinks<'a, 'd> {
     ghost use Rattle.linked_demand.specs.Links.{LinksRow};
-    ghost use Rattle.linked_demand.specs.Wants.{IsReached};
+    ghost use Rattle.linked_demand.specs.Lineups.{AreKept};
 
     ghost Value = { LinksRow };
 
     ghost view = { λ l. record { state = l.state.now; orders = l.orders.now.orders; opens = l.opens.items } };
 
-    ghost invariant = { λ l. IsReached l.state.now l.orders.now.orders l.opens.items l.reached.items l.lineup.now.claims.items l.lineup.now.places.items l.sure.items };
+    ghost invariant = { λ l. AreKept l.state.now l.orders.now.orders l.opens.items l.reached.items l.lineup.now };
 }
 
 impl<'a, 'd> SeatLinks<'a, 'd> {
@@ -94,14 +94,13 @@ impl<'a, 'd> SeatLinks<'a, 'd> {
         ensures { IfOk result (λ l. l ≡ record { state = state.now; orders = orders.now.orders; opens = opens_of state.now bars.now }) }
     {
         let opens = open_flags(alloc, state, &lineup.boarders, bars)?;
-        let seats = seats_of(alloc, state, orders, lineup, &opens)?;
+        let reached = reached_of(alloc, state, orders, lineup, &opens)?;
         Ok(SeatLinks {
             state,
             orders,
             opens,
             lineup,
-            reached: seats.reached,
-            sure: seats.sure,
+            reached,
         })
     }
 
@@ -138,7 +137,7 @@ impl<'a, 'd> SeatLinks<'a, 'd> {
                     self.state,
                     bars,
                     &self.opens,
-                    &self.sure,
+                    &lineup.early,
                     claims.at(next),
                     marked,
                     steps,
@@ -162,6 +161,25 @@ impl<'a, 'd> SeatLinks<'a, 'd> {
         self.opens[wish as usize]
     }
 
+    /// Whether each wish is proposed, by place, where those that are open wait.
+    pub fn proposed_flags(&self, alloc: Global) -> Result<Vec<bool>, OutOfMemory>
+        requires { (k : ℕ) → slice_index_or self.now.opens k false ≡ true → (w : Wish) × (m : Mark) × WaitsAt self.now.state k w m }
+        ensures long { IfOk result (λ v. length v.items ≡ length self.now.state.dossier.wishes) }
+        ensures each { IfOk result (λ v. (k : ℕ) → k < length self.now.state.dossier.wishes → slice_index_or v.items k false ≡ is_proposed_at self.now k) }
+    {
+        let lineup = self.lineup;
+        let mut flags = no_flags(alloc, self.opens.len())?;
+        flag_sure(
+            self.state,
+            &self.opens,
+            &lineup.early,
+            &lineup.maybe_sure,
+            &mut flags,
+        );
+        flag_fronts(&self.opens, &lineup.claims, &self.reached, &mut flags);
+        Ok(flags)
+    }
+
     /// Whether a waiting wish is proposed.
     pub fn is_proposed(&self, wish: u32) -> bool
         requires { (w : Wish) × (m : Mark) × WaitsAt self.now.state wish w m }
@@ -171,7 +189,7 @@ impl<'a, 'd> SeatLinks<'a, 'd> {
         let programme = wish_at(self.state, wish).programme as usize;
         let place = lineup.places[wish as usize];
         let open = self.opens[wish as usize];
-        let sure = self.sure[wish as usize];
+        let sure = needs_no_seat(self.state, &lineup.early, wish);
         let reached = is_reached(place, self.reached[programme]);
         is_served(open, sure, reached)
     }

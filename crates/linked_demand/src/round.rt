@@ -16,6 +16,7 @@ use crate::marks::Marks;
 use crate::over::{ask_marked, demands_in};
 use crate::overs::Overs;
 use crate::rows::RowWish;
+use crate::seats::is_set;
 use crate::wishes::wish_count;
 use admit_core::{CallOrders, OutOfMemory, Steps};
 use bar_law::Falling;
@@ -128,15 +129,17 @@ impl<'a, 'd> LinkedRound<'a, 'd> {
         self.links.is_proposed(wish)
     }
 
-    /// The places of the wishes that are proposed at the present bars, ascending. It asks each wish once.
+    /// The places of the wishes that are proposed at the present bars, ascending. It goes along the claims
+    /// that the seats reach, and twice along the wishes.
     pub fn proposed(&self, alloc: Global) -> Result<Vec<u32>, OutOfMemory>
         ensures places { IfOk result (λ v. v.items ≡ proposed self.now.state self.now.orders self.now.bars) }
         ensures offers { IfOk result (λ v. v.items ≡ ⟦<LinkedRound<'a, 'd> as Falling>⟧.offers self.now (⟦<LinkedRound<'a, 'd> as Falling>⟧.bars self.now)) }
     {
+        let flags = self.links.proposed_flags(alloc)?;
         let mut places = Vec::new(alloc);
         let count = wish_count(self.links.state());
         for wish in 0..count {
-            if self.is_proposed(wish) {
+            if is_set(&flags, wish) {
                 places.push(wish)?;
             }
         }

@@ -1,13 +1,10 @@
 //! Who has a seat while no wish is closed yet.
-ghost use Rattle.std.specs.Prelude.{◌≡◌, ◌<◌, false, length, map, ◌||◌, not, IfOk, slice_index_or};
-ghost use Rattle.std.specs.List.{range_with_len};
-ghost use Rattle.linked_demand.specs.Lineups.{IsLineupOf};
-ghost use Rattle.linked_demand.specs.Wants.{IsReached};
-ghost use Rattle.linked_demand.specs.Opens.{sure_at};
+ghost use Rattle.std.specs.Prelude.{◌≡◌, ◌<◌, ◌||◌, false, length, IfOk, slice_index_or};
+ghost use Rattle.linked_demand.specs.Lineups.{IsLineupOf, IsReachedIn};
+ghost use Rattle.linked_demand.specs.Opens.{all_sure};
 
 use crate::line::reach_of;
 use crate::lineup::Lineup;
-use crate::wishes::wish_count;
 use admit_core::{CallOrders, OutOfMemory};
 use day_state::DayState;
 use demand::programme_count;
@@ -15,7 +12,7 @@ use std::alloc::Global;
 use vacancies::seats_left;
 
 /// Whether a flag is set.
-fn is_set(flags: &[bool], place: u32) -> bool
+pub fn is_set(flags: &[bool], place: u32) -> bool
     requires { place < length flags.now }
     ensures { result ≡ slice_index_or flags.now place false }
 {
@@ -30,39 +27,28 @@ fn is_sure(is_live: bool, is_early: bool) -> bool
     is_live || is_early
 }
 
-/// Whether each wish needs no seat, by place.
-fn sure_flags(alloc: Global, state: &DayState<'_>, early: &[bool]) -> Result<Vec<bool>, OutOfMemory>
-    requires { length early.now ≡ length state.now.dossier.wishes }
-    ensures { IfOk result (λ v. v.items ≡ map (sure_at state.now early.now) (range_with_len 0 (length state.now.dossier.wishes))) }
+/// Whether the candidate of the wish at a place needs no seat.
+pub fn needs_no_seat(state: &DayState<'_>, early: &[bool], place: u32) -> bool
+    requires place { place < length state.now.dossier.wishes }
+    requires early { length early.now ≡ length state.now.dossier.wishes }
+    ensures { result ≡ slice_index_or (all_sure state.now early.now) place false }
 {
-    let count = wish_count(state);
-    let mut flags = Vec::with_capacity(alloc, count as usize)?;
-    for place in 0..count {
-        let is_live = state.is_live_in_its_programme(place);
-        let is_early = is_set(early, place);
-        flags.push(is_sure(is_live, is_early))?;
-    }
-    Ok(flags)
+    let is_live = state.is_live_in_its_programme(place);
+    let is_early = is_set(early, place);
+    is_sure(is_live, is_early)
 }
 
-/// How many places of each programme's line are reached, and whether each wish needs no seat.
-#[derive(Drop)]
-pub struct Seats {
-    pub reached: Vec<usize>,
-    pub sure: Vec<bool>,
-}
-
-/// How far the seats of all programmes reach where these wishes are open.
-pub fn seats_of(
+/// How many places of each programme's line are reached where these wishes are open.
+pub fn reached_of(
     alloc: Global,
     state: &DayState<'_>,
     orders: &CallOrders,
     lineup: &Lineup,
     opens: &[bool],
-) -> Result<Seats, OutOfMemory>
+) -> Result<Vec<usize>, OutOfMemory>
     requires lineup { IsLineupOf state.now.dossier orders.now.orders lineup.now }
     requires opens { length opens.now ≡ length state.now.dossier.wishes }
-    ensures { IfOk result (λ x. IsReached state.now orders.now.orders opens.now x.reached.items lineup.now.claims.items lineup.now.places.items x.sure.items) }
+    ensures { IfOk result (λ v. IsReachedIn state.now orders.now.orders opens.now v.items lineup.now) }
 {
     let _ = state.marks(); // one for each wish
     let programmes = programme_count(state);
@@ -72,6 +58,5 @@ pub fn seats_of(
         let left = seats_left(state, programme) as usize;
         reached.push(reach_of(state, opens, claims, left))?;
     }
-    let sure = sure_flags(alloc, state, &lineup.early)?;
-    Ok(Seats { reached, sure })
+    Ok(reached)
 }

@@ -14,5 +14,6 @@ loop-wish-preserved c =
     let k = get_or wishes i 0 in
     c.in_ok-push.ensures.items
     ∙ ap (λ (xs : List ℕ). xs ++ c.wish_at.result.candidate ∷ []) c.loop-wish.invariant
-    ∙ ap (λ (x : ℕ). map key (take i wishes) ++ x ∷ []) (ap (λ (w : Wish). w.candidate) c.wish_at.ensures.wish ∙ sym (candidate_is ws k))
+    ∙ ap (λ (x : ℕ). map key (take i wishes) ++ x ∷ [])
+    (ap (λ (w : Wish). w.candidate) c.wish_at.ensures.wish ∙ sym (candidate_is ws k))
     ∙ sym (ap (map key) (take_more wishes i 0 c.loop-wish-test.true) ∙ map-append key (take i wishes) (k ∷ []))

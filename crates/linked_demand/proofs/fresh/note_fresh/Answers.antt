@@ -4,6 +4,7 @@ use Rattle.admit_core.specs.declared.dossier.Wish.{Wish}
 use Rattle.std.proofs.Common.{ap, length}
 use Rattle.admit_core.specs.Lists.{is_among}
 use Rattle.linked_demand.specs.Marks.{is_fresh}
+use Rattle.linked_demand.specs.Opens.{all_sure}
 use Rattle.linked_demand.proofs.Marking.{marks_nothing, marks_more, marks_left}
 use Rattle.linked_demand.proofs.fresh.note_fresh.Goals as goal
 use Rattle.linked_demand.proofs.fresh.note_fresh.Goals.{then-is_fresh, else-is_fresh}
@@ -12,14 +13,16 @@ pub loop-wish-init : goal.loop-wish-init
 loop-wish-init g c =
     record {
       steps = omega arith;
-      marked = marks_nothing c.args.state.now (λ x. is_among x.0 (take 0 c.args.claim.now) && is_fresh c.args.state.now c.args.bars.now c.args.opens.now c.args.sure.now x.0) c.args.marked.now (λ k e at. refl);
+      marked = marks_nothing c.args.state.now
+          (λ x. is_among x.0 (take 0 c.args.claim.now) && is_fresh c.args.state.now c.args.bars.now
+          c.args.opens.now (all_sure c.args.state.now c.args.early.now) x.0) c.args.marked.now (λ k e at. refl);
     }
 
 pub loop-wish-preserved : goal.loop-wish-preserved
 loop-wish-preserved g c =
     let s = c.args.state.now in
     let claim = c.args.claim.now in
-    let q = is_fresh s c.args.bars.now c.args.opens.now c.args.sure.now in
+    let q = is_fresh s c.args.bars.now c.args.opens.now (all_sure c.args.state.now c.args.early.now) in
     let i = c.loop-wish.wish-index in
     let lt : i < length claim = c.loop-wish-test.true in
     elim c.if-is_fresh.branch [
@@ -27,7 +30,9 @@ loop-wish-preserved g c =
           let passes : q (get_or claim i 0) ≡ true = sym c.is_fresh.ensures ∙ w.if-is_fresh.true in
           rw (w.steps-is, w.marked-is) (record {
             steps = omega (arith, w.tick.ensures, c.loop-wish.invariant.steps, count_by_more_yes q claim i 0 lt passes);
-            marked = marks_more s claim q i lt c.args.marked.now c.loop-wish.marked c.loop-wish.invariant.marked w.wish_at.result.school (ap (λ (v : Wish). v.school) w.wish_at.ensures.wish) w.mark.new.marked w.mark.ensures;
+            marked = marks_more s claim q i lt c.args.marked.now c.loop-wish.marked
+                c.loop-wish.invariant.marked w.wish_at.result.school
+                (ap (λ (v : Wish). v.school) w.wish_at.ensures.wish) w.mark.new.marked w.mark.ensures;
           })
       | else-is_fresh w ↦
           let fails : q (get_or claim i 0) ≡ false = sym c.is_fresh.ensures ∙ w.if-is_fresh.false in

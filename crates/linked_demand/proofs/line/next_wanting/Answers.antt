@@ -14,7 +14,8 @@ returns-then-wants_seat-clause-place c =
     let back : i + 1 - 1 ≡ i = omega arith in
     let read : c.at.result.now ≡ get_or claims i [] = c.at.ensures ∙ ap (λ (j : ℕ). get_or claims j []) back in
     let lt : i < length (wants_along s opens claims) = omega (arith, within, length-wants s opens claims) in
-    let set = wants_read s opens claims i c.at.result.now c.wants_seat.result true within read c.wants_seat.ensures c.if-wants_seat.true in
+    let set = wants_read s opens claims i c.at.result.now c.wants_seat.result true within read
+    c.wants_seat.ensures c.if-wants_seat.true in
     sym (next_found (wants_along s opens claims) i lt set) ∙ c.loop-at.invariant.1
 
 pub loop-at-preserved : goal.loop-at-preserved
@@ -27,5 +28,6 @@ loop-at-preserved c =
     let back : i + 1 - 1 ≡ i = omega arith in
     let read : c.at.result.now ≡ get_or claims i [] = c.at.ensures ∙ ap (λ (j : ℕ). get_or claims j []) back in
     let lt : i < length (wants_along s opens claims) = omega (arith, within, length-wants s opens claims) in
-    let unset = wants_read s opens claims i c.at.result.now c.wants_seat.result false within read c.wants_seat.ensures c.if-wants_seat.false in
+    let unset = wants_read s opens claims i c.at.result.now c.wants_seat.result false within read
+    c.wants_seat.ensures c.if-wants_seat.false in
     (omega (arith, within), next_passed (wants_along s opens claims) i lt unset ∙ c.loop-at.invariant.1)

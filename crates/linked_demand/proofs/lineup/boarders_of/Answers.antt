@@ -15,11 +15,13 @@ loop-place-preserved c =
           (w.in_ok-push.ensures.items
           ∙ ap (λ (xs : List ℕ). xs ++ k ∷ []) c.loop-place.invariant
           ∙ sym (range_kept q k (sym c.has_school.ensures ∙ w.if-has_school.true)))
-      | else-has_school w ↦ rw w.places-is (c.loop-place.invariant ∙ sym (range_left q k (sym c.has_school.ensures ∙ w.if-has_school.false)))
+      | else-has_school w ↦
+          rw w.places-is (c.loop-place.invariant ∙ sym (range_left q k (sym c.has_school.ensures ∙ w.if-has_school.false)))
     ]
 
 pub returns : goal.returns
 returns c =
     let d = c.args.state.now.dossier in
-    let all : c.loop-place.place ≡ length d.wishes = omega (arith, c.loop-place-test.false, c.loop-place.auto.place-end, c.wish_count-count.ensures) in
+    let all : c.loop-place.place ≡ length d.wishes = omega
+    (arith, c.loop-place-test.false, c.loop-place.auto.place-end, c.wish_count-count.ensures) in
     c.loop-place.invariant ∙ ap (λ n. filter (boards_at d) (range_with_len 0 n)) all

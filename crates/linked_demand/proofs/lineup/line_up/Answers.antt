@@ -23,16 +23,19 @@ pub returns-then-is_empty-clause-claims : goal.returns-then-is_empty-clause-clai
 returns-then-is_empty-clause-claims c =
     let d = c.args.state.now.dossier in
     let p = c.args.programme in
-    let none = nobody_there d p c.args.wishes.items c.requires.wishes (omega (arith, eqb-true c.args.wishes.len 0 (sym c.is_empty.ensures ∙ c.if-is_empty.true))) in
-    c.new-claims.ensures ∙ ap (map (part_of c.args.wishes.items)) c.new-spans.ensures.items
+    let none = nobody_there d p c.args.wishes.items c.requires.wishes
+    (omega (arith, eqb-true c.args.wishes.len 0 (sym c.is_empty.ensures ∙ c.if-is_empty.true))) in
+    c.new-claims.ensures ∙ ap (map (part_of c.args.wishes.items)) c.in_ok-spans.ensures.items
     ∙ sym (ap (map (claim_of d p)) (nobody_applies d p (order_of d c.args.orders.now.orders p) none))
 
 pub returns-then-is_empty-clause-seated : goal.returns-then-is_empty-clause-seated
 returns-then-is_empty-clause-seated c =
     let d = c.args.state.now.dossier in
     let p = c.args.programme in
-    let none = nobody_there d p c.args.wishes.items c.requires.wishes (omega (arith, eqb-true c.args.wishes.len 0 (sym c.is_empty.ensures ∙ c.if-is_empty.true))) in
-    seated_nobody d c.args.orders.now.orders p (order_of d c.args.orders.now.orders p) c.args.places.now.items c.args.early.now.items none c.requires.seated
+    let none = nobody_there d p c.args.wishes.items c.requires.wishes
+    (omega (arith, eqb-true c.args.wishes.len 0 (sym c.is_empty.ensures ∙ c.if-is_empty.true))) in
+    seated_nobody d c.args.orders.now.orders p (order_of d c.args.orders.now.orders p)
+    c.args.places.now.items c.args.early.now.items none c.requires.seated
 
 pub loop-before-init : goal.loop-before-init
 loop-before-init c =
@@ -41,9 +44,10 @@ loop-before-init c =
     let wishes = c.args.wishes.items in
     let P = λ (xs : List Span). All (IsWithin (length wishes)) xs in
     record {
-      within = subst P (sym c.new-spans.ensures.items) (All-nil (IsWithin (length wishes)));
-      claims = ap (map (part_of wishes)) c.new-spans.ensures.items;
-      seated = seated_start d c.args.orders.now.orders p c.order_of-order.result.now c.args.places.now.items c.args.early.now.items c.requires.seated;
+      within = subst P (sym c.in_ok-spans.ensures.items) (All-nil (IsWithin (length wishes)));
+      claims = ap (map (part_of wishes)) c.in_ok-spans.ensures.items;
+      seated = seated_start d c.args.orders.now.orders p c.order_of-order.result.now c.args.places.now.items
+          c.args.early.now.items c.requires.seated;
     }
 
 pub span_of-span-requires-clause-rises : goal.span_of-span-requires-clause-rises
@@ -56,8 +60,10 @@ span_of-span-requires-clause-rises c =
 pub part-claim-requires : goal.part-claim-requires
 part-claim-requires c =
     let d = c.args.state.now.dossier in
-    let are = c.deref-in-loop-before.ensures.value ∙ c.in_ok-candidates.ensures ∙ ap (map (candidate_in d.wishes)) c.deref.ensures.value in
-    let found = claim_there c.requires.wishes (get_or c.order_of-order.result.now c.loop-before.before 0) c.deref-in-loop-before.result.now are c.span_of-span.result c.span_of-span.ensures
+    let are = c.deref-in-loop-before.ensures.value ∙ c.in_ok-candidates.ensures
+    ∙ ap (map (candidate_in d.wishes)) c.deref.ensures.value in
+    let found = claim_there c.requires.wishes (get_or c.order_of-order.result.now c.loop-before.before 0)
+    c.deref-in-loop-before.result.now are c.span_of-span.result c.span_of-span.ensures
     c.args.wishes.items (part_of c.args.wishes.items c.span_of-span.result) refl refl in
     let P = λ (ks : List ℕ). IsWithin (length ks) c.span_of-span.result in
     subst P (sym c.deref-in-loop-before-2.ensures.value) found.within
@@ -67,9 +73,11 @@ note-requires-clause-places c =
     let d = c.args.state.now.dossier in
     let p = c.args.programme in
     let x = get_or c.order_of-order.result.now c.loop-before.before 0 in
-    let are = c.deref-in-loop-before.ensures.value ∙ c.in_ok-candidates.ensures ∙ ap (map (candidate_in d.wishes)) c.deref.ensures.value in
+    let are = c.deref-in-loop-before.ensures.value ∙ c.in_ok-candidates.ensures
+    ∙ ap (map (candidate_in d.wishes)) c.deref.ensures.value in
     let claimed =
-    claim_there c.requires.wishes x c.deref-in-loop-before.result.now are c.span_of-span.result c.span_of-span.ensures c.deref-in-loop-before-2.result.now c.part-claim.result.now
+    claim_there c.requires.wishes x c.deref-in-loop-before.result.now are c.span_of-span.result
+    c.span_of-span.ensures c.deref-in-loop-before-2.result.now c.part-claim.result.now
     c.deref-in-loop-before-2.ensures.value c.part-claim.ensures in
     let n = length c.loop-before.places.items in
     let P = λ (ks : List ℕ). All (λ k. k < n) ks in
@@ -90,21 +98,27 @@ loop-before-preserved c =
     let front = filter applies (take i order) in
     let spans = c.loop-before.spans.items in
     let span = c.span_of-span.result in
-    let are = c.deref-in-loop-before.ensures.value ∙ c.in_ok-candidates.ensures ∙ ap (map (candidate_in d.wishes)) c.deref.ensures.value in
+    let are = c.deref-in-loop-before.ensures.value ∙ c.in_ok-candidates.ensures
+    ∙ ap (map (candidate_in d.wishes)) c.deref.ensures.value in
     let claimed =
-    claim_there c.requires.wishes x c.deref-in-loop-before.result.now are span c.span_of-span.ensures c.deref-in-loop-before-2.result.now c.part-claim.result.now
+    claim_there c.requires.wishes x c.deref-in-loop-before.result.now are span c.span_of-span.ensures
+    c.deref-in-loop-before-2.result.now c.part-claim.result.now
     c.deref-in-loop-before-2.ensures.value c.part-claim.ensures in
     elim c.if-is_claim.branch [
       | then-is_claim+in_ok-push w ↦
-          let some : nat_lt 0 (length (claim_of d p x)) ≡ true = claim_some c.part-claim.result.now (claim_of d p x) claimed.is c.is_empty-is_claim.result c.is_empty-is_claim.ensures w.if-is_claim.true in
+          let some : nat_lt 0 (length (claim_of d p x)) ≡ true = claim_some c.part-claim.result.now
+          (claim_of d p x) claimed.is c.is_empty-is_claim.result c.is_empty-is_claim.ensures w.if-is_claim.true in
           let passes : applies x ≡ true = applies_claim d p x ∙ some in
           let P = λ (o : List ℕ). IsDistinct nat_eq o in
           let apart : IsDistinct nat_eq order = subst P (sym c.order_of-order.ensures) c.requires.once in
-          let Q = λ (ks : List ℕ). PutAt ℕ 0 ks w.len.result c.loop-before.places.items w.note.new.places.items in
-          let R = λ (ks : List ℕ). PutAt Bool false ks w.is_early-is_early.result c.loop-before.early.items w.note.new.early.items in
+          let Q = λ (ks : List ℕ). PutAt ℕ 0 ks w.len-then-is_claim.result c.loop-before.places.items w.note.new.places.items in
+          let R = λ (ks : List ℕ). PutAt Bool false ks w.is_early-is_early.result c.loop-before.early.items
+          w.note.new.early.items in
           let S = λ (xs : List Span). All (IsWithin (length wishes)) xs in
           record {
-            within = rw w.spans-is (subst S (sym w.in_ok-push.ensures.items) (All-push (IsWithin (length wishes)) spans span inv.within claimed.within));
+            within = rw w.spans-is
+                (subst S (sym w.in_ok-push.ensures.items)
+                (All-push (IsWithin (length wishes)) spans span inv.within claimed.within));
             claims =
                 rw w.spans-is
                 (ap (map (part_of wishes)) w.in_ok-push.ensures.items
@@ -114,18 +128,29 @@ loop-before-preserved c =
                 ∙ sym (picked applies (claim_of d p) order i lt passes));
             seated =
                 rw (w.places-is, w.early-is)
-                (seated_more d orders p order i x lt refl c.loop-before.places.items c.loop-before.early.items w.note.new.places.items w.note.new.early.items w.len.result w.is_early-is_early.result
+                (seated_more d orders p order i x lt refl c.loop-before.places.items
+                c.loop-before.early.items w.note.new.places.items w.note.new.early.items
+                w.len-then-is_claim.result w.is_early-is_early.result
                 c.order_of-order.ensures apart some
                 (w.is_early-is_early.ensures ∙ ap (nat_lt i) c.limit_of-limit.ensures)
-                (omega (arith, w.len.ensures, ap length inv.claims, length-map spans (part_of wishes), length-map front (claim_of d p)))
+                (omega (
+                  arith,
+                  w.len-then-is_claim.ensures,
+                  ap length inv.claims,
+                  length-map spans
+                      (part_of wishes),
+                  length-map front (claim_of d p),
+                ))
                 inv.seated (subst Q claimed.is w.note.ensures.places) (subst R claimed.is w.note.ensures.early));
           }
       | else-is_claim w ↦
-          let none : nat_lt 0 (length (claim_of d p x)) ≡ false = claim_none c.part-claim.result.now (claim_of d p x) claimed.is c.is_empty-is_claim.result c.is_empty-is_claim.ensures w.if-is_claim.false in
+          let none : nat_lt 0 (length (claim_of d p x)) ≡ false = claim_none c.part-claim.result.now
+          (claim_of d p x) claimed.is c.is_empty-is_claim.result c.is_empty-is_claim.ensures w.if-is_claim.false in
           let passes : applies x ≡ false = applies_claim d p x ∙ none in
           record {
             within = rw w.spans-is inv.within;
             claims = rw w.spans-is (inv.claims ∙ sym (passed_over applies (claim_of d p) order i lt passes));
-            seated = rw (w.places-is, w.early-is) (seated_over d orders p order i x lt refl c.loop-before.places.items c.loop-before.early.items none inv.seated);
+            seated = rw (w.places-is, w.early-is)
+                (seated_over d orders p order i x lt refl c.loop-before.places.items c.loop-before.early.items none inv.seated);
           }
     ]

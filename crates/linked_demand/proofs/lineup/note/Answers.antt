@@ -9,7 +9,9 @@ loop-wish-init c = record {
 }
 
 pub returns-clause-places : goal.returns-clause-places
-returns-clause-places c = put_all ℕ 0 c.args.claim.now c.loop-wish.wish-index c.args.place c.args.places.now.items c.loop-wish.places.items (omega arith) c.loop-wish.invariant.places
+returns-clause-places c = put_all ℕ 0 c.args.claim.now c.loop-wish.wish-index c.args.place
+    c.args.places.now.items c.loop-wish.places.items (omega arith) c.loop-wish.invariant.places
 
 pub returns-clause-early : goal.returns-clause-early
-returns-clause-early c = put_all Bool false c.args.claim.now c.loop-wish.wish-index c.args.is_early c.args.early.now.items c.loop-wish.early.items (omega arith) c.loop-wish.invariant.early
+returns-clause-early c = put_all Bool false c.args.claim.now c.loop-wish.wish-index c.args.is_early
+    c.args.early.now.items c.loop-wish.early.items (omega arith) c.loop-wish.invariant.early

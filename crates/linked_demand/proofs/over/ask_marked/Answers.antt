@@ -11,13 +11,27 @@ pub first_over-requires : goal.first_over-requires
 first_over-requires c =
     let rows = c.args.rows.now in
     let h = c.in-Some.school in
-    let lt : h < length rows = omega (arith, marked_within c.loop-school.marked h c.in-Some.ensures.marked, c.loop-school.invariant.as_long, c.requires.marked) in
-    rw c.deref.ensures.value (c.requires.rows h c.index-rows-place.result (slice_get_read rows (length rows) h c.index-rows-place.result refl lt c.index-rows-place.is))
+    let lt : h < length rows = omega (
+      arith,
+      marked_within c.loop-school.marked h c.in-Some.ensures.marked,
+      c.loop-school.invariant.as_long,
+      c.requires.marked,
+    ) in
+    rw c.deref.ensures.value
+    (c.requires.rows h c.index-rows-place.result
+    (slice_get_read rows (length rows) h c.index-rows-place.result refl lt c.index-rows-place.is))
 
 pub loop-school-preserved : goal.loop-school-preserved
 loop-school-preserved c =
     let rows = c.args.rows.now in
     let h = c.in-Some.school in
-    let lt : h < length rows = omega (arith, marked_within c.loop-school.marked h c.in-Some.ensures.marked, c.loop-school.invariant.as_long, c.requires.marked) in
-    asked_more c.args.links.now rows c.args.free.now c.args.marked.now c.args.overs.now c.loop-school.marked c.loop-school.overs c.loop-school.invariant h c.in-Some.ensures.marked lt c.requires.overs
-    c.index-rows-place.result c.deref.result.now c.first_over.result c.index-rows-place.is c.deref.ensures.value c.first_over.ensures c.take.new.self c.put.new.self c.in-Some.ensures.cleared c.put.ensures
+    let lt : h < length rows = omega (
+      arith,
+      marked_within c.loop-school.marked h c.in-Some.ensures.marked,
+      c.loop-school.invariant.as_long,
+      c.requires.marked,
+    ) in
+    asked_more c.args.links.now rows c.args.free.now c.args.marked.now c.args.overs.now c.loop-school.marked
+    c.loop-school.overs c.loop-school.invariant h c.in-Some.ensures.marked lt c.requires.overs
+    c.index-rows-place.result c.deref.result.now c.first_over.result c.index-rows-place.is
+    c.deref.ensures.value c.first_over.ensures c.take.new.self c.put.new.self c.in-Some.ensures.cleared c.put.ensures

@@ -7,5 +7,6 @@ abbrev pub invariant-loop-item : goal.invariant-loop-item
 invariant-loop-item l =
     record {
       few : l.found ≤ l.free;
-      rest : slice_get (counted (is_proposed_at l.links) 0 l.row) l.free ≡ slice_get (counted (is_proposed_at l.links) l.last (drop l.item-index l.row)) (l.free - l.found);
+      rest : slice_get (counted (is_proposed_at l.links) 0 l.row) l.free ≡ slice_get
+          (counted (is_proposed_at l.links) l.last (drop l.item-index l.row)) (l.free - l.found);
     }

@@ -4,4 +4,5 @@ use Rattle.linked_demand.specs.Seats.{applies_at}
 use Rattle.linked_demand.proofs.wishing.wishes_by_programme.Given as goal
 
 abbrev pub invariant-loop-place : goal.invariant-loop-place
-invariant-loop-place l = AreRowsOf (λ k. k) (applies_at l.state.dossier) (length l.state.dossier.programmes) (take l.place-index l.places) l.rows.items
+invariant-loop-place l = AreRowsOf (λ k. k) (applies_at l.state.dossier) (length l.state.dossier.programmes)
+    (take l.place-index l.places) l.rows.items

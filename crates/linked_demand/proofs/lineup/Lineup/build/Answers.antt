@@ -1,4 +1,5 @@
-use Rattle.std.proofs.Common.{ℕ, ◌+◌, List, sym, arith, subst}
+use Rattle.std.proofs.Common.{ℕ, ◌+◌, Bool, List, length, sym, ◌∙◌, ap, arith, subst}
+use Rattle.linked_demand.specs.Seats.{maybe_sure_of}
 use Rattle.linked_demand.proofs.Seating.{IsBuilt, built_more, built_all}
 use Rattle.linked_demand.proofs.ClaimSpans.{wishes_later}
 use Rattle.linked_demand.proofs.lineup.Lineup.build.Goals as goal
@@ -13,16 +14,37 @@ loop-programme-preserved c =
     let P = λ (cs : List (List (List ℕ))). IsBuilt d orders (n + 1) cs places early in
     let built =
     subst P (sym c.in_ok-push.ensures.items)
-    (built_more d orders n c.loop-programme.claims.items c.loop-programme.places.items c.loop-programme.early.items c.in_ok-own.own places early
+    (built_more d orders n c.loop-programme.claims.items c.loop-programme.places.items
+    c.loop-programme.early.items c.in_ok-own.own places early
     c.call_everyone.ensures c.loop-programme.invariant.built c.in_ok-own.ensures.claims c.in_ok-own.ensures.seated) in
-    record { built = built; wishes = wishes_later d n c.loop-programme.rows.items c.replace-wishes.new.dest c.loop-programme.invariant.wishes }
+    record {
+      built = built;
+      wishes = wishes_later d n c.loop-programme.rows.items c.replace-wishes.new.dest
+          c.loop-programme.invariant.wishes;
+    }
+
+pub maybe_sure_of-requires : goal.maybe_sure_of-requires
+maybe_sure_of-requires c =
+    ap length c.deref.ensures.value ∙ c.loop-programme.invariant.built.seated.early_each
 
 pub returns : goal.returns
 returns c =
     record {
       lines =
-          built_all c.args.state.now.dossier c.args.orders.now.orders c.loop-programme.programme c.loop-programme.claims.items c.loop-programme.places.items c.loop-programme.early.items
-          (omega (arith, c.loop-programme-test.false, c.loop-programme.auto.programme-end, c.programme_count-programmes.ensures.count))
-          (λ k lt. omega (arith, c.programme_count-programmes.ensures.each k lt, c.programme_count-programmes.ensures.count)) c.loop-programme.invariant.built;
+          built_all c.args.state.now.dossier c.args.orders.now.orders c.loop-programme.programme
+          c.loop-programme.claims.items c.loop-programme.places.items c.loop-programme.early.items
+          (omega (
+            arith,
+            c.loop-programme-test.false,
+            c.loop-programme.auto.programme-end,
+            c.programme_count-programmes.ensures.count,
+          ))
+          (λ k lt. omega (
+            arith,
+            c.programme_count-programmes.ensures.each k lt,
+            c.programme_count-programmes.ensures.count,
+          )) c.loop-programme.invariant.built;
       boarders = c.in_ok-boarders.ensures;
+      maybe_sure =
+          c.in_ok-maybe_sure.ensures ∙ ap (maybe_sure_of c.args.state.now.dossier) c.deref.ensures.value;
     }

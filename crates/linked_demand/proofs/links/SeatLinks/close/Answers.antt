@@ -2,9 +2,9 @@ use Rattle.std.proofs.Common.{rules, ◌≡◌, ℕ, ◌+◌, ◌<◌, Bool, Lis
 use Rattle.std.specs.List.{list_any}
 use Rattle.linked_demand.specs.Line.{next, last_new}
 use Rattle.linked_demand.specs.Links.{LinksRow}
-use Rattle.linked_demand.specs.Opens.{line_of, wanting_at}
+use Rattle.linked_demand.specs.Opens.{all_sure, line_of, wanting_at}
 use Rattle.linked_demand.specs.Wants.{wants_along}
-use Rattle.linked_demand.proofs.Closing.{starts_within, closes_read, wish_within, programme_within, place_right, claim_right, claims_each, sure_each, row_within}
+use Rattle.linked_demand.proofs.Closing.{starts_within, closes_read, wish_within, programme_within, place_right, claim_right, claims_each, row_within}
 use Rattle.linked_demand.proofs.Leaving.{Reads, before_within, row_below, stays_closed, moves_closed, reached_each, reach_put, reach_kept, in_claims, claim_there}
 use Rattle.linked_demand.proofs.Moving.{newly_none, newly_some}
 use Rattle.linked_demand.proofs.Ticking.{claim_fits, told_none, told_some}
@@ -12,65 +12,77 @@ use Rattle.linked_demand.proofs.links.SeatLinks.close.Goals as goal
 
 pub wish_at-programme-requires : goal.wish_at-programme-requires
 wish_at-programme-requires g c =
-    starts_within c.self.invariant.links c.args.self.now c.self.view_is c.args.wish c.requires.waits
+    starts_within c.self.invariant.reach.links c.args.self.now c.self.view_is c.args.wish c.requires.waits
 
 pub index-place-requires : goal.index-place-requires
 index-place-requires g c =
-    let k = closes_read c.self.invariant.links c.args.self.now c.self.view_is c.args.wish c.requires.waits c.wish_at-programme.result c.wish_at-programme.ensures.wish in
-    omega (arith, wish_within k, c.self.invariant.links.places_each)
+    let k = closes_read c.self.invariant.reach.links c.args.self.now c.self.view_is c.args.wish
+    c.requires.waits c.wish_at-programme.result c.wish_at-programme.ensures.wish in
+    omega (arith, wish_within k, c.self.invariant.reach.links.places_each)
 
 pub index_mut-requires : goal.index_mut-requires
 index_mut-requires g c =
-    let k = closes_read c.self.invariant.links c.args.self.now c.self.view_is c.args.wish c.requires.waits c.wish_at-programme.result c.wish_at-programme.ensures.wish in
-    omega (arith, wish_within k, c.self.invariant.links.opens_each)
+    let k = closes_read c.self.invariant.reach.links c.args.self.now c.self.view_is c.args.wish
+    c.requires.waits c.wish_at-programme.result c.wish_at-programme.ensures.wish in
+    omega (arith, wish_within k, c.self.invariant.reach.links.opens_each)
 
 pub index-claims-requires : goal.index-claims-requires
 index-claims-requires g c =
-    let k = closes_read c.self.invariant.links c.args.self.now c.self.view_is c.args.wish c.requires.waits c.wish_at-programme.result c.wish_at-programme.ensures.wish in
+    let k = closes_read c.self.invariant.reach.links c.args.self.now c.self.view_is c.args.wish
+    c.requires.waits c.wish_at-programme.result c.wish_at-programme.ensures.wish in
     omega (arith, programme_within k, claims_each k)
 
 pub at-claim-requires : goal.at-claim-requires
 at-claim-requires g c =
-    let k = closes_read c.self.invariant.links c.args.self.now c.self.view_is c.args.wish c.requires.waits c.wish_at-programme.result c.wish_at-programme.ensures.wish in
+    let k = closes_read c.self.invariant.reach.links c.args.self.now c.self.view_is c.args.wish
+    c.requires.waits c.wish_at-programme.result c.wish_at-programme.ensures.wish in
     let at = place_right k c.index-place.result.now c.index-place.ensures in
     row_within k c.index-place.result.now at c.index-claims.result.now c.index-claims.ensures
 
 pub wants_seat-wanted-requires-clause-claim : goal.wants_seat-wanted-requires-clause-claim
 wants_seat-wanted-requires-clause-claim g c =
-    let k = closes_read c.self.invariant.links c.args.self.now c.self.view_is c.args.wish c.requires.waits c.wish_at-programme.result c.wish_at-programme.ensures.wish in
+    let k = closes_read c.self.invariant.reach.links c.args.self.now c.self.view_is c.args.wish
+    c.requires.waits c.wish_at-programme.result c.wish_at-programme.ensures.wish in
     let at = place_right k c.index-place.result.now c.index-place.ensures in
-    let claim = claim_right k c.index-place.result.now at c.index-claims.result.now c.index-claims.ensures c.at-claim.result.now c.at-claim.ensures in
+    let claim = claim_right k c.index-place.result.now at c.index-claims.result.now c.index-claims.ensures
+    c.at-claim.result.now c.at-claim.ensures in
     claim_fits k _ _ c.at-claim.result.now claim (length c.self.inside.state.now.dossier.wishes) refl
 
 pub wants_seat-wants-requires-clause-claim : goal.wants_seat-wants-requires-clause-claim
 wants_seat-wants-requires-clause-claim g c =
-    let k = closes_read c.self.invariant.links c.args.self.now c.self.view_is c.args.wish c.requires.waits c.wish_at-programme.result c.wish_at-programme.ensures.wish in
+    let k = closes_read c.self.invariant.reach.links c.args.self.now c.self.view_is c.args.wish
+    c.requires.waits c.wish_at-programme.result c.wish_at-programme.ensures.wish in
     let at = place_right k c.index-place.result.now c.index-place.ensures in
-    let claim = claim_right k c.index-place.result.now at c.index-claims.result.now c.index-claims.ensures c.at-claim.result.now c.at-claim.ensures in
+    let claim = claim_right k c.index-place.result.now at c.index-claims.result.now c.index-claims.ensures
+    c.at-claim.result.now c.at-claim.ensures in
     claim_fits k _ _ c.at-claim.result.now claim (length c.self.inside.state.now.dossier.wishes) refl
 
 pub index-before-requires : goal.index-before-requires
 index-before-requires g c =
-    let k = closes_read c.self.invariant.links c.args.self.now c.self.view_is c.args.wish c.requires.waits c.wish_at-programme.result c.wish_at-programme.ensures.wish in
-    omega (arith, programme_within k, reached_each k c.self.inside.reached.items c.self.invariant.reached_are)
+    let k = closes_read c.self.invariant.reach.links c.args.self.now c.self.view_is c.args.wish
+    c.requires.waits c.wish_at-programme.result c.wish_at-programme.ensures.wish in
+    omega (arith, programme_within k, reached_each k c.self.inside.reached.items c.self.invariant.reach.reached_are)
 
 pub index_mut-requires-then-leaves_seat : goal.index_mut-requires-then-leaves_seat
 index_mut-requires-then-leaves_seat g c =
-    let k = closes_read c.self.invariant.links c.args.self.now c.self.view_is c.args.wish c.requires.waits c.wish_at-programme.result c.wish_at-programme.ensures.wish in
-    omega (arith, programme_within k, reached_each k c.self.inside.reached.items c.self.invariant.reached_are)
+    let k = closes_read c.self.invariant.reach.links c.args.self.now c.self.view_is c.args.wish
+    c.requires.waits c.wish_at-programme.result c.wish_at-programme.ensures.wish in
+    omega (arith, programme_within k, reached_each k c.self.inside.reached.items c.self.invariant.reach.reached_are)
 
 pub next_wanting-now-requires-clause-from : goal.next_wanting-now-requires-clause-from
 next_wanting-now-requires-clause-from g c =
     let r = c.self.inside in
     let s = r.state.now in
     let claim = c.at-claim.result.now in
-    let k = closes_read c.self.invariant.links c.args.self.now c.self.view_is c.args.wish c.requires.waits c.wish_at-programme.result c.wish_at-programme.ensures.wish in
-    let reads : Reads k c.index-place.result.now c.index-claims.result.now claim r.reached.items c.index-before.result.now c.wants_seat-wanted.result c.wants_seat-wants.result c.leaves_seat.result =
+    let k = closes_read c.self.invariant.reach.links c.args.self.now c.self.view_is c.args.wish
+    c.requires.waits c.wish_at-programme.result c.wish_at-programme.ensures.wish in
+    let reads : Reads k c.index-place.result.now c.index-claims.result.now claim r.reached.items
+    c.index-before.result.now c.wants_seat-wanted.result c.wants_seat-wants.result c.leaves_seat.result =
     record {
       stands = place_right k c.index-place.result.now c.index-place.ensures;
       row_read = c.index-claims.ensures;
       claim_read = c.at-claim.ensures;
-      reached_are = c.self.invariant.reached_are;
+      reached_are = c.self.invariant.reach.reached_are;
       before_read = c.index-before.ensures;
       wanted_is = c.wants_seat-wanted.ensures ∙ ap (λ (fs : List Bool). list_any (wanting_at s fs) claim) c.deref.ensures.value;
       wants_is = c.wants_seat-wants.ensures ∙ ap (λ (fs : List Bool). list_any (wanting_at s fs) claim) c.deref-2.ensures.value;
@@ -83,13 +95,15 @@ next_wanting-now-requires-clause-claims g c =
     let r = c.self.inside in
     let s = r.state.now in
     let claim = c.at-claim.result.now in
-    let k = closes_read c.self.invariant.links c.args.self.now c.self.view_is c.args.wish c.requires.waits c.wish_at-programme.result c.wish_at-programme.ensures.wish in
-    let reads : Reads k c.index-place.result.now c.index-claims.result.now claim r.reached.items c.index-before.result.now c.wants_seat-wanted.result c.wants_seat-wants.result c.leaves_seat.result =
+    let k = closes_read c.self.invariant.reach.links c.args.self.now c.self.view_is c.args.wish
+    c.requires.waits c.wish_at-programme.result c.wish_at-programme.ensures.wish in
+    let reads : Reads k c.index-place.result.now c.index-claims.result.now claim r.reached.items
+    c.index-before.result.now c.wants_seat-wanted.result c.wants_seat-wants.result c.leaves_seat.result =
     record {
       stands = place_right k c.index-place.result.now c.index-place.ensures;
       row_read = c.index-claims.ensures;
       claim_read = c.at-claim.ensures;
-      reached_are = c.self.invariant.reached_are;
+      reached_are = c.self.invariant.reach.reached_are;
       before_read = c.index-before.ensures;
       wanted_is = c.wants_seat-wanted.ensures ∙ ap (λ (fs : List Bool). list_any (wanting_at s fs) claim) c.deref.ensures.value;
       wants_is = c.wants_seat-wants.ensures ∙ ap (λ (fs : List Bool). list_any (wanting_at s fs) claim) c.deref-2.ensures.value;
@@ -102,13 +116,15 @@ last_wanting-requires-clause-claims g c =
     let r = c.self.inside in
     let s = r.state.now in
     let claim = c.at-claim.result.now in
-    let k = closes_read c.self.invariant.links c.args.self.now c.self.view_is c.args.wish c.requires.waits c.wish_at-programme.result c.wish_at-programme.ensures.wish in
-    let reads : Reads k c.index-place.result.now c.index-claims.result.now claim r.reached.items c.index-before.result.now c.wants_seat-wanted.result c.wants_seat-wants.result c.leaves_seat.result =
+    let k = closes_read c.self.invariant.reach.links c.args.self.now c.self.view_is c.args.wish
+    c.requires.waits c.wish_at-programme.result c.wish_at-programme.ensures.wish in
+    let reads : Reads k c.index-place.result.now c.index-claims.result.now claim r.reached.items
+    c.index-before.result.now c.wants_seat-wanted.result c.wants_seat-wants.result c.leaves_seat.result =
     record {
       stands = place_right k c.index-place.result.now c.index-place.ensures;
       row_read = c.index-claims.ensures;
       claim_read = c.at-claim.ensures;
-      reached_are = c.self.invariant.reached_are;
+      reached_are = c.self.invariant.reach.reached_are;
       before_read = c.index-before.ensures;
       wanted_is = c.wants_seat-wanted.ensures ∙ ap (λ (fs : List Bool). list_any (wanting_at s fs) claim) c.deref.ensures.value;
       wants_is = c.wants_seat-wants.ensures ∙ ap (λ (fs : List Bool). list_any (wanting_at s fs) claim) c.deref-2.ensures.value;
@@ -121,33 +137,43 @@ invariant_of-self-else-leaves_seat g c =
     let r = c.self.inside in
     let s = r.state.now in
     let claim = c.at-claim.result.now in
-    let k = closes_read c.self.invariant.links c.args.self.now c.self.view_is c.args.wish c.requires.waits c.wish_at-programme.result c.wish_at-programme.ensures.wish in
-    let reads : Reads k c.index-place.result.now c.index-claims.result.now claim r.reached.items c.index-before.result.now c.wants_seat-wanted.result c.wants_seat-wants.result c.leaves_seat.result =
+    let k = closes_read c.self.invariant.reach.links c.args.self.now c.self.view_is c.args.wish
+    c.requires.waits c.wish_at-programme.result c.wish_at-programme.ensures.wish in
+    let reads : Reads k c.index-place.result.now c.index-claims.result.now claim r.reached.items
+    c.index-before.result.now c.wants_seat-wanted.result c.wants_seat-wants.result c.leaves_seat.result =
     record {
       stands = place_right k c.index-place.result.now c.index-place.ensures;
       row_read = c.index-claims.ensures;
       claim_read = c.at-claim.ensures;
-      reached_are = c.self.invariant.reached_are;
+      reached_are = c.self.invariant.reach.reached_are;
       before_read = c.index-before.ensures;
       wanted_is = c.wants_seat-wanted.ensures ∙ ap (λ (fs : List Bool). list_any (wanting_at s fs) claim) c.deref.ensures.value;
       wants_is = c.wants_seat-wants.ensures ∙ ap (λ (fs : List Bool). list_any (wanting_at s fs) claim) c.deref-2.ensures.value;
       leaves_is = c.leaves_seat.ensures;
     } in
     let stays = stays_closed reads c.if-leaves_seat.false in
-    reach_kept k r.reached.items c.self.invariant.reached_are c.index-before.result.now c.index-before.ensures stays.reach
+    record {
+      reach =
+          reach_kept k r.reached.items c.self.invariant.reach.reached_are
+          c.index-before.result.now c.index-before.ensures stays.reach;
+      early_each = c.self.invariant.early_each;
+      maybe_sure_are = c.self.invariant.maybe_sure_are;
+    }
 
 pub invariant_of-self : goal.invariant_of-self
 invariant_of-self g c =
     let r = c.self.inside in
     let s = r.state.now in
     let claim = c.at-claim.result.now in
-    let k = closes_read c.self.invariant.links c.args.self.now c.self.view_is c.args.wish c.requires.waits c.wish_at-programme.result c.wish_at-programme.ensures.wish in
-    let reads : Reads k c.index-place.result.now c.index-claims.result.now claim r.reached.items c.index-before.result.now c.wants_seat-wanted.result c.wants_seat-wants.result c.leaves_seat.result =
+    let k = closes_read c.self.invariant.reach.links c.args.self.now c.self.view_is c.args.wish
+    c.requires.waits c.wish_at-programme.result c.wish_at-programme.ensures.wish in
+    let reads : Reads k c.index-place.result.now c.index-claims.result.now claim r.reached.items
+    c.index-before.result.now c.wants_seat-wanted.result c.wants_seat-wants.result c.leaves_seat.result =
     record {
       stands = place_right k c.index-place.result.now c.index-place.ensures;
       row_read = c.index-claims.ensures;
       claim_read = c.at-claim.ensures;
-      reached_are = c.self.invariant.reached_are;
+      reached_are = c.self.invariant.reach.reached_are;
       before_read = c.index-before.ensures;
       wanted_is = c.wants_seat-wanted.ensures ∙ ap (λ (fs : List Bool). list_any (wanting_at s fs) claim) c.deref.ensures.value;
       wants_is = c.wants_seat-wants.ensures ∙ ap (λ (fs : List Bool). list_any (wanting_at s fs) claim) c.deref-2.ensures.value;
@@ -158,22 +184,30 @@ invariant_of-self g c =
     let now : ℕ = c.next_wanting-now.result in
     let moved =
     moves_closed reads c.if-leaves_seat.true now c.last_wanting.result
-    (c.next_wanting-now.ensures.place ∙ ap (λ (fs : List Bool). before + next (drop before (wants_along s fs row))) c.deref-then-leaves_seat.ensures.value)
-    (c.last_wanting.ensures.answer ∙ ap (λ (fs : List Bool). last_new (wants_along s fs row) before now) c.deref-then-leaves_seat-2.ensures.value) in
-    reach_put k r.reached.items c.self.invariant.reached_are now moved.reach
+    (c.next_wanting-now.ensures.place
+    ∙ ap (λ (fs : List Bool). before + next (drop before (wants_along s fs row))) c.deref-then-leaves_seat.ensures.value)
+    (c.last_wanting.ensures.answer
+    ∙ ap (λ (fs : List Bool). last_new (wants_along s fs row) before now) c.deref-then-leaves_seat-2.ensures.value) in
+    record {
+      reach = reach_put k r.reached.items c.self.invariant.reach.reached_are now moved.reach;
+      early_each = c.self.invariant.early_each;
+      maybe_sure_are = c.self.invariant.maybe_sure_are;
+    }
 
 pub invariant_of-self-in_default : goal.invariant_of-self-in_default
 invariant_of-self-in_default g c =
     let r = c.self.inside in
     let s = r.state.now in
     let claim = c.at-claim.result.now in
-    let k = closes_read c.self.invariant.links c.args.self.now c.self.view_is c.args.wish c.requires.waits c.wish_at-programme.result c.wish_at-programme.ensures.wish in
-    let reads : Reads k c.index-place.result.now c.index-claims.result.now claim r.reached.items c.index-before.result.now c.wants_seat-wanted.result c.wants_seat-wants.result c.leaves_seat.result =
+    let k = closes_read c.self.invariant.reach.links c.args.self.now c.self.view_is c.args.wish
+    c.requires.waits c.wish_at-programme.result c.wish_at-programme.ensures.wish in
+    let reads : Reads k c.index-place.result.now c.index-claims.result.now claim r.reached.items
+    c.index-before.result.now c.wants_seat-wanted.result c.wants_seat-wants.result c.leaves_seat.result =
     record {
       stands = place_right k c.index-place.result.now c.index-place.ensures;
       row_read = c.index-claims.ensures;
       claim_read = c.at-claim.ensures;
-      reached_are = c.self.invariant.reached_are;
+      reached_are = c.self.invariant.reach.reached_are;
       before_read = c.index-before.ensures;
       wanted_is = c.wants_seat-wanted.ensures ∙ ap (λ (fs : List Bool). list_any (wanting_at s fs) claim) c.deref.ensures.value;
       wants_is = c.wants_seat-wants.ensures ∙ ap (λ (fs : List Bool). list_any (wanting_at s fs) claim) c.deref-2.ensures.value;
@@ -184,21 +218,30 @@ invariant_of-self-in_default g c =
     let now : ℕ = c.next_wanting-now.result in
     let moved =
     moves_closed reads c.if-leaves_seat.true now c.last_wanting.result
-    (c.next_wanting-now.ensures.place ∙ ap (λ (fs : List Bool). before + next (drop before (wants_along s fs row))) c.deref-then-leaves_seat.ensures.value)
-    (c.last_wanting.ensures.answer ∙ ap (λ (fs : List Bool). last_new (wants_along s fs row) before now) c.deref-then-leaves_seat-2.ensures.value) in
-    reach_put k r.reached.items c.self.invariant.reached_are now moved.reach
+    (c.next_wanting-now.ensures.place
+    ∙ ap (λ (fs : List Bool). before + next (drop before (wants_along s fs row))) c.deref-then-leaves_seat.ensures.value)
+    (c.last_wanting.ensures.answer
+    ∙ ap (λ (fs : List Bool). last_new (wants_along s fs row) before now) c.deref-then-leaves_seat-2.ensures.value) in
+    record {
+      reach = reach_put k r.reached.items c.self.invariant.reach.reached_are now moved.reach;
+      early_each = c.self.invariant.early_each;
+      maybe_sure_are = c.self.invariant.maybe_sure_are;
+    }
 
 pub note_fresh-requires : goal.note_fresh-requires
 note_fresh-requires g c =
-    let k = closes_read c.self.invariant.links c.args.self.now c.self.view_is c.args.wish c.requires.waits c.wish_at-programme.result c.wish_at-programme.ensures.wish in
+    let k = closes_read c.self.invariant.reach.links c.args.self.now c.self.view_is c.args.wish
+    c.requires.waits c.wish_at-programme.result c.wish_at-programme.ensures.wish in
     let within = c.in-Some.ensures.within in
-    let fresh_claim = claim_there k c.index-claims.result.now c.index-claims.ensures c.in-Some.next within c.at.result.now c.at.ensures in
-    let schools : length c.args.self.now.state.dossier.schools ≡ length c.self.inside.state.now.dossier.schools = ap (λ (r : LinksRow). length r.state.dossier.schools) (sym c.self.view_is) in
+    let fresh_claim = claim_there k c.index-claims.result.now c.index-claims.ensures c.in-Some.next within
+    c.at.result.now c.at.ensures in
+    let schools : length c.args.self.now.state.dossier.schools ≡ length
+    c.self.inside.state.now.dossier.schools = ap (λ (r : LinksRow). length r.state.dossier.schools) (sym c.self.view_is) in
     record {
       claim = claim_fits k _ _ c.at.result.now fresh_claim (length c.self.inside.state.now.dossier.wishes) refl;
       bars = c.requires.bars ∙ schools;
-      opens = omega (arith, c.deref-in-Some.ensures.len, c.self.invariant.links.opens_each);
-      sure = omega (arith, c.deref-in-Some-2.ensures.len, sure_each k);
+      opens = omega (arith, c.deref-in-Some.ensures.len, c.self.invariant.reach.links.opens_each);
+      early = omega (arith, c.deref-in-Some-2.ensures.len, c.self.invariant.early_each);
       marked = c.requires.marked ∙ schools;
     }
 
@@ -207,20 +250,23 @@ returns-else-leaves_seat g c =
     let r = c.self.inside in
     let s = r.state.now in
     let claim = c.at-claim.result.now in
-    let k = closes_read c.self.invariant.links c.args.self.now c.self.view_is c.args.wish c.requires.waits c.wish_at-programme.result c.wish_at-programme.ensures.wish in
-    let reads : Reads k c.index-place.result.now c.index-claims.result.now claim r.reached.items c.index-before.result.now c.wants_seat-wanted.result c.wants_seat-wants.result c.leaves_seat.result =
+    let k = closes_read c.self.invariant.reach.links c.args.self.now c.self.view_is c.args.wish
+    c.requires.waits c.wish_at-programme.result c.wish_at-programme.ensures.wish in
+    let reads : Reads k c.index-place.result.now c.index-claims.result.now claim r.reached.items
+    c.index-before.result.now c.wants_seat-wanted.result c.wants_seat-wants.result c.leaves_seat.result =
     record {
       stands = place_right k c.index-place.result.now c.index-place.ensures;
       row_read = c.index-claims.ensures;
       claim_read = c.at-claim.ensures;
-      reached_are = c.self.invariant.reached_are;
+      reached_are = c.self.invariant.reach.reached_are;
       before_read = c.index-before.ensures;
       wanted_is = c.wants_seat-wanted.ensures ∙ ap (λ (fs : List Bool). list_any (wanting_at s fs) claim) c.deref.ensures.value;
       wants_is = c.wants_seat-wants.ensures ∙ ap (λ (fs : List Bool). list_any (wanting_at s fs) claim) c.deref-2.ensures.value;
       leaves_is = c.leaves_seat.ensures;
     } in
     let stays = stays_closed reads c.if-leaves_seat.false in
-    let told = told_none s r.orders.now.orders r.opens.items c.args.wish c.args.self.now c.self.view_is (newly_none k None stays.fresh refl) c.args.bars.now c.args.steps.now c.args.marked.now in
+    let told = told_none s r.orders.now.orders r.opens.items c.args.wish c.args.self.now c.self.view_is
+    (newly_none k None stays.fresh refl) c.args.bars.now c.args.steps.now c.args.marked.now in
     record { value = search rules; steps = told.steps; marked = told.marked }
 
 pub returns-in_default : goal.returns-in_default
@@ -228,13 +274,15 @@ returns-in_default g c =
     let r = c.self.inside in
     let s = r.state.now in
     let claim = c.at-claim.result.now in
-    let k = closes_read c.self.invariant.links c.args.self.now c.self.view_is c.args.wish c.requires.waits c.wish_at-programme.result c.wish_at-programme.ensures.wish in
-    let reads : Reads k c.index-place.result.now c.index-claims.result.now claim r.reached.items c.index-before.result.now c.wants_seat-wanted.result c.wants_seat-wants.result c.leaves_seat.result =
+    let k = closes_read c.self.invariant.reach.links c.args.self.now c.self.view_is c.args.wish
+    c.requires.waits c.wish_at-programme.result c.wish_at-programme.ensures.wish in
+    let reads : Reads k c.index-place.result.now c.index-claims.result.now claim r.reached.items
+    c.index-before.result.now c.wants_seat-wanted.result c.wants_seat-wants.result c.leaves_seat.result =
     record {
       stands = place_right k c.index-place.result.now c.index-place.ensures;
       row_read = c.index-claims.ensures;
       claim_read = c.at-claim.ensures;
-      reached_are = c.self.invariant.reached_are;
+      reached_are = c.self.invariant.reach.reached_are;
       before_read = c.index-before.ensures;
       wanted_is = c.wants_seat-wanted.ensures ∙ ap (λ (fs : List Bool). list_any (wanting_at s fs) claim) c.deref.ensures.value;
       wants_is = c.wants_seat-wants.ensures ∙ ap (λ (fs : List Bool). list_any (wanting_at s fs) claim) c.deref-2.ensures.value;
@@ -245,10 +293,13 @@ returns-in_default g c =
     let now : ℕ = c.next_wanting-now.result in
     let moved =
     moves_closed reads c.if-leaves_seat.true now c.last_wanting.result
-    (c.next_wanting-now.ensures.place ∙ ap (λ (fs : List Bool). before + next (drop before (wants_along s fs row))) c.deref-then-leaves_seat.ensures.value)
-    (c.last_wanting.ensures.answer ∙ ap (λ (fs : List Bool). last_new (wants_along s fs row) before now) c.deref-then-leaves_seat-2.ensures.value) in
+    (c.next_wanting-now.ensures.place
+    ∙ ap (λ (fs : List Bool). before + next (drop before (wants_along s fs row))) c.deref-then-leaves_seat.ensures.value)
+    (c.last_wanting.ensures.answer
+    ∙ ap (λ (fs : List Bool). last_new (wants_along s fs row) before now) c.deref-then-leaves_seat-2.ensures.value) in
     let told =
-    told_none s r.orders.now.orders r.opens.items c.args.wish c.args.self.now c.self.view_is (newly_none k c.last_wanting.result moved.fresh c.in_default.is) c.args.bars.now c.args.steps.now c.args.marked.now in
+    told_none s r.orders.now.orders r.opens.items c.args.wish c.args.self.now c.self.view_is
+    (newly_none k c.last_wanting.result moved.fresh c.in_default.is) c.args.bars.now c.args.steps.now c.args.marked.now in
     record { value = search rules; steps = told.steps; marked = told.marked }
 
 pub returns-in-Some : goal.returns-in-Some
@@ -256,13 +307,15 @@ returns-in-Some g c =
     let r = c.self.inside in
     let s = r.state.now in
     let claim = c.at-claim.result.now in
-    let k = closes_read c.self.invariant.links c.args.self.now c.self.view_is c.args.wish c.requires.waits c.wish_at-programme.result c.wish_at-programme.ensures.wish in
-    let reads : Reads k c.index-place.result.now c.index-claims.result.now claim r.reached.items c.index-before.result.now c.wants_seat-wanted.result c.wants_seat-wants.result c.leaves_seat.result =
+    let k = closes_read c.self.invariant.reach.links c.args.self.now c.self.view_is c.args.wish
+    c.requires.waits c.wish_at-programme.result c.wish_at-programme.ensures.wish in
+    let reads : Reads k c.index-place.result.now c.index-claims.result.now claim r.reached.items
+    c.index-before.result.now c.wants_seat-wanted.result c.wants_seat-wants.result c.leaves_seat.result =
     record {
       stands = place_right k c.index-place.result.now c.index-place.ensures;
       row_read = c.index-claims.ensures;
       claim_read = c.at-claim.ensures;
-      reached_are = c.self.invariant.reached_are;
+      reached_are = c.self.invariant.reach.reached_are;
       before_read = c.index-before.ensures;
       wanted_is = c.wants_seat-wanted.ensures ∙ ap (λ (fs : List Bool). list_any (wanting_at s fs) claim) c.deref.ensures.value;
       wants_is = c.wants_seat-wants.ensures ∙ ap (λ (fs : List Bool). list_any (wanting_at s fs) claim) c.deref-2.ensures.value;
@@ -273,16 +326,22 @@ returns-in-Some g c =
     let now : ℕ = c.next_wanting-now.result in
     let moved =
     moves_closed reads c.if-leaves_seat.true now c.last_wanting.result
-    (c.next_wanting-now.ensures.place ∙ ap (λ (fs : List Bool). before + next (drop before (wants_along s fs row))) c.deref-then-leaves_seat.ensures.value)
-    (c.last_wanting.ensures.answer ∙ ap (λ (fs : List Bool). last_new (wants_along s fs row) before now) c.deref-then-leaves_seat-2.ensures.value) in
+    (c.next_wanting-now.ensures.place
+    ∙ ap (λ (fs : List Bool). before + next (drop before (wants_along s fs row))) c.deref-then-leaves_seat.ensures.value)
+    (c.last_wanting.ensures.answer
+    ∙ ap (λ (fs : List Bool). last_new (wants_along s fs row) before now) c.deref-then-leaves_seat-2.ensures.value) in
     let within = c.in-Some.ensures.within in
     let fresh_claim = claim_there k row c.index-claims.ensures c.in-Some.next within c.at.result.now c.at.ensures in
     let p : ℕ = c.wish_at-programme.result.programme in
     let orders = r.orders.now.orders in
-    let lt : c.in-Some.next < length (line_of s.dossier orders p) = omega (arith, within, in_claims k row c.index-claims.ensures) in
+    let lt : c.in-Some.next < length (line_of s.dossier orders p) = omega
+    (arith, within, in_claims k row c.index-claims.ensures) in
     let told =
-    told_some s orders r.opens.items r.sure.items c.args.wish p (get_or (line_of s.dossier orders p) c.in-Some.next 0) c.args.self.now c.self.view_is
-    (newly_some k c.last_wanting.result moved.fresh c.in-Some.next c.in-Some.is lt) c.self.invariant.links.marks_each c.args.bars.now c.at.result.now fresh_claim
-    c.deref-in-Some.result.now c.deref-in-Some-2.result.now c.deref-in-Some.ensures.value c.deref-in-Some-2.ensures.value c.args.steps.now c.note_fresh.new.steps
+    told_some s orders r.opens.items (all_sure s r.lineup.now.early.items) c.args.wish p
+    (get_or (line_of s.dossier orders p) c.in-Some.next 0) c.args.self.now c.self.view_is
+    (newly_some k c.last_wanting.result moved.fresh c.in-Some.next c.in-Some.is lt)
+    c.self.invariant.reach.links.marks_each c.args.bars.now c.at.result.now fresh_claim
+    c.deref-in-Some.result.now (all_sure s c.deref-in-Some-2.result.now) c.deref-in-Some.ensures.value
+    (ap (all_sure s) c.deref-in-Some-2.ensures.value) c.args.steps.now c.note_fresh.new.steps
     c.args.marked.now c.note_fresh.new.marked c.note_fresh.ensures.steps c.note_fresh.ensures.marked in
     record { value = search rules; steps = told.steps; marked = told.marked }

@@ -1,32 +1,38 @@
-use Rattle.std.proofs.Common.{ℕ, arith, sym, ◌∙◌}
-use Rattle.linked_demand.specs.Opens.{seat_row}
+use Rattle.std.proofs.Common.{ℕ, Bool, List, false, length, get_or, arith, ap, sym, ◌∙◌}
+use Rattle.std.proofs.lemmas.List.{get_or_default}
+use Rattle.linked_demand.specs.Opens.{all_sure, seat_row}
 use Rattle.linked_demand.proofs.Closing.{starts_within, closes_read, wish_within, programme_within, place_right, sure_each, proposed_goal, proposed_at_is}
 use Rattle.linked_demand.proofs.Leaving.{reach_right, reached_each, reached_is, row_there}
 use Rattle.linked_demand.proofs.links.SeatLinks.is_proposed.Goals as goal
 
 pub wish_at-programme-requires : goal.wish_at-programme-requires
 wish_at-programme-requires c =
-    starts_within c.self.invariant.links c.args.self.now c.self.view_is c.args.wish c.requires
+    starts_within c.self.invariant.reach.links c.args.self.now c.self.view_is c.args.wish c.requires
 
 pub index-place-requires : goal.index-place-requires
 index-place-requires c =
-    let k = closes_read c.self.invariant.links c.args.self.now c.self.view_is c.args.wish c.requires c.wish_at-programme.result c.wish_at-programme.ensures.wish in
-    omega (arith, wish_within k, c.self.invariant.links.places_each)
+    let k = closes_read c.self.invariant.reach.links c.args.self.now c.self.view_is c.args.wish c.requires
+    c.wish_at-programme.result c.wish_at-programme.ensures.wish in
+    omega (arith, wish_within k, c.self.invariant.reach.links.places_each)
 
 pub index-open-requires : goal.index-open-requires
 index-open-requires c =
-    let k = closes_read c.self.invariant.links c.args.self.now c.self.view_is c.args.wish c.requires c.wish_at-programme.result c.wish_at-programme.ensures.wish in
-    omega (arith, wish_within k, c.self.invariant.links.opens_each)
+    let k = closes_read c.self.invariant.reach.links c.args.self.now c.self.view_is c.args.wish c.requires
+    c.wish_at-programme.result c.wish_at-programme.ensures.wish in
+    omega (arith, wish_within k, c.self.invariant.reach.links.opens_each)
 
-pub index-sure-requires : goal.index-sure-requires
-index-sure-requires c =
-    let k = closes_read c.self.invariant.links c.args.self.now c.self.view_is c.args.wish c.requires c.wish_at-programme.result c.wish_at-programme.ensures.wish in
-    omega (arith, wish_within k, sure_each k)
+pub needs_no_seat-sure-requires : goal.needs_no_seat-sure-requires
+needs_no_seat-sure-requires c =
+    let k =
+    closes_read c.self.invariant.reach.links c.args.self.now c.self.view_is c.args.wish c.requires
+    c.wish_at-programme.result c.wish_at-programme.ensures.wish in
+    record { place = wish_within k; early = ap length c.deref.ensures.value ∙ c.self.invariant.early_each }
 
 pub index-requires : goal.index-requires
 index-requires c =
-    let k = closes_read c.self.invariant.links c.args.self.now c.self.view_is c.args.wish c.requires c.wish_at-programme.result c.wish_at-programme.ensures.wish in
-    omega (arith, programme_within k, reached_each k c.self.inside.reached.items c.self.invariant.reached_are)
+    let k = closes_read c.self.invariant.reach.links c.args.self.now c.self.view_is c.args.wish c.requires
+    c.wish_at-programme.result c.wish_at-programme.ensures.wish in
+    omega (arith, programme_within k, reached_each k c.self.inside.reached.items c.self.invariant.reach.reached_are)
 
 pub returns : goal.returns
 returns c =
@@ -36,11 +42,23 @@ returns c =
     let orders = r.orders.now.orders in
     let opens = r.opens.items in
     let p : ℕ = c.wish_at-programme.result.programme in
-    let k = closes_read c.self.invariant.links c.args.self.now c.self.view_is c.args.wish c.requires c.wish_at-programme.result c.wish_at-programme.ensures.wish in
+    let k = closes_read c.self.invariant.reach.links c.args.self.now c.self.view_is c.args.wish c.requires
+    c.wish_at-programme.result c.wish_at-programme.ensures.wish in
     let at = place_right k c.index-place.result.now c.index-place.ensures in
-    let reach = reach_right k r.reached.items c.self.invariant.reached_are c.index.result.now c.index.ensures in
-    let reached = reached_is s orders opens p c.index-place.result.now c.index.result.now c.is_reached-reached.result reach at.within c.is_reached-reached.ensures in
-    proposed_goal c.self.invariant.links c.args.self.now c.self.view_is c.args.wish w m waits c.wish_at-programme.result c.wish_at-programme.ensures.wish
-    c.index-place.result.now c.index-place.ensures (seat_row s orders opens p) (row_there s orders opens p (programme_within k)) c.index-open.result.now c.index-sure.result.now c.is_reached-reached.result c.is_served.result
-    c.index-open.ensures c.index-sure.ensures reached c.is_served.ensures
+    let reach = reach_right k r.reached.items c.self.invariant.reach.reached_are
+    c.index.result.now c.index.ensures in
+    let reached = reached_is s orders opens p c.index-place.result.now c.index.result.now
+    c.is_reached-reached.result reach at.within c.is_reached-reached.ensures in
+    let early = r.lineup.now.early.items in
+    let sure =
+    c.needs_no_seat-sure.ensures
+    ∙ ap (λ (es : List Bool). get_or (all_sure s es) c.args.wish false) c.deref.ensures.value
+    ∙ get_or_default (all_sure s early) c.args.wish false c.needs_no_seat-sure.result
+    (omega (arith, wish_within k, sure_each k)) in
+    proposed_goal c.self.invariant.reach.links c.args.self.now c.self.view_is c.args.wish w m waits
+    c.wish_at-programme.result c.wish_at-programme.ensures.wish
+    c.index-place.result.now c.index-place.ensures (seat_row s orders opens p)
+    (row_there s orders opens p (programme_within k)) c.index-open.result.now
+    c.needs_no_seat-sure.result c.is_reached-reached.result c.is_served.result
+    c.index-open.ensures sure reached c.is_served.ensures
     ∙ sym (proposed_at_is c.args.self.now c.args.wish w m waits)

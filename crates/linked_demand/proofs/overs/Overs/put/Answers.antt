@@ -27,11 +27,15 @@ pub unwrap-requires : goal.unwrap-requires
 unwrap-requires c =
     let ranks = c.self.inside.ranks.items in
     let lt : c.args.place < length ranks = omega (arith, c.requires, ap length c.self.view_is) in
-    let was = was_answered ranks c.args.place c.index.result.now c.is_some-was_over.result lt c.index.ensures c.is_some-was_over.ensures in
-    let none = was ∙ turned c.is_some-is_over.result c.is_some-was_over.result c.if-is_over-was_over.true ∙ ap not c.if-is_over.true in
+    let was = was_answered ranks c.args.place c.index.result.now c.is_some-was_over.result lt
+    c.index.ensures c.is_some-was_over.ensures in
+    let none = was ∙ turned c.is_some-is_over.result c.is_some-was_over.result c.if-is_over-was_over.true
+    ∙ ap not c.if-is_over.true in
     c.insert.ensures.succeeds (omega (
       arith,
-      room_for_one ranks c.self.inside.overfilled.items _ c.self.invariant c.args.place c.args.rank lt c.deref.result.now c.deref.ensures.value c.first_not_below-at.result c.first_not_below-at.ensures.within c.first_not_below-at.ensures.point none,
+      room_for_one ranks c.self.inside.overfilled.items _ c.self.invariant c.args.place c.args.rank lt
+          c.deref.result.now c.deref.ensures.value c.first_not_below-at.result
+          c.first_not_below-at.ensures.within c.first_not_below-at.ensures.point none,
       c.deref.ensures.len,
       ap length c.deref.ensures.value,
     ))
@@ -40,11 +44,15 @@ pub remove-requires : goal.remove-requires
 remove-requires c =
     let ranks = c.self.inside.ranks.items in
     let lt : c.args.place < length ranks = omega (arith, c.requires, ap length c.self.view_is) in
-    let was = was_answered ranks c.args.place c.index.result.now c.is_some-was_over.result lt c.index.ensures c.is_some-was_over.ensures in
-    let some = was ∙ turned c.is_some-is_over.result c.is_some-was_over.result c.if-is_over-was_over.true ∙ ap not c.if-is_over.false in
+    let was = was_answered ranks c.args.place c.index.result.now c.is_some-was_over.result lt
+    c.index.ensures c.is_some-was_over.ensures in
+    let some = was ∙ turned c.is_some-is_over.result c.is_some-was_over.result c.if-is_over-was_over.true
+    ∙ ap not c.if-is_over.false in
     omega (
       arith,
-      listed_within ranks c.self.inside.overfilled.items _ c.self.invariant c.args.place c.args.rank lt c.deref.result.now c.deref.ensures.value c.first_not_below-at.result c.first_not_below-at.ensures.within c.first_not_below-at.ensures.point some,
+      listed_within ranks c.self.inside.overfilled.items _ c.self.invariant c.args.place c.args.rank lt
+          c.deref.result.now c.deref.ensures.value c.first_not_below-at.result
+          c.first_not_below-at.ensures.within c.first_not_below-at.ensures.point some,
       c.deref.ensures.len,
       ap length c.deref.ensures.value,
     )
@@ -54,19 +62,30 @@ invariant_of-self c =
     let ranks = c.self.inside.ranks.items in
     let places = c.self.inside.overfilled.items in
     let lt : c.args.place < length ranks = omega (arith, c.requires, ap length c.self.view_is) in
-    let was = was_answered ranks c.args.place c.index.result.now c.is_some-was_over.result lt c.index.ensures c.is_some-was_over.ensures in
+    let was = was_answered ranks c.args.place c.index.result.now c.is_some-was_over.result lt
+    c.index.ensures c.is_some-was_over.ensures in
     elim c.if-is_over-was_over.branch [
       | then-is_over-was_over+then-is_over w ↦
-          let none = was ∙ turned c.is_some-is_over.result c.is_some-was_over.result w.if-is_over-was_over.true ∙ ap not w.if-is_over.true in
+          let none = was ∙ turned c.is_some-is_over.result c.is_some-was_over.result
+          w.if-is_over-was_over.true ∙ ap not w.if-is_over.true in
           rw w.self-inside-is
-          (one_listed ranks places _ c.self.invariant c.args.place c.args.rank lt w.deref.result.now w.deref.ensures.value w.first_not_below-at.result w.first_not_below-at.ensures.within w.first_not_below-at.ensures.point none
-          (sym c.is_some-is_over.ensures ∙ w.if-is_over.true) w.insert.new.self.items _ (w.insert.ensures.items ∙ rw w.unwrap.ensures refl) w.insert.ensures.capacity)
+          (one_listed ranks places _ c.self.invariant c.args.place c.args.rank lt w.deref.result.now
+          w.deref.ensures.value w.first_not_below-at.result w.first_not_below-at.ensures.within
+          w.first_not_below-at.ensures.point none
+          (sym c.is_some-is_over.ensures ∙ w.if-is_over.true) w.insert.new.self.items _
+          (w.insert.ensures.items ∙ rw w.unwrap.ensures refl) w.insert.ensures.capacity)
       | then-is_over-was_over+else-is_over w ↦
-          let some = was ∙ turned c.is_some-is_over.result c.is_some-was_over.result w.if-is_over-was_over.true ∙ ap not w.if-is_over.false in
+          let some = was ∙ turned c.is_some-is_over.result c.is_some-was_over.result
+          w.if-is_over-was_over.true ∙ ap not w.if-is_over.false in
           rw w.self-inside-is
-          (one_dropped ranks places _ c.self.invariant c.args.place c.args.rank lt w.deref.result.now w.deref.ensures.value w.first_not_below-at.result w.first_not_below-at.ensures.within w.first_not_below-at.ensures.point some
-          (sym c.is_some-is_over.ensures ∙ w.if-is_over.false) w.remove.new.self.items _ w.remove.ensures.items (omega (arith, w.remove.ensures.capacity)))
+          (one_dropped ranks places _ c.self.invariant c.args.place c.args.rank lt w.deref.result.now
+          w.deref.ensures.value w.first_not_below-at.result w.first_not_below-at.ensures.within
+          w.first_not_below-at.ensures.point some
+          (sym c.is_some-is_over.ensures ∙ w.if-is_over.false) w.remove.new.self.items _
+          w.remove.ensures.items (omega (arith, w.remove.ensures.capacity)))
       | else-is_over-was_over w ↦
           rw w.self-inside-is
-          (still_listed ranks places _ c.self.invariant c.args.place c.args.rank lt (sym c.is_some-is_over.ensures ∙ kept c.is_some-is_over.result c.is_some-was_over.result w.if-is_over-was_over.false ∙ sym was))
+          (still_listed ranks places _ c.self.invariant c.args.place c.args.rank lt
+          (sym c.is_some-is_over.ensures
+          ∙ kept c.is_some-is_over.result c.is_some-was_over.result w.if-is_over-was_over.false ∙ sym was))
     ]

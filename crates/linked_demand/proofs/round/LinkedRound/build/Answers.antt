@@ -10,7 +10,8 @@ use Rattle.linked_demand.proofs.Lowered.{round_built, rows_wait, one_free_each, 
 use Rattle.linked_demand.proofs.round.LinkedRound.build.Goals as goal
 
 pub returns-clause-bars : goal.returns-clause-bars
-returns-clause-bars c = bar_each_same c.in_ok-ceilings.ceilings.items c.in_ok-bars.bars.items c.args.ceilings.now (search rules) (search rules)
+returns-clause-bars c = bar_each_same c.in_ok-ceilings.ceilings.items c.in_ok-bars.bars.items
+    c.args.ceilings.now (search rules) (search rules)
 
 pub ask_marked-requires : goal.ask_marked-requires
 ask_marked-requires c =
@@ -18,14 +19,36 @@ ask_marked-requires c =
     let free = c.in_ok-free.free.items in
     let rows = c.in_ok-rows.rows.items in
     let round : IsRound links c.args.ceilings.now free rows =
-    round_built c.args.state.now c.args.orders.now.orders links c.args.ceilings.now free rows c.in_ok-links.ensures (rw c.marks.ensures.marks at c.marks.ensures.one_each) c.requires.ceilings c.in_ok-free.ensures c.in_ok-rows.ensures in
+    round_built c.args.state.now c.args.orders.now.orders links c.args.ceilings.now free rows
+    c.in_ok-links.ensures (rw c.marks.ensures.marks at c.marks.ensures.one_each) c.requires.ceilings
+    c.in_ok-free.ensures c.in_ok-rows.ensures in
     let long : length rows ≡ length c.args.ceilings.now = round.rows_each in
-    let P = λ (all : List (Vec RowWish Global)). (h : ℕ) (row : Vec RowWish Global) → slice_get all h ≡ Some row → AllWait links.state row.items in
+    let P = λ (all : List (Vec RowWish Global)). (h : ℕ) (row : Vec RowWish Global)
+    → slice_get all h ≡ Some row → AllWait links.state row.items in
     record {
       rows = subst P (sym c.deref-2.ensures.value) (rows_wait links c.args.ceilings.now free rows round);
-      free = ap length c.deref-3.ensures.value ∙ one_free_each links c.args.ceilings.now free rows round ∙ ap length (sym c.deref-2.ensures.value);
-      marked = omega (arith, ap length c.in_ok-marked.ensures, length-replicate c.school_count-count.result true, c.school_count-count.ensures, c.requires.ceilings, long, ap length c.deref-2.ensures.value);
-      overs = omega (arith, ap length c.in_ok-overs.ensures, length-replicate {A = Option ℕ} c.school_count-count.result None, c.school_count-count.ensures, c.requires.ceilings, long, ap length c.deref-2.ensures.value);
+      free = ap length c.deref-3.ensures.value ∙ one_free_each links c.args.ceilings.now free rows round
+          ∙ ap length (sym c.deref-2.ensures.value);
+      marked = omega (
+        arith,
+        ap length c.in_ok-marked.ensures,
+        length-replicate c.school_count-count.result
+            true,
+        c.school_count-count.ensures,
+        c.requires.ceilings,
+        long,
+        ap length c.deref-2.ensures.value,
+      );
+      overs = omega (
+        arith,
+        ap length c.in_ok-overs.ensures,
+        length-replicate {A = Option ℕ}
+            c.school_count-count.result None,
+        c.school_count-count.ensures,
+        c.requires.ceilings,
+        long,
+        ap length c.deref-2.ensures.value,
+      );
     }
 
 pub invariant_of-result : goal.invariant_of-result
@@ -33,12 +56,18 @@ invariant_of-result c =
     let links = c.in_ok-links.links in
     let free = c.in_ok-free.free.items in
     let rows = c.in_ok-rows.rows.items in
-    let count : c.school_count-count.result ≡ length c.args.ceilings.now = c.school_count-count.ensures ∙ sym c.requires.ceilings in
+    let count : c.school_count-count.result ≡ length c.args.ceilings.now = c.school_count-count.ensures
+    ∙ sym c.requires.ceilings in
     let bars : c.in_ok-bars.bars.items ≡ c.args.ceilings.now = search rules in
     let ceilings : c.in_ok-ceilings.ceilings.items ≡ c.args.ceilings.now = search rules in
-    let marked : c.in_ok-marked.marked ≡ replicate (length c.args.ceilings.now) true = c.in_ok-marked.ensures ∙ ap (λ n. replicate n true) count in
+    let marked : c.in_ok-marked.marked ≡ replicate (length c.args.ceilings.now) true =
+    c.in_ok-marked.ensures ∙ ap (λ n. replicate n true) count in
     let round : IsRound links c.args.ceilings.now free rows =
-    round_built c.args.state.now c.args.orders.now.orders links c.args.ceilings.now free rows c.in_ok-links.ensures (rw c.marks.ensures.marks at c.marks.ensures.one_each) c.requires.ceilings c.in_ok-free.ensures c.in_ok-rows.ensures in
+    round_built c.args.state.now c.args.orders.now.orders links c.args.ceilings.now free rows
+    c.in_ok-links.ensures (rw c.marks.ensures.marks at c.marks.ensures.one_each) c.requires.ceilings
+    c.in_ok-free.ensures c.in_ok-rows.ensures in
     rw (bars, ceilings)
-    (answers_built links c.args.ceilings.now free rows round c.in_ok-overs.overs c.in_ok-marked.marked (ap length c.in_ok-overs.ensures ∙ length-replicate c.school_count-count.result None ∙ count) marked c.deref-3.result.now c.deref-2.result.now c.deref-3.ensures.value c.deref-2.ensures.value
+    (answers_built links c.args.ceilings.now free rows round c.in_ok-overs.overs c.in_ok-marked.marked
+    (ap length c.in_ok-overs.ensures ∙ length-replicate c.school_count-count.result None ∙ count) marked
+    c.deref-3.result.now c.deref-2.result.now c.deref-3.ensures.value c.deref-2.ensures.value
     c.ask_marked.new.overs c.ask_marked.new.marked c.ask_marked.ensures.asked c.ask_marked.ensures.unmarked)

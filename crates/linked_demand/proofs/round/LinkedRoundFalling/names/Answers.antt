@@ -11,8 +11,10 @@ use Rattle.linked_demand.proofs.round.LinkedRoundFalling.names.Goals as goal
 pub demands_in-requires : goal.demands_in-requires
 demands_in-requires c =
     let r = c.self.inside in
-    let within = seen_within_bars r.links r.ceilings.items r.bars.items r.free.items r.rows.items r.overs r.marked c.args.self.now c.self.invariant c.self.view_is c.args.i c.requires in
-    scan_waits r.links r.bars.items r.free.items r.rows.items r.ceilings.items c.args.self.now c.self.invariant.round c.self.view_is c.args.i within
+    let within = seen_within_bars r.links r.ceilings.items r.bars.items r.free.items r.rows.items r.overs
+    r.marked c.args.self.now c.self.invariant c.self.view_is c.args.i c.requires in
+    scan_waits r.links r.bars.items r.free.items r.rows.items r.ceilings.items c.args.self.now
+    c.self.invariant.round c.self.view_is c.args.i within
     c.index.result.now c.index.ensures c.deref.result.now c.deref.ensures.value
 
 pub returns : goal.returns
@@ -22,14 +24,18 @@ returns c =
     let i = c.args.i in
     let upto = c.args.upto in
     let bars = bar_each seen.ceilings seen.bars in
-    let within = bar_within r.links r.ceilings.items r.bars.items r.free.items r.rows.items r.overs r.marked seen c.self.invariant c.self.view_is i c.requires in
-    let same : bars ≡ seen.bars = bars_seen r.links r.ceilings.items r.bars.items r.free.items r.rows.items r.overs r.marked seen c.self.invariant c.self.view_is in
+    let within = bar_within r.links r.ceilings.items r.bars.items r.free.items r.rows.items r.overs r.marked
+    seen c.self.invariant c.self.view_is i c.requires in
+    let same : bars ≡ seen.bars = bars_seen r.links r.ceilings.items r.bars.items r.free.items r.rows.items
+    r.overs r.marked seen c.self.invariant c.self.view_is in
     let demands : c.deref-2.result.now ≡ demands_of seen.state seen.orders bars i =
     c.deref-2.ensures.value ∙ c.in_ok-demands.ensures
-    ∙ demands_right r.links r.bars.items r.free.items r.rows.items c.self.invariant.round i within c.index.result.now c.index.ensures c.deref.result.now c.deref.ensures.value
+    ∙ demands_right r.links r.bars.items r.free.items r.rows.items c.self.invariant.round i within
+    c.index.result.now c.index.ensures c.deref.result.now c.deref.ensures.value
     ∙ ap (λ (v : Round). demands_of v.state v.orders v.bars i) c.self.view_is
     ∙ ap (λ (bs : List ℕ). demands_of seen.state seen.orders bs i) (sym same) in
     let P : List ℕ → Type 0 = λ ks. IfOk c.names_up_to.result (λ names. names.items ≡ ks) in
     subst P
-    (ap (λ (xs : List Demand). map (λ (x : Demand). x.wish) (filter (λ (x : Demand). nat_le x.rank upto) xs)) demands ∙ names_are seen.state seen.orders bars i upto)
+    (ap (λ (xs : List Demand). map (λ (x : Demand). x.wish)
+    (filter (λ (x : Demand). nat_le x.rank upto) xs)) demands ∙ names_are seen.state seen.orders bars i upto)
     c.names_up_to.ensures
