@@ -122,7 +122,7 @@ impl<'a, 'd> SeatLinks<'a, 'd> {
     {
         let lineup = self.lineup;
         let programme = wish_at(self.state, wish).programme as usize;
-        let place = lineup.places[wish as usize];
+        let place = lineup.places[wish as usize] as usize;
         let claims = &lineup.claims[programme];
         let claim = claims.at(place);
         let wanted = wants_seat(self.state, &self.opens, claim);
@@ -187,7 +187,7 @@ impl<'a, 'd> SeatLinks<'a, 'd> {
     {
         let lineup = self.lineup;
         let programme = wish_at(self.state, wish).programme as usize;
-        let place = lineup.places[wish as usize];
+        let place = lineup.places[wish as usize] as usize;
         let open = self.opens[wish as usize];
         let sure = needs_no_seat(self.state, &lineup.early, wish);
         let reached = is_reached(place, self.reached[programme]);
