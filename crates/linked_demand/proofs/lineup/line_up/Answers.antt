@@ -97,10 +97,17 @@ overflow_cast-len c =
     let P = λ (o : List ℕ). IsDistinct nat_eq o in
     let apart : IsDistinct nat_eq order = subst P (sym c.order_of-order.ensures) c.requires.once in
     let many : length order ≤ 2 ^ 32 = few_apart order (2 ^ 32) apart (λ k. omega (arith, c.type_inv.order k)) in
-    omega (arith, many, c.loop-before-test.true, c.len-then-is_claim.ensures,
-    ap length c.loop-before.invariant.claims, length-map spans (part_of c.args.wishes.items),
-    length-map front (claim_of d p), length-filter_both applies (λ x. not (applies x)) (λ x. refl) seen,
-    length-take-le i order (omega (arith, c.loop-before-test.true)))
+    omega (
+      arith,
+      many,
+      c.loop-before-test.true,
+      c.len-then-is_claim.ensures,
+      ap length c.loop-before.invariant.claims,
+      length-map spans (part_of c.args.wishes.items),
+      length-map front (claim_of d p),
+      length-filter_both applies (λ x. not (applies x)) (λ x. refl) seen,
+      length-take-le i order (omega (arith, c.loop-before-test.true)),
+    )
 
 pub loop-before-preserved : goal.loop-before-preserved
 loop-before-preserved c =
