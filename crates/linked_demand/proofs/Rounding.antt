@@ -4,7 +4,7 @@ use Rattle.std.specs.Prelude.{slice_get, slice_index, slice_set, Option, is_some
 use Rattle.std.specs.List.{enumerate_from, range_with_len}
 use Rattle.std.specs.declared.alloc.Global.{Global}
 use Rattle.std.proofs.lemmas.Bool.{and_parts, cases_Bool}
-use Rattle.std.proofs.lemmas.List.{get_or_read, length-map}
+use Rattle.std.proofs.lemmas.List.{get_or_read}
 use Rattle.std.proofs.lemmas.List.FromFn.{get_or-map-range_with_len, length-map-range_with_len}
 use Rattle.admit_core.specs.declared.dossier.Wish.{Wish}
 use Rattle.admit_core.specs.declared.state.Mark.{Mark}
@@ -25,10 +25,10 @@ use Rattle.linked_demand.specs.Opens.{opens_of, is_proposed_by}
 use Rattle.linked_demand.specs.Rounds.{Round, IsRoundUnder, bar_each, is_proposed_in}
 use Rattle.linked_demand.specs.Demand.{is_proposed_at, over_at}
 use Rattle.linked_demand.proofs.BarEach.{bar_each_is, bar_each_set}
-use Rattle.linked_demand.proofs.Closing.{length_entries, proposed_at_is}
+use Rattle.linked_demand.proofs.Closing.{proposed_at_is}
 use Rattle.linked_demand.proofs.Falling.{flag_map}
 use Rattle.linked_demand.proofs.Filling.{entry_there}
-use Rattle.linked_demand.proofs.Fronting.{closed_at, open_within}
+use Rattle.linked_demand.proofs.Fronting.{closed_at}
 use Rattle.linked_demand.proofs.Lining.{numbered}
 use Rattle.linked_demand.proofs.Opens.{proposed_by_bars}
 use Rattle.linked_demand.proofs.Waiting.{all_open_wait}

@@ -1,5 +1,4 @@
-use Rattle.std.proofs.Common.{ℕ, ◌≡◌, ◌<◌, Bool, List, length, map, refl, ◌∙◌, ap, arith}
-use Rattle.std.specs.List.{range_with_len}
+use Rattle.std.proofs.Common.{ℕ, ◌≡◌, ◌<◌, length, refl, ◌∙◌, ap, arith}
 use Rattle.linked_demand.specs.Line.{reach}
 use Rattle.linked_demand.specs.Opens.{all_sure, seat_row}
 use Rattle.linked_demand.specs.Wants.{wants_along, reach_in}
