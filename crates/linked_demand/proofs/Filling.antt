@@ -15,7 +15,6 @@ use Rattle.std.proofs.lemmas.List.Sorted.{list_any-IsPermutation, All-permutatio
 use Rattle.std.proofs.lemmas.Option.{slice_get_within, slice_get_read, unwrap_or-slice_get}
 use Rattle.admit_core.specs.declared.dossier.Wish.{Wish}
 use Rattle.admit_core.specs.declared.state.Mark.{Mark}
-use Rattle.admit_core.specs.DossierRows.{DossierRows}
 use Rattle.admit_core.specs.Lists.{is_among}
 use Rattle.admit_core.specs.State.{State, is_waiting, holds_bed, is_school}
 use Rattle.admit_core.proofs.Tests.{Ascends}

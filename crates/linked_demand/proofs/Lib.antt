@@ -37,3 +37,4 @@ pub mod Telling
 pub mod TickLaw
 pub mod Ticking
 pub mod Walking
+pub mod Waiting

@@ -4,7 +4,7 @@ use Rattle.std.specs.Prelude.{slice_get, slice_index, slice_set, Option, is_some
 use Rattle.std.specs.List.{enumerate_from, range_with_len}
 use Rattle.std.specs.declared.alloc.Global.{Global}
 use Rattle.std.proofs.lemmas.Bool.{and_parts, cases_Bool}
-use Rattle.std.proofs.lemmas.List.{get_or_read, length-map}
+use Rattle.std.proofs.lemmas.List.{get_or_read}
 use Rattle.std.proofs.lemmas.List.FromFn.{get_or-map-range_with_len, length-map-range_with_len}
 use Rattle.admit_core.specs.declared.dossier.Wish.{Wish}
 use Rattle.admit_core.specs.declared.state.Mark.{Mark}
@@ -18,19 +18,20 @@ use Rattle.bar_law.proofs.Listing.{overfilled_by_rank}
 use Rattle.day_state.specs.Kept.{mark_in, wish_in}
 use Rattle.day_state.proofs.Places.{entry_in, entries_by_place}
 use Rattle.linked_demand.specs.declared.rows.RowWish.{RowWish}
-use Rattle.linked_demand.specs.Links.{LinksRow, WaitsAt}
+use Rattle.linked_demand.specs.Links.{LinksRow, WaitsAt, AllOpenWait}
 use Rattle.linked_demand.specs.Listed.{answered}
 use Rattle.linked_demand.proofs.Answered.{filter_agree}
 use Rattle.linked_demand.specs.Opens.{opens_of, is_proposed_by}
 use Rattle.linked_demand.specs.Rounds.{Round, IsRoundUnder, bar_each, is_proposed_in}
 use Rattle.linked_demand.specs.Demand.{is_proposed_at, over_at}
 use Rattle.linked_demand.proofs.BarEach.{bar_each_is, bar_each_set}
-use Rattle.linked_demand.proofs.Closing.{length_entries, proposed_at_is}
+use Rattle.linked_demand.proofs.Closing.{proposed_at_is}
 use Rattle.linked_demand.proofs.Falling.{flag_map}
 use Rattle.linked_demand.proofs.Filling.{entry_there}
-use Rattle.linked_demand.proofs.Fronting.{closed_at, open_within}
+use Rattle.linked_demand.proofs.Fronting.{closed_at}
 use Rattle.linked_demand.proofs.Lining.{numbered}
 use Rattle.linked_demand.proofs.Opens.{proposed_by_bars}
+use Rattle.linked_demand.proofs.Waiting.{all_open_wait}
 
 map_twice : {X Y : Type 0} (g : X → Y) (f : ℕ → X) (ks : List ℕ) → map g (map f ks) ≡ map (λ k. g (f k)) ks
 map_twice g f [] = refl
@@ -177,20 +178,6 @@ module _ (links : LinksRow) (ceilings bars free : List ℕ) (rows : List (Vec Ro
         let P = λ (r : Round). false ≡ is_proposed_in r k in
         subst P is (rw (sym flag_is ∙ closed) refl)
 
-    -- one that is open waits
-    pub open_waits : get_or links.opens k false ≡ true → (w : Wish) × (m : Mark) × WaitsAt links.state k w m
-    open_waits opens =
-        let w = wish_in links.state.dossier.wishes k in
-        let m = mark_in links.state.marks k in (
-          w,
-          m,
-          record {
-            here = here;
-            waits =
-                (and_parts (is_waiting m) (not (is_barred links.state bars w m)) (sym flag_is ∙ opens)).0;
-          },
-        )
-
     pub proposed_seen : get_or links.opens k false ≡ true → is_proposed_at links k ≡ is_proposed_in seen k
     proposed_seen opens =
         let w = wish_in links.state.dossier.wishes k in
@@ -210,18 +197,8 @@ module _ (links : LinksRow) (ceilings bars free : List ℕ) (rows : List (Vec Ro
         ∙ proposed_by_bars links.state links.orders bars w m)
 
   -- what is open waits
-  pub opens_wait : (k : ℕ) → get_or links.opens k false ≡ true → (w : Wish) × (m : Mark) × WaitsAt links.state k w m
-  opens_wait k opened =
-      let lt : k < length seen.state.dossier.wishes =
-      omega (
-        arith,
-        open_within links.opens k opened,
-        ap length right.round.opens_are,
-        length-map (entries links.state) (λ (e : Wish × Mark). is_open links.state bars e.0 e.1),
-        length_entries links.state.dossier.wishes links.state.marks right.round.marks_each,
-        ap (λ (r : Round). length r.state.dossier.wishes) is,
-      ) in
-      open_waits k lt opened
+  pub opens_wait : AllOpenWait links.state links.opens
+  opens_wait = all_open_wait links.state right.round.marks_each bars links.opens right.round.opens_are
 
   -- a flag that says whether a wish is proposed by the links says whether it is at the bars
   pub flag_seen : (k : ℕ) → k < length seen.state.dossier.wishes → (flag : Bool)

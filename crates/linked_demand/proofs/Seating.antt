@@ -1,9 +1,10 @@
 -- What is known of the wishes of a dossier, programme by programme and candidate by candidate.
-use Rattle.std.proofs.Common.{ℕ, zero, suc, ◌+◌, ◌<◌, ◌≡◌, Bool, true, false, ◌&&◌, ◌||◌, List, [], ◌∷◌, ◌++◌, map, length, take, get_or, inl, inr, refl, sym, ◌∙◌, ap, arith, nat_eq, nat_lt, filter, Option, Some, unwrap_or, subst}
+use Rattle.std.proofs.Common.{ℕ, zero, suc, ◌+◌, ◌≤◌, ◌<◌, ◌≡◌, Bool, true, false, ◌&&◌, ◌||◌, List, [], ◌∷◌, ◌++◌, map, length, take, get_or, inl, inr, refl, sym, ◌∙◌, ap, arith, nat_eq, nat_lt, filter, Option, Some, unwrap_or, subst}
 use Rattle.std.specs.Prelude.{slice_get, option_map, All, if◌then◌else◌}
-use Rattle.std.specs.List.{range_with_len, IsDistinct}
+use Rattle.std.specs.List.{list_any, range_with_len, IsDistinct}
 use Rattle.std.proofs.lemmas.Bool.{cases_Bool, cases_lt, false≢true, eqb-true, eq-eqb, ltb-true, lt-ltb, or_left, or_right, or_cases, and_parts, and_from}
 use Rattle.std.proofs.lemmas.List.FromFn.{map-range_with_len_more}
+use Rattle.std.proofs.lemmas.Map.Steps.{length-le_from_distinct_below}
 use Rattle.std.proofs.lemmas.Option.{slice_get_within}
 use Rattle.admit_core.specs.declared.dossier.Wish.{Wish}
 use Rattle.admit_core.specs.declared.ranking.CallOrder.{CallOrder}
@@ -154,6 +155,20 @@ pub nobody_applies : (s : DossierRows) (n : ℕ) (order : List ℕ)
     → ((c : ℕ) → nat_lt 0 (length (claim_of s n c)) ≡ false) → filter (applies_in s n) order ≡ []
 nobody_applies s n order none = filter_none (applies_in s n) order
     (λ k d lt. applies_claim s n (get_or order k d) ∙ none (get_or order k d))
+
+-- numbers below a bound that are apart are at most so many
+below_bound : (xs : List ℕ) (n : ℕ) → ((k : ℕ) → get_or xs k 0 < n)
+    → (q : ℕ) → list_any (nat_eq q) xs ≡ true → q < n
+below_bound [] n fits q t = absurd (false≢true t)
+below_bound (x ∷ xs) n fits q t =
+    elim (or_cases (nat_eq q x) (list_any (nat_eq q) xs) t) [
+      | inl here ↦ omega (arith, eqb-true q x here, fits 0)
+      | inr there ↦ below_bound xs n (λ k. fits (suc k)) q there
+    ]
+
+pub few_apart : (xs : List ℕ) (n : ℕ) → IsDistinct nat_eq xs → ((k : ℕ) → get_or xs k 0 < n)
+    → length xs ≤ n
+few_apart xs n apart fits = length-le_from_distinct_below xs n apart (below_bound xs n fits)
 
 -- the programmes that are gone through
 pub record IsBuilt (s : DossierRows) (orders : List CallOrder) (n : ℕ) (claims : List (List (List ℕ)))

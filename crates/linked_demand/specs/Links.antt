@@ -1,5 +1,5 @@
 -- The lines of the programmes, and where each waiting wish stands in them.
-use Rattle.std.specs.Prelude.{◌≡◌, ℕ, ◌<◌, Bool, true, false, ◌&&◌, List, map, length, Some, ◌==◌, nat_eq, slice_get, slice_index, slice_index_or}
+use Rattle.std.specs.Prelude.{◌≡◌, ℕ, ◌<◌, Bool, true, false, ◌&&◌, List, [], ◌∷◌, map, length, Some, ◌==◌, nat_eq, slice_get, slice_index, slice_index_or}
 use Rattle.std.specs.List.{range_with_len}
 use Rattle.admit_core.specs.declared.dossier.Wish.{Wish}
 use Rattle.admit_core.specs.declared.state.Mark.{Mark}
@@ -8,6 +8,7 @@ use Rattle.admit_core.specs.Lists.{places_where}
 use Rattle.admit_core.specs.DossierRows.{DossierRows}
 use Rattle.admit_core.specs.State.{State, entries, is_waiting}
 use Rattle.admit_core.specs.Proposals.{needs_no_seat}
+use Rattle.day_state.specs.Kept.{has_seat_there}
 use Rattle.linked_demand.specs.Line.{LineRow}
 use Rattle.linked_demand.specs.Opens.{line_of, seat_row}
 
@@ -35,6 +36,14 @@ claim_of d p c = places_where (λ w. (w.candidate == c) && (w.programme == p)) d
 pub record WaitsAt (s : State) (i : ℕ) (w : Wish) (m : Mark) : Type 0 where
   pub here : slice_get (entries s) i ≡ Some (w, m)
   pub waits : is_waiting m ≡ true
+
+-- every wish that is open waits
+abbrev pub AllOpenWait : State → List Bool → Type 0
+AllOpenWait s opens = (k : ℕ) → slice_index_or opens k false ≡ true → (w : Wish) × (m : Mark) × WaitsAt s k w m
+
+-- an open wish that is a claim by itself is not live in its programme
+abbrev pub NeedsSeatAlone : State → List Bool → List ℕ → Type 0
+NeedsSeatAlone s opens claim = (k : ℕ) → claim ≡ k ∷ [] → slice_index_or opens k false ≡ true → has_seat_there s k ≡ false
 
 pub record IsLinked (s : State) (orders : List CallOrder) (opens : List Bool) (lines : List LineRow)
     (claims : List (List (List ℕ))) (places : List ℕ) (sure : List Bool) : Type 0 where

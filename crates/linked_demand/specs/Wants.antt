@@ -4,7 +4,7 @@ use Rattle.std.specs.List.{list_any, range_with_len}
 use Rattle.admit_core.specs.declared.ranking.CallOrder.{CallOrder}
 use Rattle.admit_core.specs.State.{State}
 use Rattle.linked_demand.specs.Line.{LineRow, reach}
-use Rattle.linked_demand.specs.Links.{IsLinked}
+use Rattle.linked_demand.specs.Links.{IsLinked, NeedsSeatAlone}
 use Rattle.linked_demand.specs.Opens.{seat_row, wanting_at}
 
 -- one who has a claim wants a seat by one of its wishes
@@ -14,6 +14,10 @@ wants_along s opens claims = map (list_any (wanting_at s opens)) claims
 -- the wishes of the claims are places below a number
 abbrev pub AreBelow : ℕ → List (List ℕ) → Type 0
 AreBelow n claims = (j : ℕ) → j < length claims → All (λ k. k < n) (slice_index_or claims j [])
+
+-- of the claims each that is one open wish is not live in its programme
+abbrev pub AllNeedSeatAlone : State → List Bool → List (List ℕ) → Type 0
+AllNeedSeatAlone s opens claims = (j : ℕ) → j < length claims → NeedsSeatAlone s opens (slice_index_or claims j [])
 
 -- the lines of all programmes
 abbrev pub seat_rows : State → List CallOrder → List Bool → List LineRow

@@ -3,8 +3,9 @@
 ghost use Rattle.std.specs.Prelude.{◌≡◌, ◌+◌, ◌<◌, ◌≤◌, ◌&&◌, drop, length, not, nat_lt, All, IfSome};
 ghost use Rattle.std.specs.List.{list_any};
 ghost use Rattle.linked_demand.specs.Line.{next, reach, last_new};
+ghost use Rattle.linked_demand.specs.Links.{NeedsSeatAlone};
 ghost use Rattle.linked_demand.specs.Opens.{wanting_at};
-ghost use Rattle.linked_demand.specs.Wants.{wants_along, AreBelow};
+ghost use Rattle.linked_demand.specs.Wants.{wants_along, AreBelow, AllNeedSeatAlone};
 
 use crate::claims::Claims;
 use day_state::DayState;
@@ -27,11 +28,27 @@ pub fn wants_seat(state: &DayState<'_>, opens: &[bool], claim: &[u32]) -> bool
     claim.iter().any(|place| is_wanting(state, opens, *place))
 }
 
+/// Whether one with this claim wants a seat, where an open wish that stands alone needs one: it is
+/// then not asked who is live.
+fn wants_alone(state: &DayState<'_>, opens: &[bool], claim: &[u32]) -> bool
+    requires claim { All (λ k. k < length state.now.dossier.wishes) claim.now }
+    requires opens { length opens.now ≡ length state.now.dossier.wishes }
+    requires alone { NeedsSeatAlone state.now opens.now claim.now }
+    ensures { result ≡ list_any (wanting_at state.now opens.now) claim.now }
+{
+    if claim.len() == 1 {
+        opens[claim[0] as usize]
+    } else {
+        wants_seat(state, opens, claim)
+    }
+}
+
 /// How many places of a line are reached: those with fewer who want a seat before them than there are
 /// seats.
 pub fn reach_of(state: &DayState<'_>, opens: &[bool], claims: &Claims, seats: usize) -> usize
     requires claims { AreBelow (length state.now.dossier.wishes) claims.now }
     requires opens { length opens.now ≡ length state.now.dossier.wishes }
+    requires alone { AllNeedSeatAlone state.now opens.now claims.now }
     ensures { result ≡ reach seats (wants_along state.now opens.now claims.now) }
 {
     let mut left = seats;
@@ -40,7 +57,7 @@ pub fn reach_of(state: &DayState<'_>, opens: &[bool], claims: &Claims, seats: us
         if left == 0 {
             return place;
         }
-        if wants_seat(state, opens, claims.at(place)) {
+        if wants_alone(state, opens, claims.at(place)) {
             left -= 1;
         }
     }

@@ -32,7 +32,7 @@ fn call_once(state: &DayState<'_>, orders: &CallOrders)
 
 /// Notes for the wishes of a claim their candidate's place in the line, and whether they are called
 /// by the programme's limit.
-fn note(places: &mut Vec<usize>, early: &mut Vec<bool>, claim: &[u32], place: usize, is_early: bool)
+fn note(places: &mut Vec<u32>, early: &mut Vec<bool>, claim: &[u32], place: u32, is_early: bool)
     requires places { All (λ k. k < length places.old.items) claim.now }
     requires early { length early.old.items ≡ length places.old.items }
     ensures places { PutAt ℕ 0 claim.now place places.old.items places.new.items }
@@ -59,7 +59,7 @@ fn line_up(
     orders: &CallOrders,
     programme: u32,
     wishes: Vec<u32>,
-    places: &mut Vec<usize>,
+    places: &mut Vec<u32>,
     early: &mut Vec<bool>,
     guesses: &mut Guesses,
 ) -> Result<Claims, OutOfMemory>
@@ -86,7 +86,7 @@ fn line_up(
         let is_claim = !claim.is_empty();
         if is_claim {
             let is_early = is_early(before, limit);
-            note(places, early, claim, spans.len(), is_early);
+            note(places, early, claim, spans.len() as u32, is_early);
             spans.push(span)?;
         }
     }
@@ -121,7 +121,7 @@ fn boarders_of(alloc: Global, state: &DayState<'_>) -> Result<Vec<u32>, OutOfMem
 /// a school, and those that may need no seat while they wait.
 pub struct Lineup {
     pub(crate) claims: Vec<Claims>,
-    pub(crate) places: Vec<usize>,
+    pub(crate) places: Vec<u32>,
     pub(crate) early: Vec<bool>,
     pub(crate) boarders: Vec<u32>,
     pub(crate) maybe_sure: Vec<u32>,

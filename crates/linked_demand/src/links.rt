@@ -8,7 +8,7 @@ ghost use Rattle.linked_demand.specs.Opens.{opens_of};
 ghost use Rattle.linked_demand.specs.Seats.{boarders_of};
 ghost use Rattle.admit_core.specs.declared.dossier.Wish.{Wish};
 ghost use Rattle.admit_core.specs.declared.state.Mark.{Mark};
-ghost use Rattle.linked_demand.specs.Links.{LinksRow, WaitsAt};
+ghost use Rattle.linked_demand.specs.Links.{LinksRow, WaitsAt, AllOpenWait};
 ghost use Rattle.linked_demand.specs.Demand.{is_proposed_at};
 
 use crate::fresh::note_fresh;
@@ -93,6 +93,7 @@ impl<'a, 'd> SeatLinks<'a, 'd> {
         requires bars { length bars.now ≡ length state.now.dossier.schools }
         ensures { IfOk result (λ l. l ≡ record { state = state.now; orders = orders.now.orders; opens = opens_of state.now bars.now }) }
     {
+        let _ = state.marks(); // one for each wish
         let opens = open_flags(alloc, state, &lineup.boarders, bars)?;
         let reached = reached_of(alloc, state, orders, lineup, &opens)?;
         Ok(SeatLinks {
@@ -122,7 +123,7 @@ impl<'a, 'd> SeatLinks<'a, 'd> {
     {
         let lineup = self.lineup;
         let programme = wish_at(self.state, wish).programme as usize;
-        let place = lineup.places[wish as usize];
+        let place = lineup.places[wish as usize] as usize;
         let claims = &lineup.claims[programme];
         let claim = claims.at(place);
         let wanted = wants_seat(self.state, &self.opens, claim);
@@ -163,7 +164,7 @@ impl<'a, 'd> SeatLinks<'a, 'd> {
 
     /// Whether each wish is proposed, by place, where those that are open wait.
     pub fn proposed_flags(&self, alloc: Global) -> Result<Vec<bool>, OutOfMemory>
-        requires { (k : ℕ) → slice_index_or self.now.opens k false ≡ true → (w : Wish) × (m : Mark) × WaitsAt self.now.state k w m }
+        requires { AllOpenWait self.now.state self.now.opens }
         ensures long { IfOk result (λ v. length v.items ≡ length self.now.state.dossier.wishes) }
         ensures each { IfOk result (λ v. (k : ℕ) → k < length self.now.state.dossier.wishes → slice_index_or v.items k false ≡ is_proposed_at self.now k) }
     {
@@ -187,7 +188,7 @@ impl<'a, 'd> SeatLinks<'a, 'd> {
     {
         let lineup = self.lineup;
         let programme = wish_at(self.state, wish).programme as usize;
-        let place = lineup.places[wish as usize];
+        let place = lineup.places[wish as usize] as usize;
         let open = self.opens[wish as usize];
         let sure = needs_no_seat(self.state, &lineup.early, wish);
         let reached = is_reached(place, self.reached[programme]);

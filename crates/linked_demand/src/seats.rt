@@ -1,5 +1,6 @@
 //! Who has a seat while no wish is closed yet.
 ghost use Rattle.std.specs.Prelude.{◌≡◌, ◌<◌, ◌||◌, false, length, IfOk, slice_index_or};
+ghost use Rattle.linked_demand.specs.Links.{AllOpenWait};
 ghost use Rattle.linked_demand.specs.Lineups.{IsLineupOf, IsReachedIn};
 ghost use Rattle.linked_demand.specs.Opens.{all_sure};
 
@@ -48,6 +49,7 @@ pub fn reached_of(
 ) -> Result<Vec<usize>, OutOfMemory>
     requires lineup { IsLineupOf state.now.dossier orders.now.orders lineup.now }
     requires opens { length opens.now ≡ length state.now.dossier.wishes }
+    requires waits { AllOpenWait state.now opens.now }
     ensures { IfOk result (λ v. IsReachedIn state.now orders.now.orders opens.now v.items lineup.now) }
 {
     let _ = state.marks(); // one for each wish

@@ -1,4 +1,4 @@
-use Rattle.std.proofs.Common.{ℕ, ◌+◌, ◌<◌, ◌≡◌, List, get_or, length, take, refl, ◌∙◌, arith, subst}
+use Rattle.std.proofs.Common.{ℕ, ◌+◌, ◌<◌, ◌≡◌, get_or, length, take, refl, ◌∙◌, arith, subst}
 use Rattle.demand.specs.Flags.{SetsAlso}
 use Rattle.demand.proofs.Setting.{sets_none, sets_then}
 use Rattle.linked_demand.specs.Fronts.{claimed_open, reached_open}

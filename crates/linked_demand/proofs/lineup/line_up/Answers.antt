@@ -1,10 +1,11 @@
-use Rattle.std.proofs.Common.{ℕ, ◌≡◌, ◌<◌, Bool, true, false, List, [], ◌∷◌, ◌++◌, map, length, take, get_or, filter, nat_lt, nat_eq, refl, sym, ◌∙◌, ap, arith, subst}
-use Rattle.std.specs.Prelude.{All}
+use Rattle.std.proofs.Common.{ℕ, ◌≡◌, ◌≤◌, ◌<◌, Bool, true, false, not, List, [], ◌∷◌, ◌++◌, map, length, take, get_or, filter, nat_lt, nat_eq, refl, sym, ◌∙◌, ap, arith, subst}
+use Rattle.std.specs.Prelude.{◌^◌, All}
 use Rattle.std.specs.List.{IsDistinct}
 use Rattle.std.specs.List.Sorted.{IsNonDecreasingBy}
 use Rattle.std.proofs.lemmas.Bool.{eqb-true}
-use Rattle.std.proofs.lemmas.List.{length-map, map-append}
+use Rattle.std.proofs.lemmas.List.{length-map, length-take-le, map-append}
 use Rattle.std.proofs.lemmas.List.Elements.{All-nil, All-push}
+use Rattle.std.proofs.lemmas.List.Filters.{length-filter_both}
 use Rattle.admit_core.specs.Proposals.{order_of}
 use Rattle.day_state.specs.Kept.{candidate_in}
 use Rattle.demand.proofs.Ranking.{picked, passed_over}
@@ -15,7 +16,7 @@ use Rattle.linked_demand.specs.Opens.{applies_in}
 use Rattle.linked_demand.specs.Seats.{PutAt}
 use Rattle.linked_demand.proofs.ClaimSpans.{candidates_rise, claim_there, nobody_there, claim_some, claim_none}
 use Rattle.linked_demand.proofs.Lining.{applies_claim, claim_within}
-use Rattle.linked_demand.proofs.Seating.{seated_start, seated_over, seated_more, seated_nobody, nobody_applies}
+use Rattle.linked_demand.proofs.Seating.{few_apart, seated_start, seated_over, seated_more, seated_nobody, nobody_applies}
 use Rattle.linked_demand.proofs.lineup.line_up.Goals as goal
 use Rattle.linked_demand.proofs.lineup.line_up.Goals.{then-is_claim+in_ok-push, else-is_claim}
 
@@ -82,6 +83,31 @@ note-requires-clause-places c =
     let n = length c.loop-before.places.items in
     let P = λ (ks : List ℕ). All (λ k. k < n) ks in
     subst P (sym claimed.is) (claim_within d p x n c.loop-before.invariant.seated.places_each)
+
+pub overflow_cast-len : goal.overflow_cast-len
+overflow_cast-len c =
+    let d = c.args.state.now.dossier in
+    let p = c.args.programme in
+    let order = c.order_of-order.result.now in
+    let i = c.loop-before.before in
+    let spans = c.loop-before.spans.items in
+    let seen = take i order in
+    let applies = applies_in d p in
+    let front = filter applies seen in
+    let P = λ (o : List ℕ). IsDistinct nat_eq o in
+    let apart : IsDistinct nat_eq order = subst P (sym c.order_of-order.ensures) c.requires.once in
+    let many : length order ≤ 2 ^ 32 = few_apart order (2 ^ 32) apart (λ k. omega (arith, c.type_inv.order k)) in
+    omega (
+      arith,
+      many,
+      c.loop-before-test.true,
+      c.len-then-is_claim.ensures,
+      ap length c.loop-before.invariant.claims,
+      length-map spans (part_of c.args.wishes.items),
+      length-map front (claim_of d p),
+      length-filter_both applies (λ x. not (applies x)) (λ x. refl) seen,
+      length-take-le i order (omega (arith, c.loop-before-test.true)),
+    )
 
 pub loop-before-preserved : goal.loop-before-preserved
 loop-before-preserved c =

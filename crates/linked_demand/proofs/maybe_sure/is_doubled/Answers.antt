@@ -1,4 +1,4 @@
-use Rattle.std.proofs.Common.{ℕ, length}
+use Rattle.std.proofs.Common.{length}
 use Rattle.std.specs.Prelude.{◌==◌}
 use Rattle.admit_core.specs.DossierRows.{candidate_of}
 use Rattle.linked_demand.proofs.Keeping.{passing_within}

@@ -1,9 +1,9 @@
-use Rattle.std.proofs.Common.{ℕ, ◌≡◌, ◌<◌, Bool, List, length, map, refl, ◌∙◌, ap, arith}
-use Rattle.std.specs.List.{range_with_len}
+use Rattle.std.proofs.Common.{ℕ, ◌≡◌, ◌<◌, length, refl, ◌∙◌, ap, arith}
 use Rattle.linked_demand.specs.Line.{reach}
 use Rattle.linked_demand.specs.Opens.{all_sure, seat_row}
 use Rattle.linked_demand.specs.Wants.{wants_along, reach_in}
 use Rattle.linked_demand.proofs.Flagging.{more_of, wants_right, row_right, row_within, claims_each, all_reached}
+use Rattle.linked_demand.proofs.Waiting.{row_alone}
 use Rattle.linked_demand.proofs.seats.reached_of.Goals as goal
 
 pub index-claims-requires : goal.index-claims-requires
@@ -28,6 +28,9 @@ reach_of-requires c =
       claims = row_within s.dossier orders p (length s.dossier.wishes) c.index-claims.result.now row
           refl;
       opens = c.requires.opens;
+      alone =
+          row_alone s (rw c.marks.ensures.marks at c.marks.ensures.one_each) c.args.opens.now c.requires.waits
+          orders p c.index-claims.result.now row;
     }
 
 pub loop-programme-preserved : goal.loop-programme-preserved

@@ -1,4 +1,4 @@
-use Rattle.std.proofs.Common.{ℕ, ◌+◌, Bool, List, length, sym, ◌∙◌, ap, arith, subst}
+use Rattle.std.proofs.Common.{ℕ, ◌+◌, List, length, sym, ◌∙◌, ap, arith, subst}
 use Rattle.linked_demand.specs.Seats.{maybe_sure_of}
 use Rattle.linked_demand.proofs.Seating.{IsBuilt, built_more, built_all}
 use Rattle.linked_demand.proofs.ClaimSpans.{wishes_later}

@@ -1,6 +1,7 @@
 use Rattle.std.proofs.Common.{length, ◌∙◌}
 use Rattle.linked_demand.specs.Seats.{boards_at}
 use Rattle.linked_demand.proofs.Keeping.{passing_within}
+use Rattle.linked_demand.proofs.Waiting.{all_open_wait}
 use Rattle.linked_demand.proofs.links.SeatLinks.build.Goals as goal
 
 pub open_flags-requires-clause-within : goal.open_flags-requires-clause-within
@@ -8,6 +9,12 @@ open_flags-requires-clause-within c =
     let d = c.args.state.now.dossier in
     let are = c.deref.ensures.value ∙ c.requires.lineup.boarders in
     passing_within (boards_at d) (length d.wishes) c.deref.result.now are
+
+pub reached_of-requires-clause-waits : goal.reached_of-requires-clause-waits
+reached_of-requires-clause-waits c =
+    let long = rw c.marks.ensures.marks at c.marks.ensures.one_each in
+    all_open_wait c.args.state.now long c.args.bars.now c.deref-2.result.now
+    (c.deref-2.ensures.value ∙ c.in_ok-opens.ensures.flags)
 
 pub invariant_of-result : goal.invariant_of-result
 invariant_of-result c = record {

@@ -14,8 +14,8 @@ pub wish_at-programme-requires : goal.wish_at-programme-requires
 wish_at-programme-requires g c =
     starts_within c.self.invariant.reach.links c.args.self.now c.self.view_is c.args.wish c.requires.waits
 
-pub index-place-requires : goal.index-place-requires
-index-place-requires g c =
+pub index-requires : goal.index-requires
+index-requires g c =
     let k = closes_read c.self.invariant.reach.links c.args.self.now c.self.view_is c.args.wish
     c.requires.waits c.wish_at-programme.result c.wish_at-programme.ensures.wish in
     omega (arith, wish_within k, c.self.invariant.reach.links.places_each)
@@ -36,15 +36,15 @@ pub at-claim-requires : goal.at-claim-requires
 at-claim-requires g c =
     let k = closes_read c.self.invariant.reach.links c.args.self.now c.self.view_is c.args.wish
     c.requires.waits c.wish_at-programme.result c.wish_at-programme.ensures.wish in
-    let at = place_right k c.index-place.result.now c.index-place.ensures in
-    row_within k c.index-place.result.now at c.index-claims.result.now c.index-claims.ensures
+    let at = place_right k c.index.result.now c.index.ensures in
+    row_within k c.index.result.now at c.index-claims.result.now c.index-claims.ensures
 
 pub wants_seat-wanted-requires-clause-claim : goal.wants_seat-wanted-requires-clause-claim
 wants_seat-wanted-requires-clause-claim g c =
     let k = closes_read c.self.invariant.reach.links c.args.self.now c.self.view_is c.args.wish
     c.requires.waits c.wish_at-programme.result c.wish_at-programme.ensures.wish in
-    let at = place_right k c.index-place.result.now c.index-place.ensures in
-    let claim = claim_right k c.index-place.result.now at c.index-claims.result.now c.index-claims.ensures
+    let at = place_right k c.index.result.now c.index.ensures in
+    let claim = claim_right k c.index.result.now at c.index-claims.result.now c.index-claims.ensures
     c.at-claim.result.now c.at-claim.ensures in
     claim_fits k _ _ c.at-claim.result.now claim (length c.self.inside.state.now.dossier.wishes) refl
 
@@ -52,8 +52,8 @@ pub wants_seat-wants-requires-clause-claim : goal.wants_seat-wants-requires-clau
 wants_seat-wants-requires-clause-claim g c =
     let k = closes_read c.self.invariant.reach.links c.args.self.now c.self.view_is c.args.wish
     c.requires.waits c.wish_at-programme.result c.wish_at-programme.ensures.wish in
-    let at = place_right k c.index-place.result.now c.index-place.ensures in
-    let claim = claim_right k c.index-place.result.now at c.index-claims.result.now c.index-claims.ensures
+    let at = place_right k c.index.result.now c.index.ensures in
+    let claim = claim_right k c.index.result.now at c.index-claims.result.now c.index-claims.ensures
     c.at-claim.result.now c.at-claim.ensures in
     claim_fits k _ _ c.at-claim.result.now claim (length c.self.inside.state.now.dossier.wishes) refl
 
@@ -76,10 +76,10 @@ next_wanting-now-requires-clause-from g c =
     let claim = c.at-claim.result.now in
     let k = closes_read c.self.invariant.reach.links c.args.self.now c.self.view_is c.args.wish
     c.requires.waits c.wish_at-programme.result c.wish_at-programme.ensures.wish in
-    let reads : Reads k c.index-place.result.now c.index-claims.result.now claim r.reached.items
+    let reads : Reads k c.index.result.now c.index-claims.result.now claim r.reached.items
     c.index-before.result.now c.wants_seat-wanted.result c.wants_seat-wants.result c.leaves_seat.result =
     record {
-      stands = place_right k c.index-place.result.now c.index-place.ensures;
+      stands = place_right k c.index.result.now c.index.ensures;
       row_read = c.index-claims.ensures;
       claim_read = c.at-claim.ensures;
       reached_are = c.self.invariant.reach.reached_are;
@@ -97,10 +97,10 @@ next_wanting-now-requires-clause-claims g c =
     let claim = c.at-claim.result.now in
     let k = closes_read c.self.invariant.reach.links c.args.self.now c.self.view_is c.args.wish
     c.requires.waits c.wish_at-programme.result c.wish_at-programme.ensures.wish in
-    let reads : Reads k c.index-place.result.now c.index-claims.result.now claim r.reached.items
+    let reads : Reads k c.index.result.now c.index-claims.result.now claim r.reached.items
     c.index-before.result.now c.wants_seat-wanted.result c.wants_seat-wants.result c.leaves_seat.result =
     record {
-      stands = place_right k c.index-place.result.now c.index-place.ensures;
+      stands = place_right k c.index.result.now c.index.ensures;
       row_read = c.index-claims.ensures;
       claim_read = c.at-claim.ensures;
       reached_are = c.self.invariant.reach.reached_are;
@@ -118,10 +118,10 @@ last_wanting-requires-clause-claims g c =
     let claim = c.at-claim.result.now in
     let k = closes_read c.self.invariant.reach.links c.args.self.now c.self.view_is c.args.wish
     c.requires.waits c.wish_at-programme.result c.wish_at-programme.ensures.wish in
-    let reads : Reads k c.index-place.result.now c.index-claims.result.now claim r.reached.items
+    let reads : Reads k c.index.result.now c.index-claims.result.now claim r.reached.items
     c.index-before.result.now c.wants_seat-wanted.result c.wants_seat-wants.result c.leaves_seat.result =
     record {
-      stands = place_right k c.index-place.result.now c.index-place.ensures;
+      stands = place_right k c.index.result.now c.index.ensures;
       row_read = c.index-claims.ensures;
       claim_read = c.at-claim.ensures;
       reached_are = c.self.invariant.reach.reached_are;
@@ -139,10 +139,10 @@ invariant_of-self-else-leaves_seat g c =
     let claim = c.at-claim.result.now in
     let k = closes_read c.self.invariant.reach.links c.args.self.now c.self.view_is c.args.wish
     c.requires.waits c.wish_at-programme.result c.wish_at-programme.ensures.wish in
-    let reads : Reads k c.index-place.result.now c.index-claims.result.now claim r.reached.items
+    let reads : Reads k c.index.result.now c.index-claims.result.now claim r.reached.items
     c.index-before.result.now c.wants_seat-wanted.result c.wants_seat-wants.result c.leaves_seat.result =
     record {
-      stands = place_right k c.index-place.result.now c.index-place.ensures;
+      stands = place_right k c.index.result.now c.index.ensures;
       row_read = c.index-claims.ensures;
       claim_read = c.at-claim.ensures;
       reached_are = c.self.invariant.reach.reached_are;
@@ -167,10 +167,10 @@ invariant_of-self g c =
     let claim = c.at-claim.result.now in
     let k = closes_read c.self.invariant.reach.links c.args.self.now c.self.view_is c.args.wish
     c.requires.waits c.wish_at-programme.result c.wish_at-programme.ensures.wish in
-    let reads : Reads k c.index-place.result.now c.index-claims.result.now claim r.reached.items
+    let reads : Reads k c.index.result.now c.index-claims.result.now claim r.reached.items
     c.index-before.result.now c.wants_seat-wanted.result c.wants_seat-wants.result c.leaves_seat.result =
     record {
-      stands = place_right k c.index-place.result.now c.index-place.ensures;
+      stands = place_right k c.index.result.now c.index.ensures;
       row_read = c.index-claims.ensures;
       claim_read = c.at-claim.ensures;
       reached_are = c.self.invariant.reach.reached_are;
@@ -201,10 +201,10 @@ invariant_of-self-in_default g c =
     let claim = c.at-claim.result.now in
     let k = closes_read c.self.invariant.reach.links c.args.self.now c.self.view_is c.args.wish
     c.requires.waits c.wish_at-programme.result c.wish_at-programme.ensures.wish in
-    let reads : Reads k c.index-place.result.now c.index-claims.result.now claim r.reached.items
+    let reads : Reads k c.index.result.now c.index-claims.result.now claim r.reached.items
     c.index-before.result.now c.wants_seat-wanted.result c.wants_seat-wants.result c.leaves_seat.result =
     record {
-      stands = place_right k c.index-place.result.now c.index-place.ensures;
+      stands = place_right k c.index.result.now c.index.ensures;
       row_read = c.index-claims.ensures;
       claim_read = c.at-claim.ensures;
       reached_are = c.self.invariant.reach.reached_are;
@@ -252,10 +252,10 @@ returns-else-leaves_seat g c =
     let claim = c.at-claim.result.now in
     let k = closes_read c.self.invariant.reach.links c.args.self.now c.self.view_is c.args.wish
     c.requires.waits c.wish_at-programme.result c.wish_at-programme.ensures.wish in
-    let reads : Reads k c.index-place.result.now c.index-claims.result.now claim r.reached.items
+    let reads : Reads k c.index.result.now c.index-claims.result.now claim r.reached.items
     c.index-before.result.now c.wants_seat-wanted.result c.wants_seat-wants.result c.leaves_seat.result =
     record {
-      stands = place_right k c.index-place.result.now c.index-place.ensures;
+      stands = place_right k c.index.result.now c.index.ensures;
       row_read = c.index-claims.ensures;
       claim_read = c.at-claim.ensures;
       reached_are = c.self.invariant.reach.reached_are;
@@ -276,10 +276,10 @@ returns-in_default g c =
     let claim = c.at-claim.result.now in
     let k = closes_read c.self.invariant.reach.links c.args.self.now c.self.view_is c.args.wish
     c.requires.waits c.wish_at-programme.result c.wish_at-programme.ensures.wish in
-    let reads : Reads k c.index-place.result.now c.index-claims.result.now claim r.reached.items
+    let reads : Reads k c.index.result.now c.index-claims.result.now claim r.reached.items
     c.index-before.result.now c.wants_seat-wanted.result c.wants_seat-wants.result c.leaves_seat.result =
     record {
-      stands = place_right k c.index-place.result.now c.index-place.ensures;
+      stands = place_right k c.index.result.now c.index.ensures;
       row_read = c.index-claims.ensures;
       claim_read = c.at-claim.ensures;
       reached_are = c.self.invariant.reach.reached_are;
@@ -309,10 +309,10 @@ returns-in-Some g c =
     let claim = c.at-claim.result.now in
     let k = closes_read c.self.invariant.reach.links c.args.self.now c.self.view_is c.args.wish
     c.requires.waits c.wish_at-programme.result c.wish_at-programme.ensures.wish in
-    let reads : Reads k c.index-place.result.now c.index-claims.result.now claim r.reached.items
+    let reads : Reads k c.index.result.now c.index-claims.result.now claim r.reached.items
     c.index-before.result.now c.wants_seat-wanted.result c.wants_seat-wants.result c.leaves_seat.result =
     record {
-      stands = place_right k c.index-place.result.now c.index-place.ensures;
+      stands = place_right k c.index.result.now c.index.ensures;
       row_read = c.index-claims.ensures;
       claim_read = c.at-claim.ensures;
       reached_are = c.self.invariant.reach.reached_are;

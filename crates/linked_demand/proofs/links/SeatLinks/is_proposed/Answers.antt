@@ -9,8 +9,8 @@ pub wish_at-programme-requires : goal.wish_at-programme-requires
 wish_at-programme-requires c =
     starts_within c.self.invariant.reach.links c.args.self.now c.self.view_is c.args.wish c.requires
 
-pub index-place-requires : goal.index-place-requires
-index-place-requires c =
+pub index-requires : goal.index-requires
+index-requires c =
     let k = closes_read c.self.invariant.reach.links c.args.self.now c.self.view_is c.args.wish c.requires
     c.wish_at-programme.result c.wish_at-programme.ensures.wish in
     omega (arith, wish_within k, c.self.invariant.reach.links.places_each)
@@ -28,8 +28,8 @@ needs_no_seat-sure-requires c =
     c.wish_at-programme.result c.wish_at-programme.ensures.wish in
     record { place = wish_within k; early = ap length c.deref.ensures.value ∙ c.self.invariant.early_each }
 
-pub index-requires : goal.index-requires
-index-requires c =
+pub index-requires-2 : goal.index-requires-2
+index-requires-2 c =
     let k = closes_read c.self.invariant.reach.links c.args.self.now c.self.view_is c.args.wish c.requires
     c.wish_at-programme.result c.wish_at-programme.ensures.wish in
     omega (arith, programme_within k, reached_each k c.self.inside.reached.items c.self.invariant.reach.reached_are)
@@ -44,10 +44,10 @@ returns c =
     let p : ℕ = c.wish_at-programme.result.programme in
     let k = closes_read c.self.invariant.reach.links c.args.self.now c.self.view_is c.args.wish c.requires
     c.wish_at-programme.result c.wish_at-programme.ensures.wish in
-    let at = place_right k c.index-place.result.now c.index-place.ensures in
+    let at = place_right k c.index.result.now c.index.ensures in
     let reach = reach_right k r.reached.items c.self.invariant.reach.reached_are
-    c.index.result.now c.index.ensures in
-    let reached = reached_is s orders opens p c.index-place.result.now c.index.result.now
+    c.index-2.result.now c.index-2.ensures in
+    let reached = reached_is s orders opens p c.index.result.now c.index-2.result.now
     c.is_reached-reached.result reach at.within c.is_reached-reached.ensures in
     let early = r.lineup.now.early.items in
     let sure =
@@ -57,7 +57,7 @@ returns c =
     (omega (arith, wish_within k, sure_each k)) in
     proposed_goal c.self.invariant.reach.links c.args.self.now c.self.view_is c.args.wish w m waits
     c.wish_at-programme.result c.wish_at-programme.ensures.wish
-    c.index-place.result.now c.index-place.ensures (seat_row s orders opens p)
+    c.index.result.now c.index.ensures (seat_row s orders opens p)
     (row_there s orders opens p (programme_within k)) c.index-open.result.now
     c.needs_no_seat-sure.result c.is_reached-reached.result c.is_served.result
     c.index-open.ensures sure reached c.is_served.ensures

@@ -1,4 +1,4 @@
-use Rattle.std.proofs.Common.{ℕ, ◌≡◌, Bool, false, List, length, replicate, sym, ◌∙◌, ap}
+use Rattle.std.proofs.Common.{ℕ, ◌≡◌, false, length, replicate, sym, ◌∙◌, ap}
 use Rattle.std.proofs.lemmas.List.{length-replicate}
 use Rattle.demand.specs.Flags.{SetsAlso}
 use Rattle.linked_demand.specs.Fronts.{listed_open, reached_open}

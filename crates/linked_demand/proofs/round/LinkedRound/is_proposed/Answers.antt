@@ -1,5 +1,5 @@
 use Rattle.std.proofs.Common.{sym, ◌∙◌}
-use Rattle.linked_demand.proofs.Rounding.{closed_seen, open_waits, proposed_seen}
+use Rattle.linked_demand.proofs.Rounding.{closed_seen, opens_wait, proposed_seen}
 use Rattle.linked_demand.proofs.round.LinkedRound.is_proposed.Goals as goal
 
 pub returns-then-not-is_open : goal.returns-then-not-is_open
@@ -11,8 +11,8 @@ returns-then-not-is_open c =
 pub is_proposed-requires : goal.is_proposed-requires
 is_proposed-requires c =
     let r = c.self.inside in
-    open_waits r.links r.ceilings.items r.bars.items r.free.items r.rows.items r.overs r.marked
-    c.args.self.now c.self.invariant c.self.view_is c.args.wish c.requires (sym c.is_open.ensures ∙ c.if-not-is_open.false)
+    opens_wait r.links r.ceilings.items r.bars.items r.free.items r.rows.items r.overs r.marked
+    c.args.self.now c.self.invariant c.self.view_is c.args.wish (sym c.is_open.ensures ∙ c.if-not-is_open.false)
 
 pub returns : goal.returns
 returns c =

@@ -1,0 +1,173 @@
+-- What is open waits, and needs a seat where it is its candidate's only wish in its programme.
+use Rattle.std.proofs.Common.{ℕ, zero, suc, ◌<◌, ◌≡◌, Bool, true, false, not, ◌&&◌, ◌||◌, List, [], ◌∷◌, map, length, get_or, inl, inr, refl, sym, ◌∙◌, ap, arith, nat_eq, Some, subst}
+use Rattle.std.specs.Prelude.{◌==◌, slice_get}
+use Rattle.std.specs.List.{list_any, range_with_len}
+use Rattle.std.proofs.Math.Bool.{or-false}
+use Rattle.std.proofs.lemmas.Bool.{cases_Bool, and_parts, and_from, eqb-true, eq-eqb, or_from, or_parts, false≢true}
+use Rattle.std.proofs.lemmas.List.{get_or-map, length-map}
+use Rattle.std.proofs.lemmas.List.Folds.{list_any_none}
+use Rattle.std.proofs.lemmas.List.FromFn.{get_or-range_with_len, length-range_with_len}
+use Rattle.admit_core.specs.declared.dossier.Wish.{Wish}
+use Rattle.admit_core.specs.declared.state.Mark.{Mark}
+use Rattle.admit_core.specs.declared.state.Status.{Status}
+use Rattle.admit_core.specs.declared.state.Status.TheVariants.{Waiting, Offered, Accepted, Refused, Withdrawn, Quit, AutoRefused, AutoWithdrawn, Lapsed}
+use Rattle.admit_core.specs.declared.ranking.CallOrder.{CallOrder}
+use Rattle.admit_core.specs.DossierRows.{DossierRows, candidate_of}
+use Rattle.admit_core.specs.Lists.{is_among}
+use Rattle.admit_core.specs.OwnWishes.{own_places}
+use Rattle.admit_core.specs.Proposals.{is_open, is_barred}
+use Rattle.admit_core.specs.State.{State, entries, is_live, is_live_status, is_waiting, is_waiting_status, holds_seat}
+use Rattle.day_state.specs.Kept.{mark_in, wish_in, lives_at, has_seat_there}
+use Rattle.day_state.proofs.Places.{any-filter, own_any, candidate_in as candidate_is}
+use Rattle.linked_demand.specs.Links.{WaitsAt, AllOpenWait, NeedsSeatAlone, claim_of}
+use Rattle.linked_demand.specs.Opens.{line_of, opens_of, wanting_at}
+use Rattle.linked_demand.specs.Seats.{is_beside, is_doubled}
+use Rattle.linked_demand.specs.Wants.{AllNeedSeatAlone}
+use Rattle.linked_demand.proofs.Closing.{length_entries, wish_of}
+use Rattle.linked_demand.proofs.Falling.{flag_map}
+use Rattle.linked_demand.proofs.Filling.{entry_is, entry_there}
+use Rattle.linked_demand.proofs.Fronting.{open_within}
+use Rattle.linked_demand.proofs.Lining.{among_claim}
+use Rattle.linked_demand.proofs.Seating.{wish_in_is}
+
+waiting_is_not_live : (status : Status) → is_waiting_status status ≡ true → is_live_status status ≡ false
+waiting_is_not_live Waiting t = refl
+waiting_is_not_live Offered t = absurd (false≢true t)
+waiting_is_not_live Accepted t = absurd (false≢true t)
+waiting_is_not_live Refused t = refl
+waiting_is_not_live Withdrawn t = refl
+waiting_is_not_live Quit t = refl
+waiting_is_not_live AutoRefused t = refl
+waiting_is_not_live AutoWithdrawn t = refl
+waiting_is_not_live Lapsed t = refl
+
+dead : (live own : Bool) → live ≡ false → (live && own) ≡ false
+dead false own t = refl
+dead true own t = absurd (false≢true (sym t))
+
+elsewhere : (live own other : Bool) → other ≡ true → (other && own) ≡ false → (live && own) ≡ false
+elsewhere true own true t none = none
+elsewhere false own other t none = refl
+elsewhere live own false t none = absurd (false≢true t)
+
+-- of some wishes none is live in the programme of one that is not, where no other one is of its programme
+none_lives : (d : DossierRows) (ms : List Mark) (k : ℕ) → is_live (mark_in ms k) ≡ false → (xs : List ℕ)
+    → list_any (is_beside d k) xs ≡ false
+    → list_any (lives_at d.wishes ms (λ w. w.programme == (wish_in d.wishes k).programme)) xs ≡ false
+none_lives d ms k not_live [] none = refl
+none_lives d ms k not_live (x ∷ xs) none =
+    let p = (wish_in d.wishes k).programme in
+    let own = (wish_in d.wishes x).programme == p in
+    let parts = or_parts (is_beside d k x) (list_any (is_beside d k) xs) none in
+    let first : (is_live (mark_in ms x) && own) ≡ false =
+    elim (cases_Bool (nat_eq x k)) [
+      | inl here ↦ dead (is_live (mark_in ms x)) own (ap (λ (j : ℕ). is_live (mark_in ms j)) (eqb-true x k here) ∙ not_live)
+      | inr other ↦ elsewhere (is_live (mark_in ms x)) own (not (nat_eq x k)) (ap not other) parts.0
+    ] in
+    or_from (is_live (mark_in ms x) && own)
+    (list_any (lives_at d.wishes ms (λ w. w.programme == p)) xs) first (none_lives d ms k not_live xs parts.1)
+
+module _ (s : State) (long : length s.marks ≡ length s.dossier.wishes) (k : ℕ) where
+  -- a wish that waits is not live in its programme where no other one is of it
+  pub no_seat : (w : Wish) (m : Mark) → WaitsAt s k w m → is_doubled s.dossier k ≡ false → has_seat_there s k ≡ false
+  no_seat w m at single =
+      let d = s.dossier in
+      let mark = (entry_is d.wishes s.marks k w m at.here).1 in
+      let not_live : is_live (mark_in s.marks k) ≡ false =
+      ap is_live mark ∙ waiting_is_not_live m.status at.waits in
+      let own = λ (w : Wish). w.programme == (wish_in d.wishes k).programme in
+      let none : holds_seat s (candidate_of d k) (wish_in d.wishes k).programme ≡ false =
+      sym (own_any own s (candidate_of d k) long)
+      ∙ none_lives d s.marks k not_live (own_places d (candidate_of d k)) single in
+      ap (λ (c : ℕ). holds_seat s c (wish_in d.wishes k).programme) (sym (candidate_is d.wishes k)) ∙ none
+
+wish_there : (ws : List Wish) (j : ℕ) → j < length ws → slice_get ws j ≡ Some (wish_in ws j)
+wish_there [] j lt = absurd (omega arith)
+wish_there (w ∷ ws) zero lt = refl
+wish_there (w ∷ ws) (suc j) lt = wish_there ws j (omega arith)
+
+-- of a claim of one wish no other one is of its programme
+alone_single : (d : DossierRows) (p c k : ℕ) (w : Wish) → slice_get d.wishes k ≡ Some w → claim_of d p c ≡ k ∷ []
+    → is_doubled d k ≡ false
+alone_single d p c k w at claim =
+    let ws = d.wishes in
+    let n = length ws in
+    let many = length-range_with_len 0 n in
+    let among : is_among k (claim_of d p c) ≡ true =
+    ap (is_among k) claim ∙ ap (λ b. b || false) (eq-eqb k k refl) in
+    let own = and_parts (nat_eq w.candidate c) (nat_eq w.programme p) (sym (among_claim d p c k w at) ∙ among) in
+    let w_is : wish_in ws k ≡ w = wish_in_is ws k w at in
+    let is_own = λ (j : ℕ). candidate_of d j == candidate_of d k in
+    let cand : candidate_of d k ≡ c =
+    candidate_is ws k ∙ ap (λ (v : Wish). v.candidate) w_is ∙ eqb-true w.candidate c own.0 in
+    let prog : (wish_in ws k).programme ≡ p = ap (λ (v : Wish). v.programme) w_is ∙ eqb-true w.programme p own.1 in
+    any-filter (is_beside d k) is_own (range_with_len 0 n)
+    ∙ list_any_none (λ j. is_own j && is_beside d k j) (range_with_len 0 n) (λ i e lt.
+    let j = get_or (range_with_len 0 n) i e in
+    let j_in : j < n =
+    omega (arith, lt, many, get_or-range_with_len 0 n i e (omega (arith, lt, many))) in
+    elim (cases_Bool (is_own j && is_beside d k j)) [
+      | inl both ↦
+          let parts = and_parts (is_own j) (is_beside d k j) both in
+          let beside = and_parts (not (nat_eq j k)) ((wish_in ws j).programme == (wish_in ws k).programme) parts.1 in
+          let j_at : slice_get ws j ≡ Some (wish_in ws j) = wish_there ws j j_in in
+          let j_cand : (wish_in ws j).candidate ≡ c =
+          sym (candidate_is ws j) ∙ eqb-true (candidate_of d j) (candidate_of d k) parts.0 ∙ cand in
+          let j_prog : (wish_in ws j).programme ≡ p =
+          eqb-true (wish_in ws j).programme (wish_in ws k).programme beside.1 ∙ prog in
+          let there : is_among j (claim_of d p c) ≡ true =
+          among_claim d p c j (wish_in ws j) j_at
+          ∙ and_from (nat_eq (wish_in ws j).candidate c) (nat_eq (wish_in ws j).programme p)
+          (eq-eqb (wish_in ws j).candidate c j_cand) (eq-eqb (wish_in ws j).programme p j_prog) in
+          let same : (nat_eq j k || false) ≡ true = sym (ap (is_among j) claim) ∙ there in
+          absurd (false≢true (sym (ap not (sym (or-false (nat_eq j k)) ∙ same)) ∙ beside.0))
+      | inr not_both ↦ not_both
+    ])
+
+-- so a claim of one open wish needs a seat
+pub claim_alone : (s : State) → length s.marks ≡ length s.dossier.wishes → (opens : List Bool) → AllOpenWait s opens
+    → (p c : ℕ) → NeedsSeatAlone s opens (claim_of s.dossier p c)
+claim_alone s long opens waits p c k claim opened =
+    let (w, m, at) = waits k opened in
+    no_seat s long k w m at (alone_single s.dossier p c k w (wish_of s.dossier.wishes s.marks k w m at.here) claim)
+
+-- and is asked for its flag alone
+pub single_wants : (s : State) (opens : List Bool) (claim : List ℕ) → length claim ≡ 1 → NeedsSeatAlone s opens claim
+    → (wish : ℕ) (flag : Bool) → wish ≡ get_or claim 0 0 → flag ≡ get_or opens wish false
+    → flag ≡ list_any (wanting_at s opens) claim
+single_wants s opens [] one alone wish flag wish_is is = absurd (omega arith)
+single_wants s opens (k ∷ []) one alone wish flag wish_is is =
+    is
+    ∙ ap (λ (j : ℕ). get_or opens j false) wish_is
+    ∙ elim (cases_Bool (get_or opens k false)) [
+      | inl opened ↦ rw (opened, alone k refl opened) refl
+      | inr closed ↦ rw closed refl
+    ]
+single_wants s opens (k ∷ j ∷ ks) one alone wish flag wish_is is = absurd (omega arith)
+
+-- so of each claim of a line
+pub row_alone : (s : State) → length s.marks ≡ length s.dossier.wishes → (opens : List Bool) → AllOpenWait s opens
+    → (orders : List CallOrder) (p : ℕ) (row : List (List ℕ))
+    → row ≡ map (claim_of s.dossier p) (line_of s.dossier orders p) → AllNeedSeatAlone s opens row
+row_alone s long opens waits orders p row is j lt =
+    let d = s.dossier in
+    let line = line_of d orders p in
+    let in_line : j < length line = omega (arith, lt, ap length is, length-map line (claim_of d p)) in
+    let P = λ (ks : List ℕ). NeedsSeatAlone s opens ks in
+    let read = ap (λ (r : List (List ℕ)). get_or r j []) is ∙ get_or-map (claim_of d p) line j 0 [] in_line in
+    subst P (sym read) (claim_alone s long opens waits p (get_or line j 0))
+
+-- what is open under bars waits
+pub all_open_wait : (s : State) → length s.marks ≡ length s.dossier.wishes → (bars : List ℕ) (opens : List Bool)
+    → opens ≡ opens_of s bars → AllOpenWait s opens
+all_open_wait s long bars opens is k opened =
+    let ws = s.dossier.wishes in
+    let f = λ (e : Wish × Mark). is_open s bars e.0 e.1 in
+    let lt : k < length ws =
+    omega (arith, open_within opens k opened, ap length is, length-map (entries s) f, length_entries ws s.marks long) in
+    let w = wish_in ws k in
+    let m = mark_in s.marks k in
+    let here = entry_there ws s.marks k long lt in
+    let flag : get_or opens k false ≡ is_open s bars w m =
+    ap (λ (os : List Bool). get_or os k false) is ∙ flag_map f (entries s) k (w, m) here in
+    (w, m, record { here = here; waits = (and_parts (is_waiting m) (not (is_barred s bars w m)) (sym flag ∙ opened)).0 })
