@@ -7,7 +7,7 @@ ghost use Rattle.dossier_check.specs.Ids.{IsSmall};
 ghost use Rattle.dossier_check.specs.Keys.{AreKeysOf};
 
 use crate::index::Index;
-use crate::noted::row_with;
+use crate::noted::{row_of, row_with};
 use crate::row_ids::RowIds;
 use admit_core::{
     Answer, AnswerKind, CeilingChange, OutOfMemory, Programme, School, StateRow, Tables, Wish,
@@ -24,7 +24,7 @@ pub(crate) struct Keys {
     pub(crate) schools: RowIds,
     pub(crate) boarding: IndexSet<(u32, u32), Keyed>,
     pub(crate) wishes: RowIds,
-    pub(crate) state: IndexSet<u32, Keyed>,
+    pub(crate) state: RowIds,
 }
 
 // Not derived: so keys are dropped in one step where they are held, and not by each list.
@@ -155,7 +155,7 @@ pub(crate) fn state_row_of(tables: &Tables, keys: &Keys, wish: &WishRow) -> Opti
     requires { AreKeysOf tables.now keys.now }
     ensures { result ≡ find (λ s. nat_eq wish.now.id s.wish) tables.now.state }
 {
-    row_with(&keys.state, tables.state.as_slice(), wish.id)
+    row_of(&keys.state, tables.state.as_slice(), wish.id)
 }
 
 /// The ceilings, with the places of their schools.

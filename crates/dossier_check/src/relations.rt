@@ -49,7 +49,7 @@ fn check_wishes_on<'a>(
     schools: &'a RowIds,
     ranked: WhoIsRanked<'a>,
     boarding: &'a IndexSet<(u32, u32), Keyed>,
-) -> Result<(RowIds, IndexSet<u32, Keyed>), InFault>
+) -> Result<(RowIds, RowIds), InFault>
     requires programmes { programmes.now.keys ≡ programme_ids tables.now }
     requires schools { schools.now.keys ≡ school_ids tables.now }
     requires ranked { SaysWhoIsRanked tables.now ranked }
