@@ -8,7 +8,7 @@ use Rattle.std.proofs.lemmas.List.Quantifiers.{position-Some}
 use Rattle.admit_core.specs.declared.tables.RankRow.{RankRow}
 use Rattle.admit_core.specs.Standing.{ranked_in, ranked_row}
 
-eq_sym : (m n : ℕ) → nat_eq m n ≡ nat_eq n m
+pub eq_sym : (m n : ℕ) → nat_eq m n ≡ nat_eq n m
 eq_sym m n = grind (arith, nat_tests)
 
 -- a row more is in the list of its group, and in no other
@@ -54,7 +54,7 @@ at_from g (k ∷ ks) (suc i) lt at before = (before 0 (omega arith), at_from g k
 pub is_at : (g : ℕ) (ks : List ℕ) (i : ℕ) → position (nat_eq g) ks ≡ Some i → IsAt g ks i
 is_at g ks i e = let p = position-Some (nat_eq g) ks i 0 e in at_from g ks i p.0 p.1 p.2
 
-none_after : (g k : ℕ) (ks : List ℕ) → nat_eq g k ≡ true → AllByRecursion (λ y. nat_eq k y ≡ false) ks → list_any (nat_eq g) ks ≡ false
+pub none_after : (g k : ℕ) (ks : List ℕ) → nat_eq g k ≡ true → AllByRecursion (λ y. nat_eq k y ≡ false) ks → list_any (nat_eq g) ks ≡ false
 none_after g k [] e h = refl
 none_after g k (y ∷ ys) e (here, rest) =
     let f : nat_eq g y ≡ false = grind (arith, nat_tests) in rw f (none_after g k ys e rest)

@@ -18,6 +18,7 @@ pub mod Pairs
 pub mod Places
 pub mod TwicePreferred
 pub mod Rising
+pub mod PutStatuses
 pub mod RisingIds
 pub mod RowFacts
 pub mod Runs

@@ -2,16 +2,16 @@
 ghost use Rattle.std.specs.Prelude.{◌≡◌, ◌<◌, ◌≤◌, ◌^◌, ℕ, find, length, map, nat_eq, option_map, IfOk};
 ghost use Rattle.admit_core.specs.declared.tables.Tables.{Tables};
 ghost use Rattle.admit_core.specs.Relations.{wish_ids};
-ghost use Rattle.admit_core.specs.Standing.{place_of, programme_of_row, school_of_row, board_rank_of, wish_of_row, status_of_row, target_of, ceiling_of_row, answer_of_row};
+ghost use Rattle.admit_core.specs.Standing.{place_of, programme_of_row, school_of_row, board_rank_of, wish_of_row, target_of, ceiling_of_row, answer_of_row};
 ghost use Rattle.dossier_check.specs.Ids.{IsSmall};
 ghost use Rattle.dossier_check.specs.Keys.{AreKeysOf};
 
 use crate::index::Index;
-use crate::noted::row_with;
+use crate::noted::{row_of, row_with};
 use crate::row_ids::RowIds;
 use admit_core::{
-    Answer, AnswerKind, CeilingChange, OutOfMemory, Programme, School, StateRow, Status, Tables,
-    Wish, WishRow,
+    Answer, AnswerKind, CeilingChange, OutOfMemory, Programme, School, StateRow, Tables, Wish,
+    WishRow,
 };
 use indexmap::IndexSet;
 use keyed_hash::Keyed;
@@ -24,7 +24,7 @@ pub(crate) struct Keys {
     pub(crate) schools: RowIds,
     pub(crate) boarding: IndexSet<(u32, u32), Keyed>,
     pub(crate) wishes: RowIds,
-    pub(crate) state: IndexSet<u32, Keyed>,
+    pub(crate) state: RowIds,
 }
 
 // Not derived: so keys are dropped in one step where they are held, and not by each list.
@@ -155,35 +155,7 @@ pub(crate) fn state_row_of(tables: &Tables, keys: &Keys, wish: &WishRow) -> Opti
     requires { AreKeysOf tables.now keys.now }
     ensures { result ≡ find (λ s. nat_eq wish.now.id s.wish) tables.now.state }
 {
-    row_with(&keys.state, tables.state.as_slice(), wish.id)
-}
-
-/// The status of a wish; one that no row names waits.
-fn status_of(tables: &Tables, keys: &Keys, wish: &WishRow) -> Status
-    requires { AreKeysOf tables.now keys.now }
-    ensures { result ≡ status_of_row tables.now wish.now }
-{
-    match state_row_of(tables, keys, wish) {
-        Some(row) => row.status,
-        None => Status::Waiting,
-    }
-}
-
-/// The statuses of the wishes.
-pub(crate) fn statuses_of(
-    alloc: Global,
-    tables: &Tables,
-    keys: &Keys,
-) -> Result<Vec<Status>, OutOfMemory>
-    requires { AreKeysOf tables.now keys.now }
-    ensures { IfOk result (λ statuses. statuses.items ≡ map (status_of_row tables.now) tables.now.wishes) }
-{
-    let rows = tables.wishes.as_slice();
-    let mut statuses = Vec::with_capacity(alloc, rows.len())?;
-    for wish in rows {
-        statuses.push(status_of(tables, keys, wish))?;
-    }
-    Ok(statuses)
+    row_of(&keys.state, tables.state.as_slice(), wish.id)
 }
 
 /// The ceilings, with the places of their schools.

@@ -22,6 +22,7 @@ mod rules;
 mod scan;
 mod slots;
 mod state;
+mod statuses;
 mod who_is_ranked;
 mod wished;
 mod wishes;

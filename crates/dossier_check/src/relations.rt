@@ -16,12 +16,13 @@ use crate::dates::{Dates, dates_of};
 use crate::hashing::hashing_of;
 use crate::index::Index;
 use crate::items::{
-    Keys, answers_of, ceilings_of, programmes_of, schools_of, statuses_of, wishes_of,
+    Keys, answers_of, ceilings_of, programmes_of, schools_of, wishes_of,
 };
 use crate::ranks::{Dealt, check_ranks};
 use crate::row_ids::RowIds;
 use crate::slots::{check_boarding, check_ceilings, check_groups, check_programmes, check_schools};
 use crate::state::check_state;
+use crate::statuses::statuses_of;
 use crate::who_is_ranked::WhoIsRanked;
 use crate::wishes::check_wishes;
 use admit_core::{
@@ -48,7 +49,7 @@ fn check_wishes_on<'a>(
     schools: &'a RowIds,
     ranked: WhoIsRanked<'a>,
     boarding: &'a IndexSet<(u32, u32), Keyed>,
-) -> Result<(RowIds, IndexSet<u32, Keyed>), InFault>
+) -> Result<(RowIds, RowIds), InFault>
     requires programmes { programmes.now.keys ≡ programme_ids tables.now }
     requires schools { schools.now.keys ≡ school_ids tables.now }
     requires ranked { SaysWhoIsRanked tables.now ranked }
@@ -129,7 +130,7 @@ fn from_wishes(alloc: Global, tables: &Tables, keys: &Keys) -> Result<FromWishes
 {
     Ok(FromWishes {
         wishes: wishes_of(alloc, tables, keys)?,
-        statuses: statuses_of(alloc, tables, keys)?,
+        statuses: statuses_of(alloc, tables, &keys.wishes)?,
         ceilings: ceilings_of(alloc, tables, keys)?,
         answers: answers_of(alloc, tables, keys)?,
     })

@@ -115,6 +115,28 @@ fn hashed(
     Ok(set)
 }
 
+/// Rising ids found by hash, with the id of the next row among them; and the number of the row of
+/// the same id where there is one.
+fn note_hashed<R, Q: Key<R, u32>>(
+    alloc: Global,
+    keyed: Keyed,
+    ids: &Vec<u32>,
+    rule: &Q,
+    row: &R,
+) -> Result<(IndexSet<u32, Keyed>, Option<u64>), OutOfMemory>
+    requires { Rises ids.now.items }
+    ensures first { (before : List R) → ids.now.items ≡ map Q.key before →
+        IfOk result (λ found.
+        found.1 ≡ first_row (λ r. nat_eq (Q.key row.now) (Q.key r)) before) }
+    ensures noted { (before : List R) → ids.now.items ≡ map Q.key before →
+        IfOk result (λ found.
+        found.1 ≡ None → found.0.keys ≡ map Q.key (before ++ row.now ∷ [])) }
+{
+    let mut set = hashed(alloc, keyed, ids.as_slice(), ids.capacity())?;
+    let first = note(&mut set, rule, row)?;
+    Ok((set, first))
+}
+
 impl RowIds {
     /// No ids, with room for a number of them.
     pub(crate) fn with_room(alloc: Global, room: usize) -> Result<RowIds, OutOfMemory>
@@ -147,8 +169,7 @@ impl RowIds {
                 if add_rising(ids, rule.key_of(row))? {
                     return Ok(None);
                 }
-                let mut set = hashed(alloc, keyed, ids.as_slice(), ids.capacity())?;
-                let first = note(&mut set, rule, row)?;
+                let (set, first) = note_hashed(alloc, keyed, ids, rule, row)?;
                 self.way = Way::Hashed(set);
                 Ok(first)
             }

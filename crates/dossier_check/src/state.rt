@@ -7,11 +7,11 @@ ghost use Rattle.dossier_check.specs.Outcome.{AnswersFault};
 
 use crate::noted::{note_first, row_of};
 use crate::row_ids::RowIds;
-use crate::row_tests::{NamesUnknown, NoTest, Repeats, RowTest, Then};
+use crate::row_tests::{NamesUnknown, NoTest, RepeatsId, RowTest, Then};
 use crate::rules::ItsWish;
 use crate::scan::scan;
 use admit_core::{InFault, OutOfMemory, Reason, Slot, StateRow, Status, Tables};
-use indexmap::{IndexMap, IndexSet};
+use indexmap::IndexMap;
 use keyed_hash::Keyed;
 use std::alloc::Global;
 
@@ -77,17 +77,18 @@ pub(crate) fn check_state<'a>(
     keyed: Keyed,
     tables: &'a Tables,
     wishes: &'a RowIds,
-) -> Result<IndexSet<u32, Keyed>, InFault>
+) -> Result<RowIds, InFault>
     requires wishes { wishes.now.keys ≡ wish_ids tables.now }
     requires small { length tables.now.state < 2 ^ 32 }
     ensures fault { AnswersFault result (first_in slots.State (state_tests tables.now) tables.now.state) }
     ensures wishes { IfOk result (λ stated. stated.keys ≡ map (λ s. s.wish) tables.now.state) }
 {
     let rows = tables.state.as_slice();
-    let stated = IndexSet::with_capacity_and_hasher(alloc, rows.len(), keyed)?;
     let mut checks = Then {
-        first: Repeats {
-            keys: stated,
+        first: RepeatsId {
+            alloc,
+            keyed,
+            ids: RowIds::with_room(alloc, rows.len())?,
             rule: ItsWish,
         },
         rest: Then {
@@ -107,5 +108,5 @@ pub(crate) fn check_state<'a>(
         },
     };
     scan(Slot::State, &mut checks, rows)?;
-    Ok(checks.first.into_keys())
+    Ok(checks.first.ids)
 }
