@@ -19,6 +19,12 @@ pub no_refusal : {T E : Type 0} (P : Type 0) (r : Result T E) {b : Bool} → b �
 no_refusal P (Ok x) is none = tt
 no_refusal P (Err e) is none = absurd (false≢true (sym none ∙ is))
 
+-- a day that is recorded so came about
+pub done_so : (terms : Option Terms) (orders : List CallOrder) (ceilings : List ℕ) (day : ℕ) (before after : Moment) (found done : DayRecord) → found ≡ done
+    → IsDayDone terms orders ceilings day before done after → IsDayDone terms orders ceilings day before found after
+done_so terms orders ceilings day before after found done same is =
+    subst (λ (d : DayRecord). IsDayDone terms orders ceilings day before d after) (sym same) is
+
 -- the evenings of the desk do not matter
 module _ (terms : Option Terms) (orders : List CallOrder) (ceilings : List ℕ) (day : ℕ) where
   abbrev at : State → State → State → List ℕ → (List ℕ → List ℕ → ℕ) → Moment

@@ -1,5 +1,5 @@
 -- A later pass of a day opens where all have been answered for: only those with an offer are answered for, and change.
-use Rattle.std.proofs.Common.{ℕ, ◌<◌, ◌≡◌, true, false, List, map, length, inl, inr, refl, sym, ◌∙◌, ap, subst}
+use Rattle.std.proofs.Common.{ℕ, ◌<◌, ◌≡◌, false, List, map, length, inl, inr, refl, sym, ◌∙◌, ap, subst}
 use Rattle.std.specs.Prelude.{All, if◌then◌else◌}
 use Rattle.std.proofs.lemmas.Bool.{cases_Bool, false≢true}
 use Rattle.admit_core.specs.declared.ranking.CallOrder.{CallOrder}

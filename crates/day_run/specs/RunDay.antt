@@ -1,10 +1,13 @@
 -- How a day ends: it came about, or the first answer that does not fit is refused, or memory ran out.
-use Rattle.std.specs.Prelude.{◌≡◌, ◌≤◌, ℕ, ◌+◌, List, length, ◌++◌, All, Option, Result, IfOk, IfErr, OnErr, ⊤}
+use Rattle.std.specs.Prelude.{◌≡◌, ◌≤◌, ℕ, ◌+◌, List, length, map, ◌++◌, All, Option, Result, IfOk, IfErr, OnErr, ⊤}
+use Rattle.std.specs.List.{range_with_len}
 use Rattle.admit_core.specs.declared.ranking.CallOrder.{CallOrder}
 use Rattle.admit_core.specs.declared.records.DayRecord.{DayRecord}
+use Rattle.admit_core.specs.declared.records.Lapse.{Lapse}
+use Rattle.admit_core.specs.declared.records.PassEnd.{PassEnd}
 use Rattle.admit_core.specs.declared.records.Terms.{Terms}
 use Rattle.admit_core.specs.declared.state.Mark.{Mark}
-use Rattle.admit_core.specs.State.{State}
+use Rattle.admit_core.specs.State.{State, free_beds, seats_left}
 use Rattle.admit_core.specs.Days.{IsDay, morning, unfit_on}
 use Rattle.day_run.specs.AnswersOn.{IsUnfitOf}
 use Rattle.day_run.specs.DayLaws.{KeepsLaws}
@@ -27,6 +30,16 @@ IsStampedBy last m = m.stamp.day ≤ last
 -- no mark of the evening is stamped later than on the day, or than all marks of the evening before
 abbrev pub KeepsStamps : ℕ → State → State → Type 0
 KeepsStamps day old evening = (last : ℕ) → day ≤ last → All (IsStampedBy last) old.marks → All (IsStampedBy last) evening.marks
+
+-- the record of a day that made these passes after these lapses, in its evening
+abbrev pub recorded : ℕ → List PassEnd → List Lapse → State → DayRecord
+recorded day passes lapsed evening = record {
+  day = day;
+  passes = passes;
+  left = map (seats_left evening) (range_with_len 0 (length evening.dossier.programmes));
+  free = map (free_beds evening) (range_with_len 0 (length evening.dossier.schools));
+  lapsed = lapsed;
+}
 
 -- a day that came about
 pub record IsDayDone (terms : Option Terms) (orders : List CallOrder) (ceilings : List ℕ) (day : ℕ) (before : Moment) (done : DayRecord) (after : Moment) : Type 0 where

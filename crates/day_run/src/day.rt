@@ -10,11 +10,11 @@ ghost use Rattle.linked_demand.specs.Lineups.{IsLineupOf};
 
 use crate::answers_on::answer;
 use crate::desk::Desk;
-use crate::evening::{all_beds_left, all_seats_left};
+use crate::evening::record_day;
 use crate::lapses::lapse_offers;
 use crate::passes::make_passes;
 use crate::refusal::DayRefusal;
-use admit_core::{CallOrders, DayRecord, Sequence, Terms};
+use admit_core::{CallOrders, DayRecord, Terms};
 use bar_fixpoint::Picker;
 use day_state::DayState;
 use linked_demand::Lineup;
@@ -161,13 +161,6 @@ fn play<'d>(
     let lapsed = lapse_offers(alloc, state, terms, day)?;
     answer(state, day)?;
     let passes = make_passes(alloc, opening, state, orders, lineup, ceilings, day, picker)?;
-    let left = all_seats_left(alloc, state)?;
-    let free = all_beds_left(alloc, state)?;
-    Ok(DayRecord {
-        day,
-        passes: Sequence::from_vec(passes),
-        left,
-        free,
-        lapsed: Sequence::from_vec(lapsed),
-    })
+    let done = record_day(alloc, state, day, passes, lapsed)?;
+    Ok(done)
 }

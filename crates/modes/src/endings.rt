@@ -1,11 +1,22 @@
 //! How a run ends after its days, by its mode.
-ghost use Rattle.std.specs.Prelude.{◌≡◌, ◌≢◌, All, IfOk, IsSome, None, Ok, Err, option_copied};
-ghost use Rattle.modes.specs.Endings.{CanBeEnded, CanEnd, EndsAfter, EndsLent, IsDoneWith, IsEndOf, IsRefusedWith, led_by, lines_before};
+ghost use Rattle.std.specs.Prelude.{◌≡◌, ◌<◌, All, IfOk, IfSome, IsSome, IsTrue, None, Ok, Err, length, option_copied};
+ghost use Rattle.admit_core.specs.CallOrder.{AreCallOrders};
+ghost use Rattle.admit_core.specs.Days.{first_evening};
+ghost use Rattle.admit_core.specs.Lists.{is_among};
+ghost use Rattle.certificate.specs.ChainText.{IsDayOf, chain_text};
+ghost use Rattle.certificate.specs.Checked.{ids_in};
+ghost use Rattle.intake.specs.Dated.{AreDatedFor};
+ghost use Rattle.modes.specs.Blocked.{blocked_text};
+ghost use Rattle.modes.specs.Checking.{IsChecked};
+ghost use Rattle.modes.specs.Endings.{CanBeEnded, CanEnd, EndsAfter, EndsLent, IsDoneSaying, IsDoneWith, IsEndOf, IsRefusedWith, led_by, lines_before};
+ghost use Rattle.modes.specs.Explained.{IsExplained};
 ghost use Rattle.modes.specs.Jobs.{seen_by};
+ghost use Rattle.modes.specs.Order.{orders_text};
 ghost use Rattle.modes.specs.Replay.{CanBeDated, CanBeWritten, replay_text};
+ghost use Rattle.played.specs.LastDays.{IsDeskAfter};
 ghost use Rattle.played.specs.Lent.{AreThere, choice_in, standing, told_in};
+ghost use Rattle.report.specs.SampleText.{sample_text};
 ghost use Rattle.request.specs.Modes.{picks_after};
-ghost use Rattle.request.specs.declared.modes.Mode.TheVariants.{Replay};
 
 use crate::beds::school_text;
 use crate::blocked::blocked_text;
@@ -18,7 +29,7 @@ use crate::market::matched_text;
 use crate::order::orders_text;
 use crate::replay::{days_text, replay_text};
 use crate::reply::Reply;
-use admit_core::{CallOrders, DayRecord, OutOfMemory, Refusal};
+use admit_core::{CallOrders, DayRecord, Dossier, OutOfMemory, Refusal};
 use bar_fixpoint::Picker;
 use certificate::write_chain;
 use intake::{DatedTerms, Input};
@@ -67,46 +78,110 @@ fn replayed(
     Ok(done(text))
 }
 
-/// How each other mode ends that asks no picker once its days have led to a desk.
-fn ended(
-    alloc: Global,
-    request: &Request,
-    input: &Input,
-    dated: Option<&DatedTerms>,
-    led: &Led<'_>,
-) -> Result<Reply, OutOfMemory>
-    requires alone { picks_after request.now.mode request.now.days ≡ None }
-    requires other { request.now.mode ≢ Replay }
-    requires can { CanBeEnded
-        (seen_by request.now input.now (option_copied dated)) (led_by led.now) led.now.desk }
-    ensures { IfOk result (λ reply. IsEndOf request.now.mode
-        (seen_by request.now input.now (option_copied dated.entry)) (led_by led.now)
-        led.now.desk reply.exit reply.text.items) }
+/// How the mode `order` ends, for which the days count for nothing.
+fn ordered(alloc: Global, dossier: &Dossier, led: Led<'_>) -> Result<Reply, OutOfMemory>
+    ensures { IfOk result (λ reply. IsDoneWith
+        (orders_text dossier.now.groups led.entry.orders.orders)
+        reply.exit reply.text.items) }
 {
-    let Led { orders, days, desk } = led;
+    let orders = led.into_orders();
     let called = orders.orders.as_slice();
-    let records = days.as_slice();
-    let dossier = &input.dossier;
-    match request.mode {
-        Mode::Order => Ok(done(orders_text(alloc, dossier.groups.as_slice(), called)?)),
-        Mode::Chain => Ok(done(write_chain(alloc, dossier, records)?)),
-        Mode::Check => checked(alloc, input, dated, orders, desk.now()),
-        Mode::Explain { wish } => {
-            let text = explained_text(alloc, input, orders, records, desk, wish)?;
-            Ok(done(text))
-        }
-        Mode::Envy => Ok(done(blocked_text(alloc, desk.now(), orders)?)),
-        // These end by `replayed`, or are lent a picker.
-        Mode::Replay | Mode::Beds { .. } | Mode::Market => unreachable!(),
-        Mode::Sample { number } => {
-            let wishes = dossier.wishes.len() as u32;
-            Ok(done(sample_text(alloc, number, wishes, records, desk.now())?))
-        }
-    }
+    Ok(done(orders_text(alloc, dossier.groups.as_slice(), called)?))
 }
 
-/// How each mode ends that asks no picker once its days have led to a desk.
-fn ended_alone(
+/// How the mode `chain` ends. The desk is given up before the text is made.
+fn chained(alloc: Global, dossier: &Dossier, led: Led<'_>) -> Result<Reply, OutOfMemory>
+    requires { All (IsDayOf dossier.now) led.days.items }
+    ensures { IfOk result (λ reply. IsDoneWith
+        (chain_text dossier.now led.entry.days.items)
+        reply.exit reply.text.items) }
+{
+    let days = led.into_days();
+    Ok(done(write_chain(alloc, dossier, days.as_slice())?))
+}
+
+/// How the mode `check` ends, whose desk is the first one.
+fn tested(
+    alloc: Global,
+    input: &Input,
+    dated: Option<&DatedTerms>,
+    led: Led<'_>,
+) -> Result<Reply, OutOfMemory>
+    requires index { input.now.index ≡ ids_in input.now.dossier }
+    requires dated { IfSome (option_copied dated) (AreDatedFor input.now.dossier) }
+    requires orders { AreCallOrders input.now.dossier.groups led.orders.orders }
+    requires first { led.desk.present ≡ first_evening input.now.dossier }
+    ensures { IfOk result (λ reply. IsChecked
+        input.now.dossier input.now.chain (option_copied dated.entry) led.entry.orders.orders
+        reply.exit reply.text.items) }
+{
+    let Led {
+        orders,
+        days: _,
+        desk,
+    } = led;
+    let first = desk.into_now();
+    checked(alloc, input, dated, &orders, &first)
+}
+
+/// How the mode `explain` ends, which needs the opening of the last pass too.
+fn explained(alloc: Global, input: &Input, led: &Led<'_>, wish: u32) -> Result<Reply, OutOfMemory>
+    requires named { IsTrue (is_among wish input.now.index.wishes) }
+    requires some_day { 0 < length led.now.days.items }
+    requires desk { IsDeskAfter
+        input.now.dossier led.now.orders.orders led.now.days.items led.now.desk }
+    ensures { IfOk result (λ reply. IsDoneSaying
+        (IsExplained input.now.dossier input.now.index led.now.orders.orders led.now.days.items
+        led.now.desk wish)
+        reply.exit reply.text.items) }
+{
+    let Led { orders, days, desk } = led;
+    let text = explained_text(alloc, input, orders, days.as_slice(), desk, wish)?;
+    Ok(done(text))
+}
+
+/// How the mode `envy` ends.
+fn envied(alloc: Global, led: Led<'_>) -> Result<Reply, OutOfMemory>
+    requires { AreCallOrders led.desk.present.dossier.groups led.orders.orders }
+    ensures { IfOk result (λ reply. IsDoneWith
+        (blocked_text led.entry.desk.present led.entry.orders.orders)
+        reply.exit reply.text.items) }
+{
+    let Led {
+        orders,
+        days: _,
+        desk,
+    } = led;
+    let state = desk.into_now();
+    Ok(done(blocked_text(alloc, &state, &orders)?))
+}
+
+/// How the mode `sample` ends, of so many candidates.
+fn sampled(
+    alloc: Global,
+    dossier: &Dossier,
+    number: u32,
+    led: Led<'_>,
+) -> Result<Reply, OutOfMemory>
+    ensures { IfOk result (λ reply. IsDoneWith
+        (sample_text number (length dossier.now.wishes)
+        led.entry.days.items led.entry.desk.present)
+        reply.exit reply.text.items) }
+{
+    let Led {
+        orders: _,
+        days,
+        desk,
+    } = led;
+    let state = desk.into_now();
+    let wishes = dossier.wishes.len() as u32;
+    let text = sample_text(alloc, number, wishes, days.as_slice(), &state)?;
+    Ok(done(text))
+}
+
+/// How each mode ends that asks no picker once its days have led to a desk. What its text does not
+/// need of the desk is given up before.
+fn ended(
     alloc: Global,
     request: &Request,
     input: &Input,
@@ -121,8 +196,15 @@ fn ended_alone(
         led.entry.desk reply.exit reply.text.items) }
 {
     match request.mode {
+        Mode::Order => ordered(alloc, &input.dossier, led),
         Mode::Replay => replayed(alloc, input, dated, led),
-        _ => ended(alloc, request, input, dated, &led),
+        Mode::Chain => chained(alloc, &input.dossier, led),
+        Mode::Check => tested(alloc, input, dated, led),
+        Mode::Explain { wish } => explained(alloc, input, &led, wish),
+        Mode::Envy => envied(alloc, led),
+        // These are lent a picker.
+        Mode::Beds { .. } | Mode::Market => unreachable!(),
+        Mode::Sample { number } => sampled(alloc, &input.dossier, number, led),
     }
 }
 
@@ -242,7 +324,7 @@ fn ended_by(
         (standing (λ p. told p) (λ p. choice p) pickers.old) (standing (λ p. told p) (λ p. choice p) pickers.new) result }
 {
     match picker_after(request) {
-        None => ended_alone(alloc, request, input, dated, led),
+        None => ended(alloc, request, input, dated, led),
         Some(PickerName::First) => {
             ended_lent(alloc, request, input, dated, &led, &mut pickers.first)
         }

@@ -4,6 +4,7 @@ ghost use Rattle.report.specs.DayText.{IsFallOf, IsLapseOf, IsPassOf, auto_line,
 
 use crate::date::DateWord;
 use crate::ids::{push_numbers, school_id, wish_id};
+use crate::number::push_number;
 use admit_core::{Change, DayRecord, Dossier, Fall, Lapse, OutOfMemory, PassEnd, Terms};
 use calendar::{Civil, deadline, on_day};
 use std::alloc::{AllocError, Global};
@@ -33,14 +34,38 @@ pub fn push_falls(text: &mut String, dossier: &Dossier, falls: &[Fall]) -> Resul
     Ok(())
 }
 
+/// Adds the line of the offer of a wish.
+fn push_offer(text: &mut String, dossier: &Dossier, wish: u32) -> Result<(), AllocError>
+    requires { wish < length dossier.now.wishes }
+    ensures { OnOk result
+        (string_bytes text.new ≡ string_bytes text.old ++ offer_line dossier.now wish) }
+{
+    text.push_str("offer ")?;
+    push_number(text, wish_id(dossier, wish))?;
+    text.push_str("\n")
+}
+
 /// Adds the lines of the offers of wishes.
 fn push_offers(text: &mut String, dossier: &Dossier, offers: &[u32]) -> Result<(), AllocError>
     requires { All (λ w. w < length dossier.now.wishes) offers.now }
     ensures { OnOk result (string_bytes text.new ≡ string_bytes text.old ++ flat_map (offer_line dossier.now) offers.now) }
 {
     for wish in offers {
-        writeln!(text, "offer {}", wish_id(dossier, *wish))?;
+        push_offer(text, dossier, *wish)?;
     }
+    Ok(())
+}
+
+/// Adds the line of a change that an automatic answer made.
+fn push_auto(text: &mut String, dossier: &Dossier, change: Change) -> Result<(), AllocError>
+    requires { change.wish < length dossier.now.wishes }
+    ensures { OnOk result
+        (string_bytes text.new ≡ string_bytes text.old ++ auto_line dossier.now change) }
+{
+    let status = change.status;
+    text.push_str("auto ")?;
+    push_number(text, wish_id(dossier, change.wish))?;
+    writeln!(text, " {status}")?;
     Ok(())
 }
 
@@ -50,8 +75,7 @@ fn push_autos(text: &mut String, dossier: &Dossier, autos: &[Change]) -> Result<
     ensures { OnOk result (string_bytes text.new ≡ string_bytes text.old ++ flat_map (auto_line dossier.now) autos.now) }
 {
     for change in autos {
-        let status = change.status;
-        writeln!(text, "auto {} {status}", wish_id(dossier, change.wish))?;
+        push_auto(text, dossier, *change)?;
     }
     Ok(())
 }

@@ -1,14 +1,28 @@
 //! The lines of the final state.
-ghost use Rattle.std.specs.Prelude.{◌≡◌, ◌<◌, ◌++◌, IfOk, OnOk, length, string_bytes};
+ghost use Rattle.std.specs.Prelude.{◌≡◌, ◌<◌, ◌++◌, ◌∷◌, [], IfOk, OnOk, length, string_bytes};
+ghost use Rattle.std.specs.Fmt.{decimal};
+ghost use Rattle.admit_core.specs.Lines.{status_word};
 ghost use Rattle.report.specs.FinalText.{HasDate, HasDates, dated_row, final_dated_text, final_text, offer_day_at};
 ghost use Rattle.report.specs.DayText.{date_on};
+ghost use Rattle.report.specs.Words.{row};
 ghost use Rattle.calendar.specs.Dates.{IsCivil};
 
 use crate::date::DateWord;
+use crate::number::push_number;
 use admit_core::{OutOfMemory, Status, Terms, Wish};
 use calendar::{Civil, on_day};
 use day_state::DayState;
 use std::alloc::{AllocError, Global};
+
+/// Adds the row of a wish with its status.
+fn push_row(text: &mut String, id: u32, status: Status) -> Result<(), AllocError>
+    ensures { OnOk result (string_bytes text.new
+        ≡ string_bytes text.old ++ row (decimal id ∷ status_word status ∷ [])) }
+{
+    push_number(text, id)?;
+    writeln!(text, ",{status}")?;
+    Ok(())
+}
 
 /// Adds the final state: each wish with its status. What follows the first line is a state slot.
 pub fn push_final(text: &mut String, state: &DayState<'_>) -> Result<(), AllocError>
@@ -17,9 +31,8 @@ pub fn push_final(text: &mut String, state: &DayState<'_>) -> Result<(), AllocEr
     let wishes = state.dossier().wishes.as_slice();
     text.push_str("final\nwish,status\n")?;
     for (place, wish) in wishes.iter().enumerate() {
-        let id = wish.id;
         let status = state.status(place as u32);
-        writeln!(text, "{id},{status}")?;
+        push_row(text, wish.id, status)?;
     }
     Ok(())
 }

@@ -1,7 +1,10 @@
 //! Ids in place of places.
-ghost use Rattle.std.specs.Prelude.{◌≡◌, ◌++◌, ◌<◌, ℕ, OnOk, length, string_bytes};
+ghost use Rattle.std.specs.Prelude.{◌≡◌, ◌++◌, ◌<◌, ◌∷◌, [], ℕ, OnOk, length, string_bytes};
+ghost use Rattle.std.specs.Fmt.{decimal};
 ghost use Rattle.report.specs.Ids.{numbers_text, school_id, wish_id};
+ghost use Rattle.report.specs.Words.{line};
 
+use crate::number::push_number;
 use admit_core::{Dossier, Programme, School};
 use std::alloc::AllocError;
 
@@ -45,6 +48,19 @@ pub(crate) fn school_id(dossier: &Dossier, place: u32) -> u32
     dossier.schools.as_slice()[place as usize].id
 }
 
+/// Adds a line of a word and two numbers.
+fn push_line(text: &mut String, word: &str, id: u32, number: u32) -> Result<(), AllocError>
+    ensures { OnOk result (string_bytes text.new
+        ≡ string_bytes text.old ++ line (word.now ∷ decimal id ∷ decimal number ∷ [])) }
+{
+    text.push_str(word)?;
+    text.push_str(" ")?;
+    push_number(text, id)?;
+    text.push_str(" ")?;
+    push_number(text, number)?;
+    text.push_str("\n")
+}
+
 /// Adds a line for each item with its number: a word, the id and the number.
 pub(crate) fn push_numbers<T: HasId>(
     text: &mut String,
@@ -55,8 +71,7 @@ pub(crate) fn push_numbers<T: HasId>(
     ensures { OnOk result (string_bytes text.new ≡ string_bytes text.old ++ numbers_text T.id_of word.now items.now numbers.now) }
 {
     for (item, number) in items.iter().zip(numbers) {
-        let id = item.id();
-        writeln!(text, "{word} {id} {number}")?;
+        push_line(text, word, item.id(), *number)?;
     }
     Ok(())
 }

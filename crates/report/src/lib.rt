@@ -9,6 +9,7 @@ mod day;
 mod explanation;
 mod final_state;
 mod ids;
+mod number;
 mod order;
 mod refusal;
 mod sample;

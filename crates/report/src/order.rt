@@ -2,7 +2,7 @@
 ghost use Rattle.std.specs.Prelude.{◌≡◌, ◌++◌, IfOk, OnOk, string_bytes};
 ghost use Rattle.report.specs.OrderText.{order_text};
 
-use crate::words::push_words;
+use crate::words::{push_list, push_words};
 use admit_core::{CallOrder, OutOfMemory};
 use std::alloc::{AllocError, Global};
 
@@ -12,7 +12,7 @@ pub fn push_order(text: &mut String, id: u32, order: &CallOrder) -> Result<(), A
         (string_bytes text.new ≡ string_bytes text.old ++ order_text id order.now) }
 {
     write!(text, "order {id}:")?;
-    push_words(text, order.list.as_slice())?;
+    push_list(text, order.list.as_slice())?;
     write!(text, "rule {id}:")?;
     push_words(text, order.trace.as_slice())?;
     Ok(())

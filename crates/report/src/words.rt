@@ -1,7 +1,9 @@
 //! Words of a line.
 ghost use Rattle.std.specs.Prelude.{◌≡◌, ◌++◌, List, ℕ, OnOk, map, string_bytes};
+ghost use Rattle.std.specs.Fmt.{decimal};
 ghost use Rattle.report.specs.Words.{IsPrintedAs, further};
 
+use crate::number::push_number;
 use std::alloc::AllocError;
 use std::fmt::Display;
 
@@ -12,6 +14,19 @@ pub(crate) fn push_words<D: Display>(text: &mut String, words: &[D]) -> Result<(
 {
     for word in words {
         write!(text, " {word}")?;
+    }
+    text.push_str("\n")?;
+    Ok(())
+}
+
+/// Adds each number after a space, and ends the line.
+pub(crate) fn push_list(text: &mut String, numbers: &[u32]) -> Result<(), AllocError>
+    ensures { OnOk result (string_bytes text.new
+        ≡ string_bytes text.old ++ further 32 (map decimal numbers.now)) }
+{
+    for number in numbers {
+        text.push_str(" ")?;
+        push_number(text, *number)?;
     }
     text.push_str("\n")?;
     Ok(())

@@ -193,7 +193,7 @@ fn request_in(matches: &ArgMatches<'_>) -> Result<Request, BadWords>
     })
 }
 
-/// Bad words, but for want of memory.
+/// Bad words, unless memory ran out.
 fn refusal_of(kind: ErrorKind) -> WordsRefusal
     ensures { (result ≡ refusals.OutOfMemory) ↔ (kind ≡ kinds.OutOfMemory) }
 {

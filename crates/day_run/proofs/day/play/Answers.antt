@@ -1,8 +1,9 @@
 use Rattle.std.proofs.Common.{◌∙◌, refl, subst, rules}
 use Rattle.std.specs.Option.{option_copied}
-use Rattle.admit_core.specs.declared.records.DayRecord.{DayRecord}
 use Rattle.admit_core.specs.Days.{IsDay}
 use Rattle.admit_core.specs.Validity.{IsValid}
+use Rattle.day_run.specs.RunDay.{recorded}
+use Rattle.day_run.proofs.DayEnds.{done_so}
 use Rattle.day_run.proofs.DayLaws.{laws_kept}
 use Rattle.day_run.proofs.DayPlaces.{day_in}
 use Rattle.day_run.proofs.Stamps.{stamps_kept}
@@ -15,10 +16,10 @@ returns-clause-done g c =
     let orders = c.args.orders.now.orders in
     let ceilings = c.args.ceilings.now in
     let evening = c.make_passes.new.state in
-    let done : DayRecord = record { day = c.args.day; passes = c.from_vec.result; left = c.in_ok-left.left; free = c.in_ok-free.free; lapsed = c.from_vec-2.result } in
+    let done = recorded c.args.day c.in_ok-passes.passes.items c.in_ok-lapsed.lapsed.items evening in
     let valid : IsValid s.dossier = subst IsValid (c.behind-state.view_is ∙ c.dossier.ensures) c.behind-state.invariant in
     let is : IsDay terms orders ceilings s done evening = search rules in
-    record {
+    done_so _ _ _ _ _ _ _ done c.in_ok-done.ensures (record {
       number = refl;
       is_day = is;
       laws = laws_kept terms orders ceilings s done evening valid c.requires.orders c.requires.ceilings is;
@@ -28,4 +29,4 @@ returns-clause-done g c =
       stamps = stamps_kept terms orders ceilings s done evening is;
       told = search rules;
       chosen = search rules;
-    }
+    })

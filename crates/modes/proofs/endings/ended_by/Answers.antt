@@ -5,7 +5,7 @@ use Rattle.modes.proofs.Lending.{ends_lent, ends_unlent}
 use Rattle.modes.proofs.endings.ended_by.Goals as goal
 
 pub returns-in-None-clause-ends : goal.returns-in-None-clause-ends
-returns-in-None-clause-ends g c = ends_unlent _ _ _ _ c.ended_alone.result c.in-None.ensures c.ended_alone.ensures
+returns-in-None-clause-ends g c = ends_unlent _ _ _ _ c.ended.result c.in-None.ensures c.ended.ensures
 
 pub returns-in-Some-First-clause-ends : goal.returns-in-Some-First-clause-ends
 returns-in-Some-First-clause-ends g c =

@@ -10,7 +10,7 @@ loop-place-preserved c =
     let wishes = c.as_slice-wishes.result.now in
     let none : Wish = record { id = 0; candidate = 0; programme = 0; school = None; board_rank = 0; preference = 0 } in
     rw (
-      c.in_ok-writeln.ensures.bytes,
+      c.in_ok-push_row.ensures,
       c.loop-place.invariant,
       c.status-status.ensures,
       lines_more (status_row c.args.state.now) 0 wishes k k none (omega arith) (omega arith),
