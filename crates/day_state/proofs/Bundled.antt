@@ -246,10 +246,9 @@ pub record HasNumber (numbers : List Number) (live : List ℕ) (k : ℕ) : Type 
   pub place : k < length numbers
   pub number : ForSome (count_of (number_at numbers k)) (λ n. n < length live)
 
-pub has_number : (sites : Sites) (s : State) (numbers : List Number) (live : List ℕ) (k : ℕ)
-    → length s.marks ≡ length s.dossier.wishes → k < length s.marks
-    → IsBundled sites s numbers live → HasNumber numbers live k
-has_number sites s numbers live k long lt bundled = record {
+pub has_number : {sites : Sites} {s : State} {numbers : List Number} {live : List ℕ} {k : ℕ}
+    → IsBundled sites s numbers live → length s.marks ≡ length s.dossier.wishes → k < length s.marks → HasNumber numbers live k
+has_number {sites} {s} {numbers} {live} {k} bundled long lt = record {
   place = omega (arith, long, lt, numbers_long sites s numbers live bundled);
   number = number_within sites s numbers live k long lt bundled;
 }
@@ -260,13 +259,14 @@ pub record CanTurn (numbers : List Number) (live : List ℕ) (k : ℕ) (was live
   pub comes : ForSome (count_of (number_at numbers k)) (λ n. slice_index live n + one_if lives < 4294967296)
   pub goes : ForSome (count_of (number_at numbers k)) (λ n. one_if was ≤ slice_index live n + one_if lives)
 
-pub can_turn : (sites : Sites) (s : State) (numbers : List Number) (live : List ℕ) (k : ℕ) (m : Mark) (was lives : Bool)
-    → length s.marks ≡ length s.dossier.wishes → k < length s.marks → length s.dossier.wishes ≤ 16000000 → IsBundled sites s numbers live
-    → was ≡ is_live (mark_in s.marks k) → lives ≡ is_live m → CanTurn numbers live k was lives
-can_turn sites s numbers live k m was lives long lt short bundled was_is lives_is =
+pub can_turn : {sites : Sites} {s : State} {numbers : List Number} {live : List ℕ} {k : ℕ} {was lives : Bool}
+    → IsBundled sites s numbers live → length s.marks ≡ length s.dossier.wishes → k < length s.marks
+    → length s.dossier.wishes ≤ 16000000 → (m : Mark) → was ≡ is_live (mark_in s.marks k) → lives ≡ is_live m
+    → CanTurn numbers live k was lives
+can_turn {sites} {s} {numbers} {live} {k} bundled long lt short m was_is lives_is =
     let fits = bundle_fits sites s numbers live k m long lt short bundled in
     record {
-      has = has_number sites s numbers live k long lt bundled;
+      has = has_number bundled long lt;
       comes = rw lives_is (λ n e. (fits n e).comes);
       goes = rw (was_is, lives_is) (λ n e. (fits n e).goes);
     }
@@ -340,10 +340,10 @@ has_live_is sites s numbers live k long lt bundled =
     ∙ sym (any-map holds (entry_in s) (range_with_len 0 (length ws)))
     ∙ ap (list_any holds) (sym (entries_by_place s long))
 
-pub has_seat_is : (s : State) (numbers : List Number) (live : List ℕ) (k : ℕ)
-    → length s.marks ≡ length s.dossier.wishes → k < length s.marks
-    → IsBundled Programmes s numbers live → has_live live (number_at numbers k) (is_live (mark_in s.marks k)) ≡ has_seat_there s k
-has_seat_is s numbers live k long lt bundled = has_live_is Programmes s numbers live k long lt bundled
+pub has_seat_is : {s : State} {numbers : List Number} {live : List ℕ} {k : ℕ}
+    → IsBundled Programmes s numbers live → length s.marks ≡ length s.dossier.wishes → k < length s.marks
+    → has_live live (number_at numbers k) (is_live (mark_in s.marks k)) ≡ has_seat_there s k
+has_seat_is {s} {numbers} {live} {k} bundled long lt = has_live_is Programmes s numbers live k long lt bundled
 
 -- a live wish at the site of another one, where that may have none
 in_its_school : (s : State) (c : ℕ) (o : Option ℕ) → holds_one (λ v. is_same o v.school) s c ≡ holds_bed_in s c o
@@ -352,10 +352,10 @@ in_its_school s c None =
     (λ e. and_right (is_live e.1 && (e.0.candidate == c)) false refl) (entries s)
 in_its_school s c (Some h) = refl
 
-pub has_bed_is : (s : State) (numbers : List Number) (live : List ℕ) (k : ℕ)
-    → length s.marks ≡ length s.dossier.wishes → k < length s.marks → IsBundled Schools s numbers live
+pub has_bed_is : {s : State} {numbers : List Number} {live : List ℕ} {k : ℕ}
+    → IsBundled Schools s numbers live → length s.marks ≡ length s.dossier.wishes → k < length s.marks
     → has_live live (number_at numbers k) (is_live (mark_in s.marks k)) ≡ has_bed_there s k
-has_bed_is s numbers live k long lt bundled =
+has_bed_is {s} {numbers} {live} {k} bundled long lt =
     let w = wish_in s.dossier.wishes k in
     has_live_is Schools s numbers live k long lt bundled ∙ in_its_school s w.candidate w.school
 
@@ -398,22 +398,6 @@ keeps_waiting d = record {
   schools = bundled_waiting Schools d;
 }
 
--- all counts after a change of one mark
-pub keeps_changed : (d : DossierRows) (marks : List Mark) (seats beds : List ℕ) (of_programmes : List Number)
-    (in_programmes : List ℕ) (of_schools : List Number) (in_schools : List ℕ) (wish : ℕ) (m : Mark)
-    → IsValid d → KeepsCounts (state_of d marks) seats beds of_programmes in_programmes of_schools in_schools → wish < length marks
-    → let s = state_of d marks in let new = with_mark_at s wish m in
-    KeepsCounts new
-    (recount seats (wish_in d.wishes wish).programme (has_seat_there s wish) (has_seat_there new wish))
-    (recount_some beds (wish_in d.wishes wish).school (has_bed_there s wish) (has_bed_there new wish))
-    of_programmes (recount_some in_programmes (count_of (number_at of_programmes wish)) (is_live (mark_in marks wish)) (is_live m))
-    of_schools (recount_some in_schools (count_of (number_at of_schools wish)) (is_live (mark_in marks wish)) (is_live m))
-keeps_changed d marks seats beds of_programmes in_programmes of_schools in_schools wish m valid keeps lt = record {
-  kept = kept_changed d marks seats beds wish m valid keeps.kept lt;
-  programmes = bundled_more Programmes (state_of d marks) of_programmes in_programmes wish m keeps.kept.marks lt keeps.programmes;
-  schools = bundled_more Schools (state_of d marks) of_schools in_schools wish m keeps.kept.marks lt keeps.schools;
-}
-
 -- what the counts of a bundle tell of its candidate in a state
 abbrev Tells : Sites → (State → ℕ → Bool) → List Number → ℕ → Type 0
 Tells sites there numbers k =
@@ -438,32 +422,40 @@ turned sites there s numbers live k m was lives had has after tells long lt bund
           ∙ tells (with_mark_at s k m) next (length-set s.marks k m ∙ long) (omega (arith, length-set s.marks k m, lt)) more),
     )
 
--- in a programme
-pub seat_turned : (d : DossierRows) (marks : List Mark) (seats beds : List ℕ) (of_programmes : List Number)
-    (in_programmes : List ℕ) (of_schools : List Number) (in_schools : List ℕ) (wish : ℕ) (m : Mark)
-    (was lives had has : Bool) (after : List ℕ)
-    → KeepsCounts (state_of d marks) seats beds of_programmes in_programmes of_schools in_schools → wish < length marks
-    → was ≡ is_live (mark_in marks wish) → lives ≡ is_live m
-    → after ≡ recount_some in_programmes (count_of (number_at of_programmes wish)) was lives
-    → had ≡ has_live in_programmes (number_at of_programmes wish) was → has ≡ has_live after (number_at of_programmes wish) lives
-    → (had ≡ has_seat_there (state_of d marks) wish) × (has ≡ has_seat_there (with_mark_at (state_of d marks) wish m) wish)
-seat_turned d marks seats beds of_programmes in_programmes of_schools in_schools wish m was lives had has after keeps
-    lt was_is lives_is after_is had_is has_is =
-    turned Programmes has_seat_there (state_of d marks) of_programmes in_programmes wish m was lives had has after
-    (λ s live. has_seat_is s of_programmes live wish)
-    keeps.kept.marks lt keeps.programmes was_is lives_is after_is had_is has_is
+-- where all counts are kept, and the mark of a wish becomes m
+module _ {d : DossierRows} {marks : List Mark} {seats beds : List ℕ} {of_programmes : List Number} {in_programmes : List ℕ}
+    {of_schools : List Number} {in_schools : List ℕ}
+    (keeps : KeepsCounts (state_of d marks) seats beds of_programmes in_programmes of_schools in_schools)
+    {wish : ℕ} (lt : wish < length marks) (m : Mark) where
+  -- all counts are right after the change
+  pub keeps_changed : IsValid d
+      → let s = state_of d marks in let new = with_mark_at s wish m in
+      let was = is_live (mark_in marks wish) in
+      KeepsCounts new
+      (recount seats (wish_in d.wishes wish).programme (has_seat_there s wish) (has_seat_there new wish))
+      (recount_some beds (wish_in d.wishes wish).school (has_bed_there s wish) (has_bed_there new wish))
+      of_programmes (recount_some in_programmes (count_of (number_at of_programmes wish)) was (is_live m))
+      of_schools (recount_some in_schools (count_of (number_at of_schools wish)) was (is_live m))
+  keeps_changed valid = record {
+    kept = kept_changed valid keeps.kept lt m;
+    programmes = bundled_more Programmes (state_of d marks) of_programmes in_programmes wish m keeps.kept.marks lt keeps.programmes;
+    schools = bundled_more Schools (state_of d marks) of_schools in_schools wish m keeps.kept.marks lt keeps.schools;
+  }
 
--- and in a school
-pub bed_turned : (d : DossierRows) (marks : List Mark) (seats beds : List ℕ) (of_programmes : List Number)
-    (in_programmes : List ℕ) (of_schools : List Number) (in_schools : List ℕ) (wish : ℕ) (m : Mark)
-    (was lives had has : Bool) (after : List ℕ)
-    → KeepsCounts (state_of d marks) seats beds of_programmes in_programmes of_schools in_schools → wish < length marks
-    → was ≡ is_live (mark_in marks wish) → lives ≡ is_live m
-    → after ≡ recount_some in_schools (count_of (number_at of_schools wish)) was lives
-    → had ≡ has_live in_schools (number_at of_schools wish) was → has ≡ has_live after (number_at of_schools wish) lives
-    → (had ≡ has_bed_there (state_of d marks) wish) × (has ≡ has_bed_there (with_mark_at (state_of d marks) wish m) wish)
-bed_turned d marks seats beds of_programmes in_programmes of_schools in_schools wish m was lives had has after keeps
-    lt was_is lives_is after_is had_is has_is =
-    turned Schools has_bed_there (state_of d marks) of_schools in_schools wish m was lives had has after
-    (λ s live. has_bed_is s of_schools live wish)
-    keeps.kept.marks lt keeps.schools was_is lives_is after_is had_is has_is
+  -- whether the candidate was live in the programme of the wish, and is
+  pub seat_turned : {was lives had has : Bool} {after : List ℕ} → was ≡ is_live (mark_in marks wish) → lives ≡ is_live m
+      → after ≡ recount_some in_programmes (count_of (number_at of_programmes wish)) was lives
+      → had ≡ has_live in_programmes (number_at of_programmes wish) was → has ≡ has_live after (number_at of_programmes wish) lives
+      → (had ≡ has_seat_there (state_of d marks) wish) × (has ≡ has_seat_there (with_mark_at (state_of d marks) wish m) wish)
+  seat_turned {was} {lives} {had} {has} {after} =
+      turned Programmes has_seat_there (state_of d marks) of_programmes in_programmes wish m was lives had has after
+      (λ s live long lt bundled. has_seat_is bundled long lt) keeps.kept.marks lt keeps.programmes
+
+  -- and in its school
+  pub bed_turned : {was lives had has : Bool} {after : List ℕ} → was ≡ is_live (mark_in marks wish) → lives ≡ is_live m
+      → after ≡ recount_some in_schools (count_of (number_at of_schools wish)) was lives
+      → had ≡ has_live in_schools (number_at of_schools wish) was → has ≡ has_live after (number_at of_schools wish) lives
+      → (had ≡ has_bed_there (state_of d marks) wish) × (has ≡ has_bed_there (with_mark_at (state_of d marks) wish m) wish)
+  bed_turned {was} {lives} {had} {has} {after} =
+      turned Schools has_bed_there (state_of d marks) of_schools in_schools wish m was lives had has after
+      (λ s live long lt bundled. has_bed_is bundled long lt) keeps.kept.marks lt keeps.schools

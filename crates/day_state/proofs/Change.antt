@@ -1,5 +1,5 @@
 -- What a change of one mark asks and gives, in the words of the code.
-use Rattle.std.proofs.Common.{ℕ, ◌+◌, ◌≤◌, ◌<◌, ◌≡◌, Bool, true, false, not, ◌&&◌, List, [], map, length, get_or, sym, ◌∙◌, arith, filter, Option, Some, None}
+use Rattle.std.proofs.Common.{ℕ, ◌+◌, ◌≤◌, ◌<◌, ◌≡◌, Bool, true, false, not, ◌&&◌, List, [], map, length, get_or, sym, ◌∙◌, ap, arith, filter, Option, Some, None}
 use Rattle.std.specs.Prelude.{slice_index, ◌==◌, All}
 use Rattle.std.proofs.lemmas.Option.{unwrap_or-slice_get}
 use Rattle.std.proofs.lemmas.List.{length-map, get_or_read}
@@ -11,7 +11,7 @@ use Rattle.std.specs.List.{range_with_len}
 use Rattle.admit_core.specs.declared.dossier.Wish.{Wish}
 use Rattle.admit_core.specs.declared.state.Mark.{Mark}
 use Rattle.admit_core.specs.DossierRows.{DossierRows, candidate_of}
-use Rattle.admit_core.specs.State.{State, has_school, with_mark_at, holds_seat, holds_bed}
+use Rattle.admit_core.specs.State.{State, is_live, has_school, with_mark_at, holds_seat, holds_bed}
 use Rattle.admit_core.specs.OwnWishes.{own_places}
 use Rattle.admit_core.specs.AutoAnswer.{freed_by}
 use Rattle.admit_core.specs.Validity.{IsValid, IsValidWish}
@@ -88,46 +88,40 @@ wish_valid d valid place lt =
 pub mark_read : (ms : List Mark) (k : ℕ) (x : Mark) → k < length ms → x ≡ get_or ms k x → mark_in ms k ≡ x
 mark_read ms k x lt is = unwrap_or-slice_get ms k (mark_in [] 0) ∙ sym (get_or_read ms k x lt is (mark_in [] 0))
 
-named_valid : (d : DossierRows) (marks : List Mark) (seats beds : List ℕ) (wish : ℕ) → IsValid d
-    → IsKept (state_of d marks) seats beds → wish < length marks → IsValidWish d (wish_in d.wishes wish)
-named_valid d marks seats beds wish valid kept lt = wish_valid d valid wish (omega (arith, kept.marks))
+pub live_read : (ms : List Mark) (k : ℕ) {x : Mark} {b : Bool} → k < length ms → x ≡ get_or ms k x → b ≡ is_live x
+    → b ≡ is_live (mark_in ms k)
+live_read ms k {x} lt is b_is = b_is ∙ ap is_live (sym (mark_read ms k x lt is))
 
--- the count of a wish's programme, and that of its school, before the mark of the wish becomes m
-pub seat_ready : (d : DossierRows) (marks : List Mark) (seats beds : List ℕ) (wish : ℕ) (m : Mark) → IsValid d
-    → IsKept (state_of d marks) seats beds → wish < length marks
-    → Fits seats (length d.programmes) (wish_in d.wishes wish).programme (has_seat_there (state_of d marks) wish)
-    (has_seat_there (with_mark_at (state_of d marks) wish m) wish)
-seat_ready d marks seats beds wish m valid kept lt =
-    seat_fits (state_of d marks) seats beds wish m kept lt valid.size.wishes (named_valid d marks seats beds wish valid kept lt).programme
+-- where the counts are kept, and the mark of a wish becomes m
+module _ {d : DossierRows} {marks : List Mark} {seats beds : List ℕ} {wish : ℕ} (valid : IsValid d)
+    (kept : IsKept (state_of d marks) seats beds) (lt : wish < length marks) (m : Mark) where
+  named_valid : IsValidWish d (wish_in d.wishes wish)
+  named_valid = wish_valid d valid wish (omega (arith, kept.marks))
 
-pub bed_ready : (d : DossierRows) (marks : List Mark) (seats beds : List ℕ) (wish : ℕ) (m : Mark) → IsValid d
-    → IsKept (state_of d marks) seats beds → wish < length marks
-    → ForSome (wish_in d.wishes wish).school
-    (λ h. Fits beds (length d.schools) h (has_bed_there (state_of d marks) wish)
-    (has_bed_there (with_mark_at (state_of d marks) wish m) wish))
-bed_ready d marks seats beds wish m valid kept lt =
-    bed_fits (state_of d marks) seats beds wish m kept lt valid.size.wishes (named_valid d marks seats beds wish valid kept lt).school
+  -- the count of the wish's programme, and that of its school, before the change
+  pub seat_ready : Fits seats (length d.programmes) (wish_in d.wishes wish).programme (has_seat_there (state_of d marks) wish)
+      (has_seat_there (with_mark_at (state_of d marks) wish m) wish)
+  seat_ready = seat_fits (state_of d marks) seats beds wish m kept lt valid.size.wishes named_valid.programme
 
--- the invariant after the change
-pub kept_changed : (d : DossierRows) (marks : List Mark) (seats beds : List ℕ) (wish : ℕ) (m : Mark) → IsValid d
-    → IsKept (state_of d marks) seats beds → wish < length marks
-    → let s = state_of d marks in let new = with_mark_at s wish m in
-    IsKept new
-    (recount seats (wish_in d.wishes wish).programme (has_seat_there s wish) (has_seat_there new wish))
-    (recount_some beds (wish_in d.wishes wish).school (has_bed_there s wish) (has_bed_there new wish))
-kept_changed d marks seats beds wish m valid kept lt =
-    let named = named_valid d marks seats beds wish valid kept lt in
-    kept_after (state_of d marks) seats beds wish m kept lt named.programme named.school
+  pub bed_ready : ForSome (wish_in d.wishes wish).school
+      (λ h. Fits beds (length d.schools) h (has_bed_there (state_of d marks) wish)
+      (has_bed_there (with_mark_at (state_of d marks) wish m) wish))
+  bed_ready = bed_fits (state_of d marks) seats beds wish m kept lt valid.size.wishes named_valid.school
 
--- what the change frees
-pub freed_changed : (d : DossierRows) (marks : List Mark) (seats beds : List ℕ) (wish : ℕ) (m : Mark) → IsValid d
-    → IsKept (state_of d marks) seats beds → wish < length marks
-    → let s = state_of d marks in let new = with_mark_at s wish m in
-    freed_by s new (candidate_of d wish)
-    ≡ record {
-      seats = one_if (has_seat_there s wish && not (has_seat_there new wish));
-      beds = one_if (has_bed_there s wish && not (has_bed_there new wish));
-    }
-freed_changed d marks seats beds wish m valid kept lt =
-    let named = named_valid d marks seats beds wish valid kept lt in
-    rw (candidate_in d.wishes wish) (freed_there (state_of d marks) wish m kept.marks lt named.programme named.school)
+  -- the invariant after the change
+  pub kept_changed : let s = state_of d marks in let new = with_mark_at s wish m in
+      IsKept new
+      (recount seats (wish_in d.wishes wish).programme (has_seat_there s wish) (has_seat_there new wish))
+      (recount_some beds (wish_in d.wishes wish).school (has_bed_there s wish) (has_bed_there new wish))
+  kept_changed = kept_after (state_of d marks) seats beds wish m kept lt named_valid.programme named_valid.school
+
+  -- what the change frees
+  pub freed_changed : let s = state_of d marks in let new = with_mark_at s wish m in
+      freed_by s new (candidate_of d wish)
+      ≡ record {
+        seats = one_if (has_seat_there s wish && not (has_seat_there new wish));
+        beds = one_if (has_bed_there s wish && not (has_bed_there new wish));
+      }
+  freed_changed =
+      rw (candidate_in d.wishes wish)
+      (freed_there (state_of d marks) wish m kept.marks lt named_valid.programme named_valid.school)

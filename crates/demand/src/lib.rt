@@ -13,7 +13,7 @@ mod walk;
 
 pub use called::{call_everyone, limit_of, order_of};
 pub use demands::{Demand, demands_of};
-pub use open::{is_open, mark_at, wish_at};
+pub use open::{has_open_wish, is_open, mark_at, wish_at};
 pub use ranked::{Ranked, sort_by_rank};
 pub use round::{PlainRound, names_up_to};
 pub use walk::{programme_count, proposed};

@@ -9,6 +9,7 @@ use std::alloc::AllocError;
 pub trait Ranked: Drop {
     ghost rank_of: { Self → ℕ };
 
+    /// Its rank.
     fn rank(&self) -> u32
         ensures { result ≡ rank_of self.now };
 }

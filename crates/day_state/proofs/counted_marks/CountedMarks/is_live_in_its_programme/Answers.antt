@@ -1,17 +1,14 @@
 use Rattle.std.proofs.Common.{◌≡◌, ◌∙◌, ◌<◌, length, ap, sym}
 use Rattle.admit_core.specs.State.{State, is_live}
-use Rattle.day_state.specs.declared.bundles.Sites.TheVariants.{Programmes}
 use Rattle.day_state.specs.Bundles.{number_at, has_live}
-use Rattle.day_state.specs.Kept.{mark_in, has_seat_there, state_of}
+use Rattle.day_state.specs.Kept.{mark_in, has_seat_there}
 use Rattle.day_state.proofs.Bundled.{has_number, has_seat_is}
 use Rattle.day_state.proofs.counted_marks.CountedMarks.is_live_in_its_programme.Goals as goal
 
 pub is_live-requires : goal.is_live-requires
 is_live-requires c =
     let in_range : c.args.wish < length c.self.inside.marks.items = rw (sym c.self.view_is) at c.requires in
-    let has = has_number Programmes (state_of c.self.inside.dossier.now c.self.inside.marks.items)
-    c.self.inside.in_programmes.numbers.value c.self.inside.in_programmes.live.items c.args.wish
-    c.self.invariant.kept.marks in_range c.self.invariant.programmes in
+    let has = has_number c.self.invariant.programmes c.self.invariant.kept.marks in_range in
     record { place = has.place; number = has.number }
 
 pub returns : goal.returns
@@ -22,7 +19,5 @@ returns c =
     ∙ ap is_live (c.mark.ensures ∙ ap (λ (s : State). mark_in s.marks c.args.wish) (sym c.self.view_is)) in
     c.is_live.ensures
     ∙ ap (has_live c.self.inside.in_programmes.live.items (number_at c.self.inside.in_programmes.numbers.value c.args.wish)) lives
-    ∙ has_seat_is (state_of c.self.inside.dossier.now marks) c.self.inside.in_programmes.numbers.value
-    c.self.inside.in_programmes.live.items c.args.wish c.self.invariant.kept.marks in_range
-    c.self.invariant.programmes
+    ∙ has_seat_is c.self.invariant.programmes c.self.invariant.kept.marks in_range
     ∙ ap (λ (s : State). has_seat_there s c.args.wish) c.self.view_is

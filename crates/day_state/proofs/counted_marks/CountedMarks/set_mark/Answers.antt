@@ -1,10 +1,7 @@
 use Rattle.std.proofs.Common.{◌≡◌, ◌<◌, ◌∙◌, ap, sym, subst, length}
 use Rattle.admit_core.specs.DossierRows.{DossierRows}
-use Rattle.admit_core.specs.State.{is_live}
 use Rattle.admit_core.specs.Validity.{IsValid}
-use Rattle.day_state.specs.declared.bundles.Sites.TheVariants.{Programmes, Schools}
-use Rattle.day_state.specs.Kept.{mark_in, state_of}
-use Rattle.day_state.proofs.Change.{seat_ready, bed_ready, freed_changed, mark_read}
+use Rattle.day_state.proofs.Change.{seat_ready, bed_ready, freed_changed, live_read}
 use Rattle.day_state.proofs.Bundled.{can_turn, keeps_changed, seat_turned, bed_turned}
 use Rattle.day_state.proofs.counted_marks.CountedMarks.set_mark.Goals as goal
 
@@ -14,11 +11,9 @@ turn-seat-requires c =
     let marks = c.self.inside.marks.items in
     let in_range : c.args.wish < length marks = rw (sym c.self.view_is) at c.requires in
     let valid : IsValid d = subst IsValid c.dossier.view_is c.dossier.invariant in
-    let was : c.is_live-was_live.result ≡ is_live (mark_in marks c.args.wish) = c.is_live-was_live.ensures
-    ∙ ap is_live (sym (mark_read marks c.args.wish c.index.result.now in_range c.index.ensures)) in
-    let can = can_turn Programmes (state_of d marks) c.self.inside.in_programmes.numbers.value
-    c.self.inside.in_programmes.live.items c.args.wish c.args.mark c.is_live-was_live.result c.is_live-lives.result
-    c.self.invariant.kept.marks in_range valid.size.wishes c.self.invariant.programmes was c.is_live-lives.ensures in
+    let was = live_read marks c.args.wish in_range c.index.ensures c.is_live-was_live.ensures in
+    let can = can_turn c.self.invariant.programmes c.self.invariant.kept.marks in_range valid.size.wishes c.args.mark
+    was c.is_live-lives.ensures in
     record { place = can.has.place; number = can.has.number; comes = can.comes; goes = can.goes }
 
 pub turn-bed-requires : goal.turn-bed-requires
@@ -27,11 +22,9 @@ turn-bed-requires c =
     let marks = c.self.inside.marks.items in
     let in_range : c.args.wish < length marks = rw (sym c.self.view_is) at c.requires in
     let valid : IsValid d = subst IsValid c.dossier.view_is c.dossier.invariant in
-    let was : c.is_live-was_live.result ≡ is_live (mark_in marks c.args.wish) = c.is_live-was_live.ensures
-    ∙ ap is_live (sym (mark_read marks c.args.wish c.index.result.now in_range c.index.ensures)) in
-    let can = can_turn Schools (state_of d marks) c.self.inside.in_schools.numbers.value
-    c.self.inside.in_schools.live.items c.args.wish c.args.mark c.is_live-was_live.result c.is_live-lives.result
-    c.self.invariant.kept.marks in_range valid.size.wishes c.self.invariant.schools was c.is_live-lives.ensures in
+    let was = live_read marks c.args.wish in_range c.index.ensures c.is_live-was_live.ensures in
+    let can = can_turn c.self.invariant.schools c.self.invariant.kept.marks in_range valid.size.wishes c.args.mark
+    was c.is_live-lives.ensures in
     record { place = can.has.place; number = can.has.number; comes = can.comes; goes = can.goes }
 
 pub recount-requires : goal.recount-requires
@@ -41,16 +34,10 @@ recount-requires c =
     let in_range : c.args.wish < length marks = rw (sym c.self.view_is) at c.requires in
     let valid : IsValid d = subst IsValid c.dossier.view_is c.dossier.invariant in
     let wishes : c.as_slice.result.now ≡ d.wishes = c.as_slice.ensures ∙ ap (λ (d : DossierRows). d.wishes) c.dossier.view_is in
-    let was : c.is_live-was_live.result ≡ is_live (mark_in marks c.args.wish) = c.is_live-was_live.ensures
-    ∙ ap is_live (sym (mark_read marks c.args.wish c.index.result.now in_range c.index.ensures)) in
-    let seat = seat_turned d marks c.self.inside.seats.items c.self.inside.beds.items
-    c.self.inside.in_programmes.numbers.value c.self.inside.in_programmes.live.items
-    c.self.inside.in_schools.numbers.value c.self.inside.in_schools.live.items c.args.wish c.args.mark
-    c.is_live-was_live.result c.is_live-lives.result c.turn-seat.result.had c.turn-seat.result.has
-    c.turn-seat.new.self.live.items c.self.invariant in_range was c.is_live-lives.ensures c.turn-seat.ensures.live
+    let was = live_read marks c.args.wish in_range c.index.ensures c.is_live-was_live.ensures in
+    let seat = seat_turned c.self.invariant in_range c.args.mark was c.is_live-lives.ensures c.turn-seat.ensures.live
     c.turn-seat.ensures.had c.turn-seat.ensures.has in
-    let ready = seat_ready d marks c.self.inside.seats.items c.self.inside.beds.items c.args.wish c.args.mark valid
-    c.self.invariant.kept in_range in
+    let ready = seat_ready valid c.self.invariant.kept in_range c.args.mark in
     record {
       place = rw (c.wish_at-named.ensures, wishes) ready.place;
       comes = rw (c.wish_at-named.ensures, wishes, seat.1) ready.comes;
@@ -64,16 +51,10 @@ recount_some-requires c =
     let in_range : c.args.wish < length marks = rw (sym c.self.view_is) at c.requires in
     let valid : IsValid d = subst IsValid c.dossier.view_is c.dossier.invariant in
     let wishes : c.as_slice.result.now ≡ d.wishes = c.as_slice.ensures ∙ ap (λ (d : DossierRows). d.wishes) c.dossier.view_is in
-    let was : c.is_live-was_live.result ≡ is_live (mark_in marks c.args.wish) = c.is_live-was_live.ensures
-    ∙ ap is_live (sym (mark_read marks c.args.wish c.index.result.now in_range c.index.ensures)) in
-    let bed = bed_turned d marks c.self.inside.seats.items c.self.inside.beds.items
-    c.self.inside.in_programmes.numbers.value c.self.inside.in_programmes.live.items
-    c.self.inside.in_schools.numbers.value c.self.inside.in_schools.live.items c.args.wish c.args.mark
-    c.is_live-was_live.result c.is_live-lives.result c.turn-bed.result.had c.turn-bed.result.has
-    c.turn-bed.new.self.live.items c.self.invariant in_range was c.is_live-lives.ensures c.turn-bed.ensures.live
+    let was = live_read marks c.args.wish in_range c.index.ensures c.is_live-was_live.ensures in
+    let bed = bed_turned c.self.invariant in_range c.args.mark was c.is_live-lives.ensures c.turn-bed.ensures.live
     c.turn-bed.ensures.had c.turn-bed.ensures.has in
-    let ready = bed_ready d marks c.self.inside.seats.items c.self.inside.beds.items c.args.wish c.args.mark valid
-    c.self.invariant.kept in_range in
+    let ready = bed_ready valid c.self.invariant.kept in_range c.args.mark in
     record {
       place = rw (c.wish_at-named.ensures, wishes) (λ h is. (ready h is).place);
       comes = rw (c.wish_at-named.ensures, wishes, bed.1) (λ h is. (ready h is).comes);
@@ -87,19 +68,10 @@ invariant_of-self c =
     let in_range : c.args.wish < length marks = rw (sym c.self.view_is) at c.requires in
     let valid : IsValid d = subst IsValid c.dossier.view_is c.dossier.invariant in
     let wishes : c.as_slice.result.now ≡ d.wishes = c.as_slice.ensures ∙ ap (λ (d : DossierRows). d.wishes) c.dossier.view_is in
-    let was : c.is_live-was_live.result ≡ is_live (mark_in marks c.args.wish) = c.is_live-was_live.ensures
-    ∙ ap is_live (sym (mark_read marks c.args.wish c.index.result.now in_range c.index.ensures)) in
-    let seat = seat_turned d marks c.self.inside.seats.items c.self.inside.beds.items
-    c.self.inside.in_programmes.numbers.value c.self.inside.in_programmes.live.items
-    c.self.inside.in_schools.numbers.value c.self.inside.in_schools.live.items c.args.wish c.args.mark
-    c.is_live-was_live.result c.is_live-lives.result c.turn-seat.result.had c.turn-seat.result.has
-    c.turn-seat.new.self.live.items c.self.invariant in_range was c.is_live-lives.ensures c.turn-seat.ensures.live
+    let was = live_read marks c.args.wish in_range c.index.ensures c.is_live-was_live.ensures in
+    let seat = seat_turned c.self.invariant in_range c.args.mark was c.is_live-lives.ensures c.turn-seat.ensures.live
     c.turn-seat.ensures.had c.turn-seat.ensures.has in
-    let bed = bed_turned d marks c.self.inside.seats.items c.self.inside.beds.items
-    c.self.inside.in_programmes.numbers.value c.self.inside.in_programmes.live.items
-    c.self.inside.in_schools.numbers.value c.self.inside.in_schools.live.items c.args.wish c.args.mark
-    c.is_live-was_live.result c.is_live-lives.result c.turn-bed.result.had c.turn-bed.result.has
-    c.turn-bed.new.self.live.items c.self.invariant in_range was c.is_live-lives.ensures c.turn-bed.ensures.live
+    let bed = bed_turned c.self.invariant in_range c.args.mark was c.is_live-lives.ensures c.turn-bed.ensures.live
     c.turn-bed.ensures.had c.turn-bed.ensures.has in
     rw (
       c.recount.ensures,
@@ -117,10 +89,7 @@ invariant_of-self c =
       was,
       c.is_live-lives.ensures,
     )
-    (keeps_changed d marks c.self.inside.seats.items c.self.inside.beds.items
-    c.self.inside.in_programmes.numbers.value c.self.inside.in_programmes.live.items
-    c.self.inside.in_schools.numbers.value c.self.inside.in_schools.live.items c.args.wish c.args.mark valid
-    c.self.invariant in_range)
+    (keeps_changed c.self.invariant in_range c.args.mark valid)
 
 pub returns-clause-freed : goal.returns-clause-freed
 returns-clause-freed c =
@@ -128,20 +97,10 @@ returns-clause-freed c =
     let marks = c.self.inside.marks.items in
     let in_range : c.args.wish < length marks = rw (sym c.self.view_is) at c.requires in
     let valid : IsValid d = subst IsValid c.dossier.view_is c.dossier.invariant in
-    let was : c.is_live-was_live.result ≡ is_live (mark_in marks c.args.wish) = c.is_live-was_live.ensures
-    ∙ ap is_live (sym (mark_read marks c.args.wish c.index.result.now in_range c.index.ensures)) in
-    let seat = seat_turned d marks c.self.inside.seats.items c.self.inside.beds.items
-    c.self.inside.in_programmes.numbers.value c.self.inside.in_programmes.live.items
-    c.self.inside.in_schools.numbers.value c.self.inside.in_schools.live.items c.args.wish c.args.mark
-    c.is_live-was_live.result c.is_live-lives.result c.turn-seat.result.had c.turn-seat.result.has
-    c.turn-seat.new.self.live.items c.self.invariant in_range was c.is_live-lives.ensures c.turn-seat.ensures.live
+    let was = live_read marks c.args.wish in_range c.index.ensures c.is_live-was_live.ensures in
+    let seat = seat_turned c.self.invariant in_range c.args.mark was c.is_live-lives.ensures c.turn-seat.ensures.live
     c.turn-seat.ensures.had c.turn-seat.ensures.has in
-    let bed = bed_turned d marks c.self.inside.seats.items c.self.inside.beds.items
-    c.self.inside.in_programmes.numbers.value c.self.inside.in_programmes.live.items
-    c.self.inside.in_schools.numbers.value c.self.inside.in_schools.live.items c.args.wish c.args.mark
-    c.is_live-was_live.result c.is_live-lives.result c.turn-bed.result.had c.turn-bed.result.has
-    c.turn-bed.new.self.live.items c.self.invariant in_range was c.is_live-lives.ensures c.turn-bed.ensures.live
+    let bed = bed_turned c.self.invariant in_range c.args.mark was c.is_live-lives.ensures c.turn-bed.ensures.live
     c.turn-bed.ensures.had c.turn-bed.ensures.has in
     rw (← c.self.view_is, c.lost.ensures, c.lost-2.ensures, seat.0, seat.1, bed.0, bed.1)
-    (sym (freed_changed d marks c.self.inside.seats.items c.self.inside.beds.items c.args.wish c.args.mark valid
-    c.self.invariant.kept in_range))
+    (sym (freed_changed valid c.self.invariant.kept in_range c.args.mark))
