@@ -19,8 +19,8 @@ is_proposed_at l i =
 -- of those in a row who pass, the first of each rank above a last one
 abbrev pub firsts : (ℕ → Bool) → ℕ → List RowWish → List Demand
 firsts p last [] = []
-firsts p last (x ∷ xs) = if nat_lt last x.rank && p
-    x.wish then (record { rank = x.rank; wish = x.wish } ∷ firsts p x.rank xs) else firsts p last xs
+firsts p last (x ∷ xs) =
+    if nat_lt last x.rank && p x.wish then (record { rank = x.rank; wish = x.wish } ∷ firsts p x.rank xs) else firsts p last xs
 
 -- the ranks above a last one of those in a row who pass, each once
 abbrev pub counted : (ℕ → Bool) → ℕ → List RowWish → List ℕ

@@ -17,8 +17,8 @@ row_school s bars w m (Some h) =
 
 -- the wish at a place stands in the row of a school
 abbrev pub is_in_row : State → List ℕ → ℕ → ℕ → Bool
-is_in_row s bars h k = is_school
-    (row_school s bars (wish_in s.dossier.wishes k) (mark_in s.marks k) (wish_in s.dossier.wishes k).school) h
+is_in_row s bars h k =
+    is_school (row_school s bars (wish_in s.dossier.wishes k) (mark_in s.marks k) (wish_in s.dossier.wishes k).school) h
 
 abbrev pub row_wish : List Wish → ℕ → RowWish
 row_wish ws k = record { rank = (wish_in ws k).board_rank; wish = k }
