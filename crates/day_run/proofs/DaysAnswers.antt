@@ -1,10 +1,10 @@
 -- The answers of a day stand together in the dossier.
-use Rattle.std.proofs.Common.{ℕ, zero, suc, ◌+◌, ◌-◌, ◌≤◌, ◌<◌, ◌≡◌, Bool, true, false, List, [], ◌∷◌, map, length, take, drop, get_or, inl, inr, refl, sym, ◌∙◌, ap, arith, filter, ltb, leb, Option, Some, None, Ok, Err}
+use Rattle.std.proofs.Common.{ℕ, ◌+◌, ◌-◌, ◌≤◌, ◌<◌, ◌≡◌, true, false, List, [], ◌∷◌, map, length, take, drop, get_or, inl, inr, refl, sym, ◌∙◌, ap, arith, ltb, leb, Option, Some, None, Ok, Err}
 use Rattle.std.specs.Prelude.{◌==◌, slice_index}
 use Rattle.std.specs.List.{enumerate_from}
 use Rattle.std.specs.List.Sorted.{IsPartitionPoint, IsNonDecreasingBy}
 use Rattle.std.specs.Option.{IsSomeAnd}
-use Rattle.std.proofs.lemmas.Bool.{cases_Bool, cases_lt, ltb-true, ltb-false, leb-true, leb-false, le-leb, eq-eqb, ne_eqb, both_ways}
+use Rattle.std.proofs.lemmas.Bool.{cases_Bool}
 use Rattle.std.proofs.lemmas.List.{length-map, length-take, length-drop, get_or-map, get_or-take, get_or-drop}
 use Rattle.std.proofs.lemmas.List.Elements.{All-filter}
 use Rattle.std.proofs.lemmas.List.FromFn.{length-enumerate_from, get_or-enumerate_from}
@@ -20,59 +20,13 @@ use Rattle.admit_core.specs.Validity.{IsTarget, IsValid}
 use Rattle.day_state.specs.declared.day.UnfitAt.{UnfitAt}
 use Rattle.day_state.specs.Applied.{refused_at, after_fitting_front}
 use Rattle.day_state.proofs.Answering.{dossier_after}
+use Rattle.day_state.proofs.Ordering.{between}
 use Rattle.day_run.specs.AnswersOn.{places_on, AreAnswersOn, IsApplied, unfit_refusal, refusal_at, answers_stamp}
 use Rattle.day_run.specs.declared.refusal.DayRefusal.{DayRefusal}
 use Rattle.day_run.specs.declared.refusal.DayRefusal.TheVariants as refusals
 
--- what passes stands together
-pub filter_span : {X : Type 0} (p : X → Bool) (xs : List X) (from to : ℕ) → from ≤ to → to ≤ length xs
-    → ((k : ℕ) (d : X) → k < from → p (get_or xs k d) ≡ false)
-    → ((k : ℕ) (d : X) → from ≤ k → k < to → p (get_or xs k d) ≡ true)
-    → ((k : ℕ) (d : X) → to ≤ k → k < length xs → p (get_or xs k d) ≡ false)
-    → filter p xs ≡ take (to - from) (drop from xs)
-filter_span p [] zero zero le within below here above = refl
-filter_span p [] zero (suc to) le within below here above = absurd (omega arith)
-filter_span p [] (suc from) to le within below here above = absurd (omega arith)
-filter_span p (x ∷ xs) (suc from) zero le within below here above = absurd (omega arith)
-filter_span p (x ∷ xs) (suc from) (suc to) le within below here above =
-    let rest = filter_span p xs from to (omega arith) (omega arith) (λ k d lt. below (suc k) d (omega arith)) (λ k d l u. here (suc k) d (omega arith) (omega arith)) (λ k d l u. above (suc k) d (omega arith) (omega arith)) in
-    let count : suc to - suc from ≡ to - from = omega arith in
-    rw (below zero x (omega arith), count) rest
-filter_span p (x ∷ xs) zero zero le within below here above =
-    let rest = filter_span p xs zero zero (omega arith) (omega arith) (λ k d lt. absurd (omega arith)) (λ k d l u. absurd (omega arith)) (λ k d l u. above (suc k) d (omega arith) (omega arith)) in
-    rw (above zero x (omega arith) (omega arith)) rest
-filter_span p (x ∷ xs) zero (suc to) le within below here above =
-    let rest = filter_span p xs zero to (omega arith) (omega arith) (λ k d lt. absurd (omega arith)) (λ k d l u. here (suc k) d (omega arith) (omega arith)) (λ k d l u. above (suc k) d (omega arith) (omega arith)) in
-    let count : suc to - 0 ≡ suc (to - 0) = omega arith in
-    rw (here zero x (omega arith) (omega arith), count) (ap (λ l. x ∷ l) rest)
-
-below_not : (a c : ℕ) → ltb a c ≡ true → (a == c) ≡ false
-below_not a c t = ne_eqb a c (λ e. omega (arith, ltb-true a c t))
-
-above_not : (a c : ℕ) → leb a c ≡ false → (a == c) ≡ false
-above_not a c t = ne_eqb a c (λ e. omega (arith, leb-false a c t))
-
-between_is : (a c : ℕ) → ltb a c ≡ false → leb a c ≡ true → (a == c) ≡ true
-between_is a c l u = eq-eqb a c (omega (arith, ltb-false a c l, leb-true a c u))
-
-lt_le : (a c : ℕ) → ltb a c ≡ true → leb a c ≡ true
-lt_le a c t = le-leb a c (omega (arith, ltb-true a c t))
-
 no_answer : Answer
 no_answer = record { day = 0; kind = Quit; target = 0 }
-
--- the first place that is not before the day is not behind the first that is after it
-pub in_order : (xs : List Answer) (day from to : ℕ) → from ≤ length xs
-    → IsPartitionPoint (λ (a : Answer). ltb a.day day ≡ true) (λ (a : Answer). ltb a.day day ≡ false) xs from
-    → IsPartitionPoint (λ (a : Answer). leb a.day day ≡ true) (λ (a : Answer). leb a.day day ≡ false) xs to
-    → from ≤ to
-in_order xs day from to within lower upper =
-    elim (cases_lt to from) [
-      | inl less ↦
-          let at = (get_or xs to no_answer).day in
-          absurd (both_ways (leb at day) (upper.1 to no_answer (omega arith) (omega arith)) (lt_le at day (lower.0 to no_answer (omega arith) less)))
-      | inr more ↦ more
-    ]
 
 -- THE ANSWERS of a day
 pub answers_found : (d : DossierRows) (day from to : ℕ) → IsValid d → from ≤ length d.answers → to ≤ length d.answers
@@ -82,33 +36,35 @@ pub answers_found : (d : DossierRows) (day from to : ℕ) → IsValid d → from
 answers_found d day from to valid from_in to_in lower upper =
     let xs = d.answers in
     let p = λ (a : Answer). a.day == day in
-    let le = in_order xs day from to from_in lower upper in
-    let span : filter p xs ≡ take (to - from) (drop from xs) =
-    filter_span p xs from to le to_in
-    (λ k d lt. below_not (get_or xs k d).day day (lower.0 k d (omega arith) lt))
-    (λ k d l u. between_is (get_or xs k d).day day (lower.1 k d l (omega arith)) (upper.0 k d (omega arith) u))
-    (λ k d l u. above_not (get_or xs k d).day day (upper.1 k d l u)) in
+    let (le, span) = between (λ (a : Answer). a.day) xs day from to from_in to_in lower upper in
     let rows = enumerate_from 0 xs in
-    let q = λ (x : ℕ × Answer). x.1.day == day in
+    let key = λ (x : ℕ × Answer). x.1.day in
     let long : length rows ≡ length xs = length-enumerate_from 0 xs in
-    let at : (k : ℕ) (e : ℕ × Answer) → k < length xs → get_or rows k e ≡ (0 + k, get_or xs k e.1) = λ k e lt. get_or-enumerate_from 0 xs k e lt in
-    let span_rows : filter q rows ≡ take (to - from) (drop from rows) =
-    filter_span q rows from to le (omega (arith, long))
-    (λ k e lt. ap (λ (x : ℕ × Answer). x.1.day == day) (at k e (omega arith)) ∙ below_not (get_or xs k e.1).day day (lower.0 k e.1 (omega arith) lt))
-    (λ k e l u. ap (λ (x : ℕ × Answer). x.1.day == day) (at k e (omega arith)) ∙ between_is (get_or xs k e.1).day day (lower.1 k e.1 l (omega arith)) (upper.0 k e.1 (omega arith) u))
-    (λ k e l u. let k_in : k < length xs = omega (arith, long) in ap (λ (x : ℕ × Answer). x.1.day == day) (at k e k_in) ∙ above_not (get_or xs k e.1).day day (upper.1 k e.1 l k_in)) in
+    let at : (k : ℕ) (e : ℕ × Answer) → k < length xs → get_or rows k e ≡ (0 + k, get_or xs k e.1) =
+    λ k e lt. get_or-enumerate_from 0 xs k e lt in
+    let below : (k : ℕ) (e : ℕ × Answer) → k < length rows → ltb (key (get_or rows k e)) day ≡ ltb (get_or xs k e.1).day day =
+    λ k e lt. ap (λ (x : ℕ × Answer). ltb (key x) day) (at k e (omega (arith, long, lt))) in
+    let until : (k : ℕ) (e : ℕ × Answer) → k < length rows → leb (key (get_or rows k e)) day ≡ leb (get_or xs k e.1).day day =
+    λ k e lt. ap (λ (x : ℕ × Answer). leb (key x) day) (at k e (omega (arith, long, lt))) in
+    let span_rows = (between key rows day from to (omega (arith, long, from_in)) (omega (arith, long, to_in)) (
+      λ k e low high. below k e (omega (arith, long, high, from_in)) ∙ lower.0 k e.1 low high,
+      λ k e low high. below k e high ∙ lower.1 k e.1 low (omega (arith, long, high)),
+    ) (
+      λ k e low high. until k e (omega (arith, long, high, to_in)) ∙ upper.0 k e.1 low high,
+      λ k e low high. until k e high ∙ upper.1 k e.1 low (omega (arith, long, high)),
+    )).1 in
     let count : length (take (to - from) (drop from xs)) ≡ to - from = omega (arith, length-take (to - from) (drop from xs), length-drop from xs) in
     record {
-      all = sym span;
+      all = span;
       place = λ k lt.
           let k_in : k < to - from = omega (arith, count) in
           let e : ℕ × Answer = (0, no_answer) in
           let ys = take (to - from) (drop from rows) in
-          ap (λ (l : List (ℕ × Answer)). slice_index (map (λ (x : ℕ × Answer). x.0) l) k) span_rows
+          ap (λ (l : List (ℕ × Answer)). slice_index (map (λ (x : ℕ × Answer). x.0) l) k) (sym span_rows)
           ∙ get_or-map (λ (x : ℕ × Answer). x.0) ys k e 0 (omega (arith, length-take (to - from) (drop from rows), length-drop from rows, long))
           ∙ ap (λ (x : ℕ × Answer). x.0) (get_or-take (to - from) (drop from rows) k e k_in ∙ get_or-drop from rows k e ∙ at (from + k) e (omega arith))
           ∙ zero_plus (from + k);
-      targets = rw (← span) (All-filter p (λ (a : Answer). IsTarget d a.kind a.target) xs (λ k a lt. (valid.answers k a lt).target));
+      targets = rw span (All-filter p (λ (a : Answer). IsTarget d a.kind a.target) xs (λ k a lt. (valid.answers k a lt).target));
       few = omega (arith, count, valid.size.answers);
     }
   where

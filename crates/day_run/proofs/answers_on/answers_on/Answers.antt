@@ -1,7 +1,9 @@
 use Rattle.std.proofs.Common.{◌≡◌, ◌∙◌, ap, subst}
+use Rattle.admit_core.specs.declared.dossier.Answer.{Answer}
 use Rattle.admit_core.specs.DossierRows.{DossierRows}
 use Rattle.admit_core.specs.Validity.{IsValid}
-use Rattle.day_run.proofs.DaysAnswers.{answers_found, in_order, by_day}
+use Rattle.day_state.proofs.Ordering.{between_order}
+use Rattle.day_run.proofs.DaysAnswers.{answers_found, by_day}
 use Rattle.day_run.proofs.answers_on.answers_on.Goals as goal
 
 pub first_not_before-first-requires : goal.first_not_before-first-requires
@@ -18,8 +20,8 @@ first_after-end-requires c =
 
 pub between-requires-clause-rises : goal.between-requires-clause-rises
 between-requires-clause-rises c =
-    in_order c.as_slice-all.result.now c.args.day c.first_not_before-first.result c.first_after-end.result c.first_not_before-first.ensures.within
-    c.first_not_before-first.ensures.point c.first_after-end.ensures.point
+    between_order (λ (a : Answer). a.day) c.as_slice-all.result.now c.args.day c.first_not_before-first.result
+    c.first_after-end.result c.first_not_before-first.ensures.within c.first_not_before-first.ensures.point c.first_after-end.ensures.point
 
 pub returns : goal.returns
 returns c =
