@@ -1,48 +1,23 @@
 //! Those who stand before a candidate in a call order.
-ghost use Rattle.std.specs.Prelude.{◌≡◌, ◌==◌, ◌≤◌, ◌<◌, length, nat_eq, count_by, position, All};
-ghost use Rattle.std.specs.List.{list_any, before_first};
-ghost use Rattle.admit_core.specs.OwnWishes.{own_places};
-ghost use Rattle.admit_core.specs.Proposals.{has_open_wish, wants_seat};
-ghost use Rattle.demand.specs.Open.{is_open_at};
+ghost use Rattle.std.specs.Prelude.{◌≡◌, ◌==◌, ◌≤◌, length, nat_eq, count_by, position};
+ghost use Rattle.std.specs.List.{before_first};
+ghost use Rattle.admit_core.specs.Proposals.{wants_seat};
 
 use day_state::DayState;
-use demand::{is_open, wish_at};
-
-/// Whether the wish at a place is an open one in a programme.
-fn is_open_in(state: &DayState<'_>, bars: &[u32], programme: u32, place: u32) -> bool
-    requires place { place < length state.now.dossier.wishes }
-    requires bars { length bars.now ≡ length state.now.dossier.schools }
-    ensures { result ≡ is_open_at state.now bars.now programme place }
-{
-    wish_at(state, place).programme == programme && is_open(state, bars, place)
-}
-
-/// Whether one of these wishes is an open one in a programme.
-fn any_open(state: &DayState<'_>, bars: &[u32], programme: u32, own: &[u32]) -> bool
-    requires own { All (λ k. k < length state.now.dossier.wishes) own.now }
-    requires bars { length bars.now ≡ length state.now.dossier.schools }
-    ensures { result ≡ list_any (is_open_at state.now bars.now programme) own.now }
-{
-    own.iter()
-        .any(|place| is_open_in(state, bars, programme, *place))
-}
-
-/// Whether a candidate has an open wish in a programme.
-fn has_open_wish(state: &DayState<'_>, bars: &[u32], programme: u32, candidate: u32) -> bool
-    requires { length bars.now ≡ length state.now.dossier.schools }
-    ensures { result ≡ has_open_wish state.now bars.now programme candidate }
-{
-    let _ = state.marks(); // one for each wish
-    any_open(state, bars, programme, state.own_wishes(candidate))
-}
+use demand::has_open_wish;
 
 /// Whether a candidate has an open wish in a programme and is not live in it.
 fn wants_seat(state: &DayState<'_>, bars: &[u32], programme: u32, candidate: u32) -> bool
     requires { length bars.now ≡ length state.now.dossier.schools }
     ensures { result ≡ wants_seat state.now bars.now programme candidate }
 {
-    has_open_wish(state, bars, programme, candidate)
-        && !state.is_live_in_programme(candidate, programme)
+    has_open_wish(
+        state,
+        bars,
+        programme,
+        candidate,
+        state.own_wishes(candidate),
+    ) && !state.is_live_in_programme(candidate, programme)
 }
 
 /// How many of these candidates want a seat of a programme.
