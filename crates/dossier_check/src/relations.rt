@@ -66,7 +66,8 @@ fn check_wishes_on<'a>(
     Ok((wishes.into_ids(), state))
 }
 
-/// Tests the rows of all slots in their order, and answers what they are found by, and the rankings.
+/// Tests the rows of all slots in their order, and answers what they are found by, with the
+/// rankings.
 fn check_slots(alloc: Global, tables: &Tables) -> Result<(Keys, Vec<RankGroup>), InFault>
     requires { AreTables tables.now }
     ensures fault { AnswersFault result (first_fault tables.now) }
