@@ -42,11 +42,7 @@ fn count_row(rooms: &mut [usize], groups: &RowIds, row: &RankRow)
 }
 
 /// How much room the list of each group is to have, by the groups' places: as many as it has rows.
-fn rooms_of(
-    alloc: Global,
-    rankings: &[RankRow],
-    groups: &RowIds,
-) -> Result<Vec<usize>, OutOfMemory>
+fn rooms_of(alloc: Global, rankings: &[RankRow], groups: &RowIds) -> Result<Vec<usize>, OutOfMemory>
     ensures { IfOk result (λ rooms. length rooms.items ≡ length groups.now.keys) }
 {
     let mut rooms = vec![in alloc; 0; groups.len()]?;

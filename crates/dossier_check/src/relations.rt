@@ -15,9 +15,7 @@ use crate::answers::check_answers;
 use crate::dates::{Dates, dates_of};
 use crate::hashing::hashing_of;
 use crate::index::Index;
-use crate::items::{
-    Keys, answers_of, ceilings_of, programmes_of, schools_of, wishes_of,
-};
+use crate::items::{Keys, answers_of, ceilings_of, programmes_of, schools_of, wishes_of};
 use crate::ranks::{Dealt, check_ranks};
 use crate::row_ids::RowIds;
 use crate::slots::{check_boarding, check_ceilings, check_groups, check_programmes, check_schools};

@@ -3,7 +3,6 @@ ghost use Rattle.std.specs.Prelude.{◌≡◌, ◌<◌, ◌∷◌, List, map, le
 ghost use Rattle.admit_core.specs.declared.tables.StateRow.{StateRow};
 ghost use Rattle.admit_core.specs.declared.tables.WishRow.{WishRow};
 ghost use Rattle.admit_core.specs.Standing.{status_of_row};
-ghost use Rattle.dossier_check.specs.Keys.{AreKeysOf};
 ghost use Rattle.dossier_check.specs.Statuses.{status_in};
 
 use crate::row_ids::RowIds;

@@ -122,7 +122,7 @@ impl PreferenceMixed {
             (k : ℕ) → get nat_eq self.new.firsts k ≡ get nat_eq self.old.firsts k) }
         ensures noted { IfOk result (λ first. first ≡ None → (k : ℕ) →
             get nat_eq self.new.firsts k ≡
-                (if nat_eq candidate k then Some own else get nat_eq self.old.firsts k)) }
+            (if nat_eq candidate k then Some own else get nat_eq self.old.firsts k)) }
         ensures last { IsLastCandidate (get nat_eq self.old.firsts) self.old.last →
             IfOk result (λ first. IsLastCandidate (get nat_eq self.new.firsts) self.new.last) }
     {

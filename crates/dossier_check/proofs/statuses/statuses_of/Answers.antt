@@ -24,7 +24,7 @@ loop-after-preserved c =
     let so_far : c.loop-after.statuses.items ≡ map (status_in (drop (length rows - after) rows)) t.wishes =
     rw same c.loop-after.invariant.put in
     let put = c.put_status.ensures.put t.wishes (drop (length rows - after) rows) c.requires so_far
-        ∙ ap (λ rs. map (status_in rs) t.wishes) (row_before rows after _ c.loop-after-test.true) in
+    ∙ ap (λ rs. map (status_in rs) t.wishes) (row_before rows after _ c.loop-after-test.true) in
     record {
       put = rw (← same) put;
       len = c.put_status.ensures.len ∙ c.loop-after.invariant.len;

@@ -7,19 +7,21 @@ use Rattle.dossier_check.proofs.wishes.PreferenceMixedRowTestWishRow.stands.Goal
 pub returns-in_default-clause-seen : goal.returns-in_default-clause-seen
 returns-in_default-clause-seen c before (seen, last) numbered none =
     let row = c.args.row.now in
-    let noted = c.in_ok-first.ensures in
-    (firsts-kept first_noted (λ k r. nat_eq k r.candidate) before row _ (first_noted-push before row)
-      (get nat_eq c.args.self.now.firsts) (get nat_eq c.note.new.self.firsts) seen
-      nat_eq row.candidate (λ k. nat_eq_sym k row.candidate) (nat_eq_sound row.candidate) c.in-Some.first
-      (sym (noted.first last) ∙ c.in-Some.is) (noted.kept (ap is_some c.in-Some.is)),
-    noted.last last)
+    let noted = c.in_ok-first.ensures in (
+      firsts-kept first_noted (λ k r. nat_eq k r.candidate) before row _ (first_noted-push before row)
+          (get nat_eq c.args.self.now.firsts) (get nat_eq c.note.new.self.firsts) seen
+          nat_eq row.candidate (λ k. nat_eq_sym k row.candidate) (nat_eq_sound row.candidate) c.in-Some.first
+          (sym (noted.first last) ∙ c.in-Some.is) (noted.kept (ap is_some c.in-Some.is)),
+      noted.last last,
+    )
 
 pub returns-in_default-2-clause-seen : goal.returns-in_default-2-clause-seen
 returns-in_default-2-clause-seen c before (seen, last) numbered none =
     let row = c.args.row.now in
-    let noted = c.in_ok-first.ensures in
-    (firsts-noted first_noted (λ k r. nat_eq k r.candidate) before row _ (first_noted-push before row)
-      (get nat_eq c.args.self.now.firsts) (get nat_eq c.note.new.self.firsts) seen
-      nat_eq row.candidate (λ k. nat_eq_sym k row.candidate) (nat_eq_sound row.candidate)
-      (sym (noted.first last) ∙ c.in_default.is) (λ k. rw (← numbered) (noted.noted c.in_default.is k)),
-    noted.last last)
+    let noted = c.in_ok-first.ensures in (
+      firsts-noted first_noted (λ k r. nat_eq k r.candidate) before row _ (first_noted-push before row)
+          (get nat_eq c.args.self.now.firsts) (get nat_eq c.note.new.self.firsts) seen
+          nat_eq row.candidate (λ k. nat_eq_sym k row.candidate) (nat_eq_sound row.candidate)
+          (sym (noted.first last) ∙ c.in_default.is) (λ k. rw (← numbered) (noted.noted c.in_default.is k)),
+      noted.last last,
+    )
