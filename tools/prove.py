@@ -1,20 +1,26 @@
 #!/usr/bin/env python3
-"""prove.py CRATE: proves and builds the libraries that a crate stands on, as many side by side as there
-are processors and memory for, and prints a line as each is proved. The one with the longest way up to
-the crate goes first and may use all processors; each of the others has one, of what it leaves, since a
-check that several processors share takes a fifth more of their time. What is built and unchanged is kept."""
+"""prove.py CRATE: proves the libraries that a program stands on, and then proves and builds the program, all
+as the gate does: each crate from nothing, over the statements alone of those below it. As many are proved
+side by side as there are processors and memory for, and a line is printed as each is. The one with the
+longest way up to the program goes first and may use all processors; each of the others has one, of what it
+leaves, since a check that several processors share takes a fifth more of their time. What is built and
+unchanged is kept."""
+import functools
 import os
 import queue
 import shutil
 import sys
 import threading
+import time
 
 sys.dont_write_bytecode = True
 sys.path.insert(0, os.path.dirname(os.path.realpath(shutil.which("rt") or "/opt/rattle/bin/rt")))
 import rtlib  # noqa: E402 (the kit's own library, beside its command rt)
 
 A_CHECK = 3_000_000_000  # bytes that a check may take
-LINES_A_MINUTE = 650  # of code, definitions and proofs, checked on one processor: measured, and rough
+A_LOAD = 150  # what it costs to load what a crate stands on, in lines of code
+LINES_A_MINUTE = 500  # of code, proved on one processor: measured, and rough
+TARGET = "x86_64-unknown-linux-gnu"
 
 
 def lanes():
@@ -24,26 +30,57 @@ def lanes():
     return max(1, min(len(os.sched_getaffinity(0)), free // A_CHECK))
 
 
-def lines(crate):
-    return sum(rtlib.text_of(file).count("\n") for file in rtlib.files_of(crate.folder))
+@functools.cache
+def cost(crate):
+    """About what a crate costs, in lines of code: by the code, since proofs cost little beside it."""
+    files = [it for it in rtlib.files_of(crate.folder) if it.endswith(".rt") and "tests" not in os.path.basename(it)]
+    return A_LOAD + sum(rtlib.text_of(file).count("\n") for file in files)
 
 
 def way_up(crate, crates):
-    """The lines of the longest chain from a crate to the top."""
-    return lines(crate) + max((way_up(it, crates) for it in crates if crate in it.deps), default=0)
+    """The cost of the dearest chain from a crate to the top."""
+    return cost(crate) + max((way_up(it, crates) for it in crates if crate in it.deps), default=0)
+
+
+def stamp_of(crate):
+    """Where it stands when a library was proved, and what from."""
+    return f"{os.path.dirname(crate.rlib)}/stamp"
+
+
+def made_from(crate):
+    """What a library is made from: its text, and just these builds of those that it uses."""
+    return " ".join([crate.stamp(), *(rtlib.text_of(stamp_of(it)).split()[0] for it in crate.deps)])
+
+
+def is_kept(crate):
+    """Whether a library, and all that it uses, are proved and have not changed since."""
+    if not (os.path.isdir(crate.rlib) and os.path.isfile(stamp_of(crate)) and all(map(is_kept, crate.deps))):
+        return False
+    return rtlib.text_of(stamp_of(crate)).partition(" ")[2] == made_from(crate)
+
+
+def prove_library(crate, jobs):
+    """Proves a library and keeps its statements; what the check said stands in its out/."""
+    shutil.rmtree(os.path.dirname(crate.rlib), ignore_errors=True)
+    os.makedirs(os.path.dirname(crate.rlib))
+    with open(f"{crate.folder}/out/proved.log", "w") as crate.out:
+        words = crate.words(["--jobs", str(jobs)], keeps=False)
+        if crate.prove(["build", *words, "--statements", "-o", crate.rlib]):
+            return False
+    with open(stamp_of(crate), "w") as file:
+        file.write(f"{time.time_ns()} {made_from(crate)}")
+    return True
 
 
 def build(crate, jobs, niceness, ended):
-    """Proves and builds a library, and gives way to others the more, the greater its niceness is; what the
-    check said stands in its out/. Puts the crate and whether it is proved into a queue."""
+    """Proves a library, and gives way to others the more, the greater its niceness is. Puts the crate and
+    whether it is proved into a queue."""
     own = os.getpriority(os.PRIO_PROCESS, 0)
     # What a thread starts is as nice as the thread.
     os.setpriority(os.PRIO_PROCESS, threading.get_native_id(), min(own + niceness, 19))
     is_proved = False
     try:
-        os.makedirs(f"{crate.folder}/out", exist_ok=True)
-        with open(f"{crate.folder}/out/proved.log", "w") as crate.out:
-            is_proved = crate.build_rlib(["--jobs", str(jobs)], anew=False) == 0
+        is_proved = prove_library(crate, jobs)
     finally:
         ended.put((crate, is_proved))
 
@@ -53,9 +90,9 @@ def say(text):
 
 
 def prove(crates, width):
-    """Proves the crates and returns those that failed."""
+    """Proves the libraries and returns those that failed."""
     up = {it: way_up(it, crates) for it in crates}
-    left = sorted((it for it in crates if not it.is_built()), key=lambda it: -up[it])
+    left = sorted((it for it in crates if not is_kept(it)), key=lambda it: -up[it])
     count, running, failed, ended = len(crates), set(), [], queue.SimpleQueue()
     proved = {it for it in crates if it not in left}
     while (left and not failed) or running:
@@ -76,21 +113,55 @@ def prove(crates, width):
     return failed
 
 
+def without(words, *flags):
+    """The words without these flags and their values."""
+    for flag in flags:
+        at = words.index(flag)
+        words = [*words[:at], *words[at + 2:]]
+    return words
+
+
+def build_program(crate, width):
+    """Proves a program, compiles what was proved, and links it; what was said stands in its out/."""
+    program, checked = f"out/{crate.name}", f"{crate.folder}/out/checked"
+    toolchain = ["--toolchain", f"{rtlib.KIT}/toolchain"]
+    os.makedirs(f"{crate.folder}/out", exist_ok=True)
+    shutil.rmtree(checked, ignore_errors=True)
+    with open(f"{crate.folder}/{program}.log", "w") as crate.out:
+        words = crate.words(["--jobs", str(width)], keeps=False)
+        if crate.prove(["check", *words, "-o", checked]):
+            return False
+        words = [*without(words, "--logic-built", "--jobs"), "--crate-checked", checked, *toolchain]
+        if crate.call(rtlib.RATTLE, "build", *words, "--backend", "llvm", "-o", f"{program}.o"):
+            return False
+        libraries = [f"{rtlib.KIT}/c/{it}.a" for it in ("libos_c", "liblibc_c")]
+        linked = ["--target", TARGET, *toolchain, "-o", program, f"{program}.o", *libraries]
+        return crate.call(f"{rtlib.KIT}/bin/rattle-link", *linked) == 0
+
+
 def main(folder):
     rtlib.guarded()
-    crates = rtlib.crates_below(os.path.realpath(folder))[:-1]
-    held = rtlib.lock(crates)
+    rtlib.Crate.cuts_libraries = True
+    rtlib.Crate.stamp = functools.cache(rtlib.Crate.stamp)
+    *libraries, program = rtlib.crates_below(os.path.realpath(folder))
+    for it in libraries:
+        it.rlib = f"{it.folder}/out/proved/{it.name}.rlib"
+    rtlib.lock([*libraries, program])
     width = lanes()
-    new = [it for it in crates if not it.is_built()]
+    new = [it for it in libraries if not is_kept(it)]
     chain = max((way_up(it, new) for it in new), default=0)
-    minutes = max(chain / 2, sum(map(lines, new)) / width) / LINES_A_MINUTE
-    say(f"{len(new)} of {len(crates)} libraries are to be proved, which takes about {minutes:.0f} minutes")
-    failed = prove(crates, width)
+    minutes = 1 + max(chain / 2, sum(map(cost, new)) / width) / LINES_A_MINUTE
+    say(f"{len(new)} of {len(libraries)} libraries are to be proved, which takes about {minutes:.0f} minutes")
+    failed = prove(libraries, width)
     for crate in failed:
         say(f"{crate.name} is not proved: {crate.folder}/out/proved.log says why")
-    for it in held:
-        os.close(it)
-    return 1 if failed else 0
+    if failed:
+        return 1
+    say("building the program")
+    if build_program(program, width):
+        return 0
+    say(f"{program.name} is not proved or built: {program.folder}/out/{program.name}.log says why")
+    return 1
 
 
 if __name__ == "__main__":
