@@ -1,10 +1,10 @@
 #!/usr/bin/env python3
 """prove.py CRATE: proves the libraries that a program stands on, and then proves and builds the program, all
 as the gate does: each crate from nothing, over the statements alone of those below it. As many are proved
-side by side as there are processors and memory for, and a line is printed as each is. The one with the
-longest way up to the program goes first and may use all processors; each of the others has one, of what it
-leaves, since a check that several processors share takes a fifth more of their time. What is built and
-unchanged is kept."""
+side by side as there are processors and memory for, and a line is printed as each is. One at a time may use
+all processors: of those that can begin, the one with the longest way up to the program. Each of the others
+has one, of what it leaves, since a check that several processors share takes a fifth more of their time.
+What is built and unchanged is kept."""
 import functools
 import os
 import queue
@@ -19,7 +19,7 @@ import rtlib  # noqa: E402 (the kit's own library, beside its command rt)
 
 A_CHECK = 3_000_000_000  # bytes that a check may take
 A_LOAD = 150  # what it costs to load what a crate stands on, in lines of code
-LINES_A_MINUTE = 500  # of code, proved on one processor: measured, and rough
+LINES_A_MINUTE = 430  # of code, proved on one processor: measured, and rough
 TARGET = "x86_64-unknown-linux-gnu"
 
 
@@ -93,18 +93,19 @@ def prove(crates, width):
     """Proves the libraries and returns those that failed."""
     up = {it: way_up(it, crates) for it in crates}
     left = sorted((it for it in crates if not is_kept(it)), key=lambda it: -up[it])
-    count, running, failed, ended = len(crates), set(), [], queue.SimpleQueue()
+    count, lead, running, failed, ended = len(crates), None, set(), [], queue.SimpleQueue()
     proved = {it for it in crates if it not in left}
     while (left and not failed) or running:
         ready = [it for it in left if not failed and proved.issuperset(it.deps)]
-        first = max([*ready, *running], key=up.get)
         for crate in ready[: width - len(running)]:
-            jobs, niceness = (width, 0) if crate is first else (1, 5)
+            lead = lead or crate
+            jobs, niceness = (width, 0) if crate is lead else (1, 5)
             threading.Thread(target=build, args=(crate, jobs, niceness, ended)).start()
             left.remove(crate)
             running.add(crate)
         crate, is_proved = ended.get()
         running.remove(crate)
+        lead = None if crate is lead else lead
         if is_proved:
             proved.add(crate)
             say(f"proved {len(proved)} of {count}: {crate.name}")
