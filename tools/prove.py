@@ -151,7 +151,7 @@ def main(folder):
     width = lanes()
     new = [it for it in libraries if not is_kept(it)]
     chain = max((way_up(it, new) for it in new), default=0)
-    minutes = 1 + max(chain / 2, sum(map(cost, new)) / width) / LINES_A_MINUTE
+    minutes = 2 + max(chain / 2, sum(map(cost, new)) / width) / LINES_A_MINUTE
     say(f"{len(new)} of {len(libraries)} libraries are to be proved, which takes about {minutes:.0f} minutes")
     failed = prove(libraries, width)
     for crate in failed:
