@@ -198,6 +198,12 @@ def check_changed_sources(tally: Tally, script: Path) -> None:
     ended = call(script, "hello")
     tally.equal("changed sources are built", ended.status, 0)
     tally.equal("once more", (script.parent / "built").read_text().split(), ["built"] * 2)
+    tally.equal("sources as they were", (call(script, "hello").status, (script.parent / "built").read_text().split()),
+                (0, ["built"] * 2))
+    (script.parent / "crates/parcours/src/main.rt").write_text("fn main() {   }\n")
+    os.utime(script.parent / "crates/parcours/src/main.rt", (0, 0))
+    tally.equal("a source with an old time", (call(script, "hello").status, (script.parent / "built").read_text().split()),
+                (0, ["built"] * 3))
     (script.parent / "crates/parcours/src/main.rt").write_text("fn main() {  }\n")
     (script.parent / "stand_in").unlink()
     ended = call(script, "hello")
