@@ -1,5 +1,5 @@
 -- How slots, statuses, bounds and refusals are printed.
-use Rattle.std.specs.Prelude.{ℕ, List, ◌++◌, codes}
+use Rattle.std.specs.Prelude.{ℕ, List, [], ◌++◌, codes}
 use Rattle.std.specs.Fmt.{decimal}
 use Rattle.admit_core.specs.declared.slot.Slot.{Slot}
 use Rattle.admit_core.specs.declared.slot.Slot.TheVariants.{Groups, Programmes, Schools, Rankings, Boarding, Wishes, State, Ceilings, Answers, Chain}
@@ -10,6 +10,8 @@ use Rattle.admit_core.specs.declared.ranking.Bound.TheVariants as bound
 use Rattle.admit_core.specs.declared.refusal.Reason.{Reason}
 use Rattle.admit_core.specs.declared.refusal.Reason.TheVariants.{Header, FieldCount, NotNumber, OutOfRange, NotFlag, NotWord, TooManyRows, TooLarge, Repeat, Unknown, RankTaken, Unranked, NoBoardingRank, PreferenceMixed, PreferenceTaken, TwoAccepted, DayFalls, UnfitAnswer, NotDate}
 use Rattle.admit_core.specs.declared.refusal.Refusal.{Refusal}
+use Rattle.admit_core.specs.declared.lines.Kept.{Kept}
+use Rattle.admit_core.specs.declared.lines.Kept.TheVariants.{Nothing, Number, Found}
 
 abbrev pub slot_name : Slot → List ℕ
 slot_name Groups = codes "groups"
@@ -63,27 +65,58 @@ reason_number DayFalls = 17
 reason_number (UnfitAnswer status) = 18
 reason_number (NotDate field) = 20
 
+abbrev pub reason_name : Reason → List ℕ
+reason_name Header = codes "Header"
+reason_name (FieldCount found) = codes "FieldCount"
+reason_name (NotNumber field) = codes "NotNumber"
+reason_name (OutOfRange field) = codes "OutOfRange"
+reason_name (NotFlag field) = codes "NotFlag"
+reason_name (NotWord field) = codes "NotWord"
+reason_name TooManyRows = codes "TooManyRows"
+reason_name TooLarge = codes "TooLarge"
+reason_name (Repeat first) = codes "Repeat"
+reason_name (Unknown field) = codes "Unknown"
+reason_name (RankTaken first) = codes "RankTaken"
+reason_name Unranked = codes "Unranked"
+reason_name NoBoardingRank = codes "NoBoardingRank"
+reason_name (PreferenceMixed first) = codes "PreferenceMixed"
+reason_name (PreferenceTaken first) = codes "PreferenceTaken"
+reason_name (TwoAccepted first) = codes "TwoAccepted"
+reason_name DayFalls = codes "DayFalls"
+reason_name (UnfitAnswer status) = codes "UnfitAnswer"
+reason_name (NotDate field) = codes "NotDate"
+
+-- what a reason keeps beside its name
+abbrev pub kept_by : Reason → Kept
+kept_by Header = Nothing
+kept_by (FieldCount found) = Number found
+kept_by (NotNumber field) = Number field
+kept_by (OutOfRange field) = Number field
+kept_by (NotFlag field) = Number field
+kept_by (NotWord field) = Number field
+kept_by TooManyRows = Nothing
+kept_by TooLarge = Nothing
+kept_by (Repeat first) = Number first
+kept_by (Unknown field) = Number field
+kept_by (RankTaken first) = Number first
+kept_by Unranked = Nothing
+kept_by NoBoardingRank = Nothing
+kept_by (PreferenceMixed first) = Number first
+kept_by (PreferenceTaken first) = Number first
+kept_by (TwoAccepted first) = Number first
+kept_by DayFalls = Nothing
+kept_by (UnfitAnswer status) = Found status
+kept_by (NotDate field) = Number field
+
+-- as it stands after the name
+abbrev pub kept_text : Kept → List ℕ
+kept_text Nothing = []
+kept_text (Number number) = codes " " ++ decimal number
+kept_text (Found status) = codes " " ++ status_word status
+
 -- a reason's name, and the value that it keeps
 abbrev pub reason_text : Reason → List ℕ
-reason_text Header = codes "Header"
-reason_text (FieldCount found) = codes "FieldCount " ++ decimal found
-reason_text (NotNumber field) = codes "NotNumber " ++ decimal field
-reason_text (OutOfRange field) = codes "OutOfRange " ++ decimal field
-reason_text (NotFlag field) = codes "NotFlag " ++ decimal field
-reason_text (NotWord field) = codes "NotWord " ++ decimal field
-reason_text TooManyRows = codes "TooManyRows"
-reason_text TooLarge = codes "TooLarge"
-reason_text (Repeat first) = codes "Repeat " ++ decimal first
-reason_text (Unknown field) = codes "Unknown " ++ decimal field
-reason_text (RankTaken first) = codes "RankTaken " ++ decimal first
-reason_text Unranked = codes "Unranked"
-reason_text NoBoardingRank = codes "NoBoardingRank"
-reason_text (PreferenceMixed first) = codes "PreferenceMixed " ++ decimal first
-reason_text (PreferenceTaken first) = codes "PreferenceTaken " ++ decimal first
-reason_text (TwoAccepted first) = codes "TwoAccepted " ++ decimal first
-reason_text DayFalls = codes "DayFalls"
-reason_text (UnfitAnswer status) = codes "UnfitAnswer " ++ status_word status
-reason_text (NotDate field) = codes "NotDate " ++ decimal field
+reason_text reason = reason_name reason ++ kept_text (kept_by reason)
 
 -- the line of a refusal, without its line feed
 abbrev pub refusal_text : Refusal → List ℕ

@@ -1,6 +1,6 @@
 //! How slots, statuses, bounds and refusals are printed.
 ghost use Rattle.std.specs.Prelude.{◌≡◌, Some};
-ghost use Rattle.admit_core.specs.Lines.{bound_letter, reason_number, reason_text, refusal_text, slot_name, status_word};
+ghost use Rattle.admit_core.specs.Lines.{bound_letter, kept_by, kept_text, reason_name, reason_number, reason_text, refusal_text, slot_name, status_word};
 
 use crate::ranking::Bound;
 use crate::refusal::{Reason, Refusal};
@@ -89,32 +89,96 @@ impl Reason {
     }
 }
 
+/// What a reason keeps beside its name.
+#[derive(Clone, Copy)]
+enum Kept {
+    Nothing,
+    Number(u64),
+    Found(Status),
+}
+
+/// As it stands after the name.
+impl fmt::Display for Kept {
+    ghost output = { λ kept. Some (kept_text kept) };
+
+    fn fmt<W: fmt::Write>(&self, f: &mut fmt::Formatter<W>) -> fmt::Result {
+        match self {
+            Kept::Nothing => Ok(()),
+            Kept::Number(number) => write!(f, " {number}"),
+            Kept::Found(status) => write!(f, " {status}"),
+        }
+    }
+}
+
+impl Reason {
+    fn name(&self) -> &'static str
+        ensures { result.now ≡ reason_name self.now }
+    {
+        match self {
+            Reason::Header => "Header",
+            Reason::FieldCount(_) => "FieldCount",
+            Reason::NotNumber(_) => "NotNumber",
+            Reason::OutOfRange(_) => "OutOfRange",
+            Reason::NotFlag(_) => "NotFlag",
+            Reason::NotWord(_) => "NotWord",
+            Reason::TooManyRows => "TooManyRows",
+            Reason::TooLarge => "TooLarge",
+            Reason::Repeat(_) => "Repeat",
+            Reason::Unknown(_) => "Unknown",
+            Reason::RankTaken(_) => "RankTaken",
+            Reason::Unranked => "Unranked",
+            Reason::NoBoardingRank => "NoBoardingRank",
+            Reason::PreferenceMixed(_) => "PreferenceMixed",
+            Reason::PreferenceTaken(_) => "PreferenceTaken",
+            Reason::TwoAccepted(_) => "TwoAccepted",
+            Reason::DayFalls => "DayFalls",
+            Reason::UnfitAnswer(_) => "UnfitAnswer",
+            Reason::NotDate(_) => "NotDate",
+        }
+    }
+
+    fn kept(&self) -> Kept
+        ensures { result ≡ kept_by self.now }
+    {
+        match self {
+            Reason::Header => Kept::Nothing,
+            Reason::FieldCount(found) => Kept::Number(*found),
+            Reason::NotNumber(field) => Kept::Number(*field as u64),
+            Reason::OutOfRange(field) => Kept::Number(*field as u64),
+            Reason::NotFlag(field) => Kept::Number(*field as u64),
+            Reason::NotWord(field) => Kept::Number(*field as u64),
+            Reason::TooManyRows => Kept::Nothing,
+            Reason::TooLarge => Kept::Nothing,
+            Reason::Repeat(first) => Kept::Number(*first),
+            Reason::Unknown(field) => Kept::Number(*field as u64),
+            Reason::RankTaken(first) => Kept::Number(*first),
+            Reason::Unranked => Kept::Nothing,
+            Reason::NoBoardingRank => Kept::Nothing,
+            Reason::PreferenceMixed(first) => Kept::Number(*first),
+            Reason::PreferenceTaken(first) => Kept::Number(*first),
+            Reason::TwoAccepted(first) => Kept::Number(*first),
+            Reason::DayFalls => Kept::Nothing,
+            Reason::UnfitAnswer(status) => Kept::Found(*status),
+            Reason::NotDate(field) => Kept::Number(*field as u64),
+        }
+    }
+}
+
 /// The reason's name, and the value that it keeps.
 impl fmt::Display for Reason {
     ghost output = { λ reason. Some (reason_text reason) };
 
     fn fmt<W: fmt::Write>(&self, f: &mut fmt::Formatter<W>) -> fmt::Result {
-        match self {
-            Reason::Header => write!(f, "Header"),
-            Reason::FieldCount(found) => write!(f, "FieldCount {found}"),
-            Reason::NotNumber(field) => write!(f, "NotNumber {field}"),
-            Reason::OutOfRange(field) => write!(f, "OutOfRange {field}"),
-            Reason::NotFlag(field) => write!(f, "NotFlag {field}"),
-            Reason::NotWord(field) => write!(f, "NotWord {field}"),
-            Reason::TooManyRows => write!(f, "TooManyRows"),
-            Reason::TooLarge => write!(f, "TooLarge"),
-            Reason::Repeat(first) => write!(f, "Repeat {first}"),
-            Reason::Unknown(field) => write!(f, "Unknown {field}"),
-            Reason::RankTaken(first) => write!(f, "RankTaken {first}"),
-            Reason::Unranked => write!(f, "Unranked"),
-            Reason::NoBoardingRank => write!(f, "NoBoardingRank"),
-            Reason::PreferenceMixed(first) => write!(f, "PreferenceMixed {first}"),
-            Reason::PreferenceTaken(first) => write!(f, "PreferenceTaken {first}"),
-            Reason::TwoAccepted(first) => write!(f, "TwoAccepted {first}"),
-            Reason::DayFalls => write!(f, "DayFalls"),
-            Reason::UnfitAnswer(status) => write!(f, "UnfitAnswer {status}"),
-            Reason::NotDate(field) => write!(f, "NotDate {field}"),
-        }
+        let name = self.name();
+        let kept = self.kept();
+        write!(f, "{name}{kept}")
+    }
+}
+
+/// As it is printed.
+impl fmt::Debug for Reason {
+    fn fmt<W: fmt::Write>(&self, f: &mut fmt::Formatter<W>) -> fmt::Result {
+        fmt::Display::fmt(self, f)
     }
 }
 

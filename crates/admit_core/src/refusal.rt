@@ -27,7 +27,7 @@ impl<T: Drop> From<AllocFailed<T>> for OutOfMemory {
 /// number of fields found; `NotNumber`, `OutOfRange`, `NotFlag`, `NotWord`, `NotDate` and `Unknown`
 /// keep the field; `Repeat`, `RankTaken`, `PreferenceMixed`, `PreferenceTaken` and `TwoAccepted`
 /// keep the earlier row; `UnfitAnswer` keeps the status found.
-#[derive(Clone, Copy, Debug, PartialEq, Eq)]
+#[derive(Clone, Copy, PartialEq, Eq)]
 pub enum Reason {
     Header,
     FieldCount(u64),

@@ -3,10 +3,11 @@ ghost use Rattle.std.specs.Prelude.{◌≡◌, ◌≤◌, ◌<◌, ◌==◌, if�
 ghost use Rattle.admit_core.specs.LeastBeds.{rebuilt, schools_with};
 ghost use Rattle.admit_core.specs.Validity.{IsValid};
 
-use crate::dossier::{Dossier, School};
+use crate::dossier::{Answer, CeilingChange, Dossier, School};
 use crate::ranking::RankGroup;
 use crate::refusal::OutOfMemory;
 use crate::sequence::Sequence;
+use crate::state::Status;
 use std::alloc::Global;
 
 /// A copy of a group.
@@ -61,6 +62,51 @@ fn with_beds_at(
     )
 }
 
+/// Copies of what happens to wishes and schools, day by day.
+struct Events {
+    statuses: Vec<Status>,
+    ceilings: Vec<CeilingChange>,
+    answers: Vec<Answer>,
+}
+
+// Not derived: so the copies are dropped in one step where they are held.
+impl Drop for Events {
+    fn drop(self) {
+        let Events {
+            statuses: _,
+            ceilings: _,
+            answers: _,
+        } = self;
+    }
+}
+
+impl Events {
+    fn copied(alloc: Global, dossier: &Dossier) -> Result<Events, OutOfMemory>
+        ensures statuses { IfOk result (λ events. events.statuses.items ≡ dossier.now.statuses) }
+        ensures ceilings { IfOk result (λ events. events.ceilings.items ≡ dossier.now.ceilings) }
+        ensures answers { IfOk result (λ events. events.answers.items ≡ dossier.now.answers) }
+    {
+        Ok(Events {
+            statuses: dossier.statuses.as_slice().to_vec(alloc)?,
+            ceilings: dossier.ceilings.as_slice().to_vec(alloc)?,
+            answers: dossier.answers.as_slice().to_vec(alloc)?,
+        })
+    }
+
+    fn into_parts(self) -> (Vec<Status>, Vec<CeilingChange>, Vec<Answer>)
+        ensures statuses { result.0.items ≡ self.statuses.items }
+        ensures ceilings { result.1.items ≡ self.ceilings.items }
+        ensures answers { result.2.items ≡ self.answers.items }
+    {
+        let Events {
+            statuses,
+            ceilings,
+            answers,
+        } = self;
+        (statuses, ceilings, answers)
+    }
+}
+
 /// A dossier's copy, but for its schools.
 fn with_schools(
     alloc: Global,
@@ -70,14 +116,19 @@ fn with_schools(
     requires { IsValid (record dossier.now { schools = schools.items }) }
     ensures { IfOk result (λ copy. copy ≡ record dossier.now { schools = schools.items }) }
 {
+    let events = Events::copied(alloc, dossier)?;
+    let wishes = dossier.wishes.as_slice().to_vec(alloc)?;
+    let programmes = dossier.programmes.as_slice().to_vec(alloc)?;
+    let groups = copies_of(alloc, dossier.groups.as_slice())?;
+    let (statuses, ceilings, answers) = events.into_parts();
     Ok(Dossier {
-        groups: Sequence::from_vec(copies_of(alloc, dossier.groups.as_slice())?),
-        programmes: Sequence::from_vec(dossier.programmes.as_slice().to_vec(alloc)?),
+        groups: Sequence::from_vec(groups),
+        programmes: Sequence::from_vec(programmes),
         schools: Sequence::from_vec(schools),
-        wishes: Sequence::from_vec(dossier.wishes.as_slice().to_vec(alloc)?),
-        statuses: Sequence::from_vec(dossier.statuses.as_slice().to_vec(alloc)?),
-        ceilings: Sequence::from_vec(dossier.ceilings.as_slice().to_vec(alloc)?),
-        answers: Sequence::from_vec(dossier.answers.as_slice().to_vec(alloc)?),
+        wishes: Sequence::from_vec(wishes),
+        statuses: Sequence::from_vec(statuses),
+        ceilings: Sequence::from_vec(ceilings),
+        answers: Sequence::from_vec(answers),
     })
 }
 
