@@ -1,5 +1,5 @@
 -- The demands of a row up to a rank are told by its first wishes.
-use Rattle.std.proofs.Common.{ℕ, ◌≤◌, ◌<◌, ◌≡◌, Bool, false, ◌&&◌, List, [], ◌∷◌, map, take, inl, inr, refl, sym, ◌∙◌, ap, arith, nat_le, nat_lt, filter, zero, suc, Some}
+use Rattle.std.proofs.Common.{ℕ, ◌≤◌, ◌<◌, ◌≡◌, Bool, false, ◌&&◌, List, [], ◌∷◌, take, inl, inr, refl, sym, ◌∙◌, ap, arith, nat_le, nat_lt, filter, zero, suc, Some}
 use Rattle.std.specs.Prelude.{slice_get}
 use Rattle.std.proofs.lemmas.Bool.{cases_Bool, lt-leb}
 use Rattle.std.proofs.lemmas.Option.{slice_get_within}

@@ -4,7 +4,7 @@ use Rattle.std.proofs.lemmas.Option.{slice_get_read}
 use Rattle.demand.specs.declared.demands.Demand.{Demand}
 use Rattle.demand.specs.Demands.{demands_of}
 use Rattle.demand.proofs.Listed.{names_are}
-use Rattle.linked_demand.specs.Demand.{firsts, is_proposed_at}
+use Rattle.linked_demand.specs.Demand.{is_proposed_at}
 use Rattle.linked_demand.specs.Rounds.{Round, bar_each}
 use Rattle.linked_demand.specs.Rows.{IsFront}
 use Rattle.linked_demand.proofs.RoundFalls.{scan_waits, demands_right}
