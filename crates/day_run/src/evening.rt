@@ -40,7 +40,8 @@ fn left_at(state: &DayState<'_>, sites: Sites, place: u32) -> u32
 
 /// The seats that are left, by programme, or the beds, by school.
 fn all_left(alloc: Global, state: &DayState<'_>, sites: Sites) -> Result<Sequence<u32>, OutOfMemory>
-    ensures { IfOk result (λ s. s ≡ map (left_at state.now sites) (range_with_len 0 (site_count state.now.dossier sites))) }
+    ensures { IfOk result (λ s. s ≡ map (left_at state.now sites)
+        (range_with_len 0 (site_count state.now.dossier sites))) }
 {
     let mut left = Vec::new(alloc);
     for place in 0..site_count(state, sites) {

@@ -77,8 +77,10 @@ pub(crate) fn make_passes<'d>(
 fn follow<'d>(opening: &mut DayState<'d>, closing: &DayState<'d>, offers: &[u32], stamp: Stamp)
     requires same { opening.old.dossier ≡ closing.now.dossier }
     requires within { AreWishesOf opening.old.dossier offers.now }
-    requires steps { 1 < stamp.pass → closing.now ≡ auto_all (offered_along offers.now stamp opening.old) stamp }
-    requires others { 1 < stamp.pass → AreAnsweredBut offers.now (offered_along offers.now stamp opening.old) stamp }
+    requires steps { 1 < stamp.pass
+        → closing.now ≡ auto_all (offered_along offers.now stamp opening.old) stamp }
+    requires others { 1 < stamp.pass
+        → AreAnsweredBut offers.now (offered_along offers.now stamp opening.old) stamp }
     ensures { opening.new ≡ closing.now }
 {
     if stamp.pass > 1 {

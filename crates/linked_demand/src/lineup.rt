@@ -94,7 +94,7 @@ fn line_up(
     Ok(claims)
 }
 
-/// For each programme those who wish for it, with their claims. It notes what is known of each wish.
+/// For each programme those who wish for it, with their claims. What is known of wishes is noted.
 fn claims_of(
     alloc: Global,
     state: &DayState<'_>,
@@ -105,7 +105,8 @@ fn claims_of(
     requires orders { AreCallOrders state.now.dossier.groups orders.now.orders }
     requires places { length places.old.items ≡ length state.now.dossier.wishes }
     requires early { length early.old.items ≡ length state.now.dossier.wishes }
-    ensures { IfOk result (λ v. IsLineup state.now.dossier orders.now.orders v.items places.new.items early.new.items) }
+    ensures { IfOk result (λ v. IsLineup state.now.dossier orders.now.orders v.items
+        places.new.items early.new.items) }
 {
     call_everyone(state, orders);
     call_once(state, orders);

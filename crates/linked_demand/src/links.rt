@@ -52,12 +52,13 @@ fn open_flags(
     Ok(flags)
 }
 
-/// Whether a wish that may be open has a seat: by its place, which may be reached, or by need of none,
-/// which is asked of the others alone.
+/// Whether a wish has a seat, where it is open: by its place, which may be reached, or by need of
+/// none, which is asked of the others alone.
 fn is_served(state: &DayState<'_>, early: &[bool], wish: u32, open: bool, reached: bool) -> bool
     requires wish { wish < length state.now.dossier.wishes }
     requires early { length early.now ≡ length state.now.dossier.wishes }
-    ensures { result ≡ («open» && (reached || slice_index_or (all_sure state.now early.now) wish false)) }
+    ensures { result ≡ («open»
+        && (reached || slice_index_or (all_sure state.now early.now) wish false)) }
 {
     open && (reached || needs_no_seat(state, early, wish))
 }
