@@ -24,7 +24,7 @@ use Rattle.auto_answer.proofs.Again.{answered_once}
 use Rattle.auto_answer.proofs.Answering.{turned, joined, all_both}
 use Rattle.auto_answer.proofs.LawsOfAnswers.{same_own}
 use Rattle.round.proofs.Offering.{apart_places, offers_made, proposed_are_wishes}
-use Rattle.day_run.specs.DayPasses.{IsAnswered}
+use Rattle.day_run.specs.DayPasses.{IsAnswered, offered_along}
 
 module _ (s : State) (orders : List CallOrder) (bars : List ℕ) (stamp : Stamp) (long : length s.marks ≡ length s.dossier.wishes) where
   abbrev after : State
@@ -85,3 +85,23 @@ pub same_but : (s off close opening : State) (orders : List CallOrder) (bars off
     → off ≡ offered s orders bars stamp → close ≡ auto_all off stamp → opening ≡ s → offers ≡ proposed s orders bars → IsAnswered s → SameOthers offers opening close
 same_but s off close opening orders bars offers stamp long off_is close_is opening_is are answered =
     rw (opening_is, close_is, off_is, are) (others_same s orders bars stamp long answered)
+
+-- the opening of a pass, and what its steps lead to
+offered_there : (s opening : State) (orders : List CallOrder) (bars offers : List ℕ) (stamp : Stamp)
+    → length s.marks ≡ length s.dossier.wishes
+    → opening ≡ s → offers ≡ proposed s orders bars → offered_along offers stamp opening ≡ offered s orders bars stamp
+offered_there s opening orders bars offers stamp long opening_is are = rw (opening_is, are) (offers_made s orders bars stamp long)
+
+pub steps_taken : (s opening close : State) (orders : List CallOrder) (bars offers : List ℕ) (stamp : Stamp)
+    → length s.marks ≡ length s.dossier.wishes
+    → opening ≡ s → close ≡ closing s orders bars stamp → offers ≡ proposed s orders bars
+    → close ≡ auto_all (offered_along offers stamp opening) stamp
+steps_taken s opening close orders bars offers stamp long opening_is close_is are =
+    close_is ∙ ap (λ (t : State). auto_all t stamp) (sym (offered_there s opening orders bars offers stamp long opening_is are))
+
+pub answered_along : (s opening : State) (orders : List CallOrder) (bars offers : List ℕ) (stamp : Stamp)
+    → length s.marks ≡ length s.dossier.wishes
+    → opening ≡ s → offers ≡ proposed s orders bars → IsAnswered s → AreAnsweredBut offers (offered_along offers stamp opening) stamp
+answered_along s opening orders bars offers stamp long opening_is are =
+    answered_but s (offered_along offers stamp opening) orders bars offers stamp long
+    (offered_there s opening orders bars offers stamp long opening_is are) are

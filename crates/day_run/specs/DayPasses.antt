@@ -4,13 +4,19 @@ use Rattle.std.specs.List.{flat_map}
 use Rattle.admit_core.specs.declared.ranking.CallOrder.{CallOrder}
 use Rattle.admit_core.specs.declared.records.PassEnd.{PassEnd}
 use Rattle.admit_core.specs.declared.state.Stamp.{Stamp}
-use Rattle.admit_core.specs.State.{State, is_live, is_waiting}
+use Rattle.admit_core.specs.declared.state.Status.TheVariants.{Offered}
+use Rattle.admit_core.specs.State.{State, changed_to, is_live, is_waiting}
 use Rattle.admit_core.specs.AutoAnswer.{auto_all}
 use Rattle.admit_core.specs.Boarding.{boarding}
 use Rattle.admit_core.specs.Days.{closing, offered}
+use Rattle.day_state.specs.Along.{change_along}
 use Rattle.bar_law.specs.Runs.{schools_of}
 use Rattle.bar_fixpoint.specs.Chosen.{AreChosen}
 use Rattle.round.specs.PassLaws.{KeepsPassLaws}
+
+-- the state in which the wishes at these places have become offered
+abbrev pub offered_along : List ℕ → Stamp → State → State
+offered_along places stamp s = change_along (λ w m. changed_to Offered stamp m) places s
 
 -- the schools whose bars fell in the passes, in their order
 abbrev pub schools_of_passes : List PassEnd → List ℕ

@@ -2,6 +2,7 @@ pub mod AnswersOn
 pub mod Changes
 pub mod DayPasses
 pub mod DeskStates
+pub mod Evening
 pub mod Ceilings
 pub mod CampaignDays
 pub mod DayLaws

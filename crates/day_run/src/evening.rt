@@ -1,7 +1,7 @@
 //! What is left in the evening, and the record of the day.
-ghost use Rattle.std.specs.Prelude.{◌≡◌, ◌≤◌, ◌<◌, length, IfOk, map};
+ghost use Rattle.std.specs.Prelude.{◌≡◌, ◌<◌, IfOk, map};
 ghost use Rattle.std.specs.List.{range_with_len};
-ghost use Rattle.admit_core.specs.State.{seats_left, free_beds};
+ghost use Rattle.day_run.specs.Evening.{site_count, left_at};
 ghost use Rattle.day_run.specs.RunDay.{recorded};
 
 use admit_core::{DayRecord, Lapse, OutOfMemory, PassEnd, Sequence};
@@ -9,28 +9,45 @@ use day_state::DayState;
 use std::alloc::Global;
 use vacancies::{beds_left, seats_left};
 
-/// The seats that are left, by programme.
-fn all_seats_left(alloc: Global, state: &DayState<'_>) -> Result<Sequence<u32>, OutOfMemory>
-    ensures { IfOk result (λ s. s ≡ map (seats_left state.now) (range_with_len 0 (length state.now.dossier.programmes))) }
-{
-    let mut left = Vec::new(alloc);
-    let count = state.dossier().programmes.len() as u32;
-    for programme in 0..count {
-        left.push(seats_left(state, programme))?;
-    }
-    Ok(Sequence::from_vec(left))
+/// Where something may be left in the evening.
+#[derive(Clone, Copy)]
+enum Sites {
+    Programmes,
+    Schools,
 }
 
-/// The beds that are left, by school.
-fn all_beds_left(alloc: Global, state: &DayState<'_>) -> Result<Sequence<u32>, OutOfMemory>
-    ensures { IfOk result (λ s. s ≡ map (free_beds state.now) (range_with_len 0 (length state.now.dossier.schools))) }
+/// How many programmes there are, or how many schools.
+fn site_count(state: &DayState<'_>, sites: Sites) -> u32
+    ensures { result ≡ site_count state.now.dossier sites }
 {
-    let mut free = Vec::new(alloc);
-    let count = state.dossier().schools.len() as u32;
-    for school in 0..count {
-        free.push(beds_left(state, school))?;
+    let dossier = state.dossier();
+    match sites {
+        Sites::Programmes => dossier.programmes.len() as u32,
+        Sites::Schools => dossier.schools.len() as u32,
     }
-    Ok(Sequence::from_vec(free))
+}
+
+/// The seats that are left in a programme, or the beds in a school.
+fn left_at(state: &DayState<'_>, sites: Sites, place: u32) -> u32
+    requires { place < site_count state.now.dossier sites }
+    ensures { result ≡ left_at state.now sites place }
+{
+    match sites {
+        Sites::Programmes => seats_left(state, place),
+        Sites::Schools => beds_left(state, place),
+    }
+}
+
+/// The seats that are left, by programme, or the beds, by school.
+fn all_left(alloc: Global, state: &DayState<'_>, sites: Sites) -> Result<Sequence<u32>, OutOfMemory>
+    ensures { IfOk result (λ s. s ≡ map (left_at state.now sites)
+        (range_with_len 0 (site_count state.now.dossier sites))) }
+{
+    let mut left = Vec::new(alloc);
+    for place in 0..site_count(state, sites) {
+        left.push(left_at(state, sites, place))?;
+    }
+    Ok(Sequence::from_vec(left))
 }
 
 /// The record of a day that is over: what it did, and what is left in its evening.
@@ -43,8 +60,8 @@ pub(crate) fn record_day(
 ) -> Result<DayRecord, OutOfMemory>
     ensures { IfOk result (λ done. done ≡ recorded day passes.items lapsed.items evening.now) }
 {
-    let left = all_seats_left(alloc, evening)?;
-    let free = all_beds_left(alloc, evening)?;
+    let left = all_left(alloc, evening, Sites::Programmes)?;
+    let free = all_left(alloc, evening, Sites::Schools)?;
     Ok(DayRecord {
         day,
         passes: Sequence::from_vec(passes),

@@ -9,7 +9,7 @@ ghost use Rattle.linked_demand.specs.Lineups.{IsLineupOf};
 ghost use Rattle.bar_fixpoint.specs.Chosen.{AreChosen};
 ghost use Rattle.auto_answer.specs.Laws.{AreAnsweredBut, SameOthers};
 ghost use Rattle.day_run.specs.Changes.{answered_changes};
-ghost use Rattle.day_run.specs.DayPasses.{AreChosenPasses, IsAnswered, TellsMore, schools_of_passes, last_opening, open_wishes};
+ghost use Rattle.day_run.specs.DayPasses.{AreChosenPasses, IsAnswered, TellsMore, schools_of_passes, last_opening, offered_along, open_wishes};
 ghost use Rattle.day_run.specs.DayPlaces.{AreWishesOf};
 
 use crate::changes::{answered_changes, changes_beside};
@@ -54,6 +54,7 @@ pub(crate) fn make_passes<'d>(
 {
     let _ = state.marks(); // one for each wish
     let _ = state.dossier().wishes.len(); // at most 16,000,000
+    opening.set_from(state);
     let mut ends = Vec::new(alloc);
     let mut number = 1;
     'passes: loop {
@@ -61,12 +62,32 @@ pub(crate) fn make_passes<'d>(
         let end = make_pass(
             alloc, opening, state, orders, lineup, ceilings, stamp, picker,
         )?;
-        let freed = end.freed;
-        ends.push(end)?;
-        if frees_nothing(freed) {
+        if frees_nothing(end.freed) {
+            ends.push(end)?;
             return Ok(ends);
         }
+        follow(opening, state, end.pass.offers.as_slice(), stamp);
+        ends.push(end)?;
         number += 1;
+    }
+}
+
+/// Leads the opening of a pass to its closing, with which the next pass opens. After a pass that is
+/// not the first of its day it takes the steps that the pass took: few wishes are looked at then.
+fn follow<'d>(opening: &mut DayState<'d>, closing: &DayState<'d>, offers: &[u32], stamp: Stamp)
+    requires same { opening.old.dossier ≡ closing.now.dossier }
+    requires within { AreWishesOf opening.old.dossier offers.now }
+    requires steps { 1 < stamp.pass
+        → closing.now ≡ auto_all (offered_along offers.now stamp opening.old) stamp }
+    requires others { 1 < stamp.pass
+        → AreAnsweredBut offers.now (offered_along offers.now stamp opening.old) stamp }
+    ensures { opening.new ≡ closing.now }
+{
+    if stamp.pass > 1 {
+        opening.offer_all(offers, stamp);
+        auto_some(opening, offers, stamp);
+    } else {
+        opening.set_from(closing);
     }
 }
 
@@ -77,20 +98,20 @@ fn frees_nothing(freed: Freed) -> bool
     freed.seats == 0 && freed.beds == 0
 }
 
-/// Makes a pass, and the automatic answers that follow it. The opening becomes that of the pass.
+/// Makes a pass, and the automatic answers that follow it.
 ///
 /// A pass that is not the first of its day opens where all have been answered for.
-fn make_pass<'d>(
+fn make_pass(
     alloc: Global,
-    opening: &mut DayState<'d>,
-    state: &mut DayState<'d>,
+    opening: &DayState<'_>,
+    state: &mut DayState<'_>,
     orders: &CallOrders,
     lineup: &Lineup,
     ceilings: &[u32],
     stamp: Stamp,
     picker: &mut dyn Picker,
 ) -> Result<PassEnd, OutOfMemory>
-    requires same { opening.old.dossier ≡ state.old.dossier }
+    requires opening { opening.now ≡ state.old }
     requires orders { AreCallOrders state.old.dossier.groups orders.now.orders }
     requires lineup { IsLineupOf state.old.dossier orders.now.orders lineup.now }
     requires ceilings { length ceilings.now ≡ length state.old.dossier.schools }
@@ -98,7 +119,6 @@ fn make_pass<'d>(
 
     ensures end { IfOk result (λ end. IsPassEnd state.old orders.now.orders ceilings.now stamp end) }
     ensures state { IfOk result (λ end. state.new ≡ closing state.old orders.now.orders end.pass.bars stamp) }
-    ensures opening { opening.new ≡ state.old }
     ensures fewer { IfOk result (λ end. IsTrue (not (frees_nothing end.freed)) → open_wishes state.new < open_wishes state.old) }
     ensures marks { IfOk result (λ _. length state.new.marks ≡ length state.new.dossier.wishes) }
     ensures answered { IfOk result (λ _. IsAnswered state.new) }
@@ -111,7 +131,6 @@ fn make_pass<'d>(
     ensures dossier { state.new.dossier ≡ state.old.dossier }
 {
     let _ = state.marks(); // one for each wish
-    opening.set_from(state);
     let pass = pass(alloc, state, orders, lineup, ceilings, stamp, picker)?;
     let freed = answer_after(state, pass.offers.as_slice(), stamp);
     let autos = changes_after(alloc, opening, state, pass.offers.as_slice(), stamp)?;

@@ -85,7 +85,7 @@ behind_found (y ∷ row) zero (suc k) x le at = or_right (nat_eq x.wish y.wish) 
 behind_found (y ∷ row) (suc end) zero x le at = absurd (omega arith)
 behind_found (y ∷ row) (suc end) (suc k) x le at = behind_found row end k x (omega arith) at
 
-in_front : (row : List RowWish) (end k : ℕ) (x : RowWish) → slice_get (take end row) k ≡ Some x
+pub in_front : (row : List RowWish) (end k : ℕ) (x : RowWish) → slice_get (take end row) k ≡ Some x
     → (k < end) × (slice_get row k ≡ Some x)
 in_front [] zero k x at = absurd (omega (arith, slice_get_within [] k x at))
 in_front [] (suc end) k x at = absurd (omega (arith, slice_get_within [] k x at))

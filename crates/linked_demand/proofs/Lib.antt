@@ -29,6 +29,7 @@ pub mod PlaceOrder
 pub mod Putting
 pub mod Reach
 pub mod RoundFalls
+pub mod RowFronts
 pub mod Rounding
 pub mod Seating
 pub mod Spending

@@ -50,6 +50,13 @@ pub record StayOpen (l : LinksRow) (bars : List ℕ) (to : ℕ) (row : List RowW
   pub past : (j : ℕ) (x : RowWish) (e : Wish × Mark) → slice_get row j ≡ Some x → to < x.rank
       → slice_get (entries l.state) x.wish ≡ Some e → is_open l.state bars e.0 e.1 ≡ false
 
+-- the first ones of a row, before one that ranks past a number
+pub record IsFront (upto : ℕ) (row front : List RowWish) : Type 0 where
+  pub end : ℕ
+  pub within : end ≤ length row
+  pub front_is : front ≡ take end row
+  pub next : (x : RowWish) → slice_get row end ≡ Some x → upto < x.rank
+
 -- one row for each school
 pub record AreRows (s : State) (bars : List ℕ) (rows : List (Vec RowWish Global)) : Type 0 where
   pub one_each : length rows ≡ length s.dossier.schools

@@ -88,10 +88,19 @@ pub fn span_of(candidates: &[u32], candidate: u32, guess: usize) -> Span
 }
 
 /// The claims of those who stand in a line, by place: spans of the list of the wishes.
-#[derive(Drop)]
 pub struct Claims {
     wishes: Vec<u32>,
     spans: Vec<Span>,
+}
+
+// Not derived: so claims are dropped in one step where they are held, and not list by list.
+impl Drop for Claims {
+    fn drop(self) {
+        let Claims {
+            wishes: _,
+            spans: _,
+        } = self;
+    }
 }
 
 impl Model for Claims {

@@ -8,7 +8,7 @@ ghost use Rattle.demand.specs.Called.{AreCalled};
 ghost use Rattle.linked_demand.specs.Claims.{AreWishesFor};
 ghost use Rattle.linked_demand.specs.Links.{claim_of};
 ghost use Rattle.linked_demand.specs.Opens.{line_of};
-ghost use Rattle.linked_demand.specs.Seats.{PutAt, AreSeated, boards_at, boarders_of, is_below, is_passed};
+ghost use Rattle.linked_demand.specs.Seats.{PutAt, AreSeated, IsLineup, boards_at, boarders_of, is_below, is_passed};
 
 use crate::claims::{Claims, candidates_of, span_of};
 use crate::guesses::Guesses;
@@ -94,6 +94,43 @@ fn line_up(
     Ok(claims)
 }
 
+/// For each programme those who wish for it, with their claims. What is known of wishes is noted.
+fn claims_of(
+    alloc: Global,
+    state: &DayState<'_>,
+    orders: &CallOrders,
+    places: &mut Vec<u32>,
+    early: &mut Vec<bool>,
+) -> Result<Vec<Claims>, OutOfMemory>
+    requires orders { AreCallOrders state.now.dossier.groups orders.now.orders }
+    requires places { length places.old.items ≡ length state.now.dossier.wishes }
+    requires early { length early.old.items ≡ length state.now.dossier.wishes }
+    ensures { IfOk result (λ v. IsLineup state.now.dossier orders.now.orders v.items
+        places.new.items early.new.items) }
+{
+    call_everyone(state, orders);
+    call_once(state, orders);
+    let mut guesses = Guesses::of_wishes(alloc, state)?;
+    let mut rows = wishes_by_programme(alloc, state)?;
+    let programmes = programme_count(state);
+    let mut claims = Vec::with_capacity(alloc, programmes as usize)?;
+    for programme in 0..programmes {
+        let wishes = mem::replace(&mut rows[programme as usize], Vec::new(alloc));
+        let own = line_up(
+            alloc,
+            state,
+            orders,
+            programme,
+            wishes,
+            places,
+            early,
+            &mut guesses,
+        )?;
+        claims.push(own)?;
+    }
+    Ok(claims)
+}
+
 /// Whether the wish at a place has a school.
 fn has_school(state: &DayState<'_>, place: u32) -> bool
     requires { place < length state.now.dossier.wishes }
@@ -152,29 +189,10 @@ impl Lineup {
         requires { AreCallOrders state.now.dossier.groups orders.now.orders }
         ensures { IfOk result (IsLineupOf state.now.dossier orders.now.orders) }
     {
-        call_everyone(state, orders);
-        call_once(state, orders);
         let count = state.dossier().wishes.len();
         let mut places = vec![in alloc; 0; count]?;
         let mut early = vec![in alloc; false; count]?;
-        let mut guesses = Guesses::of_wishes(alloc, state)?;
-        let mut rows = wishes_by_programme(alloc, state)?;
-        let programmes = programme_count(state);
-        let mut claims = Vec::with_capacity(alloc, programmes as usize)?;
-        for programme in 0..programmes {
-            let wishes = mem::replace(&mut rows[programme as usize], Vec::new(alloc));
-            let own = line_up(
-                alloc,
-                state,
-                orders,
-                programme,
-                wishes,
-                &mut places,
-                &mut early,
-                &mut guesses,
-            )?;
-            claims.push(own)?;
-        }
+        let claims = claims_of(alloc, state, orders, &mut places, &mut early)?;
         let boarders = boarders_of(alloc, state)?;
         let maybe_sure = maybe_sure_of(alloc, state, &early)?;
         Ok(Lineup {

@@ -4,7 +4,7 @@ ghost use Rattle.std.specs.List.{enumerate_from};
 ghost use Rattle.admit_core.specs.State.{entries, is_waiting};
 ghost use Rattle.linked_demand.specs.Marks.{is_new, MarksSchools};
 ghost use Rattle.linked_demand.specs.Lineups.{IsLineupOf};
-ghost use Rattle.linked_demand.specs.Opens.{opens_of};
+ghost use Rattle.linked_demand.specs.Opens.{all_sure, opens_of};
 ghost use Rattle.linked_demand.specs.Seats.{boarders_of};
 ghost use Rattle.admit_core.specs.declared.dossier.Wish.{Wish};
 ghost use Rattle.admit_core.specs.declared.state.Mark.{Mark};
@@ -52,21 +52,37 @@ fn open_flags(
     Ok(flags)
 }
 
-/// Whether an open wish has a seat, by need of none or by its place.
-fn is_served(open: bool, sure: bool, reached: bool) -> bool
-    ensures { result ≡ («open» && (sure || reached)) }
+/// Whether a wish has a seat, where it is open: by its place, which may be reached, or by need of
+/// none, which is asked of the others alone.
+fn is_served(state: &DayState<'_>, early: &[bool], wish: u32, open: bool, reached: bool) -> bool
+    requires wish { wish < length state.now.dossier.wishes }
+    requires early { length early.now ≡ length state.now.dossier.wishes }
+    ensures { result ≡ («open»
+        && (reached || slice_index_or (all_sure state.now early.now) wish false)) }
 {
-    open && (sure || reached)
+    open && (reached || needs_no_seat(state, early, wish))
 }
 
 /// How far the seats of each programme reach along its line, while wishes are closed.
-#[derive(Drop)]
 pub struct SeatLinks<'a, 'd> {
     state: &'a DayState<'d>,
     orders: &'a CallOrders,
     opens: Vec<bool>,
     lineup: &'a Lineup,
     reached: Vec<usize>,
+}
+
+// Not derived: so links are dropped in one step where they are held, and not list by list.
+impl Drop for SeatLinks<'_, '_> {
+    fn drop(self) {
+        let SeatLinks {
+            state: _,
+            orders: _,
+            opens: _,
+            lineup: _,
+            reached: _,
+        } = self;
+    }
 }
 
 impl<'a, 'd> Model for SeatLinks<'a, 'd> {
@@ -190,8 +206,7 @@ impl<'a, 'd> SeatLinks<'a, 'd> {
         let programme = wish_at(self.state, wish).programme as usize;
         let place = lineup.places[wish as usize] as usize;
         let open = self.opens[wish as usize];
-        let sure = needs_no_seat(self.state, &lineup.early, wish);
         let reached = is_reached(place, self.reached[programme]);
-        is_served(open, sure, reached)
+        is_served(self.state, &lineup.early, wish, open, reached)
     }
 }

@@ -7,10 +7,19 @@ use std::marker::Model;
 
 /// Marks of places, counted from 0. They are taken away one after another, without a look at places
 /// that have none.
-#[derive(Drop)]
 pub struct Marks {
     flags: Vec<bool>,
     places: Vec<u32>,
+}
+
+// Not derived: so marks are dropped in one step where they are held, and not list by list.
+impl Drop for Marks {
+    fn drop(self) {
+        let Marks {
+            flags: _,
+            places: _,
+        } = self;
+    }
 }
 
 impl Model for Marks {

@@ -2,7 +2,7 @@
 ghost use Rattle.std.specs.Prelude.{◌≡◌, ℕ, length, false, replicate, slice_get, slice_index_or, IfOk, Vec};
 ghost use Rattle.std.specs.declared.alloc.Global.{Global};
 ghost use Rattle.linked_demand.specs.declared.rows.RowWish.{RowWish};
-ghost use Rattle.linked_demand.specs.Rows.{AllWait};
+ghost use Rattle.linked_demand.specs.Rows.{AllWait, IsFront};
 ghost use Rattle.linked_demand.specs.Demand.{is_proposed_at, counted, firsts, IsAsked};
 
 use crate::links::SeatLinks;
@@ -30,6 +30,17 @@ pub fn first_over(links: &SeatLinks<'_, '_>, row: &[RowWish], free: u32) -> Opti
         }
     }
     None
+}
+
+/// The first wishes of a row: up to the last one that ranks at most at a number.
+pub fn front_of(row: &[RowWish], upto: u32) -> &[RowWish]
+    ensures { IsFront upto row.now result.now }
+{
+    let mut end = 0;
+    while end < row.len() && row[end].rank <= upto {
+        end += 1;
+    }
+    &row[..end]
 }
 
 /// The demanded ranks of a row with their names, from the least rank.

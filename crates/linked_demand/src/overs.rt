@@ -9,10 +9,19 @@ use std::marker::Model;
 
 /// For each place, counted from 0, the first rank that has no bed, if there is one: then the place is
 /// overfilled.
-#[derive(Drop)]
 pub struct Overs {
     ranks: Vec<Option<u32>>,
     overfilled: Vec<u32>,
+}
+
+// Not derived: so answers are dropped in one step where they are held, and not list by list.
+impl Drop for Overs {
+    fn drop(self) {
+        let Overs {
+            ranks: _,
+            overfilled: _,
+        } = self;
+    }
 }
 
 impl Model for Overs {

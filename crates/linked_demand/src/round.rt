@@ -13,7 +13,7 @@ use crate::fill::{free_of, rows_of};
 use crate::lineup::Lineup;
 use crate::links::SeatLinks;
 use crate::marks::Marks;
-use crate::over::{ask_marked, demands_in};
+use crate::over::{ask_marked, demands_in, front_of};
 use crate::overs::Overs;
 use crate::rows::RowWish;
 use crate::seats::is_set;
@@ -188,7 +188,8 @@ impl Falling for LinkedRound<'_, '_> {
     }
 
     fn names(&self, alloc: Global, i: u32, upto: u32) -> Result<Vec<u32>, OutOfMemory> {
-        let demands = demands_in(alloc, &self.links, &self.rows[i as usize])?;
+        let front = front_of(&self.rows[i as usize], upto);
+        let demands = demands_in(alloc, &self.links, front)?;
         names_up_to(alloc, &demands, upto)
     }
 

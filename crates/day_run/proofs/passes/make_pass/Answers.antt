@@ -9,8 +9,8 @@ use Rattle.day_run.proofs.passes.make_pass.Goals as goal
 
 pub returns-clause-end : goal.returns-clause-end
 returns-clause-end g c =
-    pass_ended c.args.state.now c.pass.new.state c.answer_after-freed.new.state c.set_from.new.self c.args.orders.now.orders c.args.ceilings.now c.args.stamp c.in_ok-pass.pass c.from_vec.result c.answer_after-freed.result
-    c.in_ok-pass.ensures.pass c.in_ok-pass.ensures.state c.answer_after-freed.ensures.state c.answer_after-freed.ensures.freed c.set_from.ensures (c.from_vec.ensures ∙ c.in_ok-autos.ensures)
+    pass_ended c.args.state.now c.pass.new.state c.answer_after-freed.new.state c.args.opening.now c.args.orders.now.orders c.args.ceilings.now c.args.stamp c.in_ok-pass.pass c.from_vec.result c.answer_after-freed.result
+    c.in_ok-pass.ensures.pass c.in_ok-pass.ensures.state c.answer_after-freed.ensures.state c.answer_after-freed.ensures.freed c.requires.opening (c.from_vec.ensures ∙ c.in_ok-autos.ensures)
 
 pub returns-clause-state : goal.returns-clause-state
 returns-clause-state g c =
@@ -51,12 +51,12 @@ changes_after-requires g c =
     let offers = c.as_slice-2.ensures ∙ c.in_ok-pass.ensures.pass.offers in
     let made = c.in_ok-pass.ensures.state in
     let close = c.answer_after-freed.ensures.state in
-    let opens = ap (λ (t : State). t.dossier) c.set_from.ensures in
+    let opens = ap (λ (t : State). t.dossier) c.requires.opening in
     record {
       same = ap (λ (t : State). t.dossier) (close ∙ ap (λ (t : State). auto_all t stamp) made) ∙ sym opens;
-      within = offers_within s c.set_from.new.self orders bars c.as_slice-2.result.now opens offers;
+      within = offers_within s c.args.opening.now orders bars c.as_slice-2.result.now opens offers;
       others = λ later.
-          same_but s c.pass.new.state c.answer_after-freed.new.state c.set_from.new.self orders bars c.as_slice-2.result.now stamp long made close c.set_from.ensures offers (c.requires.answered later);
+          same_but s c.pass.new.state c.answer_after-freed.new.state c.args.opening.now orders bars c.as_slice-2.result.now stamp long made close c.requires.opening offers (c.requires.answered later);
     }
 
 pub returns-clause-answered : goal.returns-clause-answered

@@ -4,10 +4,12 @@ use Rattle.std.proofs.lemmas.Bool.{not_from_false}
 use Rattle.std.proofs.lemmas.List.{append-nil}
 use Rattle.admit_core.specs.declared.state.Mark.{Mark}
 use Rattle.admit_core.specs.DossierRows.{DossierRows}
+use Rattle.admit_core.specs.State.{State}
 use Rattle.admit_core.specs.Days.{frees_nothing}
 use Rattle.bar_fixpoint.proofs.OneFall.{on_err}
 use Rattle.linked_demand.specs.Lineups.{IsLineupOf}
-use Rattle.day_run.specs.DayPasses.{schools_of_passes}
+use Rattle.day_run.specs.DayPasses.{schools_of_passes, stamp_of}
+use Rattle.day_run.proofs.LaterPasses.{answered_along, offers_within, steps_taken}
 use Rattle.day_run.proofs.OnePass.{open_at_most}
 use Rattle.day_run.proofs.PassesSoFar.{so_far_none, so_far_more, so_far_end, chosen_none, chosen_more, told_more, tells_from}
 use Rattle.day_run.proofs.passes.make_passes.Goals as goal
@@ -19,7 +21,7 @@ passes-init g c =
     let first = goal.Picker-dyn g c.args.picker.now in
     record {
       so_far = so_far_none c.args.orders.now.orders c.args.ceilings.now c.args.day s c.new-ends.result.items c.new-ends.ensures.items long (open_at_most s long);
-      opening = c.requires.same;
+      opening = c.set_from.ensures;
       answered = λ later. absurd (omega arith);
       chosen = chosen_none c.args.orders.now.orders c.args.ceilings.now c.args.day 1 s (first.choice c.args.picker.now.1) (first.told c.args.picker.now.1) c.new-ends.result.items c.new-ends.ensures.items;
       told = sym (ap (λ l. first.told c.args.picker.now.1 ++ schools_of_passes l) c.new-ends.ensures.items ∙ append-nil (first.told c.args.picker.now.1));
@@ -33,14 +35,14 @@ pub passes-preserved : goal.passes-preserved
 passes-preserved g c =
     let some : IsTrue (not (frees_nothing c.in_ok-end.end.freed)) = not_from_false (frees_nothing c.in_ok-end.end.freed) (sym c.frees_nothing.ensures ∙ c.if-frees_nothing.false) in
     record {
-      so_far = so_far_more c.args.orders.now.orders c.args.ceilings.now c.args.day c.passes.number c.args.state.now c.passes.state c.make_pass.new.state c.passes.ends.items c.push.new.self.items c.in_ok-end.end
-          c.passes.invariant.so_far c.in_ok-end.ensures.end some c.in_ok-end.ensures.state (c.in_ok-end.ensures.fewer some) c.in_ok-end.ensures.marks c.in_ok-end.ensures.dossier c.in_ok-push.ensures.items;
-      opening = ap (λ s. s.dossier) c.make_pass.ensures.opening ∙ c.passes.invariant.so_far.dossier;
+      so_far = so_far_more c.args.orders.now.orders c.args.ceilings.now c.args.day c.passes.number c.args.state.now c.passes.state c.make_pass.new.state c.passes.ends.items c.push-in-passes.new.self.items c.in_ok-end.end
+          c.passes.invariant.so_far c.in_ok-end.ensures.end some c.in_ok-end.ensures.state (c.in_ok-end.ensures.fewer some) c.in_ok-end.ensures.marks c.in_ok-end.ensures.dossier c.in_ok-push-2.ensures.items;
+      opening = c.follow.ensures;
       answered = λ later. c.in_ok-end.ensures.answered;
       chosen =
-          chosen_more c.args.orders.now.orders c.args.ceilings.now c.args.day c.passes.number c.args.state.now _ _ _ _ c.passes.ends.items c.push.new.self.items c.passes.state c.in_ok-end.end
-          c.passes.invariant.so_far c.passes.invariant.chosen c.passes.invariant.told c.passes.invariant.choice c.in_ok-end.ensures.chosen c.in_ok-push.ensures.items;
-      told = told_more _ _ _ c.passes.ends.items c.push.new.self.items c.in_ok-end.end c.passes.invariant.told c.in_ok-end.ensures.told c.in_ok-push.ensures.items;
+          chosen_more c.args.orders.now.orders c.args.ceilings.now c.args.day c.passes.number c.args.state.now _ _ _ _ c.passes.ends.items c.push-in-passes.new.self.items c.passes.state c.in_ok-end.end
+          c.passes.invariant.so_far c.passes.invariant.chosen c.passes.invariant.told c.passes.invariant.choice c.in_ok-end.ensures.chosen c.in_ok-push-2.ensures.items;
+      told = told_more _ _ _ c.passes.ends.items c.push-in-passes.new.self.items c.in_ok-end.end c.passes.invariant.told c.in_ok-end.ensures.told c.in_ok-push-2.ensures.items;
       choice = c.make_pass.ensures.choice ∙ c.passes.invariant.choice;
     }
 
@@ -56,7 +58,7 @@ returns-then-frees_nothing-clause-passes g c =
 
 pub returns-then-frees_nothing-clause-opening : goal.returns-then-frees_nothing-clause-opening
 returns-then-frees_nothing-clause-opening g c =
-    c.make_pass.ensures.opening
+    c.passes.invariant.opening
     ∙ sym (so_far_end c.args.orders.now.orders c.args.ceilings.now c.args.day c.passes.number c.args.state.now c.passes.state c.make_pass.new.state c.passes.ends.items c.push.new.self.items c.in_ok-end.end
     c.passes.invariant.so_far c.in_ok-end.ensures.end (sym c.frees_nothing.ensures ∙ c.if-frees_nothing.true) c.in_ok-end.ensures.state c.in_ok-push.ensures.items).1
 
@@ -86,3 +88,22 @@ make_pass-requires-clause-lineup g c =
 
 pub make_pass-requires-clause-answered : goal.make_pass-requires-clause-answered
 make_pass-requires-clause-answered g c = c.passes.invariant.answered
+
+pub follow-requires : goal.follow-requires
+follow-requires g c =
+    let s = c.passes.state in
+    let orders = c.args.orders.now.orders in
+    let bars = c.in_ok-end.end.pass.bars in
+    let long = c.passes.invariant.so_far.marked in
+    let opening = c.passes.opening in
+    let given = c.as_slice.result.now in
+    let stamp = stamp_of c.args.day c.passes.number in
+    let opens = c.passes.invariant.opening in
+    let offers = c.as_slice.ensures ∙ c.in_ok-end.ensures.end.pass.offers in
+    let opened = ap (λ (t : State). t.dossier) opens in
+    record {
+      same = opened ∙ sym c.in_ok-end.ensures.dossier;
+      within = offers_within s opening orders bars given opened offers;
+      steps = λ later. steps_taken s opening c.make_pass.new.state orders bars given stamp long opens c.in_ok-end.ensures.state offers;
+      others = λ later. answered_along s opening orders bars given stamp long opens offers (c.passes.invariant.answered later);
+    }

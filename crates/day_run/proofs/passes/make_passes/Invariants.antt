@@ -9,7 +9,7 @@ invariant-passes g l =
     let now = goal.Picker-dyn g l.picker.now in
     record {
       so_far : SoFar l.orders.orders l.ceilings l.day l.number l.fn.state l.state l.ends.items;
-      opening : l.opening.dossier ≡ l.fn.state.dossier;
+      opening : l.opening ≡ l.state;
       answered : 1 < l.number → IsAnswered l.state;
       chosen : AreChosenPasses l.orders.orders l.ceilings l.day 1 l.fn.state (first.choice l.fn.picker.now.1) (first.told l.fn.picker.now.1) l.ends.items;
       told : now.told l.picker.now.1 ≡ first.told l.fn.picker.now.1 ++ schools_of_passes l.ends.items;

@@ -1,4 +1,5 @@
-use Rattle.std.proofs.Common.{ℕ, Bool, List, false, length, get_or, arith, ap, sym, ◌∙◌}
+use Rattle.std.proofs.Common.{ℕ, ◌≡◌, Bool, ◌&&◌, ◌||◌, List, false, length, get_or, arith, ap, sym, ◌∙◌}
+use Rattle.std.proofs.Math.Bool.{or_comm}
 use Rattle.std.proofs.lemmas.List.{get_or_default}
 use Rattle.linked_demand.specs.Opens.{all_sure, seat_row}
 use Rattle.linked_demand.proofs.Closing.{starts_within, closes_read, wish_within, programme_within, place_right, sure_each, proposed_goal, proposed_at_is}
@@ -21,12 +22,12 @@ index-open-requires c =
     c.wish_at-programme.result c.wish_at-programme.ensures.wish in
     omega (arith, wish_within k, c.self.invariant.reach.links.opens_each)
 
-pub needs_no_seat-sure-requires : goal.needs_no_seat-sure-requires
-needs_no_seat-sure-requires c =
+pub is_served-requires : goal.is_served-requires
+is_served-requires c =
     let k =
     closes_read c.self.invariant.reach.links c.args.self.now c.self.view_is c.args.wish c.requires
     c.wish_at-programme.result c.wish_at-programme.ensures.wish in
-    record { place = wish_within k; early = ap length c.deref.ensures.value ∙ c.self.invariant.early_each }
+    record { wish = wish_within k; early = ap length c.deref.ensures.value ∙ c.self.invariant.early_each }
 
 pub index-requires-2 : goal.index-requires-2
 index-requires-2 c =
@@ -50,15 +51,18 @@ returns c =
     let reached = reached_is s orders opens p c.index.result.now c.index-2.result.now
     c.is_reached-reached.result reach at.within c.is_reached-reached.ensures in
     let early = r.lineup.now.early.items in
-    let sure =
-    c.needs_no_seat-sure.ensures
-    ∙ ap (λ (es : List Bool). get_or (all_sure s es) c.args.wish false) c.deref.ensures.value
-    ∙ get_or_default (all_sure s early) c.args.wish false c.needs_no_seat-sure.result
-    (omega (arith, wish_within k, sure_each k)) in
+    let flag : Bool = get_or (all_sure s early) c.args.wish false in
+    let sure : flag ≡ get_or (all_sure s early) c.args.wish flag =
+    get_or_default (all_sure s early) c.args.wish false flag (omega (arith, wish_within k, sure_each k)) in
+    let opens_now : Bool = c.index-open.result.now in
+    let near : Bool = c.is_reached-reached.result in
+    let served : c.is_served.result ≡ (opens_now && (flag || near)) =
+    c.is_served.ensures
+    ∙ ap (λ (es : List Bool). opens_now && (near || get_or (all_sure s es) c.args.wish false)) c.deref.ensures.value
+    ∙ ap (λ (b : Bool). opens_now && b) (or_comm near flag) in
     proposed_goal c.self.invariant.reach.links c.args.self.now c.self.view_is c.args.wish w m waits
     c.wish_at-programme.result c.wish_at-programme.ensures.wish
     c.index.result.now c.index.ensures (seat_row s orders opens p)
     (row_there s orders opens p (programme_within k)) c.index-open.result.now
-    c.needs_no_seat-sure.result c.is_reached-reached.result c.is_served.result
-    c.index-open.ensures sure reached c.is_served.ensures
+    flag near c.is_served.result c.index-open.ensures sure reached served
     ∙ sym (proposed_at_is c.args.self.now c.args.wish w m waits)

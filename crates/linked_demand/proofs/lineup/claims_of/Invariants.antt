@@ -1,6 +1,6 @@
 use Rattle.linked_demand.specs.Claims.{AreWishesFrom}
 use Rattle.linked_demand.proofs.Seating.{IsBuilt}
-use Rattle.linked_demand.proofs.lineup.Lineup.build.Given as goal
+use Rattle.linked_demand.proofs.lineup.claims_of.Given as goal
 
 abbrev pub invariant-loop-programme : goal.invariant-loop-programme
 invariant-loop-programme l = record {
