@@ -3,9 +3,10 @@ ghost use Rattle.std.specs.Prelude.{◌≡◌, ◌<◌, ◌++◌, ◌∷◌, [],
 ghost use Rattle.admit_core.specs.Standing.{ranked_in, group_of_row};
 ghost use Rattle.admit_core.specs.Lists.{sorted_by};
 ghost use Rattle.admit_core.specs.Relations.{group_ids};
+ghost use Rattle.dossier_check.specs.Dealt.{built};
 
 use crate::row_ids::RowIds;
-use admit_core::{OutOfMemory, RankGroup, RankRow, Ranked, Sequence, Tables};
+use admit_core::{GroupRow, OutOfMemory, RankGroup, RankRow, Ranked, Sequence, Tables};
 use std::alloc::Global;
 
 /// Puts candidates in order by rank.
@@ -123,6 +124,19 @@ pub(crate) fn ranked_lists(
     Ok(lists)
 }
 
+/// A group with its candidates, who are given in file order, sorted by rank.
+fn rank_group(row: &GroupRow, mut list: Vec<Ranked>) -> Result<RankGroup, OutOfMemory>
+    ensures { IfOk result (λ group. group ≡ built row.now list.items) }
+{
+    sort_by_rank(&mut list)?;
+    Ok(RankGroup {
+        id: row.id,
+        scholar_pct: row.scholar_pct,
+        resident_pct: row.resident_pct,
+        list: Sequence::from_vec(list),
+    })
+}
+
 /// The groups with their candidates, who are given in file order, sorted by rank.
 pub(crate) fn rank_groups(
     alloc: Global,
@@ -134,14 +148,8 @@ pub(crate) fn rank_groups(
 {
     let rows = tables.groups.as_slice();
     let mut done = Vec::with_capacity(alloc, rows.len())?;
-    for (row, mut list) in rows.iter().zip(lists) {
-        sort_by_rank(&mut list)?;
-        done.push(RankGroup {
-            id: row.id,
-            scholar_pct: row.scholar_pct,
-            resident_pct: row.resident_pct,
-            list: Sequence::from_vec(list),
-        })?;
+    for (row, list) in rows.iter().zip(lists) {
+        done.push(rank_group(row, list)?)?;
     }
     Ok(done)
 }

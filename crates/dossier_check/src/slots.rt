@@ -13,7 +13,7 @@ use crate::rules::{
     DayAndSchool, GroupAndCandidate, GroupAndRank, ItsGroup, ItsSchool, OwnId, SchoolAndCandidate,
     SchoolAndRank,
 };
-use crate::scan::scan;
+use crate::scan::{scan, scanned};
 use admit_core::{InFault, Slot, Tables};
 use indexmap::IndexSet;
 use keyed_hash::Keyed;
@@ -26,7 +26,7 @@ pub(crate) fn check_groups(alloc: Global, keyed: Keyed, tables: &Tables) -> Resu
     ensures ids { IfOk result (λ ids. ids.keys ≡ group_ids tables.now) }
 {
     let rows = tables.groups.as_slice();
-    let mut checks = Then {
+    let checks = Then {
         first: RepeatsId {
             alloc,
             keyed,
@@ -35,7 +35,7 @@ pub(crate) fn check_groups(alloc: Global, keyed: Keyed, tables: &Tables) -> Resu
         },
         rest: NoTest,
     };
-    scan(Slot::Groups, &mut checks, rows)?;
+    let checks = scanned(Slot::Groups, checks, rows)?;
     Ok(checks.first.ids)
 }
 
@@ -52,7 +52,7 @@ pub(crate) fn check_programmes(
     ensures ids { IfOk result (λ ids. ids.keys ≡ programme_ids tables.now) }
 {
     let rows = tables.programmes.as_slice();
-    let mut checks = Then {
+    let checks = Then {
         first: RepeatsId {
             alloc,
             keyed,
@@ -68,7 +68,7 @@ pub(crate) fn check_programmes(
             rest: NoTest,
         },
     };
-    scan(Slot::Programmes, &mut checks, rows)?;
+    let checks = scanned(Slot::Programmes, checks, rows)?;
     Ok(checks.first.ids)
 }
 
@@ -79,7 +79,7 @@ pub(crate) fn check_schools(alloc: Global, keyed: Keyed, tables: &Tables) -> Res
     ensures ids { IfOk result (λ ids. ids.keys ≡ school_ids tables.now) }
 {
     let rows = tables.schools.as_slice();
-    let mut checks = Then {
+    let checks = Then {
         first: RepeatsId {
             alloc,
             keyed,
@@ -88,7 +88,7 @@ pub(crate) fn check_schools(alloc: Global, keyed: Keyed, tables: &Tables) -> Res
         },
         rest: NoTest,
     };
-    scan(Slot::Schools, &mut checks, rows)?;
+    let checks = scanned(Slot::Schools, checks, rows)?;
     Ok(checks.first.ids)
 }
 
@@ -141,7 +141,7 @@ pub(crate) fn check_boarding(
 {
     let rows = tables.boarding.as_slice();
     let pairs = IndexSet::with_capacity_and_hasher(alloc, rows.len(), keyed)?;
-    let mut checks = Then {
+    let checks = Then {
         first: Repeats {
             keys: pairs,
             rule: SchoolAndCandidate,
@@ -161,7 +161,7 @@ pub(crate) fn check_boarding(
             },
         },
     };
-    scan(Slot::Boarding, &mut checks, rows)?;
+    let checks = scanned(Slot::Boarding, checks, rows)?;
     Ok(checks.first.into_keys())
 }
 
