@@ -143,7 +143,8 @@ pub(crate) fn rank_groups(
     tables: &Tables,
     lists: Vec<Vec<Ranked>>,
 ) -> Result<Vec<RankGroup>, OutOfMemory>
-    requires { map (λ l. l.items) lists.items ≡ map (ranked_in tables.now.rankings) (group_ids tables.now) }
+    requires { map (λ l. l.items) lists.items
+        ≡ map (ranked_in tables.now.rankings) (group_ids tables.now) }
     ensures { IfOk result (λ gs. gs.items ≡ map (group_of_row tables.now) tables.now.groups) }
 {
     let rows = tables.groups.as_slice();

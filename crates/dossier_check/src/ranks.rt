@@ -60,7 +60,8 @@ fn push_ascending(
 
 /// The candidates of each group, ascending.
 fn candidate_lists(alloc: Global, lists: &[Vec<Ranked>]) -> Result<Vec<Vec<u32>>, OutOfMemory>
-    ensures { IfOk result (λ done. map (λ l. l.items) done.items ≡ map (λ l. candidates_of l.items) lists.now) }
+    ensures { IfOk result (λ done.
+        map (λ l. l.items) done.items ≡ map (λ l. candidates_of l.items) lists.now) }
 {
     let mut done = Vec::with_capacity(alloc, lists.len())?;
     for list in lists {

@@ -48,7 +48,8 @@ pub(crate) fn check_programmes(
 ) -> Result<RowIds, InFault>
     requires groups { groups.now.keys ≡ group_ids tables.now }
     requires small { length tables.now.programmes < 2 ^ 32 }
-    ensures fault { AnswersFault result (first_in slots.Programmes (programme_tests tables.now) tables.now.programmes) }
+    ensures fault { AnswersFault result
+        (first_in slots.Programmes (programme_tests tables.now) tables.now.programmes) }
     ensures ids { IfOk result (λ ids. ids.keys ≡ programme_ids tables.now) }
 {
     let rows = tables.programmes.as_slice();
@@ -136,8 +137,10 @@ pub(crate) fn check_boarding(
 ) -> Result<IndexSet<(u32, u32), Keyed>, InFault>
     requires schools { schools.now.keys ≡ school_ids tables.now }
     requires small { length tables.now.boarding < 2 ^ 32 }
-    ensures fault { AnswersFault result (first_in slots.Boarding (boarding_tests tables.now) tables.now.boarding) }
-    ensures pairs { IfOk result (λ pairs. pairs.keys ≡ map (λ r. (r.school, r.candidate)) tables.now.boarding) }
+    ensures fault { AnswersFault result
+        (first_in slots.Boarding (boarding_tests tables.now) tables.now.boarding) }
+    ensures pairs { IfOk result (λ pairs.
+        pairs.keys ≡ map (λ r. (r.school, r.candidate)) tables.now.boarding) }
 {
     let rows = tables.boarding.as_slice();
     let pairs = IndexSet::with_capacity_and_hasher(alloc, rows.len(), keyed)?;

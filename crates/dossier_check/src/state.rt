@@ -80,7 +80,8 @@ pub(crate) fn check_state<'a>(
 ) -> Result<RowIds, InFault>
     requires wishes { wishes.now.keys ≡ wish_ids tables.now }
     requires small { length tables.now.state < 2 ^ 32 }
-    ensures fault { AnswersFault result (first_in slots.State (state_tests tables.now) tables.now.state) }
+    ensures fault { AnswersFault result
+        (first_in slots.State (state_tests tables.now) tables.now.state) }
     ensures wishes { IfOk result (λ stated. stated.keys ≡ map (λ s. s.wish) tables.now.state) }
 {
     let rows = tables.state.as_slice();

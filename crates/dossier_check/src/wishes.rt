@@ -254,7 +254,8 @@ pub(crate) fn check_wishes<'a>(
     requires ranked { SaysWhoIsRanked tables.now ranked }
     requires boarded { boarded.now.keys ≡ boarded_pairs tables.now }
     requires small { length tables.now.wishes < 2 ^ 32 }
-    ensures fault { AnswersFault result (first_in slots.Wishes (wish_tests tables.now) tables.now.wishes) }
+    ensures fault { AnswersFault result
+        (first_in slots.Wishes (wish_tests tables.now) tables.now.wishes) }
     ensures ids { IfOk result (λ keys. keys.ids.keys ≡ wish_ids tables.now) }
     ensures firsts { IfOk result (λ keys. AreFirstWishes (get nat_eq keys.firsts) tables.now.wishes) }
 {
