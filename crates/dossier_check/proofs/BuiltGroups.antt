@@ -3,12 +3,8 @@ use Rattle.std.proofs.Common.{◌≡◌, List, [], ◌∷◌, map, zip, refl}
 use Rattle.admit_core.specs.declared.tables.GroupRow.{GroupRow}
 use Rattle.admit_core.specs.declared.tables.RankRow.{RankRow}
 use Rattle.admit_core.specs.declared.ranking.Ranked.{Ranked}
-use Rattle.admit_core.specs.declared.ranking.RankGroup.{RankGroup}
 use Rattle.admit_core.specs.Standing.{ranked_in}
-use Rattle.admit_core.specs.Lists.{sorted_by}
-
-abbrev pub built : GroupRow → List Ranked → RankGroup
-built g list = record { id = g.id; scholar_pct = g.scholar_pct; resident_pct = g.resident_pct; list = sorted_by (λ r. r.rank) list }
+use Rattle.dossier_check.specs.Dealt.{built}
 
 pub zip_built : {V : Type 0} (items : V → List Ranked) (rankings : List RankRow) (rows : List GroupRow) (lists : List V)
     → map items lists ≡ map (ranked_in rankings) (map (λ g. g.id) rows)

@@ -1,11 +1,15 @@
 -- What a check of several slots answers.
-use Rattle.std.proofs.Common.{◌≡◌, Option, None, Result, Ok, Err, IsErr, IsErrAnd, refl}
+use Rattle.std.proofs.Common.{◌≡◌, Option, None, Some, Result, Ok, Err, IsErr, IsErrAnd, refl, ap, ◌∙◌}
 use Rattle.std.specs.Option.{option_or}
 use Rattle.std.proofs.lemmas.Bool.{false≢true}
 use Rattle.admit_core.specs.declared.refusal.Refusal.{Refusal}
 use Rattle.admit_core.specs.declared.refusal.InFault.{InFault}
 use Rattle.admit_core.specs.declared.refusal.InFault.TheVariants.{Refused, OutOfMemory}
-use Rattle.dossier_check.specs.Outcome.{AnswersFault}
+use Rattle.admit_core.specs.declared.slot.Slot.TheVariants as slots
+use Rattle.admit_core.specs.declared.tables.Tables.{Tables}
+use Rattle.admit_core.specs.Faults.{first_in}
+use Rattle.admit_core.specs.Relations.{first_fault, group_tests, programme_tests, school_tests, ranking_tests, boarding_tests}
+use Rattle.dossier_check.specs.Outcome.{AnswersFault, first_in_named, first_in_ranks, first_from_wishes}
 
 -- after a slot without a fault, the first fault is that of the others
 pub after_none : {A : Type 0} (result : Result A InFault) (fault rest : Option Refusal) → fault ≡ None → AnswersFault result rest → AnswersFault result (option_or fault rest)
@@ -29,3 +33,27 @@ handed_on (Err x) e fault err answers = rw err answers
 pub out_of_memory : {B : Type 0} (result : Result B InFault) (fault : Option Refusal) → IsErrAnd result (λ x. x ≡ OutOfMemory) → AnswersFault result fault
 out_of_memory (Ok b) fault err = absurd err
 out_of_memory (Err x) fault err = rw err tt
+
+-- the first of three and then of others
+three_then : (a b c rest : Option Refusal)
+    → option_or (option_or a (option_or b (option_or c None))) rest ≡ option_or a (option_or b (option_or c rest))
+three_then (Some a) b c rest = refl
+three_then None (Some b) c rest = refl
+three_then None None (Some c) rest = refl
+three_then None None None rest = refl
+
+-- the same of two
+two_then : (a b rest : Option Refusal) → option_or (option_or a (option_or b None)) rest ≡ option_or a (option_or b rest)
+two_then a b rest = three_then a b None rest
+
+-- the first fault, part by part
+pub in_parts : (t : Tables) → option_or (first_in_named t) (option_or (first_in_ranks t) (first_from_wishes t)) ≡ first_fault t
+unfolding first_in_named first_in_ranks first_from_wishes
+in_parts t =
+    let groups : Option Refusal = first_in slots.Groups group_tests t.groups in
+    let programmes : Option Refusal = first_in slots.Programmes (programme_tests t) t.programmes in
+    let schools : Option Refusal = first_in slots.Schools school_tests t.schools in
+    let rankings : Option Refusal = first_in slots.Rankings (ranking_tests t) t.rankings in
+    let boarding : Option Refusal = first_in slots.Boarding (boarding_tests t) t.boarding in
+    three_then groups programmes schools _
+    ∙ ap (λ rest. option_or groups (option_or programmes (option_or schools rest))) (two_then rankings boarding _)

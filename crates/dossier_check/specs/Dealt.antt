@@ -1,8 +1,10 @@
 -- Rankings dealt out by group.
 use Rattle.std.specs.Prelude.{◌≡◌, ℕ, true, List, map, All}
+use Rattle.admit_core.specs.declared.tables.GroupRow.{GroupRow}
 use Rattle.admit_core.specs.declared.tables.RankRow.{RankRow}
 use Rattle.admit_core.specs.declared.tables.Tables.{Tables}
 use Rattle.admit_core.specs.declared.ranking.Ranked.{Ranked}
+use Rattle.admit_core.specs.declared.ranking.RankGroup.{RankGroup}
 use Rattle.admit_core.specs.Lists.{is_among, sorted_by}
 use Rattle.admit_core.specs.Relations.{group_ids}
 use Rattle.admit_core.specs.Standing.{group_of_row, ranked_in}
@@ -16,6 +18,16 @@ candidates_of list = sorted_by (λ n. n) (map (λ r. r.candidate) list)
 -- the candidates of a group, ascending
 abbrev pub candidates_in : List RankRow → ℕ → List ℕ
 candidates_in rankings group = candidates_of (ranked_in rankings group)
+
+-- a group made of its row and of its candidates in file order
+abbrev pub built : GroupRow → List Ranked → RankGroup
+built g list =
+    record {
+      id = g.id;
+      scholar_pct = g.scholar_pct;
+      resident_pct = g.resident_pct;
+      list = sorted_by (λ r. r.rank) list;
+    }
 
 -- the group of a row is there
 abbrev pub HasItsGroup : List ℕ → RankRow → Type 0

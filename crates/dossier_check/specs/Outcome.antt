@@ -6,13 +6,32 @@ use Rattle.admit_core.specs.declared.refusal.InFault.TheVariants.{Refused, OutOf
 use Rattle.admit_core.specs.declared.slot.Slot.TheVariants as slots
 use Rattle.admit_core.specs.declared.tables.Tables.{Tables}
 use Rattle.admit_core.specs.Faults.{first_of, first_in}
-use Rattle.admit_core.specs.Relations.{wish_tests, state_tests, ceiling_tests, answer_tests}
+use Rattle.admit_core.specs.Relations.{group_tests, programme_tests, school_tests, ranking_tests, boarding_tests, wish_tests, state_tests, ceiling_tests, answer_tests}
 
 -- exactly the fault, or a value where there is none; want of memory may come at any time
 abbrev pub AnswersFault : {A : Type 0} → Result A InFault → Option Refusal → Type 0
 AnswersFault (Ok a) fault = fault ≡ None
 AnswersFault (Err (Refused refusal)) fault = fault ≡ Some refusal
 AnswersFault (Err OutOfMemory) fault = Unit {0}
+
+-- the first fault of the groups, the programmes and the schools
+unfoldable pub first_in_named : Tables → Option Refusal
+first_in_named t =
+    first_of (
+    first_in slots.Groups group_tests t.groups
+    ∷ first_in slots.Programmes (programme_tests t) t.programmes
+    ∷ first_in slots.Schools school_tests t.schools
+    ∷ []
+    )
+
+-- the first fault of the rankings and of the boarding ranks
+unfoldable pub first_in_ranks : Tables → Option Refusal
+first_in_ranks t =
+    first_of (
+    first_in slots.Rankings (ranking_tests t) t.rankings
+    ∷ first_in slots.Boarding (boarding_tests t) t.boarding
+    ∷ []
+    )
 
 -- the first fault of the slots from the wishes on
 unfoldable pub first_from_wishes : Tables → Option Refusal

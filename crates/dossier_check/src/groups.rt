@@ -3,9 +3,10 @@ ghost use Rattle.std.specs.Prelude.{◌≡◌, ◌<◌, ◌++◌, ◌∷◌, [],
 ghost use Rattle.admit_core.specs.Standing.{ranked_in, group_of_row};
 ghost use Rattle.admit_core.specs.Lists.{sorted_by};
 ghost use Rattle.admit_core.specs.Relations.{group_ids};
+ghost use Rattle.dossier_check.specs.Dealt.{built};
 
 use crate::row_ids::RowIds;
-use admit_core::{OutOfMemory, RankGroup, RankRow, Ranked, Sequence, Tables};
+use admit_core::{GroupRow, OutOfMemory, RankGroup, RankRow, Ranked, Sequence, Tables};
 use std::alloc::Global;
 
 /// Puts candidates in order by rank.
@@ -123,25 +124,33 @@ pub(crate) fn ranked_lists(
     Ok(lists)
 }
 
+/// A group with its candidates, who are given in file order, sorted by rank.
+fn rank_group(row: &GroupRow, mut list: Vec<Ranked>) -> Result<RankGroup, OutOfMemory>
+    ensures { IfOk result (λ group. group ≡ built row.now list.items) }
+{
+    sort_by_rank(&mut list)?;
+    Ok(RankGroup {
+        id: row.id,
+        scholar_pct: row.scholar_pct,
+        resident_pct: row.resident_pct,
+        list: Sequence::from_vec(list),
+    })
+}
+
 /// The groups with their candidates, who are given in file order, sorted by rank.
 pub(crate) fn rank_groups(
     alloc: Global,
     tables: &Tables,
     lists: Vec<Vec<Ranked>>,
 ) -> Result<Vec<RankGroup>, OutOfMemory>
-    requires { map (λ l. l.items) lists.items ≡ map (ranked_in tables.now.rankings) (group_ids tables.now) }
+    requires { map (λ l. l.items) lists.items
+        ≡ map (ranked_in tables.now.rankings) (group_ids tables.now) }
     ensures { IfOk result (λ gs. gs.items ≡ map (group_of_row tables.now) tables.now.groups) }
 {
     let rows = tables.groups.as_slice();
     let mut done = Vec::with_capacity(alloc, rows.len())?;
-    for (row, mut list) in rows.iter().zip(lists) {
-        sort_by_rank(&mut list)?;
-        done.push(RankGroup {
-            id: row.id,
-            scholar_pct: row.scholar_pct,
-            resident_pct: row.resident_pct,
-            list: Sequence::from_vec(list),
-        })?;
+    for (row, list) in rows.iter().zip(lists) {
+        done.push(rank_group(row, list)?)?;
     }
     Ok(done)
 }

@@ -1,6 +1,8 @@
 //! How the rows' keys are hashed.
 
-use admit_core::{BoardRow, CeilingRow, RankRow, Tables, WishRow};
+use admit_core::{
+    BoardRow, CeilingRow, GroupRow, ProgrammeRow, RankRow, SchoolRow, StateRow, Tables, WishRow,
+};
 use keyed_hash::{KeyMaker, Keyed};
 
 fn mix_ranks(key: &mut KeyMaker, rows: &[RankRow]) {
@@ -46,24 +48,40 @@ pub(crate) fn hashing_of_ranks(rows: &[RankRow]) -> Keyed {
     key.done()
 }
 
+fn mix_groups(key: &mut KeyMaker, rows: &[GroupRow]) {
+    for row in rows {
+        key.mix(row.id, 0);
+    }
+}
+
+fn mix_programmes(key: &mut KeyMaker, rows: &[ProgrammeRow]) {
+    for row in rows {
+        key.mix(row.id, 0);
+    }
+}
+
+fn mix_schools(key: &mut KeyMaker, rows: &[SchoolRow]) {
+    for row in rows {
+        key.mix(row.id, 0);
+    }
+}
+
+fn mix_state(key: &mut KeyMaker, rows: &[StateRow]) {
+    for row in rows {
+        key.mix(row.wish, 0);
+    }
+}
+
 /// Hashing by a key of all numbers that rows are mostly found by. Rankings and what wishes are of
 /// are put in order, and hashed by keys of their own only where that shows a fault.
 pub(crate) fn hashing_of(tables: &Tables) -> Keyed {
     let mut key = KeyMaker::new();
-    for row in tables.groups.as_slice() {
-        key.mix(row.id, 0);
-    }
-    for row in tables.programmes.as_slice() {
-        key.mix(row.id, 0);
-    }
-    for row in tables.schools.as_slice() {
-        key.mix(row.id, 0);
-    }
+    mix_groups(&mut key, tables.groups.as_slice());
+    mix_programmes(&mut key, tables.programmes.as_slice());
+    mix_schools(&mut key, tables.schools.as_slice());
     mix_boarding(&mut key, tables.boarding.as_slice());
     mix_wishes(&mut key, tables.wishes.as_slice());
-    for row in tables.state.as_slice() {
-        key.mix(row.wish, 0);
-    }
+    mix_state(&mut key, tables.state.as_slice());
     mix_ceilings(&mut key, tables.ceilings.as_slice());
     key.done()
 }

@@ -1,5 +1,5 @@
 //! The rankings dealt out by group: who is ranked, and whether no row has a fault.
-ghost use Rattle.std.specs.Prelude.{◌≡◌, ◌<◌, ◌^◌, All, IfOk, OnOk, None, length, map, nat_eq, true};
+ghost use Rattle.std.specs.Prelude.{◌≡◌, ◌<◌, ◌^◌, ◌++◌, ◌∷◌, [], All, IfOk, OnOk, None, length, map, nat_eq, true};
 ghost use Rattle.std.specs.List.{IsDistinct};
 ghost use Rattle.admit_core.specs.declared.slot.Slot.TheVariants as slots;
 ghost use Rattle.admit_core.specs.Faults.{first_in};
@@ -45,13 +45,27 @@ fn ascending_candidates(alloc: Global, list: &[Ranked]) -> Result<Vec<u32>, OutO
     Ok(ids)
 }
 
+/// Adds the candidates of a group, ascending, to those of the groups before it.
+fn push_ascending(
+    alloc: Global,
+    done: &mut Vec<Vec<u32>>,
+    list: &[Ranked],
+) -> Result<(), OutOfMemory>
+    ensures { OnOk result (map (λ l. l.items) done.new.items
+        ≡ map (λ l. l.items) done.old.items ++ candidates_of list.now ∷ []) }
+{
+    done.push(ascending_candidates(alloc, list)?)?;
+    Ok(())
+}
+
 /// The candidates of each group, ascending.
 fn candidate_lists(alloc: Global, lists: &[Vec<Ranked>]) -> Result<Vec<Vec<u32>>, OutOfMemory>
-    ensures { IfOk result (λ done. map (λ l. l.items) done.items ≡ map (λ l. candidates_of l.items) lists.now) }
+    ensures { IfOk result (λ done.
+        map (λ l. l.items) done.items ≡ map (λ l. candidates_of l.items) lists.now) }
 {
     let mut done = Vec::with_capacity(alloc, lists.len())?;
     for list in lists {
-        done.push(ascending_candidates(alloc, list.as_slice())?)?;
+        push_ascending(alloc, &mut done, list.as_slice())?;
     }
     Ok(done)
 }

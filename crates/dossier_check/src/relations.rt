@@ -1,14 +1,14 @@
 //! The relations between the rows of tables, as a whole.
 ghost use Rattle.std.specs.Prelude.{◌≡◌, All, IfOk, map};
 ghost use Rattle.admit_core.specs.Ranges.{AreTables};
-ghost use Rattle.admit_core.specs.Relations.{first_fault, programme_ids, school_ids, wish_ids};
+ghost use Rattle.admit_core.specs.Relations.{first_fault, group_ids, programme_ids, school_ids, wish_ids};
 ghost use Rattle.admit_core.specs.Standing.{dossier_of, group_of_row, wish_of_row, status_of_row, ceiling_of_row, answer_of_row};
 ghost use Rattle.admit_core.specs.Validity.{IsValid};
 ghost use Rattle.dossier_check.specs.Dates.{dates_of};
-ghost use Rattle.dossier_check.specs.Dealt.{SaysWhoIsRanked};
+ghost use Rattle.dossier_check.specs.Dealt.{AreDealt, HasItsGroup, SaysWhoIsRanked};
 ghost use Rattle.dossier_check.specs.Ids.{ids_of};
 ghost use Rattle.dossier_check.specs.Keys.{AreKeysOf};
-ghost use Rattle.dossier_check.specs.Outcome.{AnswersFault, first_from_wishes};
+ghost use Rattle.dossier_check.specs.Outcome.{AnswersFault, first_in_named, first_in_ranks, first_from_wishes};
 ghost use Rattle.dossier_check.specs.Seen.{boarded_pairs};
 
 use crate::answers::check_answers;
@@ -64,6 +64,125 @@ fn check_wishes_on<'a>(
     Ok((wishes.into_ids(), state))
 }
 
+/// The ids of the groups, the programmes and the schools.
+struct Named {
+    groups: RowIds,
+    programmes: RowIds,
+    schools: RowIds,
+}
+
+// Not derived: so ids are dropped in one step where they are held, and not by each list.
+impl Drop for Named {
+    fn drop(self) {
+        let Named {
+            groups: _,
+            programmes: _,
+            schools: _,
+        } = self;
+    }
+}
+
+impl Named {
+    ghost use Rattle.dossier_check.specs.declared.items.Keys.{Keys};
+
+    /// The keys of all slots.
+    fn into_keys(self, boarding: IndexSet<(u32, u32), Keyed>, wishes: RowIds, state: RowIds) -> Keys
+        ensures { result ≡ record {
+          groups = self.groups;
+          programmes = self.programmes;
+          schools = self.schools;
+          boarding = boarding;
+          wishes = wishes;
+          state = state;
+        } }
+    {
+        let Named {
+            groups,
+            programmes,
+            schools,
+        } = self;
+        Keys {
+            groups,
+            programmes,
+            schools,
+            boarding,
+            wishes,
+            state,
+        }
+    }
+}
+
+/// Tests the slots that name no candidates, and answers their ids.
+fn check_named(alloc: Global, keyed: Keyed, tables: &Tables) -> Result<Named, InFault>
+    requires { AreTables tables.now }
+    ensures fault { AnswersFault result (first_in_named tables.now) }
+    ensures groups { IfOk result (λ named. named.groups.keys ≡ group_ids tables.now) }
+    ensures programmes { IfOk result (λ named.
+        named.programmes.keys ≡ programme_ids tables.now) }
+    ensures schools { IfOk result (λ named. named.schools.keys ≡ school_ids tables.now) }
+{
+    let groups = check_groups(alloc, keyed, tables)?;
+    let programmes = check_programmes(alloc, keyed, tables, &groups)?;
+    let schools = check_schools(alloc, keyed, tables)?;
+    Ok(Named {
+        groups,
+        programmes,
+        schools,
+    })
+}
+
+/// The rankings dealt out by group, and the pairs of school and candidate.
+struct Ranks {
+    dealt: Dealt,
+    boarding: IndexSet<(u32, u32), Keyed>,
+}
+
+// Not derived, as above.
+impl Drop for Ranks {
+    fn drop(self) {
+        let Ranks {
+            dealt: _,
+            boarding: _,
+        } = self;
+    }
+}
+
+impl Ranks {
+    /// The rankings, and the pairs.
+    fn into_parts(self) -> (Vec<RankGroup>, IndexSet<(u32, u32), Keyed>)
+        ensures rankings { result.0.items ≡ self.dealt.rankings.items }
+        ensures boarding { result.1.keys ≡ self.boarding.keys }
+    {
+        let Ranks { dealt, boarding } = self;
+        let Dealt {
+            rankings,
+            candidates: _,
+        } = dealt;
+        (rankings, boarding)
+    }
+}
+
+/// Tests the rankings and the boarding ranks, and answers what they are found by.
+fn check_both_ranks(
+    alloc: Global,
+    keyed: Keyed,
+    tables: &Tables,
+    named: &Named,
+) -> Result<Ranks, InFault>
+    requires groups { named.now.groups.keys ≡ group_ids tables.now }
+    requires schools { named.now.schools.keys ≡ school_ids tables.now }
+    requires ranges { AreTables tables.now }
+    ensures fault { AnswersFault result (first_in_ranks tables.now) }
+    ensures dealt { IfOk result (λ ranks. AreDealt tables.now ranks.dealt) }
+    ensures known { IfOk result (λ ranks.
+        All (HasItsGroup (group_ids tables.now)) tables.now.rankings) }
+    ensures boarding { IfOk result (λ ranks. ranks.boarding.keys ≡ boarded_pairs tables.now) }
+{
+    let dealt = check_ranks(alloc, tables, &named.groups)?;
+    let boarding = check_boarding(alloc, keyed, tables, &named.schools)?;
+    Ok(Ranks { dealt, boarding })
+}
+
 /// Tests the rows of all slots in their order, and answers what they are found by, with the
 /// rankings.
 fn check_slots(alloc: Global, tables: &Tables) -> Result<(Keys, Vec<RankGroup>), InFault>
@@ -74,36 +193,23 @@ fn check_slots(alloc: Global, tables: &Tables) -> Result<(Keys, Vec<RankGroup>),
         found.1.items ≡ map (group_of_row tables.now) tables.now.groups) }
 {
     let keyed = hashing_of(tables);
-    let groups = check_groups(alloc, keyed, tables)?;
-    let programmes = check_programmes(alloc, keyed, tables, &groups)?;
-    let schools = check_schools(alloc, keyed, tables)?;
-    let Dealt {
-        rankings,
-        candidates,
-    } = check_ranks(alloc, tables, &groups)?;
-    let boarding = check_boarding(alloc, keyed, tables, &schools)?;
+    let named = check_named(alloc, keyed, tables)?;
+    let ranks = check_both_ranks(alloc, keyed, tables, &named)?;
     let ranked = WhoIsRanked {
-        groups: &groups,
-        candidates: candidates.as_slice(),
+        groups: &named.groups,
+        candidates: ranks.dealt.candidates.as_slice(),
     };
     let (wishes, state) = check_wishes_on(
         alloc,
         keyed,
         tables,
-        &programmes,
-        &schools,
+        &named.programmes,
+        &named.schools,
         ranked,
-        &boarding,
+        &ranks.boarding,
     )?;
-    let keys = Keys {
-        groups,
-        programmes,
-        schools,
-        boarding,
-        wishes,
-        state,
-    };
-    Ok((keys, rankings))
+    let (rankings, boarding) = ranks.into_parts();
+    Ok((named.into_keys(boarding, wishes, state), rankings))
 }
 
 /// What a dossier has from the wishes on.

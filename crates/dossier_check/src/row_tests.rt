@@ -101,7 +101,7 @@ impl<K: Eq + Hash + Drop, Q: Drop> Drop for Repeats<K, Q> {
 impl<K: Eq + Hash, Q: Drop> Repeats<K, Q> {
     /// The keys of the rows.
     pub(crate) fn into_keys(self) -> IndexSet<K, Keyed>
-        ensures { result ≡ self.keys }
+        ensures { result.keys ≡ self.keys.keys }
     {
         let Repeats { keys, rule: _ } = self;
         keys

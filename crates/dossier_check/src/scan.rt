@@ -45,3 +45,19 @@ pub(crate) fn scan<R, C: RowChecks<R>>(
     }
     Ok(())
 }
+
+/// The same, and answers the tests with what they know of all rows. They are moved in, so who calls
+/// it holds nothing that a refusal would drop.
+pub(crate) fn scanned<R, C: RowChecks<R> + Drop>(
+    slot: Slot,
+    mut checks: C,
+    rows: &[R],
+) -> Result<C, InFault>
+    requires small { length rows.now < 2 ^ 32 }
+    requires fresh { C.has_seen checks [] }
+    ensures fault { AnswersFault result (first_in slot (C.tests checks) rows.now) }
+    ensures seen { IfOk result (λ seen. C.has_seen seen rows.now) }
+{
+    scan(slot, &mut checks, rows)?;
+    Ok(checks)
+}

@@ -13,7 +13,7 @@ use crate::rules::{
     DayAndSchool, GroupAndCandidate, GroupAndRank, ItsGroup, ItsSchool, OwnId, SchoolAndCandidate,
     SchoolAndRank,
 };
-use crate::scan::scan;
+use crate::scan::{scan, scanned};
 use admit_core::{InFault, Slot, Tables};
 use indexmap::IndexSet;
 use keyed_hash::Keyed;
@@ -26,7 +26,7 @@ pub(crate) fn check_groups(alloc: Global, keyed: Keyed, tables: &Tables) -> Resu
     ensures ids { IfOk result (λ ids. ids.keys ≡ group_ids tables.now) }
 {
     let rows = tables.groups.as_slice();
-    let mut checks = Then {
+    let checks = Then {
         first: RepeatsId {
             alloc,
             keyed,
@@ -35,7 +35,7 @@ pub(crate) fn check_groups(alloc: Global, keyed: Keyed, tables: &Tables) -> Resu
         },
         rest: NoTest,
     };
-    scan(Slot::Groups, &mut checks, rows)?;
+    let checks = scanned(Slot::Groups, checks, rows)?;
     Ok(checks.first.ids)
 }
 
@@ -48,11 +48,12 @@ pub(crate) fn check_programmes(
 ) -> Result<RowIds, InFault>
     requires groups { groups.now.keys ≡ group_ids tables.now }
     requires small { length tables.now.programmes < 2 ^ 32 }
-    ensures fault { AnswersFault result (first_in slots.Programmes (programme_tests tables.now) tables.now.programmes) }
+    ensures fault { AnswersFault result
+        (first_in slots.Programmes (programme_tests tables.now) tables.now.programmes) }
     ensures ids { IfOk result (λ ids. ids.keys ≡ programme_ids tables.now) }
 {
     let rows = tables.programmes.as_slice();
-    let mut checks = Then {
+    let checks = Then {
         first: RepeatsId {
             alloc,
             keyed,
@@ -68,7 +69,7 @@ pub(crate) fn check_programmes(
             rest: NoTest,
         },
     };
-    scan(Slot::Programmes, &mut checks, rows)?;
+    let checks = scanned(Slot::Programmes, checks, rows)?;
     Ok(checks.first.ids)
 }
 
@@ -79,7 +80,7 @@ pub(crate) fn check_schools(alloc: Global, keyed: Keyed, tables: &Tables) -> Res
     ensures ids { IfOk result (λ ids. ids.keys ≡ school_ids tables.now) }
 {
     let rows = tables.schools.as_slice();
-    let mut checks = Then {
+    let checks = Then {
         first: RepeatsId {
             alloc,
             keyed,
@@ -88,7 +89,7 @@ pub(crate) fn check_schools(alloc: Global, keyed: Keyed, tables: &Tables) -> Res
         },
         rest: NoTest,
     };
-    scan(Slot::Schools, &mut checks, rows)?;
+    let checks = scanned(Slot::Schools, checks, rows)?;
     Ok(checks.first.ids)
 }
 
@@ -136,12 +137,14 @@ pub(crate) fn check_boarding(
 ) -> Result<IndexSet<(u32, u32), Keyed>, InFault>
     requires schools { schools.now.keys ≡ school_ids tables.now }
     requires small { length tables.now.boarding < 2 ^ 32 }
-    ensures fault { AnswersFault result (first_in slots.Boarding (boarding_tests tables.now) tables.now.boarding) }
-    ensures pairs { IfOk result (λ pairs. pairs.keys ≡ map (λ r. (r.school, r.candidate)) tables.now.boarding) }
+    ensures fault { AnswersFault result
+        (first_in slots.Boarding (boarding_tests tables.now) tables.now.boarding) }
+    ensures pairs { IfOk result (λ pairs.
+        pairs.keys ≡ map (λ r. (r.school, r.candidate)) tables.now.boarding) }
 {
     let rows = tables.boarding.as_slice();
     let pairs = IndexSet::with_capacity_and_hasher(alloc, rows.len(), keyed)?;
-    let mut checks = Then {
+    let checks = Then {
         first: Repeats {
             keys: pairs,
             rule: SchoolAndCandidate,
@@ -161,7 +164,7 @@ pub(crate) fn check_boarding(
             },
         },
     };
-    scan(Slot::Boarding, &mut checks, rows)?;
+    let checks = scanned(Slot::Boarding, checks, rows)?;
     Ok(checks.first.into_keys())
 }
 

@@ -9,7 +9,7 @@ use crate::noted::{note_first, row_of};
 use crate::row_ids::RowIds;
 use crate::row_tests::{NamesUnknown, NoTest, RepeatsId, RowTest, Then};
 use crate::rules::ItsWish;
-use crate::scan::scan;
+use crate::scan::scanned;
 use admit_core::{InFault, OutOfMemory, Reason, Slot, StateRow, Status, Tables};
 use indexmap::IndexMap;
 use keyed_hash::Keyed;
@@ -80,11 +80,12 @@ pub(crate) fn check_state<'a>(
 ) -> Result<RowIds, InFault>
     requires wishes { wishes.now.keys ≡ wish_ids tables.now }
     requires small { length tables.now.state < 2 ^ 32 }
-    ensures fault { AnswersFault result (first_in slots.State (state_tests tables.now) tables.now.state) }
+    ensures fault { AnswersFault result
+        (first_in slots.State (state_tests tables.now) tables.now.state) }
     ensures wishes { IfOk result (λ stated. stated.keys ≡ map (λ s. s.wish) tables.now.state) }
 {
     let rows = tables.state.as_slice();
-    let mut checks = Then {
+    let checks = Then {
         first: RepeatsId {
             alloc,
             keyed,
@@ -107,6 +108,6 @@ pub(crate) fn check_state<'a>(
             },
         },
     };
-    scan(Slot::State, &mut checks, rows)?;
+    let checks = scanned(Slot::State, checks, rows)?;
     Ok(checks.first.ids)
 }

@@ -1,5 +1,5 @@
 //! The tests of wishes.
-ghost use Rattle.std.specs.Prelude.{◌≡◌, ◌<◌, ◌^◌, ℕ, length, nat_eq, IfOk};
+ghost use Rattle.std.specs.Prelude.{◌≡◌, ◌<◌, ◌^◌, ℕ, [], length, nat_eq, IfOk};
 ghost use Rattle.indexmap.specs.IndexMap.{get};
 ghost use Rattle.admit_core.specs.declared.slot.Slot.TheVariants as slots;
 ghost use Rattle.admit_core.specs.Faults.{first_in};
@@ -14,7 +14,7 @@ use crate::noted::{FirstWish, note_first, row_of};
 use crate::row_ids::RowIds;
 use crate::row_tests::{NamesUnknown, NoTest, Repeats, RepeatsId, RowTest, Then, Unless};
 use crate::rules::{ItsProgramme, ItsSchool, OwnId, WhatIsWished};
-use crate::scan::scan;
+use crate::scan::scanned;
 use crate::who_is_ranked::WhoIsRanked;
 use admit_core::{InFault, OutOfMemory, Reason, Slot, Tables, WishRow};
 use indexmap::{IndexMap, IndexSet};
@@ -226,6 +226,19 @@ impl WishKeys {
     }
 }
 
+/// No ids, with room for those of the wishes, and for each group where its next candidate is looked
+/// for.
+fn wish_rooms(
+    alloc: Global,
+    wishes: usize,
+    groups: usize,
+) -> Result<(RowIds, Vec<usize>), OutOfMemory>
+    ensures { IfOk result (λ rooms. rooms.0.keys ≡ []) }
+{
+    let near = vec![in alloc; 0; groups]?;
+    Ok((RowIds::with_room(alloc, wishes)?, near))
+}
+
 /// Checks the wishes.
 pub(crate) fn check_wishes<'a>(
     alloc: Global,
@@ -241,7 +254,8 @@ pub(crate) fn check_wishes<'a>(
     requires ranked { SaysWhoIsRanked tables.now ranked }
     requires boarded { boarded.now.keys ≡ boarded_pairs tables.now }
     requires small { length tables.now.wishes < 2 ^ 32 }
-    ensures fault { AnswersFault result (first_in slots.Wishes (wish_tests tables.now) tables.now.wishes) }
+    ensures fault { AnswersFault result
+        (first_in slots.Wishes (wish_tests tables.now) tables.now.wishes) }
     ensures ids { IfOk result (λ keys. keys.ids.keys ≡ wish_ids tables.now) }
     ensures firsts { IfOk result (λ keys. AreFirstWishes (get nat_eq keys.firsts) tables.now.wishes) }
 {
@@ -252,8 +266,7 @@ pub(crate) fn check_wishes<'a>(
     } else {
         hashing_of_wishes(rows)
     };
-    let own_ids = RowIds::with_room(alloc, rows.len())?;
-    let near = vec![in alloc; 0; ranked.candidates.len()]?;
+    let (own_ids, near) = wish_rooms(alloc, rows.len(), ranked.candidates.len())?;
     let preferences = Then {
         first: PreferenceMixed {
             firsts: IndexMap::with_hasher(alloc, keyed),
@@ -296,7 +309,7 @@ pub(crate) fn check_wishes<'a>(
             rest: ranks,
         },
     };
-    let mut checks = Then {
+    let checks = Then {
         first: RepeatsId {
             alloc,
             keyed,
@@ -314,7 +327,7 @@ pub(crate) fn check_wishes<'a>(
             rest: names,
         },
     };
-    scan(Slot::Wishes, &mut checks, rows)?;
+    let checks = scanned(Slot::Wishes, checks, rows)?;
     let Then {
         first: own,
         rest: Then {

@@ -9,11 +9,21 @@ use std::alloc::Global;
 use std::marker::Model;
 
 /// The seats and the number of candidates of each programme.
-#[derive(Drop)]
 pub struct Filling {
     seats: Vec<u32>,
     counts: Vec<u32>,
     overfilled: Vec<u32>,
+}
+
+// Not derived: so it is dropped in one step where it is held, and not by each list.
+impl Drop for Filling {
+    fn drop(self) {
+        let Filling {
+            seats: _,
+            counts: _,
+            overfilled: _,
+        } = self;
+    }
 }
 
 impl Model for Filling {

@@ -114,6 +114,40 @@ fn seats_of(alloc: Global, dossier: &Dossier) -> Result<Vec<u32>, OutOfMemory>
     Ok(seats)
 }
 
+/// Who is in the market of a dossier, and what they list.
+struct Listing {
+    names: IndexSet<u32, Keyed>,
+    lists: Vec<Sequence<u32>>,
+}
+
+// Not derived: so it is dropped in one step where it is held, and not by each list of the set.
+impl Drop for Listing {
+    fn drop(self) {
+        let Listing { names: _, lists: _ } = self;
+    }
+}
+
+impl Listing {
+    /// The lists alone.
+    fn into_lists(self) -> Vec<Sequence<u32>>
+        ensures { result.items ≡ self.lists.items }
+    {
+        let Listing { names: _, lists } = self;
+        lists
+    }
+}
+
+/// Who is in the market of a dossier, and what they list.
+fn listed(alloc: Global, dossier: &Dossier) -> Result<Listing, OutOfMemory>
+    ensures names { IfOk result (λ l. l.names.keys ≡ named (counted dossier.now)) }
+    ensures lists { IfOk result (λ l. l.lists.items ≡ lists_in (counted dossier.now)) }
+{
+    let wishes = counted(alloc, dossier.wishes.as_slice())?;
+    let names = named(alloc, wishes.as_slice())?;
+    let lists = lists_of(alloc, wishes.as_slice(), &names)?;
+    Ok(Listing { names, lists })
+}
+
 /// The market of a dossier with these call orders: its candidates are those who rank their wishes
 /// and have one without boarding. Statuses and call limits aren't used.
 pub fn from_dossier(
@@ -125,14 +159,19 @@ pub fn from_dossier(
     ensures market { IfOk result (λ named. named.market ≡ market_of dossier.now orders.now.orders) }
     ensures candidates { IfOk result (λ named. named.candidates.items ≡ candidates_of dossier.now) }
 {
-    let wishes = counted(alloc, dossier.wishes.as_slice())?;
-    let names = named(alloc, wishes.as_slice())?;
-    let lists = lists_of(alloc, wishes.as_slice(), &names)?;
-    let orders = orders_in(alloc, dossier, orders, &names, lists.as_slice())?;
+    let _ = &dossier.wishes;
     let seats = seats_of(alloc, dossier)?;
-    let candidates = names.as_slice().to_vec(alloc)?;
+    let listed = listed(alloc, dossier)?;
+    let orders = orders_in(
+        alloc,
+        dossier,
+        orders,
+        &listed.names,
+        listed.lists.as_slice(),
+    )?;
+    let candidates = listed.names.as_slice().to_vec(alloc)?;
     let market = Market {
-        lists,
+        lists: listed.into_lists(),
         orders,
         seats,
     };

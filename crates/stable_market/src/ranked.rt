@@ -14,11 +14,21 @@ use std::marker::Model;
 
 /// A market, and for each candidate the programmes whose orders have them, ascending, with their
 /// position in each. So a position is found by a search in the candidate's own programmes.
-#[derive(Drop)]
 pub struct Ranked<'a> {
     market: &'a Market,
     programmes: Vec<Vec<u32>>,
     positions: Vec<Vec<u32>>,
+}
+
+// Not derived: so it is dropped in one step where it is held, and not by each list.
+impl<'a> Drop for Ranked<'a> {
+    fn drop(self) {
+        let Ranked {
+            market: _,
+            programmes: _,
+            positions: _,
+        } = self;
+    }
 }
 
 impl<'a> Model for Ranked<'a> {

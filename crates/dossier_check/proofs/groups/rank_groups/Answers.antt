@@ -2,7 +2,8 @@ use Rattle.std.proofs.Common.{map, sym, ap, ◌∙◌, rules}
 use Rattle.std.proofs.lemmas.Iterator.{YieldsList-from_slice, YieldsList-from_zip}
 use Rattle.std.proofs.lemmas.Iterator.Adapters.{YieldsList-from_vec}
 use Rattle.std.proofs.lemmas.Iterator.Consumers.{YieldsList-end}
-use Rattle.dossier_check.proofs.BuiltGroups.{built, zip_built, map_map}
+use Rattle.dossier_check.specs.Dealt.{built}
+use Rattle.dossier_check.proofs.BuiltGroups.{zip_built, map_map}
 use Rattle.dossier_check.proofs.groups.rank_groups.Goals as goal
 
 pub returns : goal.returns

@@ -1,5 +1,5 @@
 use Rattle.std.proofs.Common.{◌≡◌, map}
-use Rattle.dossier_check.proofs.BuiltGroups.{built}
+use Rattle.dossier_check.specs.Dealt.{built}
 use Rattle.dossier_check.proofs.groups.rank_groups.Given as goal
 
 abbrev pub invariant-loop-row : goal.invariant-loop-row
