@@ -113,7 +113,8 @@ pub(crate) fn offers_of(
     requires lineup { IsLineupOf state.now.dossier orders.now.orders lineup.now }
     requires ceilings { length ceilings.now ≡ length state.now.dossier.schools }
     ensures found { Finds result (pass_fault state.now orders.now.orders ceilings.now pass.now) }
-    ensures offers { IfOk result (λ v. v.items ≡ proposed state.now orders.now.orders (bars_by state.now ceilings.now pass.now.falls)) }
+    ensures offers { IfOk result (λ v. v.items ≡ proposed state.now orders.now.orders
+        (bars_by state.now ceilings.now pass.now.falls)) }
 {
     counted_offers::<Brand>(
         alloc,
@@ -171,7 +172,8 @@ fn counted_offers<L: Ledger>(
     requires lineup { IsLineupOf state.now.dossier orders.now.orders lineup.now }
     requires ceilings { length ceilings.now ≡ length state.now.dossier.schools }
     ensures found { Finds result (pass_fault state.now orders.now.orders ceilings.now pass.now) }
-    ensures offers { IfOk result (λ v. v.items ≡ proposed state.now orders.now.orders (bars_by state.now ceilings.now pass.now.falls)) }
+    ensures offers { IfOk result (λ v. v.items ≡ proposed state.now orders.now.orders
+        (bars_by state.now ceilings.now pass.now.falls)) }
 {
     let mut steps: Steps<L> = Steps::new(blank);
     let mut round = LinkedRound::build(alloc, state, orders, lineup, ceilings)?;
