@@ -1,11 +1,10 @@
 -- The days and passes that lines say are no more than their numbers.
-use Rattle.std.proofs.Common.{◌≡◌, ℕ, suc, ◌+◌, ◌<◌, ◌≤◌, ◌^◌, Bool, true, false, cond, ◌&&◌, List, [], ◌∷◌, length, Option, Some, None, Result, Ok, Err, IfOk, All, refl, sym, ap, ◌∙◌, subst, arith, inl, inr, nat_le, nat_eq}
+use Rattle.std.proofs.Common.{◌≡◌, ℕ, ◌+◌, ◌<◌, ◌≤◌, ◌^◌, Bool, true, false, cond, ◌&&◌, List, [], ◌∷◌, length, Option, Some, None, Result, Ok, Err, IfOk, All, refl, ap, ◌∙◌, subst, arith, inl, inr, nat_le, nat_eq}
 use Rattle.std.specs.Prelude.{option_and_then, option_map, codes}
-use Rattle.std.proofs.lemmas.Bool.{and_parts, cases_Bool, eqb-true, leb-true}
+use Rattle.std.proofs.lemmas.Bool.{cases_Bool, eqb-true, leb-true}
 use Rattle.std.proofs.lemmas.List.Elements.{All-cons, All-nil}
 use Rattle.admit_core.specs.declared.chain.Chain.{Chain}
 use Rattle.admit_core.specs.declared.chain.ChainFault.{ChainFault}
-use Rattle.admit_core.specs.declared.chain.ChainReason.{ChainReason}
 use Rattle.admit_core.specs.declared.chain.ChainReason.TheVariants.{NotLine, WrongNumber}
 use Rattle.admit_core.specs.declared.chain.DayChain.{DayChain}
 use Rattle.admit_core.specs.declared.chain.FallLine.{FallLine}
@@ -14,7 +13,7 @@ use Rattle.certificate.specs.declared.line.Line.{Line}
 use Rattle.certificate.specs.declared.line.Line.TheVariants.{Day, Pass, Fall, End}
 use Rattle.certificate.specs.declared.refusal.ChainRefusal.{ChainRefusal}
 use Rattle.certificate.specs.Counted.{IsCounted}
-use Rattle.certificate.specs.Grammar.{parts, small, number, in_front, numbers, only, is_word, fall_at, line_of, line_with, misplaced, day_after, pass_after, Said, nothing, with_line, fault_at, end_at, said_with, said_from, is_end, read, chain_of}
+use Rattle.certificate.specs.Grammar.{parts, small, number, in_front, numbers, only, is_word, fall_at, line_of, line_with, misplaced, day_after, pass_after, Said, nothing, end_at, said_with, said_from, is_end, read, chain_of}
 use Rattle.certificate.specs.Open.{Answers}
 
 -- a pass is numbered by 32 bits

@@ -48,13 +48,15 @@ pub line_stops : (s : State) (now : Round) (line : FallLine) (rest : List FallLi
 line_stops s now line rest found whole e stops =
     stops_at found (option_map {U = ℕ × CheckReason} (λ reason. (line.row, reason)) (line_fault s now.orders now.ceilings now.bars line)) (lines_fault s now.orders now.ceilings (lowered s now.bars line) rest) whole e stops
 
--- what a round proposes after the lines of a pass
-pub places_told : (s : State) (orders : List CallOrder) (ceilings : List ℕ) (old new : Round) (lines falls : List FallLine) (items : List ℕ)
-    → old ≡ record { state = s; orders = orders; ceilings = ceilings; bars = ceilings } → new ≡ record old { bars = bars_by s old.bars lines } → lines ≡ falls
-    → items ≡ proposed new.state new.orders new.bars → items ≡ proposed s orders (bars_by s ceilings falls)
-places_told s orders ceilings old new lines falls items old_is new_is are told =
-    let after : Round → Round = λ o. record { state = o.state; orders = o.orders; ceilings = o.ceilings; bars = bars_by s o.bars lines } in
-    told ∙ ap (λ (r : Round). proposed r.state r.orders r.bars) (new_is ∙ ap after old_is) ∙ ap (λ (ls : List FallLine). proposed s orders (bars_by s ceilings ls)) are
+-- what a round that began at its ceilings proposes after the lines of a pass
+pub offers_told : (s : State) (old new : Round) (lines falls : List FallLine) (items : List ℕ) → old.state ≡ s → old.bars ≡ old.ceilings
+    → new ≡ record old { bars = bars_by s old.bars lines } → lines ≡ falls → items ≡ proposed new.state new.orders new.bars
+    → items ≡ proposed s old.orders (bars_by s old.ceilings falls)
+offers_told s old new lines falls items same begun new_is are told =
+    told ∙ ap (λ (r : Round). proposed r.state r.orders r.bars) new_is
+    ∙ ap (λ (t : State). proposed t old.orders (bars_by s old.bars lines)) same
+    ∙ ap (λ (bs : List ℕ). proposed s old.orders (bars_by s bs lines)) begun
+    ∙ ap (λ (ls : List FallLine). proposed s old.orders (bars_by s old.ceilings ls)) are
 
 module _ (orders : List CallOrder) (ceilings : List ℕ) (day end k : ℕ) (s : State) (pass : PassChain) (rest : List PassChain) (whole : Option (ℕ × CheckReason)) where
   stamp : Stamp

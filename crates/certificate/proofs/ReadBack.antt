@@ -1,6 +1,6 @@
 -- The text of days is read as their chain.
-use Rattle.std.proofs.Common.{◌≡◌, ℕ, suc, ◌+◌, ◌-◌, ◌<◌, ◌≤◌, Bool, true, false, cond, ◌&&◌, List, [], ◌∷◌, ◌++◌, length, map, flat_map, get_or, All, Option, Some, None, Result, Ok, Err, refl, sym, ap, ◌∙◌, subst, arith, append_assoc, append-nil, inl, inr, nat_le, nat_eq, rules}
-use Rattle.std.specs.Prelude.{codes, option_and_then, option_map, slice_index}
+use Rattle.std.proofs.Common.{◌≡◌, ℕ, suc, ◌+◌, ◌<◌, ◌≤◌, true, false, cond, ◌&&◌, List, [], ◌∷◌, ◌++◌, length, map, flat_map, get_or, All, Some, None, Ok, refl, sym, ap, ◌∙◌, subst, arith, append_assoc, append-nil, inl, inr, nat_le, nat_eq, rules}
+use Rattle.std.specs.Prelude.{codes, option_and_then, slice_index}
 use Rattle.std.specs.Fmt.{decimal}
 use Rattle.std.specs.List.{enumerate_from}
 use Rattle.std.proofs.lemmas.Bool.{and_from, cases_lt, eq-eqb, le-leb}
@@ -9,9 +9,6 @@ use Rattle.std.proofs.lemmas.List.{get_or_past}
 use Rattle.std.proofs.lemmas.List.Elements.{All-cons, All-head, All-map, All-tail}
 use Rattle.admit_core.specs.DossierRows.{DossierRows}
 use Rattle.admit_core.specs.Validity.{IsValid}
-use Rattle.admit_core.specs.declared.chain.Chain.{Chain}
-use Rattle.admit_core.specs.declared.chain.ChainFault.{ChainFault}
-use Rattle.admit_core.specs.declared.chain.ChainReason.{ChainReason}
 use Rattle.admit_core.specs.declared.chain.ChainReason.TheVariants.{NotLine, WrongNumber}
 use Rattle.admit_core.specs.declared.chain.DayChain.{DayChain}
 use Rattle.admit_core.specs.declared.chain.FallLine.{FallLine}
@@ -24,12 +21,12 @@ use Rattle.report.specs.DayText.{fall_line}
 use Rattle.report.specs.Ids.{school_id, wish_id}
 use Rattle.report.specs.Words as Words
 use Rattle.certificate.specs.declared.line.Line.{Line}
-use Rattle.certificate.specs.declared.line.Line.TheVariants.{Day, Pass, Fall as FallOf, End}
+use Rattle.certificate.specs.declared.line.Line.TheVariants.{Day, Pass, Fall as FallOf}
 use Rattle.certificate.specs.ChainText.{chain_text, day_lines, pass_lines, passes_lines}
-use Rattle.certificate.specs.Grammar.{chain_of, day_after, end_at, is_end, line_of, line_with, misplaced, nothing, numbers, pass_after, parts, read, Said, said_from, said_with, with_line}
-use Rattle.certificate.specs.Written.{AreNumbered, CanBeTold, DayCanBeTold, PassCanBeTold, chain_of_days, day_at, days_from, fall_at, falls_from, pass_at, passes_from, row_after, row_after_pass}
+use Rattle.certificate.specs.Grammar.{chain_of, day_after, end_at, is_end, line_of, line_with, misplaced, nothing, pass_after, parts, read, Said, said_from, said_with}
+use Rattle.certificate.specs.Written.{AreNumbered, CanBeTold, DayCanBeTold, PassCanBeTold, chain_of_days, days_from, fall_at, falls_from, passes_from, row_after, row_after_pass}
 use Rattle.certificate.proofs.Saying.{said_by}
-use Rattle.certificate.proofs.WordLines.{AreWords, IsWord, body_of, line_cut, number_read, number_word, numbers_read, numbers_words, words_cut}
+use Rattle.certificate.proofs.WordLines.{AreWords, IsWord, body_of, line_cut, number_word, numbers_read, numbers_words, words_cut}
 
 -- what a line of words says, with what follows it
 read_line : (day pass row : ℕ) (w : List ℕ) (ws : List (List ℕ)) (line : Line) (rest : List ℕ) → AreWords (w ∷ ws) → line_of row (w ∷ ws) ≡ Some line

@@ -1,11 +1,11 @@
 -- A school that a day's fault tells is one of the dossier.
-use Rattle.std.proofs.Common.{◌≡◌, ℕ, ◌+◌, ◌<◌, Bool, true, false, cond, not, ◌&&◌, List, [], ◌∷◌, length, Option, Some, None, IfSome, inl, inr, refl, subst, sym, nat_lt, slice_index}
+use Rattle.std.proofs.Common.{◌≡◌, ℕ, ◌+◌, Bool, true, false, cond, not, List, [], ◌∷◌, length, Option, Some, None, IfSome, inl, inr, subst, nat_lt, slice_index}
 use Rattle.std.specs.Prelude.{find, option_map, if◌then◌else◌}
 use Rattle.std.specs.List.{range_with_len}
 use Rattle.std.specs.Option.{option_or}
 use Rattle.std.proofs.lemmas.Bool.{and_parts, cases_Bool, ltb-true}
 use Rattle.admit_core.specs.declared.chain.CheckReason.{CheckReason}
-use Rattle.admit_core.specs.declared.chain.CheckReason.TheVariants.{NotOver, WrongWishes, WrongBar, StillOver, PassMissing, PassExtra}
+use Rattle.admit_core.specs.declared.chain.CheckReason.TheVariants.{NotOver, WrongWishes, WrongBar, StillOver}
 use Rattle.admit_core.specs.declared.chain.DayChain.{DayChain}
 use Rattle.admit_core.specs.declared.chain.FallLine.{FallLine}
 use Rattle.admit_core.specs.declared.chain.PassChain.{PassChain}
@@ -13,7 +13,7 @@ use Rattle.admit_core.specs.declared.ranking.CallOrder.{CallOrder}
 use Rattle.admit_core.specs.State.{State}
 use Rattle.admit_core.specs.Boarding.{boarding}
 use Rattle.admit_core.specs.Falls.{FallingSystem, fall_of, first_over, is_overfilled}
-use Rattle.admit_core.specs.Chains.{bars_by, closing_by, day_fault, extra_pass, first_overfilled, frees_nothing_by, line_fault, lines_fault, lowered, pass_fault, passes_fault, school_of_line, shows_ranks, tells_bars}
+use Rattle.admit_core.specs.Chains.{bars_by, closing_by, day_fault, extra_pass, first_overfilled, frees_nothing_by, lines_fault, lowered, pass_fault, passes_fault, school_of_line, shows_ranks, tells_bars}
 use Rattle.certificate.specs.Verdicts.{IfRejected, KeepsSchool, fault_told}
 use Rattle.certificate.specs.declared.check.Verdict.{Verdict}
 use Rattle.certificate.specs.declared.check.Verdict.TheVariants.{Proved, Rejected}

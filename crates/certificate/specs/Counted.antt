@@ -1,5 +1,5 @@
 -- How many days and passes a chain that was read has.
-use Rattle.std.specs.Prelude.{ℕ, ◌≤◌, ◌<◌, ◌^◌, All, length}
+use Rattle.std.specs.Prelude.{◌≤◌, ◌<◌, ◌^◌, All, length}
 use Rattle.admit_core.specs.declared.chain.Chain.{Chain}
 
 -- the days are numbered up to 366, and the passes of each by 32 bits

@@ -113,7 +113,8 @@ pub(crate) fn offers_of(
     requires lineup { IsLineupOf state.now.dossier orders.now.orders lineup.now }
     requires ceilings { length ceilings.now ≡ length state.now.dossier.schools }
     ensures found { Finds result (pass_fault state.now orders.now.orders ceilings.now pass.now) }
-    ensures offers { IfOk result (λ v. v.items ≡ proposed state.now orders.now.orders (bars_by state.now ceilings.now pass.now.falls)) }
+    ensures offers { IfOk result (λ v. v.items ≡ proposed state.now orders.now.orders
+        (bars_by state.now ceilings.now pass.now.falls)) }
 {
     counted_offers::<Brand>(
         alloc,
@@ -125,6 +126,32 @@ pub(crate) fn offers_of(
         ceilings,
         pass,
     )
+}
+
+/// Tests the falls of a pass on a round that has just begun, and answers the places of the wishes
+/// that are proposed under the last bars.
+fn offers_on<L: Ledger>(
+    alloc: Global,
+    round: &mut LinkedRound<'_, '_>,
+    state: &DayState<'_>,
+    index: &Index,
+    pass: &PassChain,
+    steps: &mut Steps<L>,
+) -> Result<Vec<u32>, Stop>
+    requires same { round.old.state ≡ state.now }
+    requires index { index.now ≡ ids_in state.now.dossier }
+    requires ceilings { length round.old.ceilings ≡ length state.now.dossier.schools }
+    requires begun { round.old.bars ≡ round.old.ceilings }
+    ensures found { Finds result
+        (pass_fault state.now round.old.orders round.old.ceilings pass.now) }
+    ensures offers { IfOk result (λ v. v.items ≡ proposed state.now round.old.orders
+        (bars_by state.now round.old.ceilings pass.now.falls)) }
+{
+    check_lines(alloc, round, state, index, pass.falls.as_slice(), steps)?;
+    if let Some(school) = first_overfilled(round) {
+        return Err(Stop::Rejected(pass.next_row, CheckReason::StillOver { school }));
+    }
+    Ok(round.proposed(alloc)?)
 }
 
 /// The same with a counter that nobody reads.
@@ -145,20 +172,10 @@ fn counted_offers<L: Ledger>(
     requires lineup { IsLineupOf state.now.dossier orders.now.orders lineup.now }
     requires ceilings { length ceilings.now ≡ length state.now.dossier.schools }
     ensures found { Finds result (pass_fault state.now orders.now.orders ceilings.now pass.now) }
-    ensures offers { IfOk result (λ v. v.items ≡ proposed state.now orders.now.orders (bars_by state.now ceilings.now pass.now.falls)) }
+    ensures offers { IfOk result (λ v. v.items ≡ proposed state.now orders.now.orders
+        (bars_by state.now ceilings.now pass.now.falls)) }
 {
     let mut steps: Steps<L> = Steps::new(blank);
     let mut round = LinkedRound::build(alloc, state, orders, lineup, ceilings)?;
-    check_lines(
-        alloc,
-        &mut round,
-        state,
-        index,
-        pass.falls.as_slice(),
-        &mut steps,
-    )?;
-    if let Some(school) = first_overfilled(&round) {
-        return Err(Stop::Rejected(pass.next_row, CheckReason::StillOver { school }));
-    }
-    Ok(round.proposed(alloc)?)
+    offers_on(alloc, &mut round, state, index, pass, &mut steps)
 }

@@ -7,7 +7,7 @@ use admit_core::{FallLine, OutOfMemory, Sequence};
 use std::alloc::Global;
 
 /// What a line says. A fall keeps its row.
-#[derive(Debug, Drop)]
+#[derive(Drop)]
 pub(crate) enum Line {
     Day(u32),
     Pass(u32),

@@ -11,7 +11,6 @@ use std::mem;
 
 /// The days that have been read, of which the last may go on: the numbers of the last day line and
 /// of the last pass line in it, each 0 where there is none, and the falls of that pass.
-#[derive(Drop)]
 pub(crate) struct Reading {
     days: Vec<DayChain>,
     day: u32,
@@ -19,6 +18,20 @@ pub(crate) struct Reading {
     pass: u32,
     row: u64,
     falls: Vec<FallLine>,
+}
+
+// Not derived: so what has been read is dropped in one step where it is held, and not by each list.
+impl Drop for Reading {
+    fn drop(self) {
+        let Reading {
+            days: _,
+            day: _,
+            passes: _,
+            pass: _,
+            row: _,
+            falls: _,
+        } = self;
+    }
 }
 
 impl Model for Reading {
@@ -131,12 +144,27 @@ impl Reading {
         Ok(())
     }
 
+    /// The days that have ended.
+    fn into_days(self) -> Vec<DayChain>
+        ensures { result.items ≡ self.days }
+    {
+        let Reading {
+            days,
+            day: _,
+            passes: _,
+            pass: _,
+            row: _,
+            falls: _,
+        } = self;
+        days
+    }
+
     /// The days, which the line at a row ends.
     pub(crate) fn finish(self, alloc: Global, row: u64) -> Result<Vec<DayChain>, OutOfMemory>
         ensures { IfOk result (λ days. days.items ≡ days_until row self) }
     {
         let mut reading = self;
         reading.end_day(alloc, row)?;
-        Ok(reading.days)
+        Ok(reading.into_days())
     }
 }

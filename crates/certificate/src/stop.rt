@@ -3,7 +3,7 @@ use admit_core::{CheckReason, OutOfMemory};
 use std::alloc::AllocError;
 
 /// Why a check ends early. A rejection tells the row, and for a fall or a pass why it is not valid.
-#[derive(Clone, Copy, Debug, PartialEq, Eq)]
+#[derive(Clone, Copy)]
 pub(crate) enum Stop {
     Rejected(u64, CheckReason),
     OutOfMemory,

@@ -1,11 +1,12 @@
 //! The lines that tell why a chain is refused.
-ghost use Rattle.std.specs.Prelude.{◌≡◌, ◌++◌, ◌∷◌, [], IfOk, length};
+ghost use Rattle.std.specs.Prelude.{◌≡◌, ◌++◌, ◌∷◌, [], IfOk, OnOk, length, string_bytes};
 ghost use Rattle.admit_core.specs.ChainLines.{chain_fault_text};
-ghost use Rattle.certificate.specs.VerdictText.{verdict_text};
+ghost use Rattle.certificate.specs.VerdictText.{kept_id, verdict_text};
 ghost use Rattle.certificate.specs.Verdicts.{KeepsSchool};
+ghost use Rattle.report.specs.Words.{further};
 
 use admit_core::{ChainFault, CheckReason, Dossier, OutOfMemory};
-use std::alloc::Global;
+use std::alloc::{AllocError, Global};
 
 /// The line of a text that is no chain.
 pub fn chain_fault_text(alloc: Global, fault: ChainFault) -> Result<Vec<u8>, OutOfMemory>
@@ -14,6 +15,22 @@ pub fn chain_fault_text(alloc: Global, fault: ChainFault) -> Result<Vec<u8>, Out
     let mut text = String::new(alloc);
     writeln!(text, "{fault}")?;
     Ok(text.into_bytes())
+}
+
+/// Ends the line of a chain that is not valid, with the id of the school that is still overfilled.
+fn push_kept(text: &mut String, dossier: &Dossier, reason: CheckReason) -> Result<(), AllocError>
+    requires { KeepsSchool (length dossier.now.schools) reason }
+    ensures { OnOk result (string_bytes text.new
+        ≡ string_bytes text.old ++ further 32 (kept_id dossier.now reason)) }
+{
+    match reason {
+        CheckReason::StillOver { school } => {
+            let id = dossier.schools.as_slice()[school as usize].id;
+            writeln!(text, " {id}")?;
+            Ok(())
+        }
+        _ => text.push_str("\n"),
+    }
 }
 
 /// The line of a day's chain that is not valid. A school that is still overfilled is told by its
@@ -29,12 +46,7 @@ pub fn verdict_text(
 {
     let mut text = String::new(alloc);
     let number = reason.number();
-    match reason {
-        CheckReason::StillOver { school } => {
-            let id = dossier.schools.as_slice()[school as usize].id;
-            writeln!(text, "not proved row {row} reason {number} {reason} {id}")?;
-        }
-        _ => writeln!(text, "not proved row {row} reason {number} {reason}")?,
-    }
+    write!(text, "not proved row {row} reason {number} {reason}")?;
+    push_kept(&mut text, dossier, reason)?;
     Ok(text.into_bytes())
 }

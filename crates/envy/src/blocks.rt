@@ -133,7 +133,36 @@ fn is_block(state: &DayState<'_>, best: &IndexMap<u32, u32, Keyed>, block: Block
     wants_more(state, best, block.wish) && (block.left > 0 || block.envied.is_some())
 }
 
-/// The blocks of a state, by place.
+/// The blocks of a state, by place, of whose wishes it is known where each stands, which is the last
+/// live one of each programme, and which is the best one of each candidate.
+fn listed_blocks(
+    alloc: Global,
+    state: &DayState<'_>,
+    orders: &CallOrders,
+    places: &[usize],
+    lasts: &[Option<usize>],
+    best: &IndexMap<u32, u32, Keyed>,
+) -> Result<Vec<Block>, OutOfMemory>
+    requires orders { AreCallOrders state.now.dossier.groups orders.now.orders }
+    requires places { places.now
+        ≡ map (place_of state.now.dossier orders.now.orders) state.now.dossier.wishes }
+    requires lasts { AreLast state.now.dossier orders.now.orders (entries state.now) lasts.now }
+    requires best { AreBest (entries state.now) (get nat_eq best.now) }
+    ensures { IfOk result (λ blocks. blocks.items ≡ blocks_of state.now orders.now.orders) }
+{
+    let _ = state.marks(); // one for each wish
+    let mut blocks = Vec::new(alloc);
+    for place in 0..wish_count(state) {
+        let block = block_at(state, orders, places, lasts, place);
+        if is_block(state, best, block) {
+            blocks.push(block)?;
+        }
+    }
+    Ok(blocks)
+}
+
+/// The blocks of a state, by place. The map comes last: it is held over no `?`, where each of its
+/// parts would be dropped.
 fn blocks_of(
     alloc: Global,
     state: &DayState<'_>,
@@ -143,17 +172,10 @@ fn blocks_of(
     ensures { IfOk result (λ blocks. blocks.items ≡ blocks_of state.now orders.now.orders) }
 {
     let _ = state.marks(); // one for each wish
-    let best = best_wishes(alloc, state)?;
     let places = places_of(alloc, state, orders)?;
     let lasts = last_live(alloc, state, &places)?;
-    let mut blocks = Vec::new(alloc);
-    for place in 0..wish_count(state) {
-        let block = block_at(state, orders, &places, &lasts, place);
-        if is_block(state, &best, block) {
-            blocks.push(block)?;
-        }
-    }
-    Ok(blocks)
+    let best = best_wishes(alloc, state)?;
+    listed_blocks(alloc, state, orders, &places, &lasts, &best)
 }
 
 /// The wishes that block a state, by place. After automatic days there are none.

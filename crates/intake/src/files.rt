@@ -70,6 +70,13 @@ fn no_rows(alloc: Global) -> Tables
     }
 }
 
+/// Puts rows in the place of others.
+fn put<T: Drop>(place: &mut Sequence<T>, rows: Vec<T>)
+    ensures { place.new ≡ rows.items }
+{
+    *place = Sequence::from_vec(rows);
+}
+
 /// Puts the rows of one slot, which has these bytes, into tables. The chain slot has no rows. The
 /// tables are lent: held here, they would be dropped list by list at each refusal.
 #[tactic(auto, unfolding(crate::specs::Reading::with_rows))]
@@ -81,39 +88,39 @@ fn put_rows(alloc: Global, tables: &mut Tables, slot: Slot, bytes: &[u8]) -> Res
 {
     match slot {
         Slot::Groups => {
-            tables.groups = Sequence::from_vec(read_groups(alloc, bytes)?);
+            put(&mut tables.groups, read_groups(alloc, bytes)?);
             Ok(())
         }
         Slot::Programmes => {
-            tables.programmes = Sequence::from_vec(read_programmes(alloc, bytes)?);
+            put(&mut tables.programmes, read_programmes(alloc, bytes)?);
             Ok(())
         }
         Slot::Schools => {
-            tables.schools = Sequence::from_vec(read_schools(alloc, bytes)?);
+            put(&mut tables.schools, read_schools(alloc, bytes)?);
             Ok(())
         }
         Slot::Rankings => {
-            tables.rankings = Sequence::from_vec(read_rankings(alloc, bytes)?);
+            put(&mut tables.rankings, read_rankings(alloc, bytes)?);
             Ok(())
         }
         Slot::Boarding => {
-            tables.boarding = Sequence::from_vec(read_boarding(alloc, bytes)?);
+            put(&mut tables.boarding, read_boarding(alloc, bytes)?);
             Ok(())
         }
         Slot::Wishes => {
-            tables.wishes = Sequence::from_vec(read_wishes(alloc, bytes)?);
+            put(&mut tables.wishes, read_wishes(alloc, bytes)?);
             Ok(())
         }
         Slot::State => {
-            tables.state = Sequence::from_vec(read_state(alloc, bytes)?);
+            put(&mut tables.state, read_state(alloc, bytes)?);
             Ok(())
         }
         Slot::Ceilings => {
-            tables.ceilings = Sequence::from_vec(read_ceilings(alloc, bytes)?);
+            put(&mut tables.ceilings, read_ceilings(alloc, bytes)?);
             Ok(())
         }
         Slot::Answers => {
-            tables.answers = Sequence::from_vec(read_answers(alloc, bytes)?);
+            put(&mut tables.answers, read_answers(alloc, bytes)?);
             Ok(())
         }
         Slot::Chain => Ok(()),

@@ -117,10 +117,14 @@ fn push_passes(text: &mut String, dossier: &Dossier, passes: &[PassEnd]) -> Resu
     Ok(())
 }
 
-/// Adds the lines of the seats and the beds that are left in the evening.
-fn push_evening(text: &mut String, dossier: &Dossier, day: &DayRecord) -> Result<(), AllocError>
-    ensures { OnOk result (string_bytes text.new ≡ string_bytes text.old ++ evening_text dossier.now day.now) }
+/// Adds the lines of a day after the first and its lapses: its passes, and the seats and the beds
+/// that are left in the evening.
+fn push_rest(text: &mut String, dossier: &Dossier, day: &DayRecord) -> Result<(), AllocError>
+    requires { All (IsPassOf dossier.now) day.now.passes }
+    ensures { OnOk result (string_bytes text.new ≡ string_bytes text.old
+        ++ passes_text dossier.now day.now.passes ++ evening_text dossier.now day.now) }
 {
+    push_passes(text, dossier, day.passes.as_slice())?;
     push_numbers(
         text,
         "left",
@@ -132,8 +136,7 @@ fn push_evening(text: &mut String, dossier: &Dossier, day: &DayRecord) -> Result
         "free",
         dossier.schools.as_slice(),
         day.free.as_slice(),
-    )?;
-    Ok(())
+    )
 }
 
 /// Adds the lines of a day: its passes, and the seats and beds that are left in the evening.
@@ -144,9 +147,7 @@ pub fn push_day(text: &mut String, dossier: &Dossier, day: &DayRecord) -> Result
 {
     let number = day.day;
     writeln!(text, "day {number}")?;
-    push_passes(text, dossier, day.passes.as_slice())?;
-    push_evening(text, dossier, day)?;
-    Ok(())
+    push_rest(text, dossier, day)
 }
 
 /// The lines of a day, as a text of their own.
@@ -209,9 +210,7 @@ pub fn push_dated_day(
     let number = day.day;
     writeln!(text, "day {number}")?;
     push_lapses(text, dossier, day.lapsed.as_slice(), start, terms.term)?;
-    push_passes(text, dossier, day.passes.as_slice())?;
-    push_evening(text, dossier, day)?;
-    Ok(())
+    push_rest(text, dossier, day)
 }
 
 /// The lines of a day where offers have dates, as a text of their own.

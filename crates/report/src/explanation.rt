@@ -1,32 +1,68 @@
 //! The line that explains a wish.
-ghost use Rattle.std.specs.Prelude.{◌≡◌, ◌<◌, IfOk, length, string_bytes};
-ghost use Rattle.report.specs.ExplainText.{NamesSchool, explain_text};
+ghost use Rattle.std.specs.Prelude.{◌≡◌, ◌<◌, ◌++◌, ◌∷◌, IfOk, OnOk, length, string_bytes};
+ghost use Rattle.admit_core.specs.Lines.{status_word};
+ghost use Rattle.report.specs.ExplainText.{NamesSchool, cause_words, explain_text, explanation_words, limit_words, stamp_words};
+ghost use Rattle.report.specs.Words.{further};
 
 use crate::ids::{school_id, wish_id};
-use admit_core::{BarCause, Dossier, Explanation, OutOfMemory, Stamp};
+use admit_core::{BarCause, Dossier, Explanation, OutOfMemory, Stamp, Status};
 use std::alloc::{AllocError, Global};
 
-/// The line that explains why the wish at a place stands as it does.
-fn explanation_line(
-    alloc: Global,
-    dossier: &Dossier,
-    wish: u32,
-    explanation: Explanation,
-) -> Result<String, AllocError>
-    requires wish { wish < length dossier.now.wishes }
-    requires school { NamesSchool dossier.now explanation }
-    ensures { IfOk result (λ text. string_bytes text ≡ explain_text dossier.now wish explanation) }
+/// Adds the end of a line: a word, a status, and since when a wish has it.
+fn push_status(
+    text: &mut String,
+    word: &str,
+    status: Status,
+    stamp: Stamp,
+) -> Result<(), AllocError>
+    ensures { OnOk result (string_bytes text.new ≡ string_bytes text.old
+        ++ further 32 (word.now ∷ status_word status ∷ stamp_words stamp)) }
 {
-    let id = wish_id(dossier, wish);
+    let Stamp { day, pass } = stamp;
+    writeln!(text, " {word} {status} day {day} pass {pass}")?;
+    Ok(())
+}
+
+/// Adds the end of a line: why a bar is as low as it is.
+fn push_cause(text: &mut String, cause: BarCause) -> Result<(), AllocError>
+    ensures { OnOk result (string_bytes text.new
+        ≡ string_bytes text.old ++ further 32 (cause_words cause)) }
+{
+    match cause {
+        BarCause::Ceiling => text.push_str(" ceiling\n"),
+        BarCause::Full { beds } => {
+            writeln!(text, " full {beds}")?;
+            Ok(())
+        }
+    }
+}
+
+/// Adds the end of a line: the position and the call limit, where there is one.
+fn push_limit(text: &mut String, position: u32, limit: u32) -> Result<(), AllocError>
+    ensures { OnOk result (string_bytes text.new
+        ≡ string_bytes text.old ++ further 32 (limit_words position limit)) }
+{
+    if limit == 0 {
+        text.push_str("\n")
+    } else {
+        writeln!(text, " position {position} limit {limit}")?;
+        Ok(())
+    }
+}
+
+/// Adds the end of the line that explains a wish, after its id.
+fn push_explanation(
+    text: &mut String,
+    dossier: &Dossier,
+    explanation: Explanation,
+) -> Result<(), AllocError>
+    requires { NamesSchool dossier.now explanation }
+    ensures { OnOk result (string_bytes text.new
+        ≡ string_bytes text.old ++ further 32 (explanation_words dossier.now explanation)) }
+{
     match explanation {
-        Explanation::Gone { status, stamp } => {
-            let Stamp { day, pass } = stamp;
-            format!(in alloc; "wish {id} gone {status} day {day} pass {pass}\n")
-        }
-        Explanation::Live { status, stamp } => {
-            let Stamp { day, pass } = stamp;
-            format!(in alloc; "wish {id} live {status} day {day} pass {pass}\n")
-        }
+        Explanation::Gone { status, stamp } => push_status(text, "gone", status, stamp),
+        Explanation::Live { status, stamp } => push_status(text, "live", status, stamp),
         Explanation::Barred {
             school,
             rank,
@@ -34,18 +70,8 @@ fn explanation_line(
             cause,
         } => {
             let school = school_id(dossier, school);
-            match cause {
-                BarCause::Ceiling => {
-                    format!(in alloc;
-                        "wish {id} barred school {school} rank {rank} bar {bar} ceiling\n"
-                    )
-                }
-                BarCause::Full { beds } => {
-                    format!(in alloc;
-                        "wish {id} barred school {school} rank {rank} bar {bar} full {beds}\n"
-                    )
-                }
-            }
+            write!(text, " barred school {school} rank {rank} bar {bar}")?;
+            push_cause(text, cause)
         }
         Explanation::NoSeat {
             ahead,
@@ -53,13 +79,8 @@ fn explanation_line(
             position,
             limit,
         } => {
-            if limit == 0 {
-                format!(in alloc; "wish {id} noseat ahead {ahead} left {left}\n")
-            } else {
-                format!(in alloc;
-                    "wish {id} noseat ahead {ahead} left {left} position {position} limit {limit}\n"
-                )
-            }
+            write!(text, " noseat ahead {ahead} left {left}")?;
+            push_limit(text, position, limit)
         }
     }
 }
@@ -75,6 +96,8 @@ pub fn explain_text(
     requires school { NamesSchool dossier.now explanation }
     ensures { IfOk result (λ text. text.items ≡ explain_text dossier.now wish explanation) }
 {
-    let line = explanation_line(alloc, dossier, wish, explanation)?;
-    Ok(line.into_bytes())
+    let mut text = String::new(alloc);
+    write!(text, "wish {}", wish_id(dossier, wish))?;
+    push_explanation(&mut text, dossier, explanation)?;
+    Ok(text.into_bytes())
 }

@@ -1,7 +1,7 @@
 //! The summary of a sample.
 ghost use Rattle.std.specs.Prelude.{◌≡◌, ◌<◌, ◌+◌, ◌++◌, if◌then◌else◌, IfOk, OnOk, flat_map, string_bytes, sum_by};
 ghost use Rattle.admit_core.specs.State.{is_live, is_live_status, is_waiting, is_waiting_status};
-ghost use Rattle.report.specs.SampleText.{day_summary, falls_in, is_gone, is_gone_status, offers_in, sample_text, wishes_with};
+ghost use Rattle.report.specs.SampleText.{day_summary, falls_in, is_gone, is_gone_status, offers_in, sample_text, state_summary, wishes_with};
 
 use admit_core::{DayRecord, OutOfMemory, PassEnd, Status};
 use day_state::DayState;
@@ -87,6 +87,20 @@ fn push_days(text: &mut String, days: &[DayRecord]) -> Result<(), AllocError>
     Ok(())
 }
 
+/// Adds the numbers of wishes that are live, wait and are gone.
+fn push_counts(text: &mut String, state: &DayState<'_>) -> Result<(), AllocError>
+    ensures { OnOk result
+        (string_bytes text.new ≡ string_bytes text.old ++ state_summary state.now) }
+{
+    let WishCounts {
+        live,
+        waiting,
+        gone,
+    } = wish_counts(state);
+    writeln!(text, "live {live} waiting {waiting} gone {gone}")?;
+    Ok(())
+}
+
 /// The summary of a sample: its numbers of candidates and of wishes, the passes, falls and offers
 /// of each day, and the numbers of wishes that are live, wait and are gone in the final state.
 pub fn sample_text(
@@ -101,11 +115,6 @@ pub fn sample_text(
     let mut text = String::new(alloc);
     writeln!(text, "sample {number} wishes {wishes}")?;
     push_days(&mut text, days)?;
-    let WishCounts {
-        live,
-        waiting,
-        gone,
-    } = wish_counts(state);
-    writeln!(text, "live {live} waiting {waiting} gone {gone}")?;
+    push_counts(&mut text, state)?;
     Ok(text.into_bytes())
 }

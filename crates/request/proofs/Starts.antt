@@ -1,5 +1,5 @@
 -- The dates of day 1.
-use Rattle.std.proofs.Common.{◌≡◌, ℕ, ◌≤◌, ap, arith, refl}
+use Rattle.std.proofs.Common.{◌≡◌, ◌≤◌, ap, arith, refl}
 use Rattle.std.specs.Prelude.{ℤ}
 use Rattle.std.proofs.lemmas.Int.{ints}
 use Rattle.calendar.specs.Dates.{IsRead, date_of, days_of_months, first_day, last_started}

@@ -1,7 +1,7 @@
 //! The command whose words are read.
 ghost use Rattle.std.specs.Prelude.{◌≡◌, IfOk, map};
 ghost use Rattle.clap.specs.Words.{FailsBy, app_of, fault_of, found_of, matches_of, rows_of, with_rule};
-ghost use Rattle.request.specs.Command.{option_rule, parcours};
+ghost use Rattle.request.specs.Command.{option_rule, parcours, with_options};
 
 use clap::{Arg, ArgMatches, Command, Error};
 use std::alloc::{AllocError, Global};
@@ -19,19 +19,34 @@ fn with_option<'a>(
     command.arg(option)
 }
 
+/// The options, each of one text value.
+const OPTIONS: [&str; 7] = [
+    "days", "wish", "school", "picker", "number", "start", "term",
+];
+
+/// The command with options of one text value each.
+fn with_options<'a>(
+    alloc: Global,
+    command: Command<'a>,
+    names: &[&'a str],
+) -> Result<Command<'a>, AllocError>
+    ensures { IfOk result (λ c. app_of c
+        ≡ with_options (app_of command.entry) (map (λ s. s.now) names.entry.now)) }
+{
+    let mut command = command;
+    for name in names {
+        command = with_option(alloc, command, name)?;
+    }
+    Ok(command)
+}
+
 /// The command `parcours`.
 fn command<'a>(alloc: Global) -> Result<Command<'a>, AllocError>
     ensures { IfOk result (λ c. app_of c ≡ parcours) }
 {
     let mode = Arg::new(alloc, "mode").required(true);
     let command = Command::new(alloc, "parcours").arg(mode)?;
-    let command = with_option(alloc, command, "days")?;
-    let command = with_option(alloc, command, "wish")?;
-    let command = with_option(alloc, command, "school")?;
-    let command = with_option(alloc, command, "picker")?;
-    let command = with_option(alloc, command, "number")?;
-    let command = with_option(alloc, command, "start")?;
-    with_option(alloc, command, "term")
+    with_options(alloc, command, &OPTIONS)
 }
 
 /// The matches of the words, the program's name first.

@@ -2,8 +2,8 @@ use Rattle.std.proofs.Common.{◌≡◌, true, false, sym, ◌∙◌, ap, arith}
 use Rattle.envy.specs.declared.blocks.Block.{Block}
 use Rattle.envy.specs.Blocks.{block_at, is_block}
 use Rattle.envy.proofs.Listing.{listed_all, listed_none, listed_some}
-use Rattle.envy.proofs.blocks.blocks_of.Goals as goal
-use Rattle.envy.proofs.blocks.blocks_of.Goals.{then-is_block+in_ok-push, else-is_block}
+use Rattle.envy.proofs.blocks.listed_blocks.Goals as goal
+use Rattle.envy.proofs.blocks.listed_blocks.Goals.{then-is_block+in_ok-push, else-is_block}
 
 pub loop-place-preserved : goal.loop-place-preserved
 loop-place-preserved c =
