@@ -1,0 +1,131 @@
+//! Small markets, each against all its matchings: what `solve` answers is stable, and for each
+//! candidate the best of all that are; these place the same candidates, and nobody gets a programme
+//! that they prefer by handing in another list.
+
+use crate::market_rows::{LISTS, Rows, rows_of};
+use crate::markets::solved;
+use crate::plain::{is_as_good, is_stable, liking, place_of, places_of};
+use admit_core::OutOfMemory;
+use bar_fixpoint::FirstPicker;
+use stable_market::Market;
+use std::alloc::Global;
+
+/// How many choices of an entry of the list or none four candidates have.
+const CHOICES: usize = 256;
+
+/// Whether a stable matching of a market gives a candidate better than one who stands so in this
+/// list.
+fn finds_better(
+    alloc: Global,
+    rows: &Rows,
+    candidate: usize,
+    list: &[u32],
+    liked: usize,
+) -> Result<bool, OutOfMemory> {
+    for number in 0..CHOICES {
+        let places = places_of(alloc, rows, number)?;
+        if liking(list, place_of(&places, candidate)) < liked && is_stable(rows, &places) {
+            return Ok(true);
+        }
+    }
+    Ok(false)
+}
+
+/// Whether a candidate gets a better place in some stable matching by another list.
+fn gains(
+    alloc: Global,
+    rows: &Rows,
+    best: &[Option<u32>],
+    candidate: usize,
+) -> Result<bool, OutOfMemory> {
+    let list = rows.list(candidate);
+    let liked = liking(list, place_of(best, candidate));
+    for other in LISTS {
+        let changed = rows.with_list(alloc, candidate, other)?;
+        if finds_better(alloc, &changed, candidate, list, liked)? {
+            return Ok(true);
+        }
+    }
+    Ok(false)
+}
+
+/// Whether any candidate does.
+fn somebody_gains(alloc: Global, rows: &Rows, best: &[Option<u32>]) -> Result<bool, OutOfMemory> {
+    for candidate in 0..4 {
+        if gains(alloc, rows, best, candidate)? {
+            return Ok(true);
+        }
+    }
+    Ok(false)
+}
+
+/// Whether a market has another stable matching, where this one is as good as each.
+fn has_others(
+    alloc: Global,
+    rows: &Rows,
+    best: &[Option<u32>],
+) -> Result<Option<bool>, OutOfMemory> {
+    let mut has_others = false;
+    for number in 0..CHOICES {
+        let places = places_of(alloc, rows, number)?;
+        if is_stable(rows, &places) {
+            if !is_as_good(rows, best, &places) {
+                return Ok(None);
+            }
+            if places.as_slice() != best {
+                has_others = true;
+            }
+        }
+    }
+    Ok(Some(has_others))
+}
+
+/// What is found of a market.
+enum Found {
+    /// It has one stable matching, or several.
+    Stable(bool),
+    Fails(&'static str),
+}
+
+fn found_of(alloc: Global, rows: &Rows, best: &[Option<u32>]) -> Result<Found, OutOfMemory> {
+    if !is_stable(rows, best) {
+        return Ok(Found::Fails("is not stable"));
+    }
+    let Some(has_others) = has_others(alloc, rows, best)? else {
+        return Ok(Found::Fails("is not the best"));
+    };
+    if somebody_gains(alloc, rows, best)? {
+        return Ok(Found::Fails("is beaten by another list"));
+    }
+    Ok(Found::Stable(has_others))
+}
+
+/// The places that `solve` answers.
+fn best_of(alloc: Global, market: &Market) -> Result<Vec<Option<u32>>, OutOfMemory> {
+    let mut picker = FirstPicker::new(alloc);
+    let solved = solved(alloc, market, &mut picker)?;
+    Ok(solved.places)
+}
+
+/// What is found of the market of a number.
+fn tried(alloc: Global, number: u64) -> Result<Found, OutOfMemory> {
+    let rows = rows_of(alloc, number)?;
+    let Ok(market) = rows.market(alloc) else {
+        return Ok(Found::Fails("is no market"));
+    };
+    let best = best_of(alloc, &market)?;
+    found_of(alloc, &rows, &best)
+}
+
+/// The first so many markets: how many have several stable matchings, where nothing fails.
+pub(crate) fn matchings_in(alloc: Global, input: &str) -> Result<String, OutOfMemory> {
+    let mut several: u64 = 0;
+    for number in 0..input.parse::<u64>().unwrap_or(0) {
+        match tried(alloc, number)? {
+            Found::Fails(what) => return Ok(format!(in alloc; "market {number} {what}")?),
+            Found::Stable(true) => several = several.saturating_add(1),
+            Found::Stable(false) => {}
+        }
+    }
+    Ok(format!(in alloc; "{several} with several")?)
+}
