@@ -40,25 +40,3 @@ impl<L: Ledger> Steps<L> {
         self.book.add(&mut self.share, 1);
     }
 }
-
-#[cfg(test)]
-mod tests {
-    use super::*;
-    use std::marker::Brand;
-
-    fn ticks_twice<L: Ledger>(blank: Blank) -> bool
-        requires name { blank.name ≡ L.name }
-        requires parts { blank.parts ≡ L.parts }
-        requires shared { 0 < L.parts }
-    {
-        let mut steps: Steps<L> = Steps::new(blank);
-        steps.tick();
-        steps.tick();
-        true
-    }
-
-    #[test]
-    fn ticks(rt: HostRuntime) {
-        assert!(rt; ticks_twice::<Brand>(Blank::new(1)));
-    }
-}

@@ -13,8 +13,3 @@ pub use engine::greatest;
 pub use picker::Picker;
 pub use pickers::{FirstPicker, LastPicker, TurnPicker};
 pub use tired::TiredPicker;
-
-#[cfg(test)]
-mod fixed_lists;
-#[cfg(test)]
-mod tests;

@@ -9,6 +9,3 @@ mod text;
 
 pub use civil::{Civil, civil_of, day_of, deadline, on_day, parts};
 pub use text::{date_text, read_date};
-
-#[cfg(test)]
-mod tests;

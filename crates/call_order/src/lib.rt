@@ -11,6 +11,3 @@ mod scan;
 pub use group::{call_order, call_orders};
 pub use queued::call_order_queued;
 pub use scan::call_order_scanned;
-
-#[cfg(test)]
-mod tests;

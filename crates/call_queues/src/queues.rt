@@ -77,6 +77,3 @@ impl Queues {
         Some(head)
     }
 }
-
-#[cfg(test)]
-mod tests;

@@ -93,6 +93,3 @@ pub fn read_answers(alloc: Global, bytes: &[u8]) -> Result<Vec<AnswerRow>, InFau
 {
     table::read_table(alloc, bytes)
 }
-
-#[cfg(test)]
-mod tests;

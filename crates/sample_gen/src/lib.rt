@@ -9,6 +9,3 @@ mod rows;
 mod slots;
 
 pub use slots::{MAX_CANDIDATES, sample};
-
-#[cfg(test)]
-mod tests;

@@ -149,6 +149,3 @@ impl<R: Print + Drop> Sink for StdSink<R> {
         answer
     }
 }
-
-#[cfg(test)]
-mod tests;

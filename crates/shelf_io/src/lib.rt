@@ -12,8 +12,6 @@ mod plan;
 mod refusal;
 mod shelf;
 mod sink;
-#[cfg(test)]
-mod tests;
 
 pub use devices::{DirShelf, StdSink};
 pub use memory_shelf::{MemShelf, PlainShelf};

@@ -32,10 +32,3 @@ pub use named::{Named, from_dossier};
 pub use round::MarketRound;
 pub use solution::{Solved, solve};
 pub use text::market_text;
-
-#[cfg(test)]
-mod fitting;
-#[cfg(test)]
-mod matchings;
-#[cfg(test)]
-mod tests;

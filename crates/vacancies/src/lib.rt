@@ -10,9 +10,6 @@ ghost use Rattle.vacancies.specs.Needs.{needs_seat};
 
 use day_state::DayState;
 
-#[cfg(test)]
-mod tests;
-
 /// The seats of a programme less the candidates who are live there, and at least 0.
 pub fn seats_left(state: &DayState<'_>, programme: u32) -> u32
     requires { programme < length state.now.dossier.programmes }
