@@ -1,11 +1,13 @@
 #!/usr/bin/env python3
 """prove.py CRATE: proves the libraries that a program stands on, and then proves and builds the program, all
 as the gate does: each crate from nothing, over the statements alone of those below it. As many are proved
-side by side as there are processors and memory for, and a line is printed as each is. One at a time may use
-all processors: of those that can begin, the one with the longest way up to the program. Each of the others
-has one, of what it leaves, since a check that several processors share takes a fifth more of their time.
-What is built and unchanged is kept."""
+side by side as there are processors and memory for, and a line is printed as each is. They go in the order of
+their ways up to the program: the first of those that run may use all processors, the second half of them, the
+others one, and each gives way to those before it. A check that several processors share takes more of
+their time, so no more of them share it than the longest way needs. What is built and unchanged is kept."""
+import contextlib
 import functools
+import glob
 import os
 import queue
 import shutil
@@ -19,6 +21,7 @@ import rtlib  # noqa: E402 (the kit's own library, beside its command rt)
 
 A_CHECK = 3_000_000_000  # bytes that a check may take
 A_LOAD = 150  # what it costs to load what a crate stands on, in lines of code
+A_STEP_BACK = 3  # how much nicer each check is than the one before it
 LINES_A_MINUTE = 430  # of code, proved on one processor: measured, and rough
 TARGET = "x86_64-unknown-linux-gnu"
 
@@ -73,16 +76,23 @@ def prove_library(crate, jobs):
 
 
 def build(crate, jobs, niceness, ended):
-    """Proves a library, and gives way to others the more, the greater its niceness is. Puts the crate and
-    whether it is proved into a queue."""
-    own = os.getpriority(os.PRIO_PROCESS, 0)
+    """Proves a library, at this niceness. Puts the crate and whether it is proved into a queue."""
     # What a thread starts is as nice as the thread.
-    os.setpriority(os.PRIO_PROCESS, threading.get_native_id(), min(own + niceness, 19))
+    os.setpriority(os.PRIO_PROCESS, threading.get_native_id(), niceness)
     is_proved = False
     try:
         is_proved = prove_library(crate, jobs)
     finally:
         ended.put((crate, is_proved))
+
+
+def give_way(crate, niceness):
+    """Makes the check of a crate that runs so nice, as far as one may."""
+    for process in glob.glob("/proc/[0-9]*"):
+        with contextlib.suppress(OSError):
+            if os.readlink(f"{process}/cwd") == crate.folder and "rattle" in os.readlink(f"{process}/exe"):
+                for thread in os.listdir(f"{process}/task"):
+                    os.setpriority(os.PRIO_PROCESS, int(thread), niceness)
 
 
 def say(text):
@@ -93,19 +103,23 @@ def prove(crates, width):
     """Proves the libraries and returns those that failed."""
     up = {it: way_up(it, crates) for it in crates}
     left = sorted((it for it in crates if not is_kept(it)), key=lambda it: -up[it])
-    count, lead, running, failed, ended = len(crates), None, set(), [], queue.SimpleQueue()
+    own = os.getpriority(os.PRIO_PROCESS, 0)
+    niceness = [min(own + A_STEP_BACK * rank, 19) for rank in range(width)]
+    count, running, failed, ended = len(crates), [], [], queue.SimpleQueue()
     proved = {it for it in crates if it not in left}
     while (left and not failed) or running:
         ready = [it for it in left if not failed and proved.issuperset(it.deps)]
         for crate in ready[: width - len(running)]:
-            lead = lead or crate
-            jobs, niceness = (width, 0) if crate is lead else (1, 5)
-            threading.Thread(target=build, args=(crate, jobs, niceness, ended)).start()
+            rank = sum(up[it] > up[crate] for it in running)
+            jobs = max(1, width >> rank)
+            threading.Thread(target=build, args=(crate, jobs, niceness[rank], ended)).start()
             left.remove(crate)
-            running.add(crate)
+            running.append(crate)
+        running.sort(key=lambda it: -up[it])
+        for rank, crate in enumerate(running):
+            give_way(crate, niceness[rank])
         crate, is_proved = ended.get()
         running.remove(crate)
-        lead = None if crate is lead else lead
         if is_proved:
             proved.add(crate)
             say(f"proved {len(proved)} of {count}: {crate.name}")
