@@ -9,7 +9,7 @@ use Rattle.admit_core.specs.State.{State}
 use Rattle.bar_fixpoint.specs.Chosen.{AreChosen}
 use Rattle.bar_law.specs.Runs.{schools_of}
 use Rattle.day_run.specs.DayPasses.{TellsMore}
-use Rattle.bed_need.specs.Telling.{TellsOfRun}
+use Rattle.bed_need.specs.Telling.{TellsOfBoth, TellsOfRun}
 
 -- of a run it told more
 pub run_more : (sys : FallingSystem) (choice : List ℕ → List ℕ → ℕ) (told after : List ℕ) → TellsOfRun sys choice told after → TellsMore told after
@@ -28,3 +28,15 @@ run_of_pass s orders ceilings choice told after pass is_pass told_of chosen = re
 pub run_named : {T E : Type 0} (one other : FallingSystem) (choice : List ℕ → List ℕ → ℕ) (told after : List ℕ) (r : Result T E) → one ≡ other → IfOk r (λ x. TellsOfRun one choice told after)
     → IfOk r (λ x. TellsOfRun other choice told after)
 run_named one other choice told after r same is = subst (λ (sys : FallingSystem). IfOk r (λ x. TellsOfRun sys choice told after)) same is
+
+-- of a run, and then of one whose system and choice have other names
+pub run_again : (one other named : FallingSystem) (choice then : List ℕ → List ℕ → ℕ) (told between after : List ℕ)
+    → TellsOfRun one choice told between → named ≡ other → then ≡ choice → TellsOfRun named then between after
+    → TellsOfBoth one other choice told after
+run_again one other named choice then told between after first same kept second = record {
+  between = between;
+  first = first;
+  second =
+      subst (λ (sys : FallingSystem). TellsOfRun sys choice between after) same
+      (subst (λ (by : List ℕ → List ℕ → ℕ). TellsOfRun named by between after) kept second);
+}
