@@ -51,17 +51,31 @@ asked_none s bars flags long are = record {
       ∙ unasked (is_waiting (mark_in s.marks k)) (is_barred s bars (wish_in s.dossier.wishes k) (mark_in s.marks k));
 }
 
+-- one whose flag is closed by its bar, if it was not before
+closed_by : (waits asked behind : Bool)
+    → ((waits && not (asked && (waits && behind))) && not behind) ≡ (waits && not (true && (waits && behind)))
+closed_by false asked behind = refl
+closed_by true false behind = refl
+closed_by true true true = refl
+closed_by true true false = refl
+
 -- one more is asked
-pub asked_more : (s : State) (bars places : List ℕ) (i : ℕ) (flags : List Bool) (flag : Bool)
-    → i < length places → get_or places i 0 < length s.dossier.wishes
-    → flag ≡ is_open s bars (wish_in s.dossier.wishes (get_or places i 0)) (mark_in s.marks (get_or places i 0))
-    → AreAsked s bars (take i places) flags → AreAsked s bars (take (i + 1) places) (set flags (get_or places i 0) flag)
-asked_more s bars places i flags flag lt within flag_is asked =
-    let p = get_or places i 0 in
+pub asked_more : (s : State) (bars places : List ℕ) (i p : ℕ) (flags : List Bool) (flag : Bool)
+    → i < length places → get_or places i 0 ≡ p → p < length s.dossier.wishes
+    → flag ≡ (get_or flags p false && not (is_behind_bar s bars (wish_in s.dossier.wishes p) (wish_in s.dossier.wishes p).school))
+    → AreAsked s bars (take i places) flags → AreAsked s bars (take (i + 1) places) (set flags p flag)
+asked_more s bars places i p flags flag lt p_is within flag_is asked =
+    let w = wish_in s.dossier.wishes p in
+    let behind = is_behind_bar s bars w w.school in
+    let now : flag ≡ open_if s bars p true =
+    flag_is
+    ∙ ap (λ (b : Bool). b && not behind) (asked.each p within)
+    ∙ closed_by (is_waiting (mark_in s.marks p)) (is_among p (take i places)) behind in
     record {
       as_long = length-set flags p flag ∙ asked.as_long;
       each = λ k k_lt.
-          let more : is_among k (take (i + 1) places) ≡ (is_among k (take i places) || nat_eq k p) = among_more k places i lt in
+          let more : is_among k (take (i + 1) places) ≡ (is_among k (take i places) || nat_eq k p) =
+          among_more k places i lt ∙ ap (λ (j : ℕ). is_among k (take i places) || nat_eq k j) p_is in
           elim (cases_Bool (nat_eq k p)) [
             | inl here ↦
                 let k_is : k ≡ p = eqb-true k p here in
@@ -69,7 +83,7 @@ asked_more s bars places i flags flag lt within flag_is asked =
                 ∙ ap (λ b. is_among k (take i places) || b) here ∙ or_true (is_among k (take i places)) in
                 ap (λ n. get_or (set flags p flag) n false) k_is
                 ∙ get_or-set_same flags p flag false (omega (arith, within, asked.as_long))
-                ∙ flag_is
+                ∙ now
                 ∙ ap (λ n. open_if s bars n true) (sym k_is)
                 ∙ ap (open_if s bars k) (sym among)
             | inr other ↦

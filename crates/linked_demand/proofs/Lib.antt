@@ -4,6 +4,7 @@ pub mod Askings
 pub mod Asking
 pub mod BarEach
 pub mod ClaimSpans
+pub mod Boarding
 pub mod Closing
 pub mod Counting
 pub mod Cutting

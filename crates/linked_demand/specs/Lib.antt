@@ -1,3 +1,4 @@
+pub mod Boarders
 pub mod Claims
 pub mod Demand
 pub mod Filled

@@ -1,89 +1,94 @@
 //! The rows of the schools.
-ghost use Rattle.std.specs.Prelude.{◌≡◌, ◌<◌, length, map, All, IfOk, OnOk};
-ghost use Rattle.std.specs.Option.{ForSome};
+ghost use Rattle.std.specs.Prelude.{◌≡◌, ◌<◌, length, map, All, IfOk};
 ghost use Rattle.std.specs.List.{range_with_len};
-ghost use Rattle.admit_core.specs.State.{free_beds, is_school};
-ghost use Rattle.day_state.specs.Kept.{mark_in, wish_in};
-ghost use Rattle.linked_demand.specs.Filled.{row_school, AreFilled};
-ghost use Rattle.linked_demand.specs.Keyed.{IsPutIn};
+ghost use Rattle.admit_core.specs.State.{free_beds};
+ghost use Rattle.linked_demand.specs.Boarders.{AreBoarders, IsBoarder};
+ghost use Rattle.linked_demand.specs.Filled.{wants_bed, AreFilled};
+ghost use Rattle.linked_demand.specs.Opens.{opens_of};
 ghost use Rattle.linked_demand.specs.Rows.{AreRows};
-ghost use Rattle.linked_demand.specs.Seats.{boarders_of};
 
-use crate::rows::{RowWish, empty_rows, put_in};
+use crate::boarders::Boarder;
+use crate::rows::{RowWish, put_in, rows_with_room};
 use admit_core::OutOfMemory;
 use day_state::DayState;
-use demand::{mark_at, sort_by_rank, wish_at};
+use demand::sort_by_rank;
 use std::alloc::Global;
 use vacancies::beds_left;
 
-/// The school in whose row the wish at a place stands.
-fn row_school(state: &DayState<'_>, bars: &[u32], place: u32) -> Option<u32>
-    requires place { place < length state.now.dossier.wishes }
-    requires bars { length bars.now ≡ length state.now.dossier.schools }
-    ensures school { result ≡ row_school state.now bars.now (wish_in state.now.dossier.wishes place) (mark_in state.now.marks place) (wish_in state.now.dossier.wishes place).school }
-    ensures within { ForSome result (λ h. h < length bars.now) }
+/// Whether a boarder stands in the row of their school: their wish is open, by its flag, and their
+/// candidate has no bed there.
+fn wants_bed(state: &DayState<'_>, opens: &[bool], boarder: Boarder) -> bool
+    requires boarder { IsBoarder state.now.dossier boarder }
+    requires opens { length opens.now ≡ length state.now.dossier.wishes }
+    ensures { result ≡ wants_bed state.now opens.now boarder.wish }
 {
-    let wish = wish_at(state, place);
-    match wish.school {
-        None => None,
-        Some(school) => {
-            let stays = mark_at(state, place).is_waiting()
-                && !state.is_live_in_its_school(place)
-                && wish.board_rank <= bars[school as usize];
-            if stays { Some(school) } else { None }
+    opens[boarder.wish as usize] && !state.is_live_in_its_school(boarder.wish)
+}
+
+/// How many boarders of each school have an open wish: room is made by it, so no clause speaks of
+/// the numbers.
+fn counts_by_school(
+    alloc: Global,
+    opens: &[bool],
+    boarders: &[Boarder],
+    schools: usize,
+) -> Result<Vec<u32>, OutOfMemory>
+    requires boarders { All (λ b. b.wish < length opens.now) boarders.now }
+    requires schools { All (λ b. b.school < schools) boarders.now }
+    ensures { IfOk result (λ v. length v.items ≡ schools) }
+{
+    let mut counts = vec![in alloc; 0u32; schools]?;
+    for boarder in boarders {
+        if opens[boarder.wish as usize] {
+            let school = boarder.school as usize;
+            counts[school] = counts[school].saturating_add(1);
         }
     }
+    Ok(counts)
 }
 
-/// Puts an item at the end of the row of a school, if there is one.
-fn put_in_school(
-    rows: &mut Vec<Vec<RowWish>>,
-    school: Option<u32>,
-    item: RowWish,
-) -> Result<(), OutOfMemory>
-    requires { ForSome school (λ h. h < length rows.old.items) }
-    ensures { OnOk result (IsPutIn (is_school school) item rows.old.items rows.new.items) }
-{
-    match school {
-        None => Ok(()),
-        Some(school) => put_in(rows, school, item),
-    }
-}
-
-/// The rows of the schools, each in order by place. Only the wishes with a school are asked.
+/// The rows of the schools, each in order by place.
 fn rows_by_place(
     alloc: Global,
     state: &DayState<'_>,
-    boarders: &[u32],
-    bars: &[u32],
+    boarders: &[Boarder],
+    opens: &[bool],
+    schools: usize,
 ) -> Result<Vec<Vec<RowWish>>, OutOfMemory>
-    requires boarders { boarders.now ≡ boarders_of state.now.dossier }
-    requires within { All (λ k. k < length state.now.dossier.wishes) boarders.now }
-    requires bars { length bars.now ≡ length state.now.dossier.schools }
-    ensures { IfOk result (λ v. AreFilled state.now bars.now v.items) }
+    requires boarders { AreBoarders state.now.dossier boarders.now }
+    requires opens { length opens.now ≡ length state.now.dossier.wishes }
+    requires schools { schools ≡ length state.now.dossier.schools }
+    ensures { IfOk result (λ v. AreFilled state.now opens.now v.items) }
 {
-    let mut rows = empty_rows(alloc, bars.len())?;
-    for place in boarders {
-        let school = row_school(state, bars, *place);
-        let rank = wish_at(state, *place).board_rank;
-        put_in_school(&mut rows, school, RowWish { rank, wish: *place })?;
+    let counts = counts_by_school(alloc, opens, boarders, schools)?;
+    let mut rows = rows_with_room(alloc, &counts)?;
+    for boarder in boarders {
+        if wants_bed(state, opens, *boarder) {
+            let item = RowWish {
+                rank: boarder.rank,
+                wish: boarder.wish,
+            };
+            put_in(&mut rows, boarder.school, item)?;
+        }
     }
     Ok(rows)
 }
 
-/// The rows of the schools up to their bars, of the wishes with a school.
+/// The rows of the schools up to their bars, under which these wishes are open.
 pub fn rows_of(
     alloc: Global,
     state: &DayState<'_>,
-    boarders: &[u32],
+    boarders: &[Boarder],
+    opens: &[bool],
     bars: &[u32],
 ) -> Result<Vec<Vec<RowWish>>, OutOfMemory>
-    requires boarders { boarders.now ≡ boarders_of state.now.dossier }
+    requires boarders { AreBoarders state.now.dossier boarders.now }
+    requires opens { opens.now ≡ opens_of state.now bars.now }
     requires bars { length bars.now ≡ length state.now.dossier.schools }
     ensures { IfOk result (λ v. AreRows state.now bars.now v.items) }
 {
     let _ = state.marks(); // one for each wish
-    let mut rows = rows_by_place(alloc, state, boarders, bars)?;
+    let mut rows = rows_by_place(alloc, state, boarders, opens, bars.len())?;
     for school in 0..rows.len() {
         sort_by_rank(&mut rows[school])?;
     }

@@ -5,6 +5,7 @@
 //! `let schools = LinkedRound::build(alloc, &state, &orders, &lineup, ceilings)?;`
 #![tactic(auto)]
 
+mod boarders;
 mod claims;
 mod cut;
 mod fill;

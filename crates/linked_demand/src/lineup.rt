@@ -8,16 +8,16 @@ ghost use Rattle.demand.specs.Called.{AreCalled};
 ghost use Rattle.linked_demand.specs.Claims.{AreWishesFor};
 ghost use Rattle.linked_demand.specs.Links.{claim_of};
 ghost use Rattle.linked_demand.specs.Opens.{line_of};
-ghost use Rattle.linked_demand.specs.Seats.{PutAt, AreSeated, IsLineup, boards_at, boarders_of, is_below, is_passed};
+ghost use Rattle.linked_demand.specs.Seats.{PutAt, AreSeated, IsLineup, is_below, is_passed};
 
+use crate::boarders::{Boarder, boarders_of};
 use crate::claims::{Claims, candidates_of, span_of};
 use crate::guesses::Guesses;
 use crate::maybe_sure::maybe_sure_of;
-use crate::wishes::wish_count;
 use crate::wishing::wishes_by_programme;
 use admit_core::{CallOrders, OutOfMemory};
 use day_state::{DayState, part};
-use demand::{call_everyone, limit_of, order_of, programme_count, wish_at};
+use demand::{call_everyone, limit_of, order_of, programme_count};
 use std::alloc::Global;
 use std::mem;
 
@@ -131,28 +131,6 @@ fn claims_of(
     Ok(claims)
 }
 
-/// Whether the wish at a place has a school.
-fn has_school(state: &DayState<'_>, place: u32) -> bool
-    requires { place < length state.now.dossier.wishes }
-    ensures { result ≡ boards_at state.now.dossier place }
-{
-    wish_at(state, place).school.is_some()
-}
-
-/// The places of the wishes with a school, ascending.
-fn boarders_of(alloc: Global, state: &DayState<'_>) -> Result<Vec<u32>, OutOfMemory>
-    ensures { IfOk result (λ v. v.items ≡ boarders_of state.now.dossier) }
-{
-    let mut places = Vec::new(alloc);
-    let count = wish_count(state);
-    for place in 0..count {
-        if has_school(state, place) {
-            places.push(place)?;
-        }
-    }
-    Ok(places)
-}
-
 /// For each programme those who wish for it, in call order, with their claims; for each wish the place
 /// of its candidate among them, and whether they are called by the programme's limit; the wishes with
 /// a school, and those that may need no seat while they wait.
@@ -160,7 +138,7 @@ pub struct Lineup {
     pub(crate) claims: Vec<Claims>,
     pub(crate) places: Vec<u32>,
     pub(crate) early: Vec<bool>,
-    pub(crate) boarders: Vec<u32>,
+    pub(crate) boarders: Vec<Boarder>,
     pub(crate) maybe_sure: Vec<u32>,
 }
 

@@ -1,16 +1,19 @@
 //! Who is served in each programme while wishes are closed.
-ghost use Rattle.std.specs.Prelude.{◌≡◌, ℕ, ◌+◌, ◌<◌, ◌&&◌, ◌||◌, true, false, length, map, All, slice_set, slice_index_or, count_by, IfOk};
+ghost use Rattle.std.specs.Prelude.{◌≡◌, ℕ, ◌+◌, ◌<◌, ◌&&◌, ◌||◌, true, false, not, length, map, slice_set, slice_index_or, count_by, IfOk};
 ghost use Rattle.std.specs.List.{enumerate_from};
+ghost use Rattle.admit_core.specs.Proposals.{is_behind_bar};
 ghost use Rattle.admit_core.specs.State.{entries, is_waiting};
+ghost use Rattle.day_state.specs.Kept.{wish_in};
 ghost use Rattle.linked_demand.specs.Marks.{is_new, MarksSchools};
 ghost use Rattle.linked_demand.specs.Lineups.{IsLineupOf};
 ghost use Rattle.linked_demand.specs.Opens.{all_sure, opens_of};
-ghost use Rattle.linked_demand.specs.Seats.{boarders_of};
+ghost use Rattle.linked_demand.specs.Boarders.{AreBoarders, IsBoarder};
 ghost use Rattle.admit_core.specs.declared.dossier.Wish.{Wish};
 ghost use Rattle.admit_core.specs.declared.state.Mark.{Mark};
 ghost use Rattle.linked_demand.specs.Links.{LinksRow, WaitsAt, AllOpenWait};
 ghost use Rattle.linked_demand.specs.Demand.{is_proposed_at};
 
+use crate::boarders::Boarder;
 use crate::fresh::note_fresh;
 use crate::fronts::{flag_fronts, flag_sure, no_flags};
 use crate::line::{is_reached, last_wanting, leaves_seat, next_wanting, wants_seat};
@@ -19,7 +22,7 @@ use crate::marks::Marks;
 use crate::seats::{needs_no_seat, reached_of};
 use admit_core::{CallOrders, Mark, OutOfMemory, Steps};
 use day_state::DayState;
-use demand::{is_open, wish_at};
+use demand::wish_at;
 use std::alloc::Global;
 use std::marker::Model;
 use std::sync::ledger::Ledger;
@@ -31,23 +34,36 @@ fn waiting_flags(alloc: Global, marks: &[Mark]) -> Result<Vec<bool>, OutOfMemory
     Ok(marks.iter().map(|mark| mark.is_waiting()).collect(alloc)?)
 }
 
+/// Whether a boarder's wish stays open: their candidate, if they have no bed in the school, ranks there
+/// at most at its bar.
+fn stays_open(state: &DayState<'_>, bars: &[u32], boarder: Boarder, open: bool) -> bool
+    requires boarder { IsBoarder state.now.dossier boarder }
+    requires bars { length bars.now ≡ length state.now.dossier.schools }
+    ensures { result ≡ («open» && not (is_behind_bar state.now bars.now
+        (wish_in state.now.dossier.wishes boarder.wish)
+        (wish_in state.now.dossier.wishes boarder.wish).school)) }
+{
+    open && (boarder.rank <= bars[boarder.school as usize]
+        || state.is_live_in_its_school(boarder.wish))
+}
+
 /// Whether each wish is open under bars, by place. Of those that wait only the wishes with a school
 /// are asked for its bar.
 fn open_flags(
     alloc: Global,
     state: &DayState<'_>,
-    boarders: &[u32],
+    boarders: &[Boarder],
     bars: &[u32],
 ) -> Result<Vec<bool>, OutOfMemory>
-    requires boarders { boarders.now ≡ boarders_of state.now.dossier }
-    requires within { All (λ k. k < length state.now.dossier.wishes) boarders.now }
+    requires boarders { AreBoarders state.now.dossier boarders.now }
     requires bars { length bars.now ≡ length state.now.dossier.schools }
     ensures flags { IfOk result (λ v. v.items ≡ opens_of state.now bars.now) }
     ensures one_each { IfOk result (λ v. length v.items ≡ length state.now.dossier.wishes) }
 {
     let mut flags = waiting_flags(alloc, state.marks())?;
-    for place in boarders {
-        flags[*place as usize] = is_open(state, bars, *place);
+    for boarder in boarders {
+        let place = boarder.wish as usize;
+        flags[place] = stays_open(state, bars, *boarder, flags[place]);
     }
     Ok(flags)
 }
@@ -168,6 +184,13 @@ impl<'a, 'd> SeatLinks<'a, 'd> {
         ensures { result.now ≡ self.now.state }
     {
         self.state
+    }
+
+    /// Whether each wish is open, by place.
+    pub fn opens(&self) -> &[bool]
+        ensures { result.now ≡ self.now.opens }
+    {
+        &self.opens
     }
 
     /// Whether a wish is open.

@@ -1,40 +1,64 @@
-use Rattle.std.proofs.Common.{ℕ, List, length, get_or, ◌∙◌, ap, arith, subst}
-use Rattle.std.specs.Prelude.{Option}
-use Rattle.std.proofs.lemmas.List.{take_all}
-use Rattle.admit_core.specs.declared.dossier.Wish.{Wish}
-use Rattle.admit_core.specs.State.{is_school}
-use Rattle.linked_demand.specs.declared.rows.RowWish.{RowWish}
+use Rattle.std.proofs.Common.{ℕ, ◌<◌, ◌≡◌, List, length, get_or, nat_eq, ◌∙◌, ap, arith, subst}
+use Rattle.std.proofs.lemmas.List.{length-map, take_all}
+use Rattle.linked_demand.specs.declared.boarders.Boarder.{Boarder}
+use Rattle.linked_demand.specs.Boarders.{IsBoarder, wishes_of}
 use Rattle.linked_demand.specs.Filled.{is_in_row, row_wish}
 use Rattle.linked_demand.specs.Keyed.{AreEmpty, AreRowsOf}
+use Rattle.linked_demand.proofs.Boarding.{in_own_row, in_no_row, place_of, row_item}
 use Rattle.linked_demand.proofs.Filling.{filled_all}
-use Rattle.linked_demand.proofs.Keyed.{rows_none, rows_more}
+use Rattle.linked_demand.proofs.Keyed.{rows_none, rows_more, rows_over}
 use Rattle.linked_demand.proofs.fill.rows_by_place.Goals as goal
+use Rattle.linked_demand.proofs.fill.rows_by_place.Goals.{then-wants_bed+in_ok-put_in, else-wants_bed}
 
-pub loop-place-init : goal.loop-place-init
-loop-place-init c =
+pub loop-boarder-init : goal.loop-boarder-init
+loop-boarder-init c =
     let s = c.args.state.now in
     let P = λ (n : ℕ). AreEmpty n c.in_ok-rows.rows.items in
-    rows_none (row_wish s.dossier.wishes) (is_in_row s c.args.bars.now) (length s.dossier.schools)
-    c.in_ok-rows.rows.items (subst P c.requires.bars c.in_ok-rows.ensures)
+    let count = ap length c.deref.ensures.value ∙ c.in_ok-counts.ensures ∙ c.requires.schools in
+    rows_none (row_wish s.dossier.wishes) (is_in_row s c.args.opens.now) (length s.dossier.schools)
+    c.in_ok-rows.rows.items (subst P count c.in_ok-rows.ensures)
 
-pub loop-place-preserved : goal.loop-place-preserved
-loop-place-preserved c =
+pub loop-boarder-preserved : goal.loop-boarder-preserved
+loop-boarder-preserved c =
     let s = c.args.state.now in
+    let opens = c.args.opens.now in
     let boarders = c.args.boarders.now in
-    let i = c.loop-place.place-index in
-    let place = get_or boarders i 0 in
-    rows_more (row_wish s.dossier.wishes) (is_in_row s c.args.bars.now) (length s.dossier.schools) boarders
-    i (is_school c.row_school-school.result) _ c.loop-place.rows.items c.put_in_school.new.rows.items c.loop-place-test.true
-    (λ h. ap (λ (o : Option ℕ). is_school o h) c.row_school-school.ensures.school)
-    (ap (λ (w : Wish). let z : RowWish = record { rank = w.board_rank; wish = place } in z) c.wish_at-rank.ensures.wish)
-    c.loop-place.invariant c.in_ok-put_in_school.ensures
+    let places = wishes_of boarders in
+    let i = c.loop-boarder.boarder-index in
+    let none : Boarder = record { wish = 0; school = 0; rank = 0 } in
+    let b = get_or boarders i none in
+    let lt : i < length boarders = c.loop-boarder-test.true in
+    let lt_place : i < length places = omega (arith, lt, length-map boarders (λ (x : Boarder). x.wish)) in
+    let right : IsBoarder s.dossier b = c.requires.boarders.each i none lt in
+    let k_is : get_or places i 0 ≡ b.wish = place_of boarders i none lt in
+    let item = row_wish s.dossier.wishes in
+    let belongs = is_in_row s opens in
+    let n = length s.dossier.schools in
+    let wants = c.wants_bed.result in
+    let rows = c.loop-boarder.rows.items in
+    elim c.if-wants_bed.branch [
+      | then-wants_bed+in_ok-put_in w ↦
+          rw w.rows-is
+          (rows_more item belongs n places i (λ h. nat_eq b.school h) (record { rank = b.rank; wish = b.wish }) rows
+          w.put_in.new.rows.items lt_place
+          (in_own_row s opens b right (get_or places i 0) k_is wants c.wants_bed.ensures w.if-wants_bed.true)
+          (row_item s opens b right (get_or places i 0) k_is wants c.wants_bed.ensures)
+          c.loop-boarder.invariant w.in_ok-put_in.ensures)
+      | else-wants_bed w ↦
+          rw w.rows-is
+          (rows_over item belongs n places i rows lt_place
+          (in_no_row s opens b right (get_or places i 0) k_is wants c.wants_bed.ensures w.if-wants_bed.false)
+          c.loop-boarder.invariant)
+    ]
 
 pub returns : goal.returns
 returns c =
     let s = c.args.state.now in
-    let bars = c.args.bars.now in
-    let P = λ (ks : List ℕ). AreRowsOf (row_wish s.dossier.wishes) (is_in_row s bars)
-    (length s.dossier.schools) ks c.loop-place.rows.items in
-    filled_all s bars c.loop-place.rows.items
-    (subst P (take_all c.loop-place.place-index c.args.boarders.now
-    (omega (arith, c.loop-place-test.false)) ∙ c.requires.boarders) c.loop-place.invariant)
+    let opens = c.args.opens.now in
+    let boarders = c.args.boarders.now in
+    let P = λ (ks : List ℕ). AreRowsOf (row_wish s.dossier.wishes) (is_in_row s opens)
+    (length s.dossier.schools) ks c.loop-boarder.rows.items in
+    filled_all s opens c.loop-boarder.rows.items
+    (subst P (take_all c.loop-boarder.boarder-index (wishes_of boarders)
+    (omega (arith, c.loop-boarder-test.false, length-map boarders (λ (b : Boarder). b.wish))) ∙ c.requires.boarders.wishes)
+    c.loop-boarder.invariant)

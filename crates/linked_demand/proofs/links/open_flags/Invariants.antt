@@ -1,6 +1,7 @@
 use Rattle.std.proofs.Common.{take}
+use Rattle.linked_demand.specs.Boarders.{wishes_of}
 use Rattle.linked_demand.proofs.Askings.{AreAsked}
 use Rattle.linked_demand.proofs.links.open_flags.Given as goal
 
-abbrev pub invariant-loop-place : goal.invariant-loop-place
-invariant-loop-place l = AreAsked l.state l.bars (take l.place-index l.boarders) l.flags.items
+abbrev pub invariant-loop-boarder : goal.invariant-loop-boarder
+invariant-loop-boarder l = AreAsked l.state l.bars (take l.boarder-index (wishes_of l.boarders)) l.flags.items

@@ -1,14 +1,9 @@
-use Rattle.std.proofs.Common.{length, ◌∙◌}
-use Rattle.linked_demand.specs.Seats.{boards_at}
-use Rattle.linked_demand.proofs.Keeping.{passing_within}
+use Rattle.std.proofs.Common.{◌∙◌}
 use Rattle.linked_demand.proofs.Waiting.{all_open_wait}
 use Rattle.linked_demand.proofs.links.SeatLinks.build.Goals as goal
 
-pub open_flags-requires-clause-within : goal.open_flags-requires-clause-within
-open_flags-requires-clause-within c =
-    let d = c.args.state.now.dossier in
-    let are = c.deref.ensures.value ∙ c.requires.lineup.boarders in
-    passing_within (boards_at d) (length d.wishes) c.deref.result.now are
+pub open_flags-requires-clause-boarders : goal.open_flags-requires-clause-boarders
+open_flags-requires-clause-boarders c = rw c.deref.ensures.value c.requires.lineup.boarders
 
 pub reached_of-requires-clause-waits : goal.reached_of-requires-clause-waits
 reached_of-requires-clause-waits c =

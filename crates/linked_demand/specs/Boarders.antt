@@ -1,0 +1,21 @@
+-- The wishes with a school, each with its school and its rank there.
+use Rattle.std.specs.Prelude.{◌≡◌, ℕ, ◌<◌, List, length, map, Some, All}
+use Rattle.admit_core.specs.DossierRows.{DossierRows}
+use Rattle.day_state.specs.Kept.{wish_in}
+use Rattle.linked_demand.specs.declared.boarders.Boarder.{Boarder}
+use Rattle.linked_demand.specs.Seats.{boarders_of}
+
+-- the record is that of its wish
+pub record IsBoarder (d : DossierRows) (b : Boarder) : Type 0 where
+  pub within : b.wish < length d.wishes
+  pub school : (wish_in d.wishes b.wish).school ≡ Some b.school
+  pub rank : b.rank ≡ (wish_in d.wishes b.wish).board_rank
+  pub there : b.school < length d.schools
+
+abbrev pub wishes_of : List Boarder → List ℕ
+wishes_of bs = map (λ b. b.wish) bs
+
+-- all wishes with a school, by place
+pub record AreBoarders (d : DossierRows) (bs : List Boarder) : Type 0 where
+  pub wishes : wishes_of bs ≡ boarders_of d
+  pub each : All (IsBoarder d) bs

@@ -1,0 +1,57 @@
+//! The wishes with a school, each with what a pass asks of it.
+ghost use Rattle.std.specs.Prelude.{◌≡◌, ◌<◌, length, is_some, IfOk, IfSome};
+ghost use Rattle.linked_demand.specs.Boarders.{AreBoarders, IsBoarder};
+ghost use Rattle.linked_demand.specs.Seats.{boards_at};
+
+use crate::wishes::wish_count;
+use admit_core::OutOfMemory;
+use day_state::DayState;
+use demand::wish_at;
+use std::alloc::Global;
+
+/// A wish with a school, and its rank there.
+#[derive(Clone, Copy)]
+pub struct Boarder {
+    pub wish: u32,
+    pub school: u32,
+    pub rank: u32,
+}
+
+/// The wish at a place, where it has a school.
+fn boarder_at(state: &DayState<'_>, place: u32) -> Option<Boarder>
+    requires { place < length state.now.dossier.wishes }
+    ensures boards { is_some result ≡ boards_at state.now.dossier place }
+    ensures wish { IfSome result (λ b. b.wish ≡ place) }
+    ensures right { IfSome result (IsBoarder state.now.dossier) }
+{
+    let wish = wish_at(state, place);
+    match wish.school {
+        None => None,
+        Some(school) => Some(Boarder {
+            wish: place,
+            school,
+            rank: wish.board_rank,
+        }),
+    }
+}
+
+/// How many wishes have a school: room is made by it, so no clause speaks of the number.
+fn boarder_count(state: &DayState<'_>) -> usize {
+    let dossier = state.dossier();
+    let wishes = dossier.wishes.as_slice().iter();
+    wishes.filter(|wish| wish.school.is_some()).count()
+}
+
+/// The wishes with a school, by place.
+pub fn boarders_of(alloc: Global, state: &DayState<'_>) -> Result<Vec<Boarder>, OutOfMemory>
+    ensures { IfOk result (λ v. AreBoarders state.now.dossier v.items) }
+{
+    let mut boarders = Vec::with_capacity(alloc, boarder_count(state))?;
+    let count = wish_count(state);
+    for place in 0..count {
+        if let Some(boarder) = boarder_at(state, place) {
+            boarders.push(boarder)?;
+        }
+    }
+    Ok(boarders)
+}
