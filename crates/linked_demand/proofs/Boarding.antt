@@ -4,9 +4,8 @@ use Rattle.std.proofs.lemmas.List.{get_or-map}
 use Rattle.admit_core.specs.State.{State, is_school}
 use Rattle.day_state.specs.Kept.{wish_in}
 use Rattle.linked_demand.specs.declared.boarders.Boarder.{Boarder}
-use Rattle.linked_demand.specs.declared.rows.RowWish.{RowWish}
 use Rattle.linked_demand.specs.Boarders.{IsBoarder, wishes_of}
-use Rattle.linked_demand.specs.Filled.{wants_bed, is_in_row, row_wish}
+use Rattle.linked_demand.specs.Filled.{wants_bed, is_in_row}
 
 -- the wish of the one at a place
 pub place_of : (bs : List Boarder) (i : ℕ) (e : Boarder) → i < length bs → get_or (wishes_of bs) i 0 ≡ (get_or bs i e).wish
@@ -27,8 +26,3 @@ module _ (s : State) (opens : List Bool) (b : Boarder) (right : IsBoarder s.doss
       let school = (wish_in s.dossier.wishes b.wish).school in
       ap (λ (j : ℕ). is_in_row s opens h j) k_is
       ∙ ap (λ (b : Bool). b && is_school school h) (sym wants_is ∙ f)
-
-  pub row_item : record { rank = b.rank; wish = b.wish } ≡ row_wish s.dossier.wishes k
-  row_item =
-      ap (λ (r : ℕ). let x : RowWish = record { rank = r; wish = b.wish } in x) right.rank
-      ∙ ap (row_wish s.dossier.wishes) (sym k_is)

@@ -129,7 +129,7 @@ closes {s} {orders} {opens} {lines} {claims} {places} {sure} links row is i (w, 
     record { links = links; mark = m; at = subst Q same here }
 
 -- the wish that is read stands there
-wish_there : (ws : List Wish) (i : ℕ) (v : Wish) → i < length ws → v ≡ wish_in ws i → slice_get ws i ≡ Some v
+pub wish_there : (ws : List Wish) (i : ℕ) (v : Wish) → i < length ws → v ≡ wish_in ws i → slice_get ws i ≡ Some v
 wish_there [] i v lt is = absurd (omega arith)
 wish_there (w ∷ ws) zero v lt is = ap (λ (u : Wish). Some u) (sym is)
 wish_there (w ∷ ws) (suc i) v lt is = wish_there ws i v (omega arith) is

@@ -7,7 +7,7 @@ use Rattle.admit_core.specs.declared.dossier.Wish.{Wish}
 use Rattle.admit_core.specs.declared.state.Mark.{Mark}
 use Rattle.linked_demand.specs.declared.rows.RowWish.{RowWish}
 use Rattle.linked_demand.specs.Links.{LinksRow, WaitsAt}
-use Rattle.linked_demand.specs.Rows.{closed, CutsAt, AllWait}
+use Rattle.linked_demand.specs.Rows.{closed, CutsAt, AllWait, AreItems, row_item}
 
 closed_none : (row : List RowWish) (n : ℕ) (opens : List Bool) → n ≡ length row → closed (drop n row) opens ≡ opens
 closed_none [] zero opens e = refl
@@ -67,6 +67,13 @@ waits_still to row start now end n y far is read all =
     let (w, m, at) = all n y (slice_get_read row (length row) n y refl (omega (arith, far.within)) read) in
     let P = λ (r : LinksRow). WaitsAt r.state y.wish w m in
     (w, m, subst P (sym far.now_is) at)
+
+pub item_still : (to : ℕ) (row : List RowWish) (start now : LinksRow) (end n : ℕ) (y : RowWish)
+    → SoFar to row start now end → end ≡ suc n
+    → y ≡ get_or row n y → AreItems start.state start.orders row → y ≡ row_item now.state now.orders y.wish
+item_still to row start now end n y far is read all =
+    let P = λ (r : LinksRow). y ≡ row_item r.state r.orders y.wish in
+    subst P (sym far.now_is) (all n y (slice_get_read row (length row) n y refl (omega (arith, far.within)) read))
 
 pub so_far_cuts : (to : ℕ) (row : List RowWish) (start now : LinksRow) (end : ℕ) (kept : List RowWish)
     → SoFar to row start now end → kept ≡ take end row

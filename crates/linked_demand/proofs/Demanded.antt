@@ -1,5 +1,5 @@
 -- The ranks that a row tells are the demanded ranks of its school.
-use Rattle.std.proofs.Common.{ℕ, ◌≤◌, ◌<◌, ◌≡◌, Bool, true, false, not, ◌&&◌, ◌||◌, List, [], ◌∷◌, map, inl, inr, refl, sym, ◌∙◌, arith, nat_eq, nat_lt, suc, get_or, filter, Some, subst}
+use Rattle.std.proofs.Common.{ℕ, ◌≤◌, ◌<◌, ◌≡◌, Bool, true, false, not, ◌&&◌, ◌||◌, List, [], ◌∷◌, map, inl, inr, refl, sym, ◌∙◌, arith, nat_eq, nat_lt, suc, get_or, filter, Some, subst, ap}
 use Rattle.std.specs.Prelude.{slice_get}
 use Rattle.std.specs.List.{list_any, AllByRecursion}
 use Rattle.std.proofs.lemmas.Bool.{cases_Bool, false≢true, cases_lt, and_parts, and_from, and_right, or_cases, eqb-true, eq-eqb, eqb-false, ne_eqb, ltb-true, lt-ltb}
@@ -135,7 +135,7 @@ module _ (l : LinksRow) (bars : List ℕ) (h : ℕ) (row : List RowWish) (right 
   -- who demands a rank stands in the row, and passes there
   pub demander : (r k : ℕ) (e : Wish × Mark) → slice_get (entries l.state) k ≡ Some e
       → demands_at l.state l.orders bars h r e ≡ true
-      → (j : ℕ) × (slice_get row j ≡ Some (record { rank = r; wish = k })) × (is_proposed_at l k ≡ true) × (0 < r)
+      → (j : ℕ) × (y : RowWish) × (slice_get row j ≡ Some y) × (y.rank ≡ r) × (y.wish ≡ k) × (is_proposed_at l k ≡ true) × (0 < r)
   demander r k e at both =
       let w = e.0 in
       let m = e.1 in
@@ -151,20 +151,20 @@ module _ (l : LinksRow) (bars : List ℕ) (h : ℕ) (row : List RowWish) (right 
       let waiting = (and_parts (is_waiting m) (not (is_barred l.state bars w m)) opens).0 in
       let waits : WaitsAt l.state k w m = record { here = at; waits = waiting } in
       let same = eqb-true r w.board_rank demand.1 in
-      let x : RowWish = record { rank = r; wish = k } in
+      let x : RowWish = record { rank = r; wish = k; programme = 0; place = 0; sure = false } in
       let low = open_below l.state bars w m w.school h inner.0 middle.1 opens in
-      let (j, found) = right.all x w m
+      let (j, y, found, rank, wish) = right.all x w m
       (record { waits = waits; has = inner.0; no_bed = middle.1; rank = same }) (omega (arith, same, low)) in
-      (j, found, proposed_at_bars k w m waits ∙ outer.1, omega (arith, same, ltb-true 0 w.board_rank inner.1))
+      (j, y, found, rank, wish, proposed_at_bars k w m waits ∙ outer.1, omega (arith, same, ltb-true 0 w.board_rank inner.1))
 
   told : (r : ℕ) → list_any (demands_at l.state l.orders bars h r) (entries l.state) ≡ true
       → (nat_lt 0 r && list_any (passes (is_proposed_at l) r) row) ≡ true
   told r t =
       let (k, e, at, both) = any_place (demands_at l.state l.orders bars h r) (entries l.state) t in
-      let (j, found, passed, some) = demander r k e at both in
-      let x : RowWish = record { rank = r; wish = k } in
+      let (j, y, found, rank, wish, passed, some) = demander r k e at both in
       and_from (nat_lt 0 r) (list_any (passes (is_proposed_at l) r) row) (lt-ltb 0 r some)
-      (any_at (passes (is_proposed_at l) r) row j x found (and_from (is_proposed_at l k) (nat_eq r r) passed (eq-eqb r r refl)))
+      (any_at (passes (is_proposed_at l) r) row j y found
+      (and_from (is_proposed_at l y.wish) (nat_eq r y.rank) (ap (is_proposed_at l) wish ∙ passed) (eq-eqb r y.rank (sym rank))))
 
   -- who passes in the row demands the rank
   pub demands_back : (j : ℕ) (x : RowWish) → slice_get row j ≡ Some x → is_proposed_at l x.wish ≡ true → 0 < x.rank

@@ -152,8 +152,8 @@ module _ (s : State) (bars : List ℕ) (h to : ℕ) (row kept : List RowWish) (a
       let inner = and_parts (not (holds_bed s w.candidate h)) (nat_lt to w.board_rank) outer.1 in
       let behind : to < w.board_rank = ltb-true to w.board_rank inner.1 in
       let waits = (and_parts (is_waiting m) (not (is_waiting m && is_behind_bar s bars w w.school)) opens).0 in
-      let x : RowWish = record { rank = w.board_rank; wish = i } in
-      let (k, found) = right.all x w m
+      let x : RowWish = record { rank = w.board_rank; wish = i; programme = 0; place = 0; sure = false } in
+      let (k, y, found, rank, wish) = right.all x w m
       (record {
         waits = record { here = at; waits = waits };
         has = outer.0;
@@ -166,10 +166,12 @@ module _ (s : State) (bars : List ℕ) (h to : ℕ) (row kept : List RowWish) (a
             elim (slice_get_cases row (cut.end - 1)).1 [
               | inl there ↦
                   let last = cut.last there.0 (omega arith) there.2 in
-                  absurd (omega (arith, last, behind, right.rises k (cut.end - 1) x there.0 (omega arith) found there.2))
-              | inr past_end ↦ absurd (omega (arith, past_end.0, cut.within, slice_get_within row k x found))
+                  absurd (omega (arith, last, behind, rank, right.rises k (cut.end - 1) y there.0 (omega arith) found there.2))
+              | inr past_end ↦ absurd (omega (arith, past_end.0, cut.within, slice_get_within row k y found))
             ]
-        | inr far ↦ behind_found row cut.end k x far found
+        | inr far ↦
+            let P = λ (j : ℕ). is_wish_of j (drop cut.end row) ≡ true in
+            subst P wish (behind_found row cut.end k y far found)
       ]
 
   one_flag : (i : ℕ) (w : Wish) (m : Mark) → slice_get (entries s) i ≡ Some (w, m)
@@ -225,10 +227,10 @@ module _ (s : State) (bars : List ℕ) (h to : ℕ) (row kept : List RowWish) (a
             ]);
         all = λ x w m waits low.
             let low_now : x.rank ≤ to = rw now at low in
-            let (k, found) = right.all x w m waits (omega (arith, low_now)) in
+            let (k, y, found, rank, wish) = right.all x w m waits (omega (arith, low_now)) in
             elim (cases_lt k cut.end) [
-              | inl front ↦ (k, rw is (front_at row cut.end k x front found))
-              | inr far ↦ absurd (omega (arith, cut.past k x far found, low_now))
+              | inl front ↦ (k, y, rw is (front_at row cut.end k y front found), rank, wish)
+              | inr far ↦ absurd (omega (arith, cut.past k y far found, rank, low_now))
             ];
       }
 

@@ -15,6 +15,7 @@ use Rattle.std.proofs.lemmas.List.Sorted.{list_any-IsPermutation, All-permutatio
 use Rattle.std.proofs.lemmas.Option.{slice_get_within, slice_get_read, unwrap_or-slice_get}
 use Rattle.admit_core.specs.declared.dossier.Wish.{Wish}
 use Rattle.admit_core.specs.declared.state.Mark.{Mark}
+use Rattle.admit_core.specs.declared.ranking.CallOrder.{CallOrder}
 use Rattle.admit_core.specs.Lists.{is_among}
 use Rattle.admit_core.specs.Proposals.{is_behind_bar, is_open}
 use Rattle.admit_core.specs.State.{State, entries, is_waiting, holds_bed, is_school}
@@ -22,8 +23,8 @@ use Rattle.admit_core.proofs.Tests.{Ascends}
 use Rattle.day_state.specs.Kept.{has_bed_there, holds_bed_in, mark_in, wish_in}
 use Rattle.day_state.proofs.Ordering.{stable_own}
 use Rattle.linked_demand.specs.declared.rows.RowWish.{RowWish}
-use Rattle.linked_demand.specs.Rows.{WaitsFor, IsRow, AreRows}
-use Rattle.linked_demand.specs.Filled.{wants_bed, is_in_row, row_wish, row_by_place, AreFilled}
+use Rattle.linked_demand.specs.Rows.{WaitsFor, IsRow, AreItems, AreRows, row_item}
+use Rattle.linked_demand.specs.Filled.{wants_bed, is_in_row, row_by_place, AreFilled}
 use Rattle.linked_demand.specs.Seats.{boards_at, boarders_of}
 use Rattle.linked_demand.specs.Keyed.{AreRowsOf}
 use Rattle.linked_demand.specs.Opens.{opens_of}
@@ -126,14 +127,14 @@ record IsInRow (s : State) (bars : List ℕ) (h : ℕ) (x : RowWish) : Type 0 wh
   waits : WaitsFor s h x wish mark
   low : x.rank ≤ slice_index bars h
 
-row_each : (s : State) (bars : List ℕ) (opens : List Bool) (h : ℕ) → length s.marks ≡ length s.dossier.wishes
-    → opens ≡ opens_of s bars → All (IsInRow s bars h) (row_by_place s opens h)
-row_each s bars opens h long are k d lt =
+row_each : (s : State) (orders : List CallOrder) (bars : List ℕ) (opens : List Bool) (h : ℕ) → length s.marks ≡ length s.dossier.wishes
+    → opens ≡ opens_of s bars → All (IsInRow s bars h) (row_by_place s orders opens h)
+row_each s orders bars opens h long are k d lt =
     let ws = s.dossier.wishes in
     let n = length ws in
     let q = is_in_row s opens h in
     let ys = filter q (range_with_len 0 n) in
-    let f = row_wish ws in
+    let f = row_item s orders in
     let k_in : k < length ys = omega (arith, lt, length-map ys f) in
     let p = get_or ys k 0 in
     let below : All (λ j. j < n) ys = All-filter q (λ j. j < n) (range_with_len 0 n)
@@ -167,38 +168,35 @@ row_each s bars opens h long are k d lt =
 abbrev is_item : RowWish → RowWish → Bool
 is_item x y = nat_eq x.rank y.rank && nat_eq x.wish y.wish
 
-any_item : (x : RowWish) (f : ℕ → RowWish) (p : ℕ) (ks : List ℕ) → f p ≡ x → is_among p ks ≡ true
-    → list_any (is_item x) (map f ks) ≡ true
-any_item x f p [] is t = absurd (false≢true t)
-any_item x f p (k ∷ ks) is t =
+any_item : (x : RowWish) (f : ℕ → RowWish) (p : ℕ) (ks : List ℕ) → (f p).rank ≡ x.rank → (f p).wish ≡ x.wish
+    → is_among p ks ≡ true → list_any (is_item x) (map f ks) ≡ true
+any_item x f p [] rank wish t = absurd (false≢true t)
+any_item x f p (k ∷ ks) rank wish t =
     elim (or_cases (nat_eq p k) (is_among p ks) t) [
       | inl here ↦
-          let same : f k ≡ x = ap f (sym (eqb-true p k here)) ∙ is in
+          let same : f k ≡ f p = ap f (sym (eqb-true p k here)) in
           or_left (is_item x (f k)) (list_any (is_item x) (map f ks))
           (and_from (nat_eq x.rank (f k).rank) (nat_eq x.wish (f k).wish)
-          (eq-eqb x.rank (f k).rank (ap (λ (z : RowWish). z.rank) (sym same)))
-          (eq-eqb x.wish (f k).wish (ap (λ (z : RowWish). z.wish) (sym same))))
-      | inr later ↦ or_right (is_item x (f k)) (list_any (is_item x) (map f ks)) (any_item x f p ks is later)
+          (eq-eqb x.rank (f k).rank (sym (ap (λ (z : RowWish). z.rank) same ∙ rank)))
+          (eq-eqb x.wish (f k).wish (sym (ap (λ (z : RowWish). z.wish) same ∙ wish))))
+      | inr later ↦ or_right (is_item x (f k)) (list_any (is_item x) (map f ks)) (any_item x f p ks rank wish later)
     ]
 
-item_place : (x : RowWish) (xs : List RowWish) → list_any (is_item x) xs ≡ true → (k : ℕ) × (slice_get xs k ≡ Some x)
+item_place : (x : RowWish) (xs : List RowWish) → list_any (is_item x) xs ≡ true
+    → (k : ℕ) × (y : RowWish) × (slice_get xs k ≡ Some y) × (y.rank ≡ x.rank) × (y.wish ≡ x.wish)
 item_place x [] t = absurd (false≢true t)
 item_place x (y ∷ xs) t =
     elim (or_cases (is_item x y) (list_any (is_item x) xs) t) [
       | inl here ↦
           let parts = and_parts (nat_eq x.rank y.rank) (nat_eq x.wish y.wish) here in
-          let rank : y.rank ≡ x.rank = sym (eqb-true x.rank y.rank parts.0) in
-          let wish : y.wish ≡ x.wish = sym (eqb-true x.wish y.wish parts.1) in
-          let item : y ≡ x = ap (λ (r : ℕ). let z : RowWish = record { rank = r; wish = y.wish } in z) rank
-          ∙ ap (λ (k : ℕ). let z : RowWish = record { rank = x.rank; wish = k } in z) wish in
-          (0, ap (λ (z : RowWish). Some z) item)
-      | inr later ↦ let (k, at) = item_place x xs later in (suc k, at)
+          (0, y, refl, sym (eqb-true x.rank y.rank parts.0), sym (eqb-true x.wish y.wish parts.1))
+      | inr later ↦ let (k, y, at, rank, wish) = item_place x xs later in (suc k, y, at, rank, wish)
     ]
 
-row_all : (s : State) (bars : List ℕ) (opens : List Bool) (h : ℕ) (x : RowWish) (w : Wish) (m : Mark)
+row_all : (s : State) (orders : List CallOrder) (bars : List ℕ) (opens : List Bool) (h : ℕ) (x : RowWish) (w : Wish) (m : Mark)
     → length s.marks ≡ length s.dossier.wishes → opens ≡ opens_of s bars → WaitsFor s h x w m
-    → x.rank ≤ slice_index bars h → list_any (is_item x) (row_by_place s opens h) ≡ true
-row_all s bars opens h x w m long are waits low =
+    → x.rank ≤ slice_index bars h → list_any (is_item x) (row_by_place s orders opens h) ≡ true
+row_all s orders bars opens h x w m long are waits low =
     let ws = s.dossier.wishes in
     let ms = s.marks in
     let n = length ws in
@@ -220,8 +218,7 @@ row_all s bars opens h x w m long are waits low =
     let in_range : is_among p (range_with_len 0 n) ≡ true = list_any_at (nat_eq p) (range_with_len 0 n) p 0
     (omega (arith, p_in, length-range_with_len 0 n)) (eq-eqb p (get_or (range_with_len 0 n) p 0) (sym at_p)) in
     let rank : (wish_in ws p).board_rank ≡ x.rank = ap (λ (v : Wish). v.board_rank) wish ∙ sym waits.rank in
-    any_item x (row_wish ws) p (filter (is_in_row s opens h) (range_with_len 0 n))
-    (ap (λ (r : ℕ). let z : RowWish = record { rank = r; wish = p } in z) rank)
+    any_item x (row_item s orders) p (filter (is_in_row s opens h) (range_with_len 0 n)) rank refl
     (among_kept (is_in_row s opens h) p (range_with_len 0 n) in_row in_range)
 
 -- those items that pass a test, by place
@@ -236,17 +233,35 @@ places_kept f q (k ∷ ks) own =
       | inr dropped ↦ rw dropped (places_kept f q ks own)
     ]
 
+-- each item of the row of a school is that of its wish
+own_items : (f : ℕ → RowWish) → ((k : ℕ) → (f k).wish ≡ k) → (ks : List ℕ) → All (λ (x : RowWish). x ≡ f x.wish) (map f ks)
+own_items f own ks i e lt =
+    let k_in : i < length ks = omega (arith, lt, length-map ks f) in
+    let is : get_or (map f ks) i e ≡ f (get_or ks i 0) = get_or-map f ks i 0 e k_in in
+    is ∙ ap f (sym (ap (λ (x : RowWish). x.wish) is ∙ own (get_or ks i 0)))
+
+items_sorted : (s : State) (orders : List CallOrder) (opens : List Bool) (h : ℕ) (row : List RowWish)
+    → IsPermutation (row_by_place s orders opens h) row → AreItems s orders row
+items_sorted s orders opens h row moved k x at =
+    let f = row_item s orders in
+    let Q : RowWish → Type 0 = λ x. x ≡ f x.wish in
+    let all : All Q row = All-permutation Q (row_by_place s orders opens h) row moved
+    (own_items f (λ k. refl) (filter (is_in_row s opens h) (range_with_len 0 (length s.dossier.wishes)))) in
+    let is : get_or row k x ≡ x = sym (unwrap_or-slice_get row k x) ∙ ap (λ (o : Option RowWish). unwrap_or o x) at in
+    subst Q is (all k x (slice_get_within row k x at))
+
 -- a row that is put in order by rank is that of its school
-row_sorted : (s : State) (bars : List ℕ) (opens : List Bool) (h : ℕ) (row : List RowWish)
-    → length s.marks ≡ length s.dossier.wishes → opens ≡ opens_of s bars → IsPermutation (row_by_place s opens h) row
-    → IsNonDecreasingBy (λ x. x.rank) row → IsStableByKey (λ x. x.rank) nat_cmp (row_by_place s opens h) row → IsRow s bars h row
-row_sorted s bars opens h row long are moved rises stable =
+row_sorted : (s : State) (orders : List CallOrder) (bars : List ℕ) (opens : List Bool) (h : ℕ) (row : List RowWish)
+    → length s.marks ≡ length s.dossier.wishes → opens ≡ opens_of s bars → IsPermutation (row_by_place s orders opens h) row
+    → IsNonDecreasingBy (λ x. x.rank) row → IsStableByKey (λ x. x.rank) nat_cmp (row_by_place s orders opens h) row
+    → IsRow s bars h row
+row_sorted s orders bars opens h row long are moved rises stable =
     let ws = s.dossier.wishes in
-    let items = row_by_place s opens h in
+    let items = row_by_place s orders opens h in
     let q = is_in_row s opens h in
     let range = range_with_len 0 (length ws) in
     let rank_of : RowWish → ℕ = λ x. x.rank in
-    let all : All (IsInRow s bars h) row = All-permutation (IsInRow s bars h) items row moved (row_each s bars opens h long are) in
+    let all : All (IsInRow s bars h) row = All-permutation (IsInRow s bars h) items row moved (row_each s orders bars opens h long are) in
     let read : (k : ℕ) (x : RowWish) → slice_get row k ≡ Some x → (k < length row) × (get_or row k x ≡ x) =
     λ k x at. (slice_get_within row k x at, sym (unwrap_or-slice_get row k x) ∙ ap (λ (o : Option RowWish). unwrap_or o x) at) in
     let in_row : (k : ℕ) (x : RowWish) → slice_get row k ≡ Some x
@@ -255,11 +270,11 @@ row_sorted s bars opens h row long are moved rises stable =
     let order : InPlaceOrder rank_of (λ x. x.wish) row =
     in_order_from rank_of (λ x. x.wish) row (λ r.
     let same : map (λ (x : RowWish). x.wish) (filter (λ x. nat_eq x.rank r) row) ≡ filter
-    (λ k. nat_eq (row_wish ws k).rank r) (filter q range) =
+    (λ k. nat_eq (row_item s orders k).rank r) (filter q range) =
     ap (map (λ (x : RowWish). x.wish)) (stable_own rank_of items row moved stable r)
-    ∙ places_kept (row_wish ws) (λ x. nat_eq x.rank r) (filter q range) (λ k. refl) in
+    ∙ places_kept (row_item s orders) (λ x. nat_eq x.rank r) (filter q range) (λ k. refl) in
     let P = λ (ks : List ℕ). Ascends ks in
-    subst P (sym same) (ascends-filter (λ k. nat_eq (row_wish ws k).rank r) (filter q range)
+    subst P (sym same) (ascends-filter (λ k. nat_eq (row_item s orders k).rank r) (filter q range)
     (ascends-filter q range (ascends-range 0 (length ws))))) in
     record {
       rises = λ j k x y le a b.
@@ -270,37 +285,39 @@ row_sorted s bars opens h row long are moved rises stable =
       each = λ k x at. let one = in_row k x at in (one.wish, one.mark, one.waits);
       below = λ k x at. (in_row k x at).low;
       all = λ x w m waits low. item_place x row
-          (sym (list_any-IsPermutation (is_item x) items row moved) ∙ row_all s bars opens h x w m long are waits low);
+          (sym (list_any-IsPermutation (is_item x) items row moved) ∙ row_all s orders bars opens h x w m long are waits low);
     }
 
 -- the rows below a number are in order by rank, and the others by place
-pub record AreSortedBelow (s : State) (bars : List ℕ) (opens : List Bool) (n : ℕ) (rows : List (Vec RowWish Global)) : Type 0 where
+pub record AreSortedBelow (s : State) (orders : List CallOrder) (bars : List ℕ) (opens : List Bool) (n : ℕ) (rows : List (Vec RowWish Global)) : Type 0 where
   pub one_each : length rows ≡ length s.dossier.schools
   pub done : (h : ℕ) (row : Vec RowWish Global) → h < n → slice_get rows h ≡ Some row → IsRow s bars h row.items
-  pub rest : (h : ℕ) (row : Vec RowWish Global) → n ≤ h → slice_get rows h ≡ Some row → row.items ≡ row_by_place s opens h
+  pub items : (h : ℕ) (row : Vec RowWish Global) → h < n → slice_get rows h ≡ Some row → AreItems s orders row.items
+  pub rest : (h : ℕ) (row : Vec RowWish Global) → n ≤ h → slice_get rows h ≡ Some row → row.items ≡ row_by_place s orders opens h
 
-pub sorted_none : (s : State) (bars : List ℕ) (opens : List Bool) (rows : List (Vec RowWish Global))
-    → AreFilled s opens rows → AreSortedBelow s bars opens 0 rows
-sorted_none s bars opens rows filled =
+pub sorted_none : (s : State) (orders : List CallOrder) (bars : List ℕ) (opens : List Bool) (rows : List (Vec RowWish Global))
+    → AreFilled s orders opens rows → AreSortedBelow s orders bars opens 0 rows
+sorted_none s orders bars opens rows filled =
     record {
       one_each = filled.one_each;
       done = λ h row lt at. absurd (omega (arith, lt));
+      items = λ h row lt at. absurd (omega (arith, lt));
       rest =
           λ h row le at. filled.each h row at;
     }
 
-pub sorted_more : (s : State) (bars : List ℕ) (opens : List Bool) (n : ℕ) (rows : List (Vec RowWish Global))
+pub sorted_more : (s : State) (orders : List CallOrder) (bars : List ℕ) (opens : List Bool) (n : ℕ) (rows : List (Vec RowWish Global))
     (before after : Vec RowWish Global) → length s.marks ≡ length s.dossier.wishes → opens ≡ opens_of s bars
-    → AreSortedBelow s bars opens n rows → n < length rows → before ≡ get_or rows n before
+    → AreSortedBelow s orders bars opens n rows → n < length rows → before ≡ get_or rows n before
     → IsPermutation before.items after.items → IsNonDecreasingBy (λ x. x.rank) after.items
     → IsStableByKey (λ x. x.rank) nat_cmp before.items after.items
-    → AreSortedBelow s bars opens (n + 1) (set rows n after)
-sorted_more s bars opens n rows before after long open_are are lt read moved rises stable =
-    let was : before.items ≡ row_by_place s opens n = are.rest n before (omega arith)
+    → AreSortedBelow s orders bars opens (n + 1) (set rows n after)
+sorted_more s orders bars opens n rows before after long open_are are lt read moved rises stable =
+    let was : before.items ≡ row_by_place s orders opens n = are.rest n before (omega arith)
     (slice_get_read rows (length rows) n before refl lt read) in
     let P = λ (xs : List RowWish). IsPermutation xs after.items in
     let Q = λ (xs : List RowWish). IsStableByKey (λ x. x.rank) nat_cmp xs after.items in
-    let right : IsRow s bars n after.items = row_sorted s bars opens n after.items long open_are (subst P was moved) rises
+    let right : IsRow s bars n after.items = row_sorted s orders bars opens n after.items long open_are (subst P was moved) rises
     (subst Q was stable) in
     record {
       one_each = length-set rows n after ∙ are.one_each;
@@ -312,15 +329,28 @@ sorted_more s bars opens n rows before after long open_are are lt read moved ris
             subst R is (subst S (sym here) right)
         | inr other ↦ are.done h row (omega (arith, h_lt, other)) (get_set_other rows n h after row other at)
       ];
+      items = λ h row h_lt at. elim (cases_eq h n) [
+        | inl here ↦
+            let is : after ≡ row = get_set_here rows n after row (rw here at at) in
+            let R = λ (v : Vec RowWish Global). AreItems s orders v.items in
+            subst R is (items_sorted s orders opens n after.items (subst P was moved))
+        | inr other ↦ are.items h row (omega (arith, h_lt, other)) (get_set_other rows n h after row other at)
+      ];
       rest = λ h row le at. are.rest h row (omega (arith, le)) (get_set_other rows n h after row (λ e. omega (arith, le, e)) at);
     }
 
-pub sorted_all : (s : State) (bars : List ℕ) (opens : List Bool) (n : ℕ) (rows : List (Vec RowWish Global))
-    → AreSortedBelow s bars opens n rows → length rows ≤ n → AreRows s bars rows
-sorted_all s bars opens n rows are le = record {
+pub sorted_all : (s : State) (orders : List CallOrder) (bars : List ℕ) (opens : List Bool) (n : ℕ) (rows : List (Vec RowWish Global))
+    → AreSortedBelow s orders bars opens n rows → length rows ≤ n → AreRows s bars rows
+sorted_all s orders bars opens n rows are le = record {
   one_each = are.one_each;
   each = λ h row at. are.done h row (omega (arith, le, slice_get_within rows h row at)) at;
 }
+
+pub items_all : (s : State) (orders : List CallOrder) (bars : List ℕ) (opens : List Bool) (n : ℕ) (rows : List (Vec RowWish Global))
+    → AreSortedBelow s orders bars opens n rows → length rows ≤ n
+    → (h : ℕ) (row : Vec RowWish Global) → slice_get rows h ≡ Some row → AreItems s orders row.items
+items_all s orders bars opens n rows are le h row at =
+    are.items h row (omega (arith, le, slice_get_within rows h row at)) at
 
 -- a wish in a row has a school
 row_boards : (wants : Bool) (h : ℕ) (o : Option ℕ) → (is_some o && (wants && is_school o h)) ≡ (wants && is_school o h)
@@ -329,17 +359,17 @@ row_boards false h None = refl
 row_boards wants h (Some school) = refl
 
 -- the wishes with a school are in their order all that stand in rows
-pub filled_all : (s : State) (opens : List Bool) (rows : List (Vec RowWish Global))
-    → AreRowsOf (row_wish s.dossier.wishes) (is_in_row s opens) (length s.dossier.schools) (boarders_of s.dossier) rows
-    → AreFilled s opens rows
-filled_all s opens rows are =
+pub filled_all : (s : State) (orders : List CallOrder) (opens : List Bool) (rows : List (Vec RowWish Global))
+    → AreRowsOf (row_item s orders) (is_in_row s opens) (length s.dossier.schools) (boarders_of s.dossier) rows
+    → AreFilled s orders opens rows
+filled_all s orders opens rows are =
     let ws = s.dossier.wishes in
     let range = range_with_len 0 (length ws) in
     record {
       one_each = are.one_each;
       each = λ h row at.
           are.each h row at
-          ∙ ap (map (row_wish ws))
+          ∙ ap (map (row_item s orders))
           (filter_twice (is_in_row s opens h) (boards_at s.dossier) range
           ∙ filter_same (λ k. boards_at s.dossier k && is_in_row s opens h k) (is_in_row s opens h)
           (λ k. row_boards (wants_bed s opens k) h (wish_in ws k).school) range);

@@ -14,6 +14,7 @@ pub mod Filling
 pub mod Flagging
 pub mod Fronted
 pub mod Fronting
+pub mod Items
 pub mod Keeping
 pub mod Keyed
 pub mod Leaving

@@ -17,7 +17,7 @@ use Rattle.admit_core.specs.Boarding.{boarding}
 use Rattle.linked_demand.specs.declared.rows.RowWish.{RowWish}
 use Rattle.linked_demand.specs.Links.{LinksRow}
 use Rattle.linked_demand.specs.Opens.{opens_of}
-use Rattle.linked_demand.specs.Rows.{IsRow, AreRows, CutsAt, AllWait, StayOpen}
+use Rattle.linked_demand.specs.Rows.{IsRow, AreItems, AreRows, CutsAt, StayOpen}
 use Rattle.linked_demand.specs.Rounds.{Round, IsRound, IsRoundUnder, bar_each}
 use Rattle.linked_demand.specs.Demand.{over_at, IsAsked}
 use Rattle.linked_demand.specs.Marks.{is_new, MarksSchools}
@@ -33,14 +33,6 @@ use Rattle.linked_demand.proofs.Spending.{steps_spent}
 same_entry : (P : Wish × Mark → Type 0) (e f : Wish × Mark) → Some e ≡ Some f → P e → P f
 same_entry P e f same p = let is : e ≡ f = ap (λ (o : Option (Wish × Mark)). unwrap_or o e) same in subst P is p
 
--- the wishes of all rows wait
-pub rows_wait : (links : LinksRow) (bars free : List ℕ) (rows : List (Vec RowWish Global))
-    → IsRound links bars free rows → (h : ℕ) (row : Vec RowWish Global) → slice_get rows h ≡ Some row
-    → AllWait links.state row.items
-rows_wait links bars free rows right h row at k x found =
-    let (w, m, waits) = (right.rows_are h row at).each k x found in
-    (w, m, waits.waits)
-
 pub one_free_each : (links : LinksRow) (bars free : List ℕ) (rows : List (Vec RowWish Global))
     → IsRound links bars free rows → length free ≡ length rows
 one_free_each links bars free rows right =
@@ -52,17 +44,23 @@ pub round_built : (s : State) (orders : List CallOrder) (links : LinksRow) (ceil
     (rows : List (Vec RowWish Global))
     → links ≡ record { state = s; orders = orders; opens = opens_of s ceilings }
     → length s.marks ≡ length s.dossier.wishes → length ceilings ≡ length s.dossier.schools
-    → free ≡ map (free_beds s) (range_with_len 0 (length s.dossier.schools)) → AreRows s ceilings rows
+    → free ≡ map (free_beds s) (range_with_len 0 (length s.dossier.schools)) → AreRows links.state ceilings rows
+    → ((h : ℕ) (row : Vec RowWish Global) → slice_get rows h ≡ Some row → AreItems links.state links.orders row.items)
     → IsRound links ceilings free rows
-round_built s orders links ceilings free rows is long each free_are rows_are =
+round_built s orders links ceilings free rows is long each free_are rows_are items_are =
+    let Q = λ (l : LinksRow). AreRows l.state ceilings rows in
+    let R = λ (l : LinksRow). (h : ℕ) (row : Vec RowWish Global) → slice_get rows h ≡ Some row
+    → AreItems l.state l.orders row.items in
+    let rows_now = subst Q is rows_are in
     let P = λ (l : LinksRow). IsRound l ceilings free rows in
     subst P (sym is) (record {
       marks_each = long;
       bars_each = each;
       free_are = free_are;
-      rows_each = rows_are.one_each ∙ sym each;
+      rows_each = rows_now.one_each ∙ sym each;
       opens_are = refl;
-      rows_are = rows_are.each;
+      rows_are = rows_now.each;
+      items_are = subst R is items_are;
     })
 
 -- a round that is built has all answers, since all schools were asked
@@ -126,7 +124,7 @@ module _ (links : LinksRow) (ceilings bars free : List ℕ) (rows : List (Vec Ro
   module _ (new : LinksRow) (kept : Vec RowWish Global) (state : new.state ≡ links.state)
       (orders : new.orders ≡ links.orders) (cut : CutsAt to row.items links.opens kept.items new.opens) where
     pub round_now : IsRound new (set bars i to) free (set rows i kept)
-    round_now = round_fallen links bars free i to rows row right.round within read le new kept state cut
+    round_now = round_fallen links bars free i to rows row right.round within read le new kept state orders cut
 
     now_opens : new.opens ≡ opens_of links.state (set bars i to)
     now_opens = round_now.opens_are ∙ ap (λ (s : State). opens_of s (set bars i to)) state

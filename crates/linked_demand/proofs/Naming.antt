@@ -150,17 +150,17 @@ module _ (l : LinksRow) (bars : List ℕ) (h : ℕ) (row : List RowWish) (right 
       → j < x.wish → slice_get (entries l.state) j ≡ Some e
       → demands_at l.state l.orders bars h x.rank e ≡ true → ⊥
   none_less x leads j e lt there demands =
-      let z : RowWish = record { rank = x.rank; wish = j } in
-      let (i, found, passed, some) = demander l bars h row right opens_are x.rank j e there demands in
+      let (i, y, found, rank, wish, passed, some) = demander l bars h row right opens_are x.rank j e there demands in
       elim (cases_order i leads.place) [
         | inl equal ↦
-            let P = λ (n : ℕ). slice_get row n ≡ Some z in
-            let same : j ≡ x.wish = ap (λ (o : Option RowWish). (unwrap_or o x).wish) (sym (subst P equal found) ∙ leads.here) in
-            omega (arith, lt, same)
+            let P = λ (n : ℕ). slice_get row n ≡ Some y in
+            let same : y.wish ≡ x.wish = ap (λ (o : Option RowWish). (unwrap_or o x).wish) (sym (subst P equal found) ∙ leads.here) in
+            omega (arith, lt, wish, same)
         | inr differ ↦ elim differ [
-          | inl below ↦ false≢true (sym (leads.alone i z below found refl) ∙ passed)
-          | inr above ↦ let behind : x.wish < j = right.in_order leads.place i x z above leads.here found
-              refl in omega (arith, lt, behind)
+          | inl below ↦ false≢true (sym (leads.alone i y below found rank) ∙ ap (is_proposed_at l) wish ∙ passed)
+          | inr above ↦
+              let behind : x.wish < y.wish = right.in_order leads.place i x y above leads.here found (sym rank) in
+              omega (arith, lt, wish, behind)
         ]
       ]
 

@@ -1,20 +1,25 @@
 -- A round stays right where a bar falls.
-use Rattle.std.proofs.Common.{ℕ, ◌≤◌, ◌<◌, ◌≡◌, ◌≢◌, Bool, List, [], ◌∷◌, length, inl, inr, refl, sym, ◌∙◌, ap, arith, zero, suc, get_or, Some, subst, unwrap_or, Vec}
+use Rattle.std.proofs.Common.{ℕ, ◌≤◌, ◌<◌, ◌≡◌, ◌≢◌, Bool, true, false, not, ◌&&◌, Option, None, List, [], ◌∷◌, length, inl, inr, refl, sym, ◌∙◌, ap, arith, zero, suc, get_or, Some, subst, unwrap_or, Vec}
 use Rattle.std.specs.declared.alloc.Global.{Global}
 use Rattle.std.specs.Prelude.{slice_index, slice_set, slice_get}
 use Rattle.std.proofs.Math.ListN.{set}
-use Rattle.std.proofs.lemmas.Bool.{cases_eq}
+use Rattle.std.proofs.lemmas.Bool.{cases_eq, eqb-true, false≢true, le-ltb}
 use Rattle.std.proofs.lemmas.List.{length-set}
 use Rattle.std.proofs.lemmas.Option.{slice_get_within, slice_get_read}
+use Rattle.admit_core.specs.declared.dossier.Wish.{Wish}
+use Rattle.admit_core.specs.declared.state.Mark.{Mark}
+use Rattle.admit_core.specs.declared.ranking.CallOrder.{CallOrder}
+use Rattle.admit_core.specs.Proposals.{is_behind_bar, is_open}
+use Rattle.admit_core.specs.State.{State, entries, holds_bed, is_school, is_waiting}
 use Rattle.linked_demand.specs.declared.rows.RowWish.{RowWish}
 use Rattle.linked_demand.specs.Links.{LinksRow}
 use Rattle.linked_demand.specs.Opens.{opens_of}
-use Rattle.linked_demand.specs.Rows.{IsRow, CutsAt, AllWait}
+use Rattle.linked_demand.specs.Rows.{IsRow, CutsAt, AllWait, AreItems, AreOpen, row_item}
 use Rattle.linked_demand.specs.Rounds.{Round, IsRound}
 use Rattle.demand.specs.Demands.{demands_of}
 use Rattle.linked_demand.specs.Demand.{is_proposed_at, firsts}
 use Rattle.linked_demand.proofs.Naming.{demands_told}
-use Rattle.linked_demand.proofs.Falling.{flags_fallen, row_fallen, row_stays}
+use Rattle.linked_demand.proofs.Falling.{flag_map, flags_fallen, in_front, row_fallen, row_stays}
 
 pub get_set_here : {X : Type 0} (xs : List X) (i : ℕ) (x y : X) → slice_get (set xs i x) i ≡ Some y → x ≡ y
 get_set_here [] i x y at = absurd (omega (arith, slice_get_within {A = _} [] i y at))
@@ -40,9 +45,12 @@ module _ (links : LinksRow) (bars free : List ℕ) (h to : ℕ) (rows : List (Ve
       let (w, m, waits) = (right.rows_are h row found).each k x at in
       (w, m, waits.waits)
 
+  pub items_own : AreItems links.state links.orders row.items
+  items_own = right.items_are h row found
+
   pub round_fallen : (le : to ≤ slice_index bars h) (after : LinksRow) (kept : Vec RowWish Global) → after.state ≡ links.state
-      → CutsAt to row.items links.opens kept.items after.opens → IsRound after (slice_set bars h to) free (slice_set rows h kept)
-  round_fallen le after kept same cut =
+      → after.orders ≡ links.orders → CutsAt to row.items links.opens kept.items after.opens → IsRound after (slice_set bars h to) free (slice_set rows h kept)
+  round_fallen le after kept same orders cut =
       let cut_bars : CutsAt to row.items (opens_of links.state bars) kept.items after.opens =
       let P = λ (os : List Bool). CutsAt to row.items os kept.items after.opens in
       subst P right.opens_are cut in
@@ -63,17 +71,69 @@ module _ (links : LinksRow) (bars free : List ℕ) (h to : ℕ) (rows : List (Ve
           | inr other ↦ row_stays links.state bars h to g v.items other
               (right.rows_are g v (get_set_other rows h g kept v other at))
         ]);
+        items_are = λ g v at k x there.
+            let was : x ≡ row_item links.state links.orders x.wish = elim (cases_eq g h) [
+              | inl here ↦
+                  let is : kept ≡ v = get_set_here rows h kept v (rw here at at) in
+                  let P = λ (u : Vec RowWish Global). slice_get u.items k ≡ Some x in
+                  items_own k x (in_front row.items cut.end k x (rw cut.kept_is at (subst P (sym is) there))).1
+              | inr other ↦ right.items_are g v (get_set_other rows h g kept v other at) k x there
+            ] in
+            let P = λ (s : State). x ≡ row_item s links.orders x.wish in
+            let Q = λ (o : List CallOrder). x ≡ row_item after.state o x.wish in
+            subst Q (sym orders) (subst P (sym same) was);
       }
 
-pub scan_waits : (links : LinksRow) (bars free : List ℕ) (rows : List (Vec RowWish Global))
+-- a wish that ranks at most at the bar of its school is not behind it
+not_behind : (s : State) (bars : List ℕ) (h : ℕ) (w : Wish) (school : Option ℕ) → is_school school h ≡ true
+    → w.board_rank ≤ slice_index bars h → is_behind_bar s bars w school ≡ false
+not_behind s bars h w None t low = refl
+not_behind s bars h w (Some g) t low =
+    let same : g ≡ h = eqb-true g h t in
+    let P = λ (n : ℕ). w.board_rank ≤ slice_index bars n in
+    ap (λ (b : Bool). not (holds_bed s w.candidate g) && b)
+    (le-ltb (slice_index bars g) w.board_rank (subst P (sym same) low))
+    ∙ and_false (not (holds_bed s w.candidate g))
+  where
+    and_false : (b : Bool) → (b && false) ≡ false
+    and_false true = refl
+    and_false false = refl
+
+open_flag : (waits behind : Bool) → waits ≡ true → behind ≡ false → (waits && not (waits && behind)) ≡ true
+open_flag true false w b = refl
+open_flag true true w b = absurd (false≢true (sym b))
+open_flag false behind w b = absurd (false≢true w)
+
+-- the wishes of all rows are open
+pub rows_open : (links : LinksRow) (bars free : List ℕ) (rows : List (Vec RowWish Global))
+    → IsRound links bars free rows → (h : ℕ) (row : Vec RowWish Global) → slice_get rows h ≡ Some row
+    → AreOpen links row.items
+rows_open links bars free rows right h row at k x there =
+    let own = right.rows_are h row at in
+    let (w, m, waits) = own.each k x there in
+    let s = links.state in
+    let open_now : is_open s bars w m ≡ true =
+    open_flag (is_waiting m) (is_behind_bar s bars w w.school) waits.waits.waits
+    (not_behind s bars h w w.school waits.has (omega (arith, waits.rank, own.below k x there))) in
+    record {
+      waits = (w, m, waits.waits);
+      flag =
+          ap (λ (os : List Bool). get_or os x.wish false) right.opens_are
+          ∙ flag_map (λ (e : Wish × Mark). is_open s bars e.0 e.1) (entries s) x.wish (w, m) waits.waits.here
+          ∙ open_now;
+      item = right.items_are h row at k x there;
+    }
+
+pub scan_open : (links : LinksRow) (bars free : List ℕ) (rows : List (Vec RowWish Global))
     (ceilings : List ℕ) (seen : Round) → IsRound links bars free rows
     → record { state = links.state; orders = links.orders; ceilings = ceilings; bars = bars } ≡ seen
     → (h : ℕ) → h < length seen.bars
     → (row : Vec RowWish Global) → row ≡ get_or rows h row → (items : List RowWish) → items ≡ row.items
-    → AllWait links.state items
-scan_waits links bars free rows ceilings seen right is h lt row read items items_is =
+    → AreOpen links items
+scan_open links bars free rows ceilings seen right is h lt row read items items_is =
     let within : h < length bars = rw (← is) at lt in
-    rw items_is (all_wait links bars free h 0 rows row right within read)
+    rw items_is (rows_open links bars free rows right h row
+    (slice_get_read rows (length rows) h row refl (omega (arith, within, right.rows_each)) read))
 
 -- what the row tells are the demands of its school
 pub demands_right : (links : LinksRow) (bars free : List ℕ) (rows : List (Vec RowWish Global)) → IsRound links bars free rows

@@ -6,7 +6,8 @@ use Rattle.std.proofs.lemmas.Option.{slice_get_within}
 use Rattle.admit_core.specs.State.{State}
 use Rattle.demand.specs.declared.demands.Demand.{Demand}
 use Rattle.linked_demand.specs.declared.rows.RowWish.{RowWish}
-use Rattle.linked_demand.specs.Rows.{AllWait, IsFront, IsRow}
+use Rattle.linked_demand.specs.Rows.{AreOpen, IsFront, IsRow}
+use Rattle.linked_demand.specs.Links.{LinksRow}
 use Rattle.linked_demand.specs.Demand.{firsts}
 use Rattle.linked_demand.proofs.Falling.{in_front}
 
@@ -64,6 +65,6 @@ told_in_front p upto s bars h row front own is =
     item_before (y ∷ xs) (suc j) zero x le at = absurd (omega arith)
     item_before (y ∷ xs) (suc j) (suc k) x le at = item_before xs j k x (omega arith) at
 
-pub front_waits : (s : State) (upto : ℕ) (row front : List RowWish) → IsFront upto row front → AllWait s row → AllWait s front
-front_waits s upto row front is waits k x at =
-    waits k x (in_front row is.end k x (rw is.front_is at at)).1
+pub front_open : (l : LinksRow) (upto : ℕ) (row front : List RowWish) → IsFront upto row front → AreOpen l row → AreOpen l front
+front_open l upto row front is opens k x at =
+    opens k x (in_front row is.end k x (rw is.front_is at at)).1

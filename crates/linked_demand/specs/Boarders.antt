@@ -1,4 +1,4 @@
--- The wishes with a school, each with its school and its rank there.
+-- The wishes with a school, each with the school, its rank there and its programme.
 use Rattle.std.specs.Prelude.{◌≡◌, ℕ, ◌<◌, List, length, map, Some, All}
 use Rattle.admit_core.specs.DossierRows.{DossierRows}
 use Rattle.day_state.specs.Kept.{wish_in}
@@ -10,6 +10,7 @@ pub record IsBoarder (d : DossierRows) (b : Boarder) : Type 0 where
   pub within : b.wish < length d.wishes
   pub school : (wish_in d.wishes b.wish).school ≡ Some b.school
   pub rank : b.rank ≡ (wish_in d.wishes b.wish).board_rank
+  pub programme : b.programme ≡ (wish_in d.wishes b.wish).programme
   pub there : b.school < length d.schools
 
 abbrev pub wishes_of : List Boarder → List ℕ

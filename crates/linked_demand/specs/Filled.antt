@@ -3,10 +3,11 @@ use Rattle.std.specs.Prelude.{ℕ, Bool, false, not, ◌&&◌, List, length, map
 use Rattle.std.specs.List.{range_with_len}
 use Rattle.std.specs.declared.alloc.Global.{Global}
 use Rattle.day_state.specs.Kept.{has_bed_there, wish_in}
-use Rattle.admit_core.specs.declared.dossier.Wish.{Wish}
+use Rattle.admit_core.specs.declared.ranking.CallOrder.{CallOrder}
 use Rattle.admit_core.specs.State.{State, is_school}
 use Rattle.linked_demand.specs.declared.rows.RowWish.{RowWish}
 use Rattle.linked_demand.specs.Keyed.{AreRowsOf}
+use Rattle.linked_demand.specs.Rows.{row_item}
 
 -- the wish at a place is open by its flag, and its candidate has no bed in its school
 abbrev pub wants_bed : State → List Bool → ℕ → Bool
@@ -16,14 +17,11 @@ wants_bed s opens k = slice_index_or opens k false && not (has_bed_there s k)
 abbrev pub is_in_row : State → List Bool → ℕ → ℕ → Bool
 is_in_row s opens h k = wants_bed s opens k && is_school (wish_in s.dossier.wishes k).school h
 
-abbrev pub row_wish : List Wish → ℕ → RowWish
-row_wish ws k = record { rank = (wish_in ws k).board_rank; wish = k }
-
 -- the row of a school, in order by place
-abbrev pub row_by_place : State → List Bool → ℕ → List RowWish
-row_by_place s opens h = map (row_wish s.dossier.wishes) (filter (is_in_row s opens h) (range_with_len 0 (length s.dossier.wishes)))
+abbrev pub row_by_place : State → List CallOrder → List Bool → ℕ → List RowWish
+row_by_place s orders opens h = map (row_item s orders) (filter (is_in_row s opens h) (range_with_len 0 (length s.dossier.wishes)))
 
 -- one row for each school, in order by place
-abbrev pub AreFilled : State → List Bool → List (Vec RowWish Global) → Type 0
-AreFilled s opens rows = AreRowsOf (row_wish s.dossier.wishes) (is_in_row s opens) (length s.dossier.schools)
+abbrev pub AreFilled : State → List CallOrder → List Bool → List (Vec RowWish Global) → Type 0
+AreFilled s orders opens rows = AreRowsOf (row_item s orders) (is_in_row s opens) (length s.dossier.schools)
     (range_with_len 0 (length s.dossier.wishes)) rows

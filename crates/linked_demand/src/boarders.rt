@@ -9,12 +9,13 @@ use day_state::DayState;
 use demand::wish_at;
 use std::alloc::Global;
 
-/// A wish with a school, and its rank there.
+/// A wish with a school: its rank there, and its programme.
 #[derive(Clone, Copy)]
 pub struct Boarder {
     pub wish: u32,
     pub school: u32,
     pub rank: u32,
+    pub programme: u32,
 }
 
 /// The wish at a place, where it has a school.
@@ -31,6 +32,7 @@ fn boarder_at(state: &DayState<'_>, place: u32) -> Option<Boarder>
             wish: place,
             school,
             rank: wish.board_rank,
+            programme: wish.programme,
         }),
     }
 }

@@ -3,7 +3,7 @@ ghost use Rattle.std.specs.Prelude.{◌≡◌, ℕ, ◌+◌, ◌<◌, length, Li
 ghost use Rattle.std.specs.List.{enumerate_from};
 ghost use Rattle.admit_core.specs.State.{State, entries};
 ghost use Rattle.linked_demand.specs.Marks.{is_new, MarksSchools};
-ghost use Rattle.linked_demand.specs.Rows.{CutsAt, AllWait, StayOpen};
+ghost use Rattle.linked_demand.specs.Rows.{CutsAt, AllWait, AreItems, StayOpen};
 
 use crate::links::SeatLinks;
 use crate::marks::Marks;
@@ -22,6 +22,7 @@ pub fn close_past<L: Ledger>(
     steps: &mut Steps<L>,
 )
     requires row { AllWait links.old.state row.old.items }
+    requires items { AreItems links.old.state links.old.orders row.old.items }
     requires bars { length bars.now ≡ length links.old.state.dossier.schools }
     requires marked { length marked.old ≡ length links.old.state.dossier.schools }
     requires stay { StayOpen links.old bars.now to row.old.items }
@@ -36,7 +37,7 @@ pub fn close_past<L: Ledger>(
         end -= 1;
         let last = row[end];
         steps.tick();
-        links.close(last.wish, bars, marked, steps);
+        links.close(last, bars, marked, steps);
     }
     row.truncate(end);
 }

@@ -1,13 +1,16 @@
 //! The rows of the schools.
-ghost use Rattle.std.specs.Prelude.{◌≡◌, ◌<◌, length, map, All, IfOk};
+ghost use Rattle.std.specs.Prelude.{◌≡◌, ℕ, ◌<◌, length, map, slice_get, All, IfOk, Some, Vec};
+ghost use Rattle.std.specs.declared.alloc.Global.{Global};
+ghost use Rattle.linked_demand.specs.declared.rows.RowWish.{RowWish};
 ghost use Rattle.std.specs.List.{range_with_len};
 ghost use Rattle.admit_core.specs.State.{free_beds};
-ghost use Rattle.linked_demand.specs.Boarders.{AreBoarders, IsBoarder};
-ghost use Rattle.linked_demand.specs.Filled.{wants_bed, AreFilled};
+ghost use Rattle.linked_demand.specs.Boarders.{AreBoarders};
+ghost use Rattle.linked_demand.specs.Filled.{AreFilled};
 ghost use Rattle.linked_demand.specs.Opens.{opens_of};
-ghost use Rattle.linked_demand.specs.Rows.{AreRows};
+ghost use Rattle.linked_demand.specs.Rows.{AreItems, AreRows};
 
 use crate::boarders::Boarder;
+use crate::links::SeatLinks;
 use crate::rows::{RowWish, put_in, rows_with_room};
 use admit_core::OutOfMemory;
 use day_state::DayState;
@@ -15,31 +18,21 @@ use demand::sort_by_rank;
 use std::alloc::Global;
 use vacancies::beds_left;
 
-/// Whether a boarder stands in the row of their school: their wish is open, by its flag, and their
-/// candidate has no bed there.
-fn wants_bed(state: &DayState<'_>, opens: &[bool], boarder: Boarder) -> bool
-    requires boarder { IsBoarder state.now.dossier boarder }
-    requires opens { length opens.now ≡ length state.now.dossier.wishes }
-    ensures { result ≡ wants_bed state.now opens.now boarder.wish }
-{
-    opens[boarder.wish as usize] && !state.is_live_in_its_school(boarder.wish)
-}
-
 /// How many boarders of each school have an open wish: room is made by it, so no clause speaks of
 /// the numbers.
 fn counts_by_school(
     alloc: Global,
-    opens: &[bool],
+    links: &SeatLinks<'_, '_>,
     boarders: &[Boarder],
     schools: usize,
 ) -> Result<Vec<u32>, OutOfMemory>
-    requires boarders { All (λ b. b.wish < length opens.now) boarders.now }
+    requires boarders { All (λ b. b.wish < length links.now.state.dossier.wishes) boarders.now }
     requires schools { All (λ b. b.school < schools) boarders.now }
     ensures { IfOk result (λ v. length v.items ≡ schools) }
 {
     let mut counts = vec![in alloc; 0u32; schools]?;
     for boarder in boarders {
-        if opens[boarder.wish as usize] {
+        if links.is_open(boarder.wish) {
             let school = boarder.school as usize;
             counts[school] = counts[school].saturating_add(1);
         }
@@ -50,25 +43,19 @@ fn counts_by_school(
 /// The rows of the schools, each in order by place.
 fn rows_by_place(
     alloc: Global,
-    state: &DayState<'_>,
+    links: &SeatLinks<'_, '_>,
     boarders: &[Boarder],
-    opens: &[bool],
     schools: usize,
 ) -> Result<Vec<Vec<RowWish>>, OutOfMemory>
-    requires boarders { AreBoarders state.now.dossier boarders.now }
-    requires opens { length opens.now ≡ length state.now.dossier.wishes }
-    requires schools { schools ≡ length state.now.dossier.schools }
-    ensures { IfOk result (λ v. AreFilled state.now opens.now v.items) }
+    requires boarders { AreBoarders links.now.state.dossier boarders.now }
+    requires schools { schools ≡ length links.now.state.dossier.schools }
+    ensures { IfOk result (λ v. AreFilled links.now.state links.now.orders links.now.opens v.items) }
 {
-    let counts = counts_by_school(alloc, opens, boarders, schools)?;
+    let counts = counts_by_school(alloc, links, boarders, schools)?;
     let mut rows = rows_with_room(alloc, &counts)?;
     for boarder in boarders {
-        if wants_bed(state, opens, *boarder) {
-            let item = RowWish {
-                rank: boarder.rank,
-                wish: boarder.wish,
-            };
-            put_in(&mut rows, boarder.school, item)?;
+        if links.wants_bed(*boarder) {
+            put_in(&mut rows, boarder.school, links.row_wish(*boarder))?;
         }
     }
     Ok(rows)
@@ -77,18 +64,20 @@ fn rows_by_place(
 /// The rows of the schools up to their bars, under which these wishes are open.
 pub fn rows_of(
     alloc: Global,
-    state: &DayState<'_>,
+    links: &SeatLinks<'_, '_>,
     boarders: &[Boarder],
-    opens: &[bool],
     bars: &[u32],
 ) -> Result<Vec<Vec<RowWish>>, OutOfMemory>
-    requires boarders { AreBoarders state.now.dossier boarders.now }
-    requires opens { opens.now ≡ opens_of state.now bars.now }
-    requires bars { length bars.now ≡ length state.now.dossier.schools }
-    ensures { IfOk result (λ v. AreRows state.now bars.now v.items) }
+    requires boarders { AreBoarders links.now.state.dossier boarders.now }
+    requires opens { links.now.opens ≡ opens_of links.now.state bars.now }
+    requires bars { length bars.now ≡ length links.now.state.dossier.schools }
+    ensures rows { IfOk result (λ v. AreRows links.now.state bars.now v.items) }
+    ensures items { IfOk result (λ v. (h : ℕ) (row : Vec RowWish Global) → slice_get v.items h ≡ Some row
+        → AreItems links.now.state links.now.orders row.items) }
 {
+    let state = links.state();
     let _ = state.marks(); // one for each wish
-    let mut rows = rows_by_place(alloc, state, boarders, opens, bars.len())?;
+    let mut rows = rows_by_place(alloc, links, boarders, bars.len())?;
     for school in 0..rows.len() {
         sort_by_rank(&mut rows[school])?;
     }

@@ -12,6 +12,8 @@ ghost use Rattle.admit_core.specs.declared.dossier.Wish.{Wish};
 ghost use Rattle.admit_core.specs.declared.state.Mark.{Mark};
 ghost use Rattle.linked_demand.specs.Links.{LinksRow, WaitsAt, AllOpenWait};
 ghost use Rattle.linked_demand.specs.Demand.{is_proposed_at};
+ghost use Rattle.linked_demand.specs.Filled.{wants_bed};
+ghost use Rattle.linked_demand.specs.Rows.{row_item, IsOpenItem};
 
 use crate::boarders::Boarder;
 use crate::fresh::note_fresh;
@@ -19,6 +21,7 @@ use crate::fronts::{flag_fronts, flag_sure, no_flags};
 use crate::line::{is_reached, last_wanting, leaves_seat, next_wanting, wants_seat};
 use crate::lineup::Lineup;
 use crate::marks::Marks;
+use crate::rows::RowWish;
 use crate::seats::{needs_no_seat, reached_of};
 use admit_core::{CallOrders, Mark, OutOfMemory, Steps};
 use day_state::DayState;
@@ -79,6 +82,13 @@ fn is_served(state: &DayState<'_>, early: &[bool], wish: u32, open: bool, reache
     open && (reached || needs_no_seat(state, early, wish))
 }
 
+/// Whether one of two tests passes.
+fn is_one_of(one: bool, other: bool) -> bool
+    ensures { result ≡ (one || other) }
+{
+    one || other
+}
+
 /// How far the seats of each programme reach along its line, while wishes are closed.
 pub struct SeatLinks<'a, 'd> {
     state: &'a DayState<'d>,
@@ -137,29 +147,56 @@ impl<'a, 'd> SeatLinks<'a, 'd> {
         })
     }
 
+    /// What the row of a boarder's school keeps of their wish.
+    pub fn row_wish(&self, boarder: Boarder) -> RowWish
+        requires { IsBoarder self.now.state.dossier boarder }
+        ensures { result ≡ row_item self.now.state self.now.orders boarder.wish }
+    {
+        let lineup = self.lineup;
+        let wish = boarder.wish;
+        RowWish {
+            rank: boarder.rank,
+            wish,
+            programme: boarder.programme,
+            place: lineup.places[wish as usize],
+            sure: needs_no_seat(self.state, &lineup.early, wish),
+        }
+    }
+
+    /// Whether an open wish of a row is proposed.
+    pub fn proposes(&self, item: RowWish) -> bool
+        requires { IsOpenItem self.now item }
+        ensures { result ≡ is_proposed_at self.now item.wish }
+    {
+        let front = self.reached[item.programme as usize];
+        let reached = is_reached(item.place as usize, front);
+        is_one_of(reached, item.sure)
+    }
+
     /// Closes a waiting wish. It ticks once for each wish that becomes proposed and is open under these
     /// bars, and marks its school.
     pub fn close<L: Ledger>(
         &mut self,
-        wish: u32,
+        item: RowWish,
         bars: &[u32],
         marked: &mut Marks,
         steps: &mut Steps<L>,
     )
-        requires waits { (w : Wish) × (m : Mark) × WaitsAt self.old.state wish w m }
+        requires waits { (w : Wish) × (m : Mark) × WaitsAt self.old.state item.wish w m }
+        requires item { item ≡ row_item self.old.state self.old.orders item.wish }
         requires bars { length bars.now ≡ length self.old.state.dossier.schools }
         requires marked { length marked.old ≡ length self.old.state.dossier.schools }
-        ensures value { self.new ≡ record self.old { opens = slice_set self.old.opens wish false } }
+        ensures value { self.new ≡ record self.old { opens = slice_set self.old.opens item.wish false } }
         ensures steps { steps.new ≡ steps.old + count_by (is_new self.old.state bars.now self.old self.new) (enumerate_from 0 (entries self.old.state)) }
         ensures marked { MarksSchools self.old.state (is_new self.old.state bars.now self.old self.new) marked.old marked.new }
     {
         let lineup = self.lineup;
-        let programme = wish_at(self.state, wish).programme as usize;
-        let place = lineup.places[wish as usize] as usize;
+        let programme = item.programme as usize;
+        let place = item.place as usize;
         let claims = &lineup.claims[programme];
         let claim = claims.at(place);
         let wanted = wants_seat(self.state, &self.opens, claim);
-        self.opens[wish as usize] = false;
+        self.opens[item.wish as usize] = false;
         let wants = wants_seat(self.state, &self.opens, claim);
         let before = self.reached[programme];
         if leaves_seat(wanted, wants, place, before) {
@@ -186,11 +223,13 @@ impl<'a, 'd> SeatLinks<'a, 'd> {
         self.state
     }
 
-    /// Whether each wish is open, by place.
-    pub fn opens(&self) -> &[bool]
-        ensures { result.now ≡ self.now.opens }
+    /// Whether a boarder stands in the row of their school: their wish is open, and their candidate has
+    /// no bed there.
+    pub fn wants_bed(&self, boarder: Boarder) -> bool
+        requires { IsBoarder self.now.state.dossier boarder }
+        ensures { result ≡ wants_bed self.now.state self.now.opens boarder.wish }
     {
-        &self.opens
+        self.opens[boarder.wish as usize] && !self.state.is_live_in_its_school(boarder.wish)
     }
 
     /// Whether a wish is open.

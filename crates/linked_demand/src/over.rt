@@ -2,7 +2,7 @@
 ghost use Rattle.std.specs.Prelude.{◌≡◌, ℕ, length, false, replicate, slice_get, slice_index_or, IfOk, Vec};
 ghost use Rattle.std.specs.declared.alloc.Global.{Global};
 ghost use Rattle.linked_demand.specs.declared.rows.RowWish.{RowWish};
-ghost use Rattle.linked_demand.specs.Rows.{AllWait, IsFront};
+ghost use Rattle.linked_demand.specs.Rows.{AreOpen, IsFront};
 ghost use Rattle.linked_demand.specs.Demand.{is_proposed_at, counted, firsts, IsAsked};
 
 use crate::links::SeatLinks;
@@ -15,13 +15,13 @@ use std::alloc::Global;
 
 /// The demanded rank numbered `free + 1` of a row, where there are so many.
 pub fn first_over(links: &SeatLinks<'_, '_>, row: &[RowWish], free: u32) -> Option<u32>
-    requires { AllWait links.now.state row.now }
+    requires { AreOpen links.now row.now }
     ensures { result ≡ slice_get (counted (is_proposed_at links.now) 0 row.now) free }
 {
     let mut found = 0;
     let mut last = 0;
     for item in row {
-        if last < item.rank && links.is_proposed(item.wish) {
+        if last < item.rank && links.proposes(*item) {
             if found == free {
                 return Some(item.rank);
             }
@@ -49,13 +49,13 @@ pub fn demands_in(
     links: &SeatLinks<'_, '_>,
     row: &[RowWish],
 ) -> Result<Vec<Demand>, OutOfMemory>
-    requires { AllWait links.now.state row.now }
+    requires { AreOpen links.now row.now }
     ensures { IfOk result (λ v. v.items ≡ firsts (is_proposed_at links.now) 0 row.now) }
 {
     let mut demands = Vec::new(alloc);
     let mut named = 0;
     for item in row {
-        if named < item.rank && links.is_proposed(item.wish) {
+        if named < item.rank && links.proposes(*item) {
             demands.push(Demand {
                 rank: item.rank,
                 wish: item.wish,
@@ -74,7 +74,7 @@ pub fn ask_marked(
     marked: &mut Marks,
     overs: &mut Overs,
 )
-    requires rows { (h : ℕ) (row : Vec RowWish Global) → slice_get rows.now h ≡ Some row → AllWait links.now.state row.items }
+    requires rows { (h : ℕ) (row : Vec RowWish Global) → slice_get rows.now h ≡ Some row → AreOpen links.now row.items }
     requires free { length free.now ≡ length rows.now }
     requires marked { length marked.old ≡ length rows.now }
     requires overs { length overs.old ≡ length rows.now }

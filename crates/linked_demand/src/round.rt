@@ -92,7 +92,7 @@ impl<'a, 'd> LinkedRound<'a, 'd> {
         let _ = state.marks(); // one for each wish
         let links = SeatLinks::build(alloc, state, orders, lineup, ceilings)?;
         let free = free_of(alloc, state)?;
-        let rows = rows_of(alloc, state, &lineup.boarders, links.opens(), ceilings)?;
+        let rows = rows_of(alloc, &links, &lineup.boarders, ceilings)?;
         let count = school_count(state);
         let mut overs = Overs::none(alloc, count)?;
         let mut marked = Marks::all(alloc, count)?;

@@ -1,6 +1,6 @@
 use Rattle.std.proofs.Common.{◌≡◌, ◌-◌, ℕ, arith, length, ap, sym, ◌∙◌}
 use Rattle.linked_demand.specs.Links.{LinksRow}
-use Rattle.linked_demand.proofs.Cutting.{so_far_start, so_far_step, waits_still, so_far_cuts, last_at}
+use Rattle.linked_demand.proofs.Cutting.{so_far_start, so_far_step, item_still, waits_still, so_far_cuts, last_at}
 use Rattle.linked_demand.proofs.Staying.{none_new, none_marked}
 use Rattle.linked_demand.proofs.Telling.{steps_told, marks_told, steps_end}
 use Rattle.linked_demand.proofs.cut.close_past.Goals as goal
@@ -45,6 +45,8 @@ close-requires g c =
     record {
       waits = waits_still c.args.to c.args.row.now.items c.args.links.now c.loop-end.links c.loop-end.end
           (c.loop-end.end - 1) c.index-last.result.now far (omega arith) c.index-last.ensures c.requires.row;
+      item = item_still c.args.to c.args.row.now.items c.args.links.now c.loop-end.links c.loop-end.end
+          (c.loop-end.end - 1) c.index-last.result.now far (omega arith) c.index-last.ensures c.requires.items;
       bars = c.requires.bars ∙ schools;
       marked = c.loop-end.invariant.marked.as_long ∙ c.requires.marked ∙ schools;
     }

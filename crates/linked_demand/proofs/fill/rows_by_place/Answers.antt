@@ -1,10 +1,11 @@
-use Rattle.std.proofs.Common.{ℕ, ◌<◌, ◌≡◌, List, length, get_or, nat_eq, ◌∙◌, ap, arith, subst}
+use Rattle.std.proofs.Common.{ℕ, ◌<◌, ◌≡◌, List, length, get_or, nat_eq, sym, ◌∙◌, ap, arith, subst}
 use Rattle.std.proofs.lemmas.List.{length-map, take_all}
 use Rattle.linked_demand.specs.declared.boarders.Boarder.{Boarder}
 use Rattle.linked_demand.specs.Boarders.{IsBoarder, wishes_of}
-use Rattle.linked_demand.specs.Filled.{is_in_row, row_wish}
+use Rattle.linked_demand.specs.Filled.{is_in_row}
 use Rattle.linked_demand.specs.Keyed.{AreEmpty, AreRowsOf}
-use Rattle.linked_demand.proofs.Boarding.{in_own_row, in_no_row, place_of, row_item}
+use Rattle.linked_demand.specs.Rows.{row_item}
+use Rattle.linked_demand.proofs.Boarding.{in_own_row, in_no_row, place_of}
 use Rattle.linked_demand.proofs.Filling.{filled_all}
 use Rattle.linked_demand.proofs.Keyed.{rows_none, rows_more, rows_over}
 use Rattle.linked_demand.proofs.fill.rows_by_place.Goals as goal
@@ -12,26 +13,28 @@ use Rattle.linked_demand.proofs.fill.rows_by_place.Goals.{then-wants_bed+in_ok-p
 
 pub loop-boarder-init : goal.loop-boarder-init
 loop-boarder-init c =
-    let s = c.args.state.now in
+    let links = c.args.links.now in
+    let s = links.state in
     let P = λ (n : ℕ). AreEmpty n c.in_ok-rows.rows.items in
     let count = ap length c.deref.ensures.value ∙ c.in_ok-counts.ensures ∙ c.requires.schools in
-    rows_none (row_wish s.dossier.wishes) (is_in_row s c.args.opens.now) (length s.dossier.schools)
+    rows_none (row_item s links.orders) (is_in_row s links.opens) (length s.dossier.schools)
     c.in_ok-rows.rows.items (subst P count c.in_ok-rows.ensures)
 
 pub loop-boarder-preserved : goal.loop-boarder-preserved
 loop-boarder-preserved c =
-    let s = c.args.state.now in
-    let opens = c.args.opens.now in
+    let links = c.args.links.now in
+    let s = links.state in
+    let opens = links.opens in
     let boarders = c.args.boarders.now in
     let places = wishes_of boarders in
     let i = c.loop-boarder.boarder-index in
-    let none : Boarder = record { wish = 0; school = 0; rank = 0 } in
+    let none : Boarder = record { wish = 0; school = 0; rank = 0; programme = 0 } in
     let b = get_or boarders i none in
     let lt : i < length boarders = c.loop-boarder-test.true in
     let lt_place : i < length places = omega (arith, lt, length-map boarders (λ (x : Boarder). x.wish)) in
     let right : IsBoarder s.dossier b = c.requires.boarders.each i none lt in
     let k_is : get_or places i 0 ≡ b.wish = place_of boarders i none lt in
-    let item = row_wish s.dossier.wishes in
+    let item = row_item s links.orders in
     let belongs = is_in_row s opens in
     let n = length s.dossier.schools in
     let wants = c.wants_bed.result in
@@ -39,10 +42,10 @@ loop-boarder-preserved c =
     elim c.if-wants_bed.branch [
       | then-wants_bed+in_ok-put_in w ↦
           rw w.rows-is
-          (rows_more item belongs n places i (λ h. nat_eq b.school h) (record { rank = b.rank; wish = b.wish }) rows
+          (rows_more item belongs n places i (λ h. nat_eq b.school h) w.row_wish.result rows
           w.put_in.new.rows.items lt_place
           (in_own_row s opens b right (get_or places i 0) k_is wants c.wants_bed.ensures w.if-wants_bed.true)
-          (row_item s opens b right (get_or places i 0) k_is wants c.wants_bed.ensures)
+          (w.row_wish.ensures ∙ ap item (sym k_is))
           c.loop-boarder.invariant w.in_ok-put_in.ensures)
       | else-wants_bed w ↦
           rw w.rows-is
@@ -53,12 +56,13 @@ loop-boarder-preserved c =
 
 pub returns : goal.returns
 returns c =
-    let s = c.args.state.now in
-    let opens = c.args.opens.now in
+    let links = c.args.links.now in
+    let s = links.state in
+    let opens = links.opens in
     let boarders = c.args.boarders.now in
-    let P = λ (ks : List ℕ). AreRowsOf (row_wish s.dossier.wishes) (is_in_row s opens)
+    let P = λ (ks : List ℕ). AreRowsOf (row_item s links.orders) (is_in_row s opens)
     (length s.dossier.schools) ks c.loop-boarder.rows.items in
-    filled_all s opens c.loop-boarder.rows.items
+    filled_all s links.orders opens c.loop-boarder.rows.items
     (subst P (take_all c.loop-boarder.boarder-index (wishes_of boarders)
     (omega (arith, c.loop-boarder-test.false, length-map boarders (λ (b : Boarder). b.wish))) ∙ c.requires.boarders.wishes)
     c.loop-boarder.invariant)

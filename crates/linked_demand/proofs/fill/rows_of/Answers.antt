@@ -1,29 +1,20 @@
-use Rattle.std.proofs.Common.{length, ◌∙◌, ap, arith}
-use Rattle.std.proofs.lemmas.List.{length-map}
-use Rattle.admit_core.specs.declared.dossier.Wish.{Wish}
-use Rattle.admit_core.specs.declared.state.Mark.{Mark}
-use Rattle.admit_core.specs.Proposals.{is_open}
-use Rattle.admit_core.specs.State.{entries}
-use Rattle.linked_demand.proofs.Closing.{length_entries}
-use Rattle.linked_demand.proofs.Filling.{sorted_none, sorted_more, sorted_all}
+use Rattle.std.proofs.Common.{◌≤◌, ◌≡◌, length, subst, arith}
+use Rattle.admit_core.specs.State.{State}
+use Rattle.linked_demand.proofs.Filling.{sorted_none, sorted_more, sorted_all, items_all}
 use Rattle.linked_demand.proofs.fill.rows_of.Goals as goal
-
-pub rows_by_place-requires-clause-opens : goal.rows_by_place-requires-clause-opens
-rows_by_place-requires-clause-opens c =
-    let s = c.args.state.now in
-    let f = λ (e : Wish × Mark). is_open s c.args.bars.now e.0 e.1 in
-    ap length c.requires.opens
-    ∙ length-map (entries s) f
-    ∙ length_entries s.dossier.wishes s.marks (rw c.marks.ensures.marks at c.marks.ensures.one_each)
 
 pub loop-school-init : goal.loop-school-init
 loop-school-init c =
-    sorted_none c.args.state.now c.args.bars.now c.args.opens.now c.in_ok-rows.rows.items c.in_ok-rows.ensures
+    let links = c.args.links.now in
+    sorted_none links.state links.orders c.args.bars.now links.opens c.in_ok-rows.rows.items c.in_ok-rows.ensures
 
 pub loop-school-preserved : goal.loop-school-preserved
 loop-school-preserved c =
-    sorted_more c.args.state.now c.args.bars.now c.args.opens.now c.loop-school.school c.loop-school.rows.items
-    c.index_mut.result.now c.sort_by_rank.new.items (rw c.marks.ensures.marks at c.marks.ensures.one_each)
+    let links = c.args.links.now in
+    let P = λ (s : State). length s.marks ≡ length s.dossier.wishes in
+    sorted_more links.state links.orders c.args.bars.now links.opens c.loop-school.school c.loop-school.rows.items
+    c.index_mut.result.now c.sort_by_rank.new.items
+    (subst P c.state-state.ensures (rw c.marks.ensures.marks at c.marks.ensures.one_each))
     c.requires.opens c.loop-school.invariant
     (omega (
       arith,
@@ -36,12 +27,17 @@ loop-school-preserved c =
 
 pub returns : goal.returns
 returns c =
-    sorted_all c.args.state.now c.args.bars.now c.args.opens.now c.loop-school.school c.loop-school.rows.items
-    c.loop-school.invariant
-    (omega (
+    let links = c.args.links.now in
+    let all : length c.loop-school.rows.items ≤ c.loop-school.school = omega (
       arith,
       c.loop-school-test.false,
       c.len-school-end.ensures,
       c.loop-school.invariant.one_each,
       c.in_ok-rows.ensures.one_each,
-    ))
+    ) in
+    record {
+      rows = sorted_all links.state links.orders c.args.bars.now links.opens c.loop-school.school
+          c.loop-school.rows.items c.loop-school.invariant all;
+      items = items_all links.state links.orders c.args.bars.now links.opens c.loop-school.school
+          c.loop-school.rows.items c.loop-school.invariant all;
+    }

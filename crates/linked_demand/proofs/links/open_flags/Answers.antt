@@ -15,7 +15,7 @@ loop-boarder-preserved c =
     let boarders = c.args.boarders.now in
     let i = c.loop-boarder.boarder-index in
     let flags = c.loop-boarder.flags.items in
-    let none : Boarder = record { wish = 0; school = 0; rank = 0 } in
+    let none : Boarder = record { wish = 0; school = 0; rank = 0; programme = 0 } in
     let b = get_or boarders i none in
     let lt : i < length boarders = c.loop-boarder-test.true in
     let right : IsBoarder s.dossier b = c.requires.boarders.each i none lt in

@@ -4,69 +4,60 @@ use Rattle.linked_demand.specs.Line.{next, last_new}
 use Rattle.linked_demand.specs.Links.{LinksRow}
 use Rattle.linked_demand.specs.Opens.{all_sure, line_of, wanting_at}
 use Rattle.linked_demand.specs.Wants.{wants_along}
-use Rattle.linked_demand.proofs.Closing.{starts_within, closes_read, wish_within, programme_within, place_right, claim_right, claims_each, row_within}
+use Rattle.linked_demand.proofs.Closing.{wish_within, programme_within, claim_right, claims_each, row_within}
+use Rattle.linked_demand.proofs.Items.{closes_item, item_stands}
 use Rattle.linked_demand.proofs.Leaving.{Reads, before_within, row_below, stays_closed, moves_closed, reached_each, reach_put, reach_kept, in_claims, claim_there}
 use Rattle.linked_demand.proofs.Moving.{newly_none, newly_some}
 use Rattle.linked_demand.proofs.Ticking.{claim_fits, told_none, told_some}
 use Rattle.linked_demand.proofs.links.SeatLinks.close.Goals as goal
 
-pub wish_at-programme-requires : goal.wish_at-programme-requires
-wish_at-programme-requires g c =
-    starts_within c.self.invariant.reach.links c.args.self.now c.self.view_is c.args.wish c.requires.waits
-
-pub index-requires : goal.index-requires
-index-requires g c =
-    let k = closes_read c.self.invariant.reach.links c.args.self.now c.self.view_is c.args.wish
-    c.requires.waits c.wish_at-programme.result c.wish_at-programme.ensures.wish in
-    omega (arith, wish_within k, c.self.invariant.reach.links.places_each)
-
 pub index_mut-requires : goal.index_mut-requires
 index_mut-requires g c =
-    let k = closes_read c.self.invariant.reach.links c.args.self.now c.self.view_is c.args.wish
-    c.requires.waits c.wish_at-programme.result c.wish_at-programme.ensures.wish in
+    let k = closes_item c.self.invariant.reach.links c.args.self.now c.self.view_is c.args.item
+    c.requires.waits c.requires.item in
     omega (arith, wish_within k, c.self.invariant.reach.links.opens_each)
 
 pub index-claims-requires : goal.index-claims-requires
 index-claims-requires g c =
-    let k = closes_read c.self.invariant.reach.links c.args.self.now c.self.view_is c.args.wish
-    c.requires.waits c.wish_at-programme.result c.wish_at-programme.ensures.wish in
+    let k = closes_item c.self.invariant.reach.links c.args.self.now c.self.view_is c.args.item
+    c.requires.waits c.requires.item in
     omega (arith, programme_within k, claims_each k)
 
 pub at-claim-requires : goal.at-claim-requires
 at-claim-requires g c =
-    let k = closes_read c.self.invariant.reach.links c.args.self.now c.self.view_is c.args.wish
-    c.requires.waits c.wish_at-programme.result c.wish_at-programme.ensures.wish in
-    let at = place_right k c.index.result.now c.index.ensures in
-    row_within k c.index.result.now at c.index-claims.result.now c.index-claims.ensures
+    let k = closes_item c.self.invariant.reach.links c.args.self.now c.self.view_is c.args.item
+    c.requires.waits c.requires.item in
+    let at = item_stands c.self.invariant.reach.links c.args.self.now c.self.view_is c.args.item c.requires.waits c.requires.item in
+    row_within k c.args.item.place at c.index-claims.result.now c.index-claims.ensures
 
 pub wants_seat-wanted-requires-clause-claim : goal.wants_seat-wanted-requires-clause-claim
 wants_seat-wanted-requires-clause-claim g c =
-    let k = closes_read c.self.invariant.reach.links c.args.self.now c.self.view_is c.args.wish
-    c.requires.waits c.wish_at-programme.result c.wish_at-programme.ensures.wish in
-    let at = place_right k c.index.result.now c.index.ensures in
-    let claim = claim_right k c.index.result.now at c.index-claims.result.now c.index-claims.ensures
+    let k = closes_item c.self.invariant.reach.links c.args.self.now c.self.view_is c.args.item
+    c.requires.waits c.requires.item in
+    let at = item_stands c.self.invariant.reach.links c.args.self.now c.self.view_is c.args.item c.requires.waits c.requires.item in
+    let claim = claim_right k c.args.item.place at c.index-claims.result.now c.index-claims.ensures
     c.at-claim.result.now c.at-claim.ensures in
     claim_fits k _ _ c.at-claim.result.now claim (length c.self.inside.state.now.dossier.wishes) refl
 
 pub wants_seat-wants-requires-clause-claim : goal.wants_seat-wants-requires-clause-claim
 wants_seat-wants-requires-clause-claim g c =
-    let k = closes_read c.self.invariant.reach.links c.args.self.now c.self.view_is c.args.wish
-    c.requires.waits c.wish_at-programme.result c.wish_at-programme.ensures.wish in
-    let at = place_right k c.index.result.now c.index.ensures in
-    let claim = claim_right k c.index.result.now at c.index-claims.result.now c.index-claims.ensures
+    let k = closes_item c.self.invariant.reach.links c.args.self.now c.self.view_is c.args.item
+    c.requires.waits c.requires.item in
+    let at = item_stands c.self.invariant.reach.links c.args.self.now c.self.view_is c.args.item c.requires.waits c.requires.item in
+    let claim = claim_right k c.args.item.place at c.index-claims.result.now c.index-claims.ensures
     c.at-claim.result.now c.at-claim.ensures in
     claim_fits k _ _ c.at-claim.result.now claim (length c.self.inside.state.now.dossier.wishes) refl
 
 pub index-before-requires : goal.index-before-requires
 index-before-requires g c =
-    let k = closes_read c.self.invariant.reach.links c.args.self.now c.self.view_is c.args.wish
-    c.requires.waits c.wish_at-programme.result c.wish_at-programme.ensures.wish in
+    let k = closes_item c.self.invariant.reach.links c.args.self.now c.self.view_is c.args.item
+    c.requires.waits c.requires.item in
     omega (arith, programme_within k, reached_each k c.self.inside.reached.items c.self.invariant.reach.reached_are)
 
 pub index_mut-requires-then-leaves_seat : goal.index_mut-requires-then-leaves_seat
 index_mut-requires-then-leaves_seat g c =
-    let k = closes_read c.self.invariant.reach.links c.args.self.now c.self.view_is c.args.wish
-    c.requires.waits c.wish_at-programme.result c.wish_at-programme.ensures.wish in
+    let k = closes_item c.self.invariant.reach.links c.args.self.now c.self.view_is c.args.item
+    c.requires.waits c.requires.item in
     omega (arith, programme_within k, reached_each k c.self.inside.reached.items c.self.invariant.reach.reached_are)
 
 pub next_wanting-now-requires-clause-from : goal.next_wanting-now-requires-clause-from
@@ -74,12 +65,12 @@ next_wanting-now-requires-clause-from g c =
     let r = c.self.inside in
     let s = r.state.now in
     let claim = c.at-claim.result.now in
-    let k = closes_read c.self.invariant.reach.links c.args.self.now c.self.view_is c.args.wish
-    c.requires.waits c.wish_at-programme.result c.wish_at-programme.ensures.wish in
-    let reads : Reads k c.index.result.now c.index-claims.result.now claim r.reached.items
+    let k = closes_item c.self.invariant.reach.links c.args.self.now c.self.view_is c.args.item
+    c.requires.waits c.requires.item in
+    let reads : Reads k c.args.item.place c.index-claims.result.now claim r.reached.items
     c.index-before.result.now c.wants_seat-wanted.result c.wants_seat-wants.result c.leaves_seat.result =
     record {
-      stands = place_right k c.index.result.now c.index.ensures;
+      stands = item_stands c.self.invariant.reach.links c.args.self.now c.self.view_is c.args.item c.requires.waits c.requires.item;
       row_read = c.index-claims.ensures;
       claim_read = c.at-claim.ensures;
       reached_are = c.self.invariant.reach.reached_are;
@@ -95,12 +86,12 @@ next_wanting-now-requires-clause-claims g c =
     let r = c.self.inside in
     let s = r.state.now in
     let claim = c.at-claim.result.now in
-    let k = closes_read c.self.invariant.reach.links c.args.self.now c.self.view_is c.args.wish
-    c.requires.waits c.wish_at-programme.result c.wish_at-programme.ensures.wish in
-    let reads : Reads k c.index.result.now c.index-claims.result.now claim r.reached.items
+    let k = closes_item c.self.invariant.reach.links c.args.self.now c.self.view_is c.args.item
+    c.requires.waits c.requires.item in
+    let reads : Reads k c.args.item.place c.index-claims.result.now claim r.reached.items
     c.index-before.result.now c.wants_seat-wanted.result c.wants_seat-wants.result c.leaves_seat.result =
     record {
-      stands = place_right k c.index.result.now c.index.ensures;
+      stands = item_stands c.self.invariant.reach.links c.args.self.now c.self.view_is c.args.item c.requires.waits c.requires.item;
       row_read = c.index-claims.ensures;
       claim_read = c.at-claim.ensures;
       reached_are = c.self.invariant.reach.reached_are;
@@ -116,12 +107,12 @@ last_wanting-requires-clause-claims g c =
     let r = c.self.inside in
     let s = r.state.now in
     let claim = c.at-claim.result.now in
-    let k = closes_read c.self.invariant.reach.links c.args.self.now c.self.view_is c.args.wish
-    c.requires.waits c.wish_at-programme.result c.wish_at-programme.ensures.wish in
-    let reads : Reads k c.index.result.now c.index-claims.result.now claim r.reached.items
+    let k = closes_item c.self.invariant.reach.links c.args.self.now c.self.view_is c.args.item
+    c.requires.waits c.requires.item in
+    let reads : Reads k c.args.item.place c.index-claims.result.now claim r.reached.items
     c.index-before.result.now c.wants_seat-wanted.result c.wants_seat-wants.result c.leaves_seat.result =
     record {
-      stands = place_right k c.index.result.now c.index.ensures;
+      stands = item_stands c.self.invariant.reach.links c.args.self.now c.self.view_is c.args.item c.requires.waits c.requires.item;
       row_read = c.index-claims.ensures;
       claim_read = c.at-claim.ensures;
       reached_are = c.self.invariant.reach.reached_are;
@@ -137,12 +128,12 @@ invariant_of-self-else-leaves_seat g c =
     let r = c.self.inside in
     let s = r.state.now in
     let claim = c.at-claim.result.now in
-    let k = closes_read c.self.invariant.reach.links c.args.self.now c.self.view_is c.args.wish
-    c.requires.waits c.wish_at-programme.result c.wish_at-programme.ensures.wish in
-    let reads : Reads k c.index.result.now c.index-claims.result.now claim r.reached.items
+    let k = closes_item c.self.invariant.reach.links c.args.self.now c.self.view_is c.args.item
+    c.requires.waits c.requires.item in
+    let reads : Reads k c.args.item.place c.index-claims.result.now claim r.reached.items
     c.index-before.result.now c.wants_seat-wanted.result c.wants_seat-wants.result c.leaves_seat.result =
     record {
-      stands = place_right k c.index.result.now c.index.ensures;
+      stands = item_stands c.self.invariant.reach.links c.args.self.now c.self.view_is c.args.item c.requires.waits c.requires.item;
       row_read = c.index-claims.ensures;
       claim_read = c.at-claim.ensures;
       reached_are = c.self.invariant.reach.reached_are;
@@ -165,12 +156,12 @@ invariant_of-self g c =
     let r = c.self.inside in
     let s = r.state.now in
     let claim = c.at-claim.result.now in
-    let k = closes_read c.self.invariant.reach.links c.args.self.now c.self.view_is c.args.wish
-    c.requires.waits c.wish_at-programme.result c.wish_at-programme.ensures.wish in
-    let reads : Reads k c.index.result.now c.index-claims.result.now claim r.reached.items
+    let k = closes_item c.self.invariant.reach.links c.args.self.now c.self.view_is c.args.item
+    c.requires.waits c.requires.item in
+    let reads : Reads k c.args.item.place c.index-claims.result.now claim r.reached.items
     c.index-before.result.now c.wants_seat-wanted.result c.wants_seat-wants.result c.leaves_seat.result =
     record {
-      stands = place_right k c.index.result.now c.index.ensures;
+      stands = item_stands c.self.invariant.reach.links c.args.self.now c.self.view_is c.args.item c.requires.waits c.requires.item;
       row_read = c.index-claims.ensures;
       claim_read = c.at-claim.ensures;
       reached_are = c.self.invariant.reach.reached_are;
@@ -199,12 +190,12 @@ invariant_of-self-in_default g c =
     let r = c.self.inside in
     let s = r.state.now in
     let claim = c.at-claim.result.now in
-    let k = closes_read c.self.invariant.reach.links c.args.self.now c.self.view_is c.args.wish
-    c.requires.waits c.wish_at-programme.result c.wish_at-programme.ensures.wish in
-    let reads : Reads k c.index.result.now c.index-claims.result.now claim r.reached.items
+    let k = closes_item c.self.invariant.reach.links c.args.self.now c.self.view_is c.args.item
+    c.requires.waits c.requires.item in
+    let reads : Reads k c.args.item.place c.index-claims.result.now claim r.reached.items
     c.index-before.result.now c.wants_seat-wanted.result c.wants_seat-wants.result c.leaves_seat.result =
     record {
-      stands = place_right k c.index.result.now c.index.ensures;
+      stands = item_stands c.self.invariant.reach.links c.args.self.now c.self.view_is c.args.item c.requires.waits c.requires.item;
       row_read = c.index-claims.ensures;
       claim_read = c.at-claim.ensures;
       reached_are = c.self.invariant.reach.reached_are;
@@ -230,8 +221,8 @@ invariant_of-self-in_default g c =
 
 pub note_fresh-requires : goal.note_fresh-requires
 note_fresh-requires g c =
-    let k = closes_read c.self.invariant.reach.links c.args.self.now c.self.view_is c.args.wish
-    c.requires.waits c.wish_at-programme.result c.wish_at-programme.ensures.wish in
+    let k = closes_item c.self.invariant.reach.links c.args.self.now c.self.view_is c.args.item
+    c.requires.waits c.requires.item in
     let within = c.in-Some.ensures.within in
     let fresh_claim = claim_there k c.index-claims.result.now c.index-claims.ensures c.in-Some.next within
     c.at.result.now c.at.ensures in
@@ -250,12 +241,12 @@ returns-else-leaves_seat g c =
     let r = c.self.inside in
     let s = r.state.now in
     let claim = c.at-claim.result.now in
-    let k = closes_read c.self.invariant.reach.links c.args.self.now c.self.view_is c.args.wish
-    c.requires.waits c.wish_at-programme.result c.wish_at-programme.ensures.wish in
-    let reads : Reads k c.index.result.now c.index-claims.result.now claim r.reached.items
+    let k = closes_item c.self.invariant.reach.links c.args.self.now c.self.view_is c.args.item
+    c.requires.waits c.requires.item in
+    let reads : Reads k c.args.item.place c.index-claims.result.now claim r.reached.items
     c.index-before.result.now c.wants_seat-wanted.result c.wants_seat-wants.result c.leaves_seat.result =
     record {
-      stands = place_right k c.index.result.now c.index.ensures;
+      stands = item_stands c.self.invariant.reach.links c.args.self.now c.self.view_is c.args.item c.requires.waits c.requires.item;
       row_read = c.index-claims.ensures;
       claim_read = c.at-claim.ensures;
       reached_are = c.self.invariant.reach.reached_are;
@@ -265,7 +256,7 @@ returns-else-leaves_seat g c =
       leaves_is = c.leaves_seat.ensures;
     } in
     let stays = stays_closed reads c.if-leaves_seat.false in
-    let told = told_none s r.orders.now.orders r.opens.items c.args.wish c.args.self.now c.self.view_is
+    let told = told_none s r.orders.now.orders r.opens.items c.args.item.wish c.args.self.now c.self.view_is
     (newly_none k None stays.fresh refl) c.args.bars.now c.args.steps.now c.args.marked.now in
     record { value = search rules; steps = told.steps; marked = told.marked }
 
@@ -274,12 +265,12 @@ returns-in_default g c =
     let r = c.self.inside in
     let s = r.state.now in
     let claim = c.at-claim.result.now in
-    let k = closes_read c.self.invariant.reach.links c.args.self.now c.self.view_is c.args.wish
-    c.requires.waits c.wish_at-programme.result c.wish_at-programme.ensures.wish in
-    let reads : Reads k c.index.result.now c.index-claims.result.now claim r.reached.items
+    let k = closes_item c.self.invariant.reach.links c.args.self.now c.self.view_is c.args.item
+    c.requires.waits c.requires.item in
+    let reads : Reads k c.args.item.place c.index-claims.result.now claim r.reached.items
     c.index-before.result.now c.wants_seat-wanted.result c.wants_seat-wants.result c.leaves_seat.result =
     record {
-      stands = place_right k c.index.result.now c.index.ensures;
+      stands = item_stands c.self.invariant.reach.links c.args.self.now c.self.view_is c.args.item c.requires.waits c.requires.item;
       row_read = c.index-claims.ensures;
       claim_read = c.at-claim.ensures;
       reached_are = c.self.invariant.reach.reached_are;
@@ -298,7 +289,7 @@ returns-in_default g c =
     (c.last_wanting.ensures.answer
     ∙ ap (λ (fs : List Bool). last_new (wants_along s fs row) before now) c.deref-then-leaves_seat-2.ensures.value) in
     let told =
-    told_none s r.orders.now.orders r.opens.items c.args.wish c.args.self.now c.self.view_is
+    told_none s r.orders.now.orders r.opens.items c.args.item.wish c.args.self.now c.self.view_is
     (newly_none k c.last_wanting.result moved.fresh c.in_default.is) c.args.bars.now c.args.steps.now c.args.marked.now in
     record { value = search rules; steps = told.steps; marked = told.marked }
 
@@ -307,12 +298,12 @@ returns-in-Some g c =
     let r = c.self.inside in
     let s = r.state.now in
     let claim = c.at-claim.result.now in
-    let k = closes_read c.self.invariant.reach.links c.args.self.now c.self.view_is c.args.wish
-    c.requires.waits c.wish_at-programme.result c.wish_at-programme.ensures.wish in
-    let reads : Reads k c.index.result.now c.index-claims.result.now claim r.reached.items
+    let k = closes_item c.self.invariant.reach.links c.args.self.now c.self.view_is c.args.item
+    c.requires.waits c.requires.item in
+    let reads : Reads k c.args.item.place c.index-claims.result.now claim r.reached.items
     c.index-before.result.now c.wants_seat-wanted.result c.wants_seat-wants.result c.leaves_seat.result =
     record {
-      stands = place_right k c.index.result.now c.index.ensures;
+      stands = item_stands c.self.invariant.reach.links c.args.self.now c.self.view_is c.args.item c.requires.waits c.requires.item;
       row_read = c.index-claims.ensures;
       claim_read = c.at-claim.ensures;
       reached_are = c.self.invariant.reach.reached_are;
@@ -332,12 +323,12 @@ returns-in-Some g c =
     ∙ ap (λ (fs : List Bool). last_new (wants_along s fs row) before now) c.deref-then-leaves_seat-2.ensures.value) in
     let within = c.in-Some.ensures.within in
     let fresh_claim = claim_there k row c.index-claims.ensures c.in-Some.next within c.at.result.now c.at.ensures in
-    let p : ℕ = c.wish_at-programme.result.programme in
+    let p : ℕ = c.args.item.programme in
     let orders = r.orders.now.orders in
     let lt : c.in-Some.next < length (line_of s.dossier orders p) = omega
     (arith, within, in_claims k row c.index-claims.ensures) in
     let told =
-    told_some s orders r.opens.items (all_sure s r.lineup.now.early.items) c.args.wish p
+    told_some s orders r.opens.items (all_sure s r.lineup.now.early.items) c.args.item.wish p
     (get_or (line_of s.dossier orders p) c.in-Some.next 0) c.args.self.now c.self.view_is
     (newly_some k c.last_wanting.result moved.fresh c.in-Some.next c.in-Some.is lt)
     c.self.invariant.reach.links.marks_each c.args.bars.now c.at.result.now fresh_claim

@@ -3,10 +3,10 @@ use Rattle.std.specs.Prelude.{slice_get}
 use Rattle.std.specs.declared.alloc.Global.{Global}
 use Rattle.std.proofs.Common.{Some, subst}
 use Rattle.linked_demand.specs.declared.rows.RowWish.{RowWish}
-use Rattle.linked_demand.specs.Rows.{AllWait}
-use Rattle.linked_demand.proofs.RoundFalls.{all_wait}
+use Rattle.linked_demand.specs.Rows.{AreOpen}
+use Rattle.linked_demand.proofs.RoundFalls.{all_wait, items_own, rows_open}
 use Rattle.linked_demand.proofs.Rounding.{bar_within, bars_fallen}
-use Rattle.linked_demand.proofs.Lowered.{rows_wait, one_free_each, within, stay, round_now, system_now, offers_now, seen_now, steps_now, marks_long, overs_long, lowered}
+use Rattle.linked_demand.proofs.Lowered.{one_free_each, within, stay, round_now, system_now, offers_now, seen_now, steps_now, marks_long, overs_long, lowered}
 use Rattle.linked_demand.proofs.round.LinkedRoundFalling.lower.Goals as goal
 
 pub index_mut-requires : goal.index_mut-requires
@@ -29,6 +29,11 @@ close_past-requires g c =
     let r = c.self.inside in
     record {
       row = all_wait r.links r.bars.items r.free.items c.args.i c.args.to r.rows.items
+          c.index_mut-2.result.now c.self.invariant.round
+          (within r.links r.ceilings.items r.bars.items r.free.items r.rows.items r.overs r.marked
+          c.args.self.now c.self.invariant c.self.view_is c.args.i c.args.to c.requires.in_range
+          c.requires.lower c.index_mut-2.result.now c.index_mut-2.ensures.value) c.index_mut-2.ensures.value;
+      items = items_own r.links r.bars.items r.free.items c.args.i c.args.to r.rows.items
           c.index_mut-2.result.now c.self.invariant.round
           (within r.links r.ceilings.items r.bars.items r.free.items r.rows.items r.overs r.marked
           c.args.self.now c.self.invariant c.self.view_is c.args.i c.args.to c.requires.in_range
@@ -57,9 +62,9 @@ ask_marked-requires g c =
     let rows_are = c.deref-2.ensures.value in
     let rows_long = ap length rows_are in
     let P = λ (rows : List (Vec RowWish Global)). (h : ℕ) (row : Vec RowWish Global)
-    → slice_get rows h ≡ Some row → AllWait c.close_past.new.links.state row.items in
+    → slice_get rows h ≡ Some row → AreOpen c.close_past.new.links row.items in
     record {
-      rows = subst P (sym rows_are) (rows_wait c.close_past.new.links _ r.free.items _ round);
+      rows = subst P (sym rows_are) (rows_open c.close_past.new.links _ r.free.items _ round);
       free = ap length c.deref-3.ensures.value ∙ one_free_each c.close_past.new.links _ r.free.items _ round ∙ sym rows_long;
       marked = ap length c.set.ensures
           ∙ marks_long r.links r.ceilings.items r.bars.items r.free.items r.rows.items r.overs r.marked

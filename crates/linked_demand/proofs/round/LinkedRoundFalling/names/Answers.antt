@@ -7,9 +7,9 @@ use Rattle.demand.proofs.Listed.{names_are}
 use Rattle.linked_demand.specs.Demand.{is_proposed_at}
 use Rattle.linked_demand.specs.Rounds.{Round, bar_each}
 use Rattle.linked_demand.specs.Rows.{IsFront}
-use Rattle.linked_demand.proofs.RoundFalls.{scan_waits, demands_right}
+use Rattle.linked_demand.proofs.RoundFalls.{scan_open, demands_right}
 use Rattle.linked_demand.proofs.Rounding.{bars_seen, bar_within, seen_within_bars}
-use Rattle.linked_demand.proofs.RowFronts.{front_waits, told_in_front}
+use Rattle.linked_demand.proofs.RowFronts.{front_open, told_in_front}
 use Rattle.linked_demand.proofs.round.LinkedRoundFalling.names.Goals as goal
 
 pub demands_in-requires : goal.demands_in-requires
@@ -17,8 +17,8 @@ demands_in-requires c =
     let r = c.self.inside in
     let within = seen_within_bars r.links r.ceilings.items r.bars.items r.free.items r.rows.items r.overs
     r.marked c.args.self.now c.self.invariant c.self.view_is c.args.i c.requires in
-    front_waits r.links.state c.args.upto c.deref.result.now c.front_of-front.result.now c.front_of-front.ensures
-    (scan_waits r.links r.bars.items r.free.items r.rows.items r.ceilings.items c.args.self.now
+    front_open r.links c.args.upto c.deref.result.now c.front_of-front.result.now c.front_of-front.ensures
+    (scan_open r.links r.bars.items r.free.items r.rows.items r.ceilings.items c.args.self.now
     c.self.invariant.round c.self.view_is c.args.i within
     c.index.result.now c.index.ensures c.deref.result.now c.deref.ensures.value)
 

@@ -1,0 +1,115 @@
+-- What an item of a row keeps of its wish: the place of its candidate in the line, and whether they need a seat.
+use Rattle.std.proofs.Common.{ℕ, ◌<◌, ◌≡◌, Bool, true, false, ◌&&◌, ◌||◌, List, length, get_or, refl, sym, ◌∙◌, ap, arith, nat_eq, subst}
+use Rattle.std.specs.Prelude.{slice_index}
+use Rattle.std.specs.List.{position_or_len}
+use Rattle.std.proofs.Math.Bool.{or_comm}
+use Rattle.std.proofs.lemmas.Bool.{eq-eqb, ne_eqb}
+use Rattle.std.proofs.lemmas.List.{get_or_default}
+use Rattle.std.proofs.lemmas.List.Sums.{position_or_len_is}
+use Rattle.admit_core.specs.declared.dossier.Wish.{Wish}
+use Rattle.admit_core.specs.declared.state.Mark.{Mark}
+use Rattle.admit_core.specs.declared.ranking.CallOrder.{CallOrder}
+use Rattle.admit_core.specs.DossierRows.{DossierRows}
+use Rattle.admit_core.specs.Proposals.{needs_no_seat}
+use Rattle.admit_core.specs.State.{State}
+use Rattle.day_state.specs.Kept.{wish_in}
+use Rattle.linked_demand.specs.declared.boarders.Boarder.{Boarder}
+use Rattle.linked_demand.specs.declared.rows.RowWish.{RowWish}
+use Rattle.linked_demand.specs.Boarders.{IsBoarder}
+use Rattle.linked_demand.specs.Demand.{is_proposed_at}
+use Rattle.linked_demand.specs.Line.{LineRow, is_reached}
+use Rattle.linked_demand.specs.Links.{IsLinked, IsPlaceOf, IsSeatPlace, LinksRow, WaitsAt}
+use Rattle.linked_demand.specs.Opens.{line_of}
+use Rattle.linked_demand.specs.Rows.{line_place, row_item}
+use Rattle.linked_demand.proofs.Closing.{Closes, closes_read, proposed_at_is, proposed_right, wish_of, wish_there, wish_within}
+
+-- the one place of a number is that of its first one
+place_is : (c : ℕ) (xs : List ℕ) (k : ℕ) → IsPlaceOf c xs k → position_or_len (nat_eq c) xs ≡ k
+place_is c xs k at =
+    position_or_len_is (nat_eq c) xs k 0 (omega (arith, at.within))
+    (λ j lt. at.once j (omega (arith, lt, at.within)) (ne_eqb j k (λ e. omega (arith, lt, e))))
+    (λ lt. eq-eqb c (get_or xs k 0) (sym at.here))
+
+-- the wish of an item, with the programme that the item names
+abbrev pub wish_of_item : DossierRows → RowWish → Wish
+wish_of_item d x = record (wish_in d.wishes x.wish) { programme = x.programme }
+
+module _ {s : State} {orders : List CallOrder} {opens : List Bool} {lines : List LineRow}
+    {claims : List (List (List ℕ))} {places : List ℕ} {sure : List Bool}
+    (links : IsLinked s orders opens lines claims places sure) (row : LinksRow)
+    (is : record { state = s; orders = orders; opens = opens } ≡ row) where
+  -- what is made of a boarder
+  pub item_made : (b : Boarder) → IsBoarder row.state.dossier b → (place : ℕ) (flag : Bool)
+      → place ≡ slice_index places b.wish → flag ≡ get_or sure b.wish false
+      → record { rank = b.rank; wish = b.wish; programme = b.programme; place = place; sure = flag }
+      ≡ row_item row.state row.orders b.wish
+  item_made b right place flag place_read flag_read =
+      let P = λ (r : LinksRow). IsBoarder r.state.dossier b in
+      let here : IsBoarder s.dossier b = subst P (sym is) right in
+      let w = wish_in s.dossier.wishes b.wish in
+      let at = wish_there s.dossier.wishes b.wish w here.within refl in
+      let place_now : place ≡ line_place s.dossier orders w =
+      place_read
+      ∙ sym (place_is w.candidate (line_of s.dossier orders w.programme) (slice_index places b.wish) (links.places_are b.wish w at)) in
+      let flag_now : flag ≡ needs_no_seat s orders w = flag_read ∙ links.sure_are b.wish w at in
+      let made : record { rank = b.rank; wish = b.wish; programme = b.programme; place = place; sure = flag }
+      ≡ row_item s orders b.wish =
+      λ i. record {
+        rank = here.rank i;
+        wish = b.wish;
+        programme = here.programme i;
+        place = place_now i;
+        sure = flag_now i;
+      } in
+      made ∙ ap (λ (r : LinksRow). row_item r.state r.orders b.wish) is
+
+  module _ (x : RowWish) (waits : (w : Wish) × (m : Mark) × WaitsAt row.state x.wish w m)
+      (item : x ≡ row_item row.state row.orders x.wish) where
+    item_here : x ≡ row_item s orders x.wish
+    item_here = let P = λ (r : LinksRow). x ≡ row_item r.state r.orders x.wish in subst P (sym is) item
+
+    kept : wish_of_item s.dossier x ≡ wish_in s.dossier.wishes x.wish
+    kept =
+        ap (λ (y : RowWish). let w : Wish = record (wish_in s.dossier.wishes x.wish) { programme = y.programme } in w) item_here
+
+    pub closes_item : Closes s orders opens lines claims places sure x.wish (wish_of_item s.dossier x)
+    closes_item = closes_read links row is x.wish waits (wish_of_item s.dossier x) kept
+
+    pub item_stands : IsSeatPlace s.dossier orders (wish_of_item s.dossier x) x.place
+    item_stands =
+        let w = wish_of_item s.dossier x in
+        let k = closes_item in
+        let at = links.places_are x.wish w (wish_of s.dossier.wishes s.marks x.wish w k.mark k.at.here) in
+        let place : x.place ≡ slice_index places x.wish =
+        ap (λ (y : RowWish). y.place) item_here
+        ∙ ap (line_place s.dossier orders) (sym kept)
+        ∙ place_is w.candidate (line_of s.dossier orders w.programme) (slice_index places x.wish) at in
+        let P = λ (n : ℕ). IsSeatPlace s.dossier orders w n in
+        subst P (sym place) at
+
+    -- where it is open, it says whether it is proposed
+    pub item_proposed : get_or row.opens x.wish false ≡ true → (line : LineRow) → line ≡ get_or lines x.programme line
+        → (reached served : Bool) → reached ≡ is_reached line x.place
+        → served ≡ (reached || x.sure) → served ≡ is_proposed_at row x.wish
+    item_proposed opened line line_read reached served by served_is =
+        let w = wish_of_item s.dossier x in
+        let k = closes_item in
+        let found = wish_of s.dossier.wishes s.marks x.wish w k.mark k.at.here in
+        let lt : x.wish < length s.dossier.wishes = wish_within k in
+        let flag : Bool = get_or opens x.wish false in
+        let set : flag ≡ true = let P = λ (r : LinksRow). get_or r.opens x.wish false ≡ true in subst P (sym is) opened in
+        let sure_is : x.sure ≡ get_or sure x.wish x.sure =
+        ap (λ (y : RowWish). y.sure) item_here
+        ∙ ap (needs_no_seat s orders) (sym kept)
+        ∙ sym (links.sure_are x.wish w found)
+        ∙ get_or_default sure x.wish false x.sure (omega (arith, lt, links.sure_each)) in
+        let right = proposed_right k x.place item_stands line line_read flag x.sure reached
+        (get_or_default opens x.wish false flag (omega (arith, lt, links.opens_each))) sure_is by in
+        let here : LinksRow = record { state = s; orders = orders; opens = opens } in
+        let Q = λ (r : LinksRow). served ≡ is_proposed_at r x.wish in
+        subst Q is
+        (served_is
+        ∙ or_comm reached x.sure
+        ∙ ap (λ (b : Bool). b && (x.sure || reached)) (sym set)
+        ∙ right
+        ∙ sym (proposed_at_is here x.wish w k.mark k.at))

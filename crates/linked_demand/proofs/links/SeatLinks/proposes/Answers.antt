@@ -1,0 +1,29 @@
+use Rattle.std.proofs.Common.{ℕ, arith}
+use Rattle.linked_demand.specs.Opens.{seat_row}
+use Rattle.linked_demand.proofs.Closing.{programme_within}
+use Rattle.linked_demand.proofs.Items.{closes_item, item_stands, item_proposed}
+use Rattle.linked_demand.proofs.Leaving.{reach_right, reached_each, reached_is, row_there}
+use Rattle.linked_demand.proofs.links.SeatLinks.proposes.Goals as goal
+
+pub index-front-requires : goal.index-front-requires
+index-front-requires c =
+    let reach = c.self.invariant.reach in
+    let k = closes_item reach.links c.args.self.now c.self.view_is c.args.item c.requires.waits c.requires.item in
+    omega (arith, programme_within k, reached_each k c.self.inside.reached.items reach.reached_are)
+
+pub returns : goal.returns
+returns c =
+    let r = c.self.inside in
+    let s = r.state.now in
+    let orders = r.orders.now.orders in
+    let opens = r.opens.items in
+    let p : ℕ = c.args.item.programme in
+    let reach = c.self.invariant.reach in
+    let k = closes_item reach.links c.args.self.now c.self.view_is c.args.item c.requires.waits c.requires.item in
+    let at = item_stands reach.links c.args.self.now c.self.view_is c.args.item c.requires.waits c.requires.item in
+    let front = reach_right k r.reached.items reach.reached_are c.index-front.result.now c.index-front.ensures in
+    let reached = reached_is s orders opens p c.args.item.place c.index-front.result.now
+    c.is_reached-reached.result front at.within c.is_reached-reached.ensures in
+    item_proposed reach.links c.args.self.now c.self.view_is c.args.item c.requires.waits c.requires.item
+    c.requires.flag (seat_row s orders opens p) (row_there s orders opens p (programme_within k))
+    c.is_reached-reached.result c.is_one_of.result reached c.is_one_of.ensures
