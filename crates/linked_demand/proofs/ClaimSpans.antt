@@ -14,7 +14,7 @@ use Rattle.day_state.specs.Kept.{candidate_in, IsIndex}
 use Rattle.day_state.proofs.Ordering.{between}
 use Rattle.day_state.specs.declared.spans.Span.{Span}
 use Rattle.day_state.specs.Spans.{IsWithin, part_of}
-use Rattle.linked_demand.specs.Claims.{IsSpanOf, AreWishesFor, AreWishesFrom, begins_at, lower_before}
+use Rattle.linked_demand.specs.Claims.{IsSpanOf, AreCandidatesFrom, AreWishesFor, AreWishesFrom, begins_at, lower_before}
 use Rattle.linked_demand.specs.Keyed.{AreRowsOf}
 use Rattle.linked_demand.specs.Links.{claim_of}
 use Rattle.linked_demand.specs.Seats.{applies_at}
@@ -64,6 +64,26 @@ pub wishes_later : (s : DossierRows) (n : ℕ) (rows : List (Vec ℕ Global)) (r
 wishes_later s n rows row are = record {
   one_each = length-set rows n row ∙ are.one_each;
   each = λ p other le at. are.each p other (omega arith) (get_set_other rows n p row other (λ e. omega (arith, le, e)) at);
+}
+
+pub candidates_from : (s : DossierRows) (order : List ℕ) (rows candidates : List (Vec ℕ Global))
+    → AreRowsOf (λ k. k) (applies_at s) (length s.programmes) order rows
+    → AreRowsOf (candidate_in s.wishes) (applies_at s) (length s.programmes) order candidates
+    → AreCandidatesFrom s 0 rows candidates
+candidates_from s order rows candidates are own = record {
+  one_each = own.one_each;
+  each = λ p row other le at there.
+      own.each p other there
+      ∙ sym (ap (map (candidate_in s.wishes)) (are.each p row at ∙ map-id (filter (applies_at s p) order)));
+}
+
+pub candidates_later : (s : DossierRows) (n : ℕ) (rows candidates : List (Vec ℕ Global)) (row own : Vec ℕ Global)
+    → AreCandidatesFrom s n rows candidates → AreCandidatesFrom s (n + 1) (set rows n row) (set candidates n own)
+candidates_later s n rows candidates row own are = record {
+  one_each = length-set candidates n own ∙ are.one_each;
+  each = λ p left other le at there.
+      are.each p left other (omega arith) (get_set_other rows n p row left (λ e. omega (arith, le, e)) at)
+      (get_set_other candidates n p own other (λ e. omega (arith, le, e)) there);
 }
 
 -- the candidates of a list by candidate do not fall

@@ -1,5 +1,5 @@
 -- The claims of a programme as spans of the list of the wishes for it.
-use Rattle.std.specs.Prelude.{◌≡◌, ℕ, ◌-◌, ◌≤◌, ◌<◌, ◌^◌, Bool, true, false, ◌&&◌, ◌||◌, ◌==◌, List, length, filter, nat_eq, nat_lt, nat_le, Some, slice_get, slice_index, All, Vec}
+use Rattle.std.specs.Prelude.{◌≡◌, ℕ, ◌-◌, ◌≤◌, ◌<◌, ◌^◌, Bool, true, false, ◌&&◌, ◌||◌, ◌==◌, List, length, map, filter, nat_eq, nat_lt, nat_le, Some, slice_get, slice_index, All, Vec}
 use Rattle.std.specs.declared.alloc.Global.{Global}
 use Rattle.std.specs.List.Sorted.{IsNonDecreasingBy, IsPartitionPoint}
 use Rattle.admit_core.specs.DossierRows.{DossierRows}
@@ -33,3 +33,10 @@ pub record AreWishesFor (d : DossierRows) (p : ℕ) (wishes : List ℕ) : Type 0
 pub record AreWishesFrom (d : DossierRows) (n : ℕ) (rows : List (Vec ℕ Global)) : Type 0 where
   pub one_each : length rows ≡ length d.programmes
   pub each : (p : ℕ) (row : Vec ℕ Global) → n ≤ p → slice_get rows p ≡ Some row → AreWishesFor d p row.items
+
+-- and beside each of them that of their candidates
+pub record AreCandidatesFrom (d : DossierRows) (n : ℕ) (rows candidates : List (Vec ℕ Global)) : Type 0 where
+  pub one_each : length candidates ≡ length d.programmes
+  pub each : (p : ℕ) (row own : Vec ℕ Global) → n ≤ p
+      → slice_get rows p ≡ Some row → slice_get candidates p ≡ Some own
+      → own.items ≡ map (candidate_in d.wishes) row.items

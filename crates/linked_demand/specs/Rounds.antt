@@ -10,7 +10,7 @@ use Rattle.day_state.specs.Kept.{mark_in, wish_in}
 use Rattle.linked_demand.specs.declared.rows.RowWish.{RowWish}
 use Rattle.linked_demand.specs.Links.{LinksRow}
 use Rattle.linked_demand.specs.Opens.{opens_of}
-use Rattle.linked_demand.specs.Rows.{IsRow, AreItems}
+use Rattle.linked_demand.specs.Rows.{IsRow, AllItems}
 use Rattle.linked_demand.specs.Demand.{over_at}
 
 -- what a round is seen as
@@ -27,8 +27,7 @@ pub record IsRound (links : LinksRow) (bars free : List ℕ) (rows : List (Vec R
   pub rows_each : length rows ≡ length bars
   pub opens_are : links.opens ≡ opens_of links.state bars
   pub rows_are : (h : ℕ) (row : Vec RowWish Global) → slice_get rows h ≡ Some row → IsRow links.state bars h row.items
-  pub items_are : (h : ℕ) (row : Vec RowWish Global) → slice_get rows h ≡ Some row
-      → AreItems links.state links.orders row.items
+  pub items_are : AllItems links.state links.orders rows
 
 -- what holds of the parts of a round: with the answers of the schools, and a mark each
 pub record IsRoundUnder (links : LinksRow) (ceilings bars free : List ℕ) (rows : List (Vec RowWish Global))

@@ -33,7 +33,13 @@ row_item s orders k = item_of s orders k (wish_in s.dossier.wishes k)
 
 -- each item of a row is that of its wish
 abbrev pub AreItems : State → List CallOrder → List RowWish → Type 0
-AreItems s orders row = (k : ℕ) (x : RowWish) → slice_get row k ≡ Some x → x ≡ row_item s orders x.wish
+AreItems s orders row =
+    (k : ℕ) (x : RowWish) → slice_get row k ≡ Some x → x ≡ row_item s orders x.wish
+
+-- and so in all rows
+abbrev pub AllItems : State → List CallOrder → List (Vec RowWish Global) → Type 0
+AllItems s orders rows =
+    (h : ℕ) (row : Vec RowWish Global) → slice_get rows h ≡ Some row → AreItems s orders row.items
 
 -- a wish that waits for the school, whose candidate has no bed there
 pub record WaitsFor (s : State) (h : ℕ) (x : RowWish) (w : Wish) (m : Mark) : Type 0 where

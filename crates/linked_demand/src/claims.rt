@@ -1,32 +1,12 @@
 //! The claims of those who wish for a programme: each candidate's wishes for it.
-ghost use Rattle.std.specs.Prelude.{◌≡◌, ◌<◌, ◌≤◌, ◌^◌, ◌&&◌, [], true, false, nat_lt, nat_le, length, map, All, IfOk, slice_index_or};
+ghost use Rattle.std.specs.Prelude.{◌≡◌, ◌<◌, ◌≤◌, ◌^◌, ◌&&◌, [], true, false, nat_lt, nat_le, length, map, All, slice_index_or};
 ghost use Rattle.std.specs.List.Sorted.{IsNonDecreasingBy, IsPartitionPoint};
-ghost use Rattle.day_state.specs.Kept.{candidate_in};
 ghost use Rattle.day_state.specs.Spans.{IsWithin, part_of};
 ghost use Rattle.linked_demand.specs.Claims.{IsSpanOf, begins_at, lower_before};
 
 use crate::rising::first_not_below;
-use admit_core::OutOfMemory;
-use day_state::{DayState, Span, part};
-use demand::wish_at;
-use std::alloc::Global;
+use day_state::{Span, part};
 use std::marker::Model;
-
-/// The candidates of wishes.
-pub fn candidates_of(
-    alloc: Global,
-    state: &DayState<'_>,
-    wishes: &[u32],
-) -> Result<Vec<u32>, OutOfMemory>
-    requires { All (λ k. k < length state.now.dossier.wishes) wishes.now }
-    ensures { IfOk result (λ v. v.items ≡ map (candidate_in state.now.dossier.wishes) wishes.now) }
-{
-    let mut candidates = Vec::with_capacity(alloc, wishes.len())?;
-    for wish in wishes {
-        candidates.push(wish_at(state, *wish).candidate)?;
-    }
-    Ok(candidates)
-}
 
 /// The first place in a rising list of candidates that is above this one, from the first place that
 /// isn't below: a candidate has few wishes in a programme.

@@ -1,13 +1,11 @@
 //! The rows of the schools.
-ghost use Rattle.std.specs.Prelude.{◌≡◌, ℕ, ◌<◌, length, map, slice_get, All, IfOk, Some, Vec};
-ghost use Rattle.std.specs.declared.alloc.Global.{Global};
-ghost use Rattle.linked_demand.specs.declared.rows.RowWish.{RowWish};
+ghost use Rattle.std.specs.Prelude.{◌≡◌, ◌<◌, length, map, All, IfOk};
 ghost use Rattle.std.specs.List.{range_with_len};
 ghost use Rattle.admit_core.specs.State.{free_beds};
 ghost use Rattle.linked_demand.specs.Boarders.{AreBoarders};
 ghost use Rattle.linked_demand.specs.Filled.{AreFilled};
 ghost use Rattle.linked_demand.specs.Opens.{opens_of};
-ghost use Rattle.linked_demand.specs.Rows.{AreItems, AreRows};
+ghost use Rattle.linked_demand.specs.Rows.{AllItems, AreRows};
 
 use crate::boarders::Boarder;
 use crate::links::SeatLinks;
@@ -49,7 +47,8 @@ fn rows_by_place(
 ) -> Result<Vec<Vec<RowWish>>, OutOfMemory>
     requires boarders { AreBoarders links.now.state.dossier boarders.now }
     requires schools { schools ≡ length links.now.state.dossier.schools }
-    ensures { IfOk result (λ v. AreFilled links.now.state links.now.orders links.now.opens v.items) }
+    ensures { IfOk result (λ v. AreFilled links.now.state links.now.orders
+        links.now.opens v.items) }
 {
     let counts = counts_by_school(alloc, links, boarders, schools)?;
     let mut rows = rows_with_room(alloc, &counts)?;
@@ -72,8 +71,7 @@ pub fn rows_of(
     requires opens { links.now.opens ≡ opens_of links.now.state bars.now }
     requires bars { length bars.now ≡ length links.now.state.dossier.schools }
     ensures rows { IfOk result (λ v. AreRows links.now.state bars.now v.items) }
-    ensures items { IfOk result (λ v. (h : ℕ) (row : Vec RowWish Global) → slice_get v.items h ≡ Some row
-        → AreItems links.now.state links.now.orders row.items) }
+    ensures items { IfOk result (λ v. AllItems links.now.state links.now.orders v.items) }
 {
     let state = links.state();
     let _ = state.marks(); // one for each wish

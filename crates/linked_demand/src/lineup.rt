@@ -4,6 +4,7 @@ ghost use Rattle.std.specs.Prelude.{◌≡◌, ℕ, ◌<◌, false, length, map,
 ghost use Rattle.std.specs.List.{IsDistinct};
 ghost use Rattle.admit_core.specs.CallOrder.{AreCallOrders};
 ghost use Rattle.admit_core.specs.Proposals.{order_of};
+ghost use Rattle.day_state.specs.Kept.{candidate_in};
 ghost use Rattle.demand.specs.Called.{AreCalled};
 ghost use Rattle.linked_demand.specs.Claims.{AreWishesFor};
 ghost use Rattle.linked_demand.specs.Links.{claim_of};
@@ -11,7 +12,7 @@ ghost use Rattle.linked_demand.specs.Opens.{line_of};
 ghost use Rattle.linked_demand.specs.Seats.{PutAt, AreSeated, IsLineup, is_below, is_passed};
 
 use crate::boarders::{Boarder, boarders_of};
-use crate::claims::{Claims, candidates_of, span_of};
+use crate::claims::{Claims, span_of};
 use crate::guesses::Guesses;
 use crate::maybe_sure::maybe_sure_of;
 use crate::wishing::wishes_by_programme;
@@ -59,6 +60,7 @@ fn line_up(
     orders: &CallOrders,
     programme: u32,
     wishes: Vec<u32>,
+    candidates: Vec<u32>,
     places: &mut Vec<u32>,
     early: &mut Vec<bool>,
     guesses: &mut Guesses,
@@ -67,6 +69,8 @@ fn line_up(
     requires orders { AreCalled state.now.dossier orders.now.orders }
     requires once { IsDistinct nat_eq (order_of state.now.dossier orders.now.orders programme) }
     requires wishes { AreWishesFor state.now.dossier programme wishes.items }
+    requires candidates { candidates.items
+        ≡ map (candidate_in state.now.dossier.wishes) wishes.items }
     requires seated { AreSeated state.now.dossier orders.now.orders (is_below programme) places.old.items early.old.items }
     ensures claims { IfOk result (λ x. x ≡ map (claim_of state.now.dossier programme) (line_of state.now.dossier orders.now.orders programme)) }
     ensures seated { OnOk result (AreSeated state.now.dossier orders.now.orders (is_passed programme (order_of state.now.dossier orders.now.orders programme)) places.new.items early.new.items) }
@@ -78,7 +82,6 @@ fn line_up(
     }
     let order = order_of(state, orders, programme);
     let limit = limit_of(state, programme);
-    let candidates = candidates_of(alloc, state, &wishes)?;
     guesses.renew(&candidates);
     for (before, candidate) in order.iter().enumerate() {
         let span = span_of(&candidates, *candidate, guesses.of(*candidate));
@@ -115,13 +118,16 @@ fn claims_of(
     let programmes = programme_count(state);
     let mut claims = Vec::with_capacity(alloc, programmes as usize)?;
     for programme in 0..programmes {
-        let wishes = mem::replace(&mut rows[programme as usize], Vec::new(alloc));
+        let place = programme as usize;
+        let wishes = mem::replace(&mut rows.wishes[place], Vec::new(alloc));
+        let candidates = mem::replace(&mut rows.candidates[place], Vec::new(alloc));
         let own = line_up(
             alloc,
             state,
             orders,
             programme,
             wishes,
+            candidates,
             places,
             early,
             &mut guesses,

@@ -37,8 +37,8 @@ fn waiting_flags(alloc: Global, marks: &[Mark]) -> Result<Vec<bool>, OutOfMemory
     Ok(marks.iter().map(|mark| mark.is_waiting()).collect(alloc)?)
 }
 
-/// Whether a boarder's wish stays open: their candidate, if they have no bed in the school, ranks there
-/// at most at its bar.
+/// Whether a boarder's wish stays open: its candidate ranks at most at the bar of the school, or has a
+/// bed there.
 fn stays_open(state: &DayState<'_>, bars: &[u32], boarder: Boarder, open: bool) -> bool
     requires boarder { IsBoarder state.now.dossier boarder }
     requires bars { length bars.now ≡ length state.now.dossier.schools }
@@ -147,7 +147,7 @@ impl<'a, 'd> SeatLinks<'a, 'd> {
         })
     }
 
-    /// What the row of a boarder's school keeps of their wish.
+    /// What the row of a boarder's school keeps of the wish.
     pub fn row_wish(&self, boarder: Boarder) -> RowWish
         requires { IsBoarder self.now.state.dossier boarder }
         ensures { result ≡ row_item self.now.state self.now.orders boarder.wish }
@@ -223,8 +223,8 @@ impl<'a, 'd> SeatLinks<'a, 'd> {
         self.state
     }
 
-    /// Whether a boarder stands in the row of their school: their wish is open, and their candidate has
-    /// no bed there.
+    /// Whether a boarder's wish stands in the row of its school: it is open, and its candidate has no
+    /// bed there.
     pub fn wants_bed(&self, boarder: Boarder) -> bool
         requires { IsBoarder self.now.state.dossier boarder }
         ensures { result ≡ wants_bed self.now.state self.now.opens boarder.wish }

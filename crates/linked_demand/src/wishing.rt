@@ -1,6 +1,6 @@
-//! For each programme the wishes for it.
+//! For each programme the wishes for it, with their candidates.
 ghost use Rattle.std.specs.Prelude.{◌≡◌, length, IfOk};
-ghost use Rattle.linked_demand.specs.Claims.{AreWishesFrom};
+ghost use Rattle.linked_demand.specs.Claims.{AreCandidatesFrom, AreWishesFrom};
 
 use crate::rows::{put_in, rows_with_room};
 use crate::wishes::wish_count;
@@ -21,20 +21,38 @@ fn counts_by_programme(alloc: Global, state: &DayState<'_>) -> Result<Vec<u32>, 
     Ok(counts)
 }
 
-/// The places of the wishes for each programme, by candidate, those of one candidate ascending.
-pub fn wishes_by_programme(
-    alloc: Global,
-    state: &DayState<'_>,
-) -> Result<Vec<Vec<u32>>, OutOfMemory>
-    ensures { IfOk result (λ v. AreWishesFrom state.now.dossier 0 v.items) }
+/// For each programme the places of the wishes for it, and beside them their candidates.
+pub struct Applications {
+    pub wishes: Vec<Vec<u32>>,
+    pub candidates: Vec<Vec<u32>>,
+}
+
+// Not derived: so applications are dropped in one step where they are held, and not list by list.
+impl Drop for Applications {
+    fn drop(self) {
+        let Applications {
+            wishes: _,
+            candidates: _,
+        } = self;
+    }
+}
+
+/// The wishes for each programme, by candidate, those of one candidate ascending by place.
+pub fn wishes_by_programme(alloc: Global, state: &DayState<'_>) -> Result<Applications, OutOfMemory>
+    ensures wishes { IfOk result (λ v. AreWishesFrom state.now.dossier 0 v.wishes.items) }
+    ensures candidates { IfOk result (λ v. AreCandidatesFrom state.now.dossier 0
+        v.wishes.items v.candidates.items) }
 {
     let dossier = state.dossier();
     let _ = &dossier.wishes; // learns the invariant
     let counts = counts_by_programme(alloc, state)?;
     let places = state.places_by_candidate();
-    let mut rows = rows_with_room(alloc, &counts)?;
+    let mut wishes = rows_with_room(alloc, &counts)?;
+    let mut candidates = rows_with_room(alloc, &counts)?;
     for place in places {
-        put_in(&mut rows, wish_at(state, *place).programme, *place)?;
+        let wish = wish_at(state, *place);
+        put_in(&mut wishes, wish.programme, *place)?;
+        put_in(&mut candidates, wish.programme, wish.candidate)?;
     }
-    Ok(rows)
+    Ok(Applications { wishes, candidates })
 }

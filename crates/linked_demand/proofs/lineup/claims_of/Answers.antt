@@ -1,6 +1,6 @@
 use Rattle.std.proofs.Common.{ℕ, ◌+◌, List, sym, arith, subst}
 use Rattle.linked_demand.proofs.Seating.{IsBuilt, built_more, built_all}
-use Rattle.linked_demand.proofs.ClaimSpans.{wishes_later}
+use Rattle.linked_demand.proofs.ClaimSpans.{candidates_later, wishes_later}
 use Rattle.linked_demand.proofs.lineup.claims_of.Goals as goal
 
 pub loop-programme-preserved : goal.loop-programme-preserved
@@ -18,8 +18,10 @@ loop-programme-preserved c =
     c.call_everyone.ensures c.loop-programme.invariant.built c.in_ok-own.ensures.claims c.in_ok-own.ensures.seated) in
     record {
       built = built;
-      wishes = wishes_later d n c.loop-programme.rows.items c.replace-wishes.new.dest
+      wishes = wishes_later d n c.loop-programme.rows.wishes.items c.replace-wishes.new.dest
           c.loop-programme.invariant.wishes;
+      candidates = candidates_later d n c.loop-programme.rows.wishes.items c.loop-programme.rows.candidates.items
+          c.replace-wishes.new.dest c.replace-candidates.new.dest c.loop-programme.invariant.candidates;
     }
 
 pub returns : goal.returns

@@ -54,15 +54,14 @@ loop-before-init c =
 pub span_of-span-requires-clause-rises : goal.span_of-span-requires-clause-rises
 span_of-span-requires-clause-rises c =
     let key = candidate_in c.args.state.now.dossier.wishes in
-    let are = c.deref-in-loop-before.ensures.value ∙ c.in_ok-candidates.ensures ∙ ap (map key) c.deref.ensures.value in
+    let are = c.deref-in-loop-before.ensures.value ∙ c.requires.candidates in
     let P = λ (ks : List ℕ). IsNonDecreasingBy (λ k. k) ks in
     subst P (sym are) (candidates_rise key c.args.wishes.items c.requires.wishes.rises)
 
 pub part-claim-requires : goal.part-claim-requires
 part-claim-requires c =
     let d = c.args.state.now.dossier in
-    let are = c.deref-in-loop-before.ensures.value ∙ c.in_ok-candidates.ensures
-    ∙ ap (map (candidate_in d.wishes)) c.deref.ensures.value in
+    let are = c.deref-in-loop-before.ensures.value ∙ c.requires.candidates in
     let found = claim_there c.requires.wishes (get_or c.order_of-order.result.now c.loop-before.before 0)
     c.deref-in-loop-before.result.now are c.span_of-span.result c.span_of-span.ensures
     c.args.wishes.items (part_of c.args.wishes.items c.span_of-span.result) refl refl in
@@ -74,8 +73,7 @@ note-requires-clause-places c =
     let d = c.args.state.now.dossier in
     let p = c.args.programme in
     let x = get_or c.order_of-order.result.now c.loop-before.before 0 in
-    let are = c.deref-in-loop-before.ensures.value ∙ c.in_ok-candidates.ensures
-    ∙ ap (map (candidate_in d.wishes)) c.deref.ensures.value in
+    let are = c.deref-in-loop-before.ensures.value ∙ c.requires.candidates in
     let claimed =
     claim_there c.requires.wishes x c.deref-in-loop-before.result.now are c.span_of-span.result
     c.span_of-span.ensures c.deref-in-loop-before-2.result.now c.part-claim.result.now
@@ -124,8 +122,7 @@ loop-before-preserved c =
     let front = filter applies (take i order) in
     let spans = c.loop-before.spans.items in
     let span = c.span_of-span.result in
-    let are = c.deref-in-loop-before.ensures.value ∙ c.in_ok-candidates.ensures
-    ∙ ap (map (candidate_in d.wishes)) c.deref.ensures.value in
+    let are = c.deref-in-loop-before.ensures.value ∙ c.requires.candidates in
     let claimed =
     claim_there c.requires.wishes x c.deref-in-loop-before.result.now are span c.span_of-span.ensures
     c.deref-in-loop-before-2.result.now c.part-claim.result.now

@@ -1,21 +1,30 @@
-use Rattle.std.proofs.Common.{ℕ, List, length, get_or, nat_eq, refl, ◌∙◌, ap, arith, subst}
+use Rattle.std.proofs.Common.{ℕ, List, length, get_or, nat_eq, refl, sym, ◌∙◌, ap, arith, subst}
 use Rattle.std.proofs.lemmas.List.{take_all}
 use Rattle.admit_core.specs.declared.dossier.Wish.{Wish}
 use Rattle.admit_core.specs.DossierRows.{DossierRows}
 use Rattle.admit_core.specs.Validity.{IsValid}
+use Rattle.day_state.specs.Kept.{candidate_in}
+use Rattle.day_state.proofs.Places.{candidate_in as candidate_is}
 use Rattle.linked_demand.specs.Keyed.{AreEmpty, AreRowsOf}
 use Rattle.linked_demand.specs.Seats.{applies_at}
 use Rattle.linked_demand.proofs.Keyed.{rows_none, rows_more}
-use Rattle.linked_demand.proofs.ClaimSpans.{wishes_from}
+use Rattle.linked_demand.proofs.ClaimSpans.{candidates_from, wishes_from}
 use Rattle.linked_demand.proofs.wishing.wishes_by_programme.Goals as goal
 
 pub loop-place-init : goal.loop-place-init
 loop-place-init c =
-    let n = length c.args.state.now.dossier.programmes in
-    let rows = c.in_ok-rows.rows.items in
-    let P = λ (count : ℕ). AreEmpty count rows in
-    let count = ap length c.deref.ensures.value ∙ c.in_ok-counts.ensures in
-    rows_none (λ k. k) (applies_at c.args.state.now.dossier) n rows (subst P count c.in_ok-rows.ensures)
+    let d = c.args.state.now.dossier in
+    let n = length d.programmes in
+    let wishes = c.in_ok-wishes.wishes.items in
+    let candidates = c.in_ok-candidates.candidates.items in
+    let P = λ (count : ℕ). AreEmpty count wishes in
+    let Q = λ (count : ℕ). AreEmpty count candidates in
+    record {
+      wishes = rows_none (λ k. k) (applies_at d) n wishes
+          (subst P (ap length c.deref.ensures.value ∙ c.in_ok-counts.ensures) c.in_ok-wishes.ensures);
+      candidates = rows_none (candidate_in d.wishes) (applies_at d) n candidates
+          (subst Q (ap length c.deref-2.ensures.value ∙ c.in_ok-counts.ensures) c.in_ok-candidates.ensures);
+    }
 
 pub loop-place-preserved : goal.loop-place-preserved
 loop-place-preserved c =
@@ -23,20 +32,32 @@ loop-place-preserved c =
     let places = c.places_by_candidate-places.result.now in
     let i = c.loop-place.place-index in
     let k = get_or places i 0 in
-    rows_more (λ j. j) (applies_at d) (length d.programmes) places i
-    (λ h. nat_eq c.wish_at.result.programme h) k
-    c.loop-place.rows.items c.put_in.new.rows.items c.loop-place-test.true
-    (λ h. ap (λ (v : Wish). nat_eq v.programme h) c.wish_at.ensures.wish) refl
-    c.loop-place.invariant c.in_ok-put_in.ensures
+    let here = λ (h : ℕ). ap (λ (v : Wish). nat_eq v.programme h) c.wish_at-wish.ensures.wish in
+    record {
+      wishes = rows_more (λ j. j) (applies_at d) (length d.programmes) places i
+          (λ h. nat_eq c.wish_at-wish.result.programme h) k
+          c.loop-place.wishes.items c.put_in.new.rows.items c.loop-place-test.true
+          here refl c.loop-place.invariant.wishes c.in_ok-put_in.ensures;
+      candidates = rows_more (candidate_in d.wishes) (applies_at d) (length d.programmes) places i
+          (λ h. nat_eq c.wish_at-wish.result.programme h) c.wish_at-wish.result.candidate
+          c.loop-place.candidates.items c.put_in-in-loop-place.new.rows.items c.loop-place-test.true
+          here (ap (λ (v : Wish). v.candidate) c.wish_at-wish.ensures.wish ∙ sym (candidate_is d.wishes k))
+          c.loop-place.invariant.candidates c.in_ok-put_in-2.ensures;
+    }
 
 pub returns : goal.returns
 returns c =
     let d = c.args.state.now.dossier in
     let places = c.places_by_candidate-places.result.now in
-    let rows = c.loop-place.rows.items in
+    let wishes = c.loop-place.wishes.items in
+    let candidates = c.loop-place.candidates.items in
     let P : DossierRows → Type 0 = IsValid in
     let valid = subst P (c.dossier.view_is ∙ c.dossier-dossier.ensures) c.dossier.invariant in
-    let Q = λ (ks : List ℕ). AreRowsOf (λ k. k) (applies_at d) (length d.programmes) ks rows in
+    let Q = λ (ks : List ℕ). AreRowsOf (λ k. k) (applies_at d) (length d.programmes) ks wishes in
+    let R = λ (ks : List ℕ). AreRowsOf (candidate_in d.wishes) (applies_at d) (length d.programmes) ks candidates in
     let all = take_all c.loop-place.place-index places (omega (arith, c.loop-place-test.false)) in
-    wishes_from d places rows (omega (arith, valid.size.wishes)) c.places_by_candidate-places.ensures
-    (subst Q all c.loop-place.invariant)
+    let are = subst Q all c.loop-place.invariant.wishes in
+    record {
+      wishes = wishes_from d places wishes (omega (arith, valid.size.wishes)) c.places_by_candidate-places.ensures are;
+      candidates = candidates_from d places wishes candidates are (subst R all c.loop-place.invariant.candidates);
+    }
