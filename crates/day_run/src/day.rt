@@ -1,10 +1,11 @@
 //! A day.
-ghost use Rattle.std.specs.Prelude.{◌≡◌, length, IfOk, IfErr, None, Some};
+ghost use Rattle.std.specs.Prelude.{◌≡◌, length, IfOk, IfErr, None, Some, true};
 ghost use Rattle.std.specs.Option.{option_copied, ForSome};
 ghost use Rattle.admit_core.specs.CallOrder.{AreCallOrders};
 ghost use Rattle.admit_core.specs.Ranges.{IsDay as IsDayNumber};
 ghost use Rattle.admit_core.specs.Days.{unfit_on};
 ghost use Rattle.day_run.specs.AnswersOn.{IsUnfitOf};
+ghost use Rattle.day_run.specs.DayPasses.{IsAnswered};
 ghost use Rattle.day_run.specs.RunDay.{EndsDay, IsDayDone, KeepsOpening, TellsNoneUnfit};
 ghost use Rattle.linked_demand.specs.Lineups.{IsLineupOf};
 
@@ -14,6 +15,7 @@ use crate::evening::record_day;
 use crate::lapses::lapse_offers;
 use crate::passes::make_passes;
 use crate::refusal::DayRefusal;
+use crate::touched::list_touched;
 use admit_core::{CallOrders, DayRecord, Terms};
 use bar_fixpoint::Picker;
 use day_state::DayState;
@@ -119,15 +121,22 @@ pub fn run_day_along(
         ceilings,
         terms,
         day,
+        desk.is_answered,
+        &mut desk.beside,
         picker,
     );
     if outcome.is_err() {
         desk.present.set_from(&desk.evening);
+    } else {
+        desk.is_answered = true;
     }
     outcome
 }
 
 /// Makes the lapse, the answers and the passes of a day. A refusal may come in their midst.
+///
+/// It is told whether all have been answered for in the evening before, and lists beside the states of
+/// whom that no longer is known.
 fn play<'d>(
     alloc: Global,
     opening: &mut DayState<'d>,
@@ -137,6 +146,8 @@ fn play<'d>(
     ceilings: &[u32],
     terms: Option<&Terms>,
     day: u32,
+    is_answered: bool,
+    beside: &mut Vec<u32>,
     picker: &mut dyn Picker,
 ) -> Result<DayRecord, DayRefusal>
     requires same { opening.old.dossier ≡ state.old.dossier }
@@ -145,6 +156,7 @@ fn play<'d>(
     requires ceilings { length ceilings.now ≡ length state.old.dossier.schools }
     requires before { ForSome (option_copied terms) (λ t. length t.before ≡ length state.old.dossier.wishes) }
     requires day { IsDayNumber day }
+    requires answered { is_answered ≡ true → IsAnswered state.old }
 
     ensures done { IfOk result (λ done. IsDayDone (option_copied terms.entry) orders.now.orders ceilings.now day
         (record { desk = record { present = state.old; evening = state.old; opening = opening.old }; told = told picker.old; choice = choice picker.old })
@@ -153,14 +165,28 @@ fn play<'d>(
     ensures unfit { IfErr result (IsUnfitOf state.old.dossier day (unfit_on (option_copied terms.entry) day state.old)) }
     ensures unopened { IfErr result (KeepsOpening opening.old opening.new) }
     ensures untold { IfErr result (TellsNoneUnfit (told picker.old) (told picker.new)) }
+    ensures answered { IfOk result (λ _. IsAnswered state.new) }
     ensures same { state.new.dossier ≡ state.old.dossier }
     ensures opening_same { opening.new.dossier ≡ state.old.dossier }
     ensures choice { choice picker.new ≡ choice picker.old }
 {
+    let _ = state.marks(); // one for each wish
     let _ = state.dossier().wishes.len(); // learns that the dossier is valid
     let lapsed = lapse_offers(alloc, state, terms, day)?;
     answer(state, day)?;
-    let passes = make_passes(alloc, opening, state, orders, lineup, ceilings, day, picker)?;
+    list_touched(beside, state, lapsed.as_slice(), day)?;
+    let passes = make_passes(
+        alloc,
+        opening,
+        state,
+        orders,
+        lineup,
+        ceilings,
+        day,
+        is_answered,
+        beside,
+        picker,
+    )?;
     let done = record_day(alloc, state, day, passes, lapsed)?;
     Ok(done)
 }
