@@ -28,8 +28,8 @@ use Rattle.admit_core.proofs.Tests.{among-map}
 use Rattle.auto_answer.specs.Laws.{SameOwnMarks}
 use Rattle.auto_answer.proofs.Answering.{turned, joined, all_both}
 use Rattle.auto_answer.proofs.LawsOfAnswers.{same_own}
-use Rattle.day_state.specs.Kept.{mark_in}
-use Rattle.day_state.proofs.Along.{among-filter}
+use Rattle.day_state.specs.Kept.{mark_in, wish_in}
+use Rattle.day_state.proofs.Along.{among-filter, same_marks, same_state}
 use Rattle.day_state.proofs.Change.{own_within}
 use Rattle.day_state.proofs.Independence.{Agrees, agrees_self, agrees_after}
 use Rattle.day_state.proofs.Lapsing.{lapse_at, length-lapse}
@@ -128,6 +128,29 @@ kept terms day c s k long each lt its none =
     (agrees_after c s l l (stamp_of day 0) first.dossier (agrees_self c l l_long) answers) in
     joined c s l (morning terms day s) first (turned c (morning terms day s) l back)
 
+lapse_long : (terms : Option Terms) (day : ℕ) (s : State) → length s.marks ≡ length s.dossier.wishes
+    → ForSome terms (λ t. length t.before ≡ length s.dossier.wishes)
+    → let l = after_lapse terms day s in (l.dossier ≡ s.dossier) × (length l.marks ≡ length l.dossier.wishes)
+lapse_long None day s long each = (refl, long)
+lapse_long (Some terms) day s long each = (refl, length-lapse terms day s (each terms refl ∙ sym long) ∙ long)
+
+-- where nobody is named, the day begins as the evening before
+nothing_changed : (terms : Option Terms) (day : ℕ) (s : State) → length s.marks ≡ length s.dossier.wishes
+    → ForSome terms (λ t. length t.before ≡ length s.dossier.wishes) → touched s.dossier (lapsed_on terms day s) day ≡ [] → morning terms day s ≡ s
+nothing_changed terms day s long each none =
+    let m = morning terms day s in
+    let l = after_lapse terms day s in
+    let parts = lapse_long terms day s long each in
+    let same : m.dossier ≡ s.dossier = morning_dossier terms day s in
+    let m_long : length m.marks ≡ length m.dossier.wishes =
+    (agrees_after 0 s l l (stamp_of day 0) parts.0 (agrees_self 0 l parts.1) (answers_of s.dossier day)).long in
+    let as_long : length m.marks ≡ length s.marks = m_long ∙ ap (λ (d : DossierRows). length d.wishes) same ∙ sym long in
+    same_state m s same (same_marks m.marks s.marks as_long (λ k lt.
+    let c = (wish_in s.dossier.wishes k).candidate in
+    let k_in : k < length s.dossier.wishes = omega (arith, as_long, long, lt) in
+    let stays : Agrees c s m = kept terms day c s k long each k_in (candidate_in s.dossier.wishes k) (ap (λ (ks : List ℕ). is_among c (map (candidate_of s.dossier) ks)) none) in
+    sym (stays.same k k_in refl)))
+
 untouched : (terms : Option Terms) (day : ℕ) (s : State) → length s.marks ≡ length s.dossier.wishes
     → ForSome terms (λ t. length t.before ≡ length s.dossier.wishes) → IsAnswered s
     → IsAnsweredBut (touched s.dossier (lapsed_on terms day s) day) (morning terms day s)
@@ -158,6 +181,15 @@ pub morning_is : (terms : Option Terms) (day : ℕ) (s l m : State) → l ≡ af
 morning_is terms day s l m l_is same m_is =
     m_is ∙ ap (λ (d : DossierRows). after_all l (stamp_of day 0) (answers_of d day)) same
     ∙ ap (λ (t : State). after_all t (stamp_of day 0) (answers_of s.dossier day)) l_is
+
+pub morning_alike : (terms : Option Terms) (day : ℕ) (s m : State) (lapsed : List Lapse) (beside : List ℕ) → length s.marks ≡ length s.dossier.wishes
+    → ForSome terms (λ t. length t.before ≡ length s.dossier.wishes) → m ≡ morning terms day s → lapsed ≡ lapsed_on terms day s
+    → beside ≡ touched m.dossier lapsed day → beside ≡ [] → m ≡ s
+morning_alike terms day s m lapsed beside long each m_is lapsed_is beside_is none =
+    let same : m.dossier ≡ s.dossier = ap (λ (t : State). t.dossier) m_is ∙ morning_dossier terms day s in
+    let named : beside ≡ touched s.dossier (lapsed_on terms day s) day =
+    beside_is ∙ ap (λ (d : DossierRows). touched d lapsed day) same ∙ ap (λ (ls : List Lapse). touched s.dossier ls day) lapsed_is in
+    m_is ∙ nothing_changed terms day s long each (sym named ∙ none)
 
 -- and those are wishes of the dossier
 kind_within : (d : DossierRows) (kind : AnswerKind) (target : ℕ) → IsTarget d kind target → AreWishesOf d (wishes_of_kind d kind target)

@@ -84,7 +84,7 @@ fn run_alone(
         (record { desk = desk.old; told = told picker.old; choice = choice picker.old })
         (record { desk = desk.new; told = told picker.new; choice = choice picker.new }) result }
 {
-    desk.evening.set_from(&desk.present);
+    keep_evening(&mut desk.evening, &desk.present, desk.is_alike);
     let lineup = Lineup::build(alloc, &desk.present, orders)?;
     run_day_along(alloc, desk, orders, &lineup, ceilings, terms, day, picker)
 }
@@ -111,7 +111,7 @@ pub fn run_day_along(
         (record { desk = desk.old; told = told picker.old; choice = choice picker.old })
         (record { desk = desk.new; told = told picker.new; choice = choice picker.new }) result }
 {
-    desk.evening.set_from(&desk.present);
+    keep_evening(&mut desk.evening, &desk.present, desk.is_alike);
     let outcome = play(
         alloc,
         &mut desk.opening,
@@ -122,9 +122,11 @@ pub fn run_day_along(
         terms,
         day,
         desk.is_answered,
+        desk.is_alike,
         &mut desk.beside,
         picker,
     );
+    desk.is_alike = false;
     if outcome.is_err() {
         desk.present.set_from(&desk.evening);
     } else {
@@ -133,10 +135,21 @@ pub fn run_day_along(
     outcome
 }
 
+/// Makes the evening the present state, where it is not yet.
+fn keep_evening<'d>(evening: &mut DayState<'d>, present: &DayState<'d>, is_alike: bool)
+    requires same { evening.old.dossier ≡ present.now.dossier }
+    requires alike { is_alike ≡ true → evening.old ≡ present.now }
+    ensures { evening.new ≡ present.now }
+{
+    if !is_alike {
+        evening.set_from(present);
+    }
+}
+
 /// Makes the lapse, the answers and the passes of a day. A refusal may come in their midst.
 ///
-/// It is told whether all have been answered for in the evening before, and lists beside the states of
-/// whom that no longer is known.
+/// It is told whether all have been answered for in the evening before, and whether this is the opening;
+/// it lists beside the states of whom that no longer is known.
 fn play<'d>(
     alloc: Global,
     opening: &mut DayState<'d>,
@@ -147,6 +160,7 @@ fn play<'d>(
     terms: Option<&Terms>,
     day: u32,
     is_answered: bool,
+    is_alike: bool,
     beside: &mut Vec<u32>,
     picker: &mut dyn Picker,
 ) -> Result<DayRecord, DayRefusal>
@@ -157,6 +171,7 @@ fn play<'d>(
     requires before { ForSome (option_copied terms) (λ t. length t.before ≡ length state.old.dossier.wishes) }
     requires day { IsDayNumber day }
     requires answered { is_answered ≡ true → IsAnswered state.old }
+    requires alike { is_alike ≡ true → opening.old ≡ state.old }
 
     ensures done { IfOk result (λ done. IsDayDone (option_copied terms.entry) orders.now.orders ceilings.now day
         (record { desk = record { present = state.old; evening = state.old; opening = opening.old }; told = told picker.old; choice = choice picker.old })
@@ -184,6 +199,7 @@ fn play<'d>(
         ceilings,
         day,
         is_answered,
+        is_alike,
         beside,
         picker,
     )?;

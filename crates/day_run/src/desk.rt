@@ -12,12 +12,14 @@ use std::marker::Model;
 /// the last pass.
 ///
 /// It also knows whether all have been answered for in the present state, as after each day. Then only
-/// those have to be answered for who have a wish that is listed beside the states, as a day begins.
+/// those have to be answered for who have a wish that is listed beside the states, as a day begins. And it
+/// knows whether all three states are the same, as they are before the first day: then none is copied.
 pub struct Desk<'d> {
     pub(crate) present: DayState<'d>,
     pub(crate) evening: DayState<'d>,
     pub(crate) opening: DayState<'d>,
     pub(crate) is_answered: bool,
+    pub(crate) is_alike: bool,
     pub(crate) beside: Vec<u32>,
 }
 
@@ -29,6 +31,7 @@ impl Drop for Desk<'_> {
             evening: _,
             opening: _,
             is_answered: _,
+            is_alike: _,
             beside: _,
         } = self;
     }
@@ -41,7 +44,7 @@ impl<'d> Model for Desk<'d> {
 
     ghost view = { λ s. record { present = s.present; evening = s.evening; opening = s.opening } };
 
-    ghost invariant = { λ s. AreKept s.is_answered (record { present = s.present; evening = s.evening; opening = s.opening }) };
+    ghost invariant = { λ s. AreKept s.is_answered s.is_alike (record { present = s.present; evening = s.evening; opening = s.opening }) };
 }
 
 impl<'d> Desk<'d> {
@@ -59,6 +62,7 @@ impl<'d> Desk<'d> {
             evening,
             opening,
             is_answered: false,
+            is_alike: true,
             beside: Vec::new(alloc),
         })
     }
@@ -93,6 +97,7 @@ impl<'d> Desk<'d> {
             evening: _,
             opening: _,
             is_answered: _,
+            is_alike: _,
             beside: _,
         } = self;
         present

@@ -1,5 +1,5 @@
 //! The passes of a day.
-ghost use Rattle.std.specs.Prelude.{◌≡◌, ◌≤◌, ◌<◌, ◌+◌, ◌++◌, length, not, true, IfOk, OnErr, IsTrue};
+ghost use Rattle.std.specs.Prelude.{◌≡◌, ◌≤◌, ◌<◌, ◌+◌, ◌++◌, length, not, true, [], IfOk, OnErr, IsTrue};
 ghost use Rattle.admit_core.specs.CallOrder.{AreCallOrders};
 ghost use Rattle.admit_core.specs.AutoAnswer.{auto_all, freed};
 ghost use Rattle.admit_core.specs.Boarding.{boarding};
@@ -36,6 +36,7 @@ pub(crate) fn make_passes<'d>(
     ceilings: &[u32],
     day: u32,
     is_answered: bool,
+    is_alike: bool,
     beside: &mut Vec<u32>,
     picker: &mut dyn Picker,
 ) -> Result<Vec<PassEnd>, OutOfMemory>
@@ -45,6 +46,7 @@ pub(crate) fn make_passes<'d>(
     requires ceilings { length ceilings.now ≡ length state.old.dossier.schools }
     requires beside { AreWishesOf state.old.dossier beside.old.items }
     requires answered { is_answered ≡ true → IsAnsweredBut beside.old.items state.old }
+    requires alike { is_alike ≡ true → beside.old.items ≡ [] → opening.old ≡ state.old }
 
     ensures passes { IfOk result (λ ends. Passes orders.now.orders ceilings.now day 1 state.old ends.items state.new) }
     ensures opening { IfOk result (λ ends. opening.new ≡ last_opening orders.now.orders day 1 state.old ends.items) }
@@ -61,7 +63,7 @@ pub(crate) fn make_passes<'d>(
 {
     let _ = state.marks(); // one for each wish
     let _ = state.dossier().wishes.len(); // at most 16,000,000
-    opening.set_from(state);
+    open_first(opening, state, is_alike, beside.as_slice());
     let mut ends = Vec::new(alloc);
     let mut number = 1;
     let mut is_answered = is_answered;
@@ -95,6 +97,18 @@ pub(crate) fn make_passes<'d>(
         beside.clear();
         is_answered = true;
         number += 1;
+    }
+}
+
+/// Opens the first pass of a day with the present state. The opening was this state already where it was
+/// the evening before, and nothing changed since.
+fn open_first<'d>(opening: &mut DayState<'d>, state: &DayState<'d>, is_alike: bool, changed: &[u32])
+    requires same { opening.old.dossier ≡ state.now.dossier }
+    requires alike { is_alike ≡ true → changed.now ≡ [] → opening.old ≡ state.now }
+    ensures { opening.new ≡ state.now }
+{
+    if !is_alike || !changed.is_empty() {
+        opening.set_from(state);
     }
 }
 

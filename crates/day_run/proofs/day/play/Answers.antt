@@ -12,7 +12,7 @@ use Rattle.day_run.proofs.DayEnds.{done_so}
 use Rattle.day_run.proofs.DayLaws.{laws_kept}
 use Rattle.day_run.proofs.DayPlaces.{day_in, lapsed_in}
 use Rattle.day_run.proofs.Stamps.{stamps_kept}
-use Rattle.day_run.proofs.Touching.{morning_answered, morning_is}
+use Rattle.day_run.proofs.Touching.{morning_alike, morning_answered, morning_is}
 use Rattle.day_run.proofs.day.play.Goals as goal
 
 pub list_touched-requires : goal.list_touched-requires
@@ -32,6 +32,17 @@ make_passes-requires-clause-answered g c = λ known.
     morning_answered terms c.args.day s m c.as_slice.result.now c.list_touched.new.places.items long c.requires.before
     (morning_is terms c.args.day s c.lapse_offers.new.state m c.in_ok-lapsed.ensures.state c.in_ok-lapsed.ensures.dossier c.in_ok-answer.ensures.applied.1)
     (c.as_slice.ensures.value ∙ c.in_ok-lapsed.ensures.lapsed) c.in_ok-list_touched.ensures.listed (c.requires.answered known)
+
+pub make_passes-requires-clause-alike : goal.make_passes-requires-clause-alike
+make_passes-requires-clause-alike g c = λ alike none.
+    let s = c.args.state.now in
+    let terms = option_copied c.args.terms in
+    let m = c.answer.new.state in
+    let long : length s.marks ≡ length s.dossier.wishes = ap (λ (ms : List Mark). length ms) (sym c.marks.ensures.marks) ∙ c.marks.ensures.one_each in
+    c.requires.alike alike
+    ∙ sym (morning_alike terms c.args.day s m c.as_slice.result.now c.list_touched.new.places.items long c.requires.before
+    (morning_is terms c.args.day s c.lapse_offers.new.state m c.in_ok-lapsed.ensures.state c.in_ok-lapsed.ensures.dossier c.in_ok-answer.ensures.applied.1)
+    (c.as_slice.ensures.value ∙ c.in_ok-lapsed.ensures.lapsed) c.in_ok-list_touched.ensures.listed none)
 
 pub returns-clause-done : goal.returns-clause-done
 returns-clause-done g c =
