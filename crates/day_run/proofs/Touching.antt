@@ -1,5 +1,5 @@
 -- Whoever has no offer that lapses and does not answer keeps their marks until the passes of a day begin.
-use Rattle.std.proofs.Common.{ℕ, ◌+◌, ◌<◌, ◌≡◌, Bool, true, false, List, [], ◌∷◌, ◌++◌, Option, None, Some, map, length, filter, inl, inr, refl, sym, ◌∙◌, ap, subst, arith, nat_eq, zip}
+use Rattle.std.proofs.Common.{ℕ, ◌+◌, ◌<◌, ◌≡◌, true, false, List, [], ◌∷◌, ◌++◌, Option, None, Some, map, length, filter, inl, inr, refl, sym, ◌∙◌, ap, subst, arith, nat_eq, zip}
 use Rattle.std.specs.Prelude.{ℤ, pos, ◌==◌, All, slice_index_or}
 use Rattle.std.specs.List.{enumerate_from, flat_map}
 use Rattle.std.specs.Option.{ForSome}
@@ -14,7 +14,6 @@ use Rattle.admit_core.specs.declared.dossier.AnswerKind.TheVariants.{Accept, Ref
 use Rattle.admit_core.specs.declared.records.Lapse.{Lapse}
 use Rattle.admit_core.specs.declared.records.Terms.{Terms}
 use Rattle.admit_core.specs.declared.state.Mark.{Mark}
-use Rattle.admit_core.specs.declared.state.Stamp.{Stamp}
 use Rattle.admit_core.specs.Answers.{after_all, candidate_at, is_own_kind, own}
 use Rattle.admit_core.specs.AutoAnswer.{auto_all}
 use Rattle.admit_core.specs.Days.{after_lapse, answers_of, lapsed_on, morning}
@@ -25,7 +24,6 @@ use Rattle.admit_core.specs.OwnWishes.{own_places}
 use Rattle.admit_core.specs.State.{State}
 use Rattle.admit_core.specs.Validity.{IsTarget}
 use Rattle.admit_core.proofs.Tests.{among-map}
-use Rattle.auto_answer.specs.Laws.{SameOwnMarks}
 use Rattle.auto_answer.proofs.Answering.{turned, joined, all_both}
 use Rattle.auto_answer.proofs.LawsOfAnswers.{same_own}
 use Rattle.day_state.specs.Kept.{mark_in, wish_in}
