@@ -111,7 +111,7 @@ passes_in orders ceilings day k s (pass ∷ next ∷ rest) evening same p =
     All-cons (IsPassIn s.dossier) pass (next ∷ rest) (pass_in s orders ceilings (stamp_of day k) pass same p.0)
     (passes_in orders ceilings day (k + 1) (closing s orders pass.pass.bars (stamp_of day k)) (next ∷ rest) evening same p.2)
 
-lapsed_in : (terms : Option Terms) (day : ℕ) (s : State) → ForSome terms (λ t. length t.before ≡ length s.dossier.wishes) → All (λ (l : Lapse). l.wish < length s.dossier.wishes) (lapsed_on terms day s)
+pub lapsed_in : (terms : Option Terms) (day : ℕ) (s : State) → ForSome terms (λ t. length t.before ≡ length s.dossier.wishes) → All (λ (l : Lapse). l.wish < length s.dossier.wishes) (lapsed_on terms day s)
 lapsed_in None day s one_each = All-nil (λ (l : Lapse). l.wish < length s.dossier.wishes)
 lapsed_in (Some terms) day s one_each =
     let n = length s.dossier.wishes in

@@ -16,3 +16,4 @@ pub mod DayLaws
 pub mod DayEnds
 pub mod LaterPasses
 pub mod BesideChanges
+pub mod Touching

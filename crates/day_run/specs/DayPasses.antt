@@ -9,6 +9,7 @@ use Rattle.admit_core.specs.State.{State, changed_to, is_live, is_waiting}
 use Rattle.admit_core.specs.AutoAnswer.{auto_all}
 use Rattle.admit_core.specs.Boarding.{boarding}
 use Rattle.admit_core.specs.Days.{closing, offered}
+use Rattle.auto_answer.specs.Laws.{AreAnsweredBut}
 use Rattle.day_state.specs.Along.{change_along}
 use Rattle.bar_law.specs.Runs.{schools_of}
 use Rattle.bar_fixpoint.specs.Chosen.{AreChosen}
@@ -32,6 +33,10 @@ last_opening orders day k s (pass ∷ next ∷ rest) =
 -- all have been answered for: automatic answers change nothing
 abbrev pub IsAnswered : State → Type 0
 IsAnswered s = (stamp : Stamp) → auto_all s stamp ≡ s
+
+-- all have been answered for but maybe those who have one of these wishes
+abbrev pub IsAnsweredBut : List ℕ → State → Type 0
+IsAnsweredBut places s = (stamp : Stamp) → AreAnsweredBut places s stamp
 
 -- how many wishes are live or wait
 abbrev pub open_wishes : State → ℕ

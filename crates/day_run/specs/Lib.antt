@@ -1,6 +1,7 @@
 pub mod AnswersOn
 pub mod Changes
 pub mod DayPasses
+pub mod Touched
 pub mod DeskStates
 pub mod Evening
 pub mod Ceilings

@@ -10,9 +10,9 @@ use day_state::{DayState, UnfitAt};
 
 /// The answers of one day, and the place of the first one.
 #[derive(Clone, Copy)]
-struct AnswersOn<'d> {
+pub(crate) struct AnswersOn<'d> {
     first: usize,
-    answers: &'d [Answer],
+    pub(crate) answers: &'d [Answer],
 }
 
 /// The first of the answers whose day isn't before this one.
@@ -43,7 +43,7 @@ fn between(answers: &[Answer], from: usize, to: usize) -> &[Answer]
 }
 
 /// The answers of a day, found in the order by day.
-fn answers_on(dossier: &Dossier, day: u32) -> AnswersOn<'_>
+pub(crate) fn answers_on(dossier: &Dossier, day: u32) -> AnswersOn<'_>
     ensures { AreAnswersOn dossier.now day result.first result.answers.now }
 {
     let all = dossier.answers.as_slice();

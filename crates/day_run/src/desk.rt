@@ -10,10 +10,17 @@ use std::marker::Model;
 
 /// The present state of a dossier's wishes, the state in which its last day began, and the opening of
 /// the last pass.
+///
+/// It also knows whether all have been answered for in the present state, as after each day. Then only
+/// those have to be answered for who have a wish that is listed beside the states, as a day begins. And it
+/// knows whether all three states are the same, as they are before the first day: then none is copied.
 pub struct Desk<'d> {
     pub(crate) present: DayState<'d>,
     pub(crate) evening: DayState<'d>,
     pub(crate) opening: DayState<'d>,
+    pub(crate) is_answered: bool,
+    pub(crate) is_alike: bool,
+    pub(crate) beside: Vec<u32>,
 }
 
 // Not derived: so a desk is dropped in one step where it is held, and not state by state.
@@ -23,18 +30,21 @@ impl Drop for Desk<'_> {
             present: _,
             evening: _,
             opening: _,
+            is_answered: _,
+            is_alike: _,
+            beside: _,
         } = self;
     }
 }
 
 impl<'d> Model for Desk<'d> {
-    ghost use Rattle.day_run.specs.DeskStates.{DeskStates, AreOfOne};
+    ghost use Rattle.day_run.specs.DeskStates.{DeskStates, AreKept};
 
     ghost Value = { DeskStates };
 
     ghost view = { λ s. record { present = s.present; evening = s.evening; opening = s.opening } };
 
-    ghost invariant = { λ s. AreOfOne (record { present = s.present; evening = s.evening; opening = s.opening }) };
+    ghost invariant = { λ s. AreKept s.is_answered s.is_alike (record { present = s.present; evening = s.evening; opening = s.opening }) };
 }
 
 impl<'d> Desk<'d> {
@@ -51,6 +61,9 @@ impl<'d> Desk<'d> {
             present,
             evening,
             opening,
+            is_answered: false,
+            is_alike: true,
+            beside: Vec::new(alloc),
         })
     }
 
@@ -83,6 +96,9 @@ impl<'d> Desk<'d> {
             present,
             evening: _,
             opening: _,
+            is_answered: _,
+            is_alike: _,
+            beside: _,
         } = self;
         present
     }

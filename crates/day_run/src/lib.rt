@@ -17,6 +17,7 @@ mod laws;
 mod morning;
 mod passes;
 mod refusal;
+mod touched;
 
 pub use campaign::{Campaign, NoRoom};
 pub use ceilings::ceilings_on;

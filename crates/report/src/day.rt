@@ -5,6 +5,7 @@ ghost use Rattle.report.specs.DayText.{IsFallOf, IsLapseOf, IsPassOf, auto_line,
 use crate::date::DateWord;
 use crate::ids::{push_numbers, school_id, wish_id};
 use crate::number::push_number;
+use crate::status::word_of;
 use admit_core::{Change, DayRecord, Dossier, Fall, Lapse, OutOfMemory, PassEnd, Terms};
 use calendar::{Civil, deadline, on_day};
 use std::alloc::{AllocError, Global};
@@ -62,11 +63,11 @@ fn push_auto(text: &mut String, dossier: &Dossier, change: Change) -> Result<(),
     ensures { OnOk result
         (string_bytes text.new ≡ string_bytes text.old ++ auto_line dossier.now change) }
 {
-    let status = change.status;
     text.push_str("auto ")?;
     push_number(text, wish_id(dossier, change.wish))?;
-    writeln!(text, " {status}")?;
-    Ok(())
+    text.push_str(" ")?;
+    text.push_str(word_of(change.status))?;
+    text.push_str("\n")
 }
 
 /// Adds the lines of the changes that automatic answers made.

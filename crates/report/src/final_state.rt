@@ -2,13 +2,14 @@
 ghost use Rattle.std.specs.Prelude.{◌≡◌, ◌<◌, ◌++◌, ◌∷◌, [], IfOk, OnOk, length, string_bytes};
 ghost use Rattle.std.specs.Fmt.{decimal};
 ghost use Rattle.admit_core.specs.Lines.{status_word};
-ghost use Rattle.report.specs.FinalText.{HasDate, HasDates, dated_row, final_dated_text, final_text, offer_day_at};
+ghost use Rattle.report.specs.FinalText.{HasDate, HasDates, dated_row, final_dated_text, final_text, offer_day_at, since_word};
 ghost use Rattle.report.specs.DayText.{date_on};
 ghost use Rattle.report.specs.Words.{row};
 ghost use Rattle.calendar.specs.Dates.{IsCivil};
 
 use crate::date::DateWord;
 use crate::number::push_number;
+use crate::status::word_of;
 use admit_core::{OutOfMemory, Status, Terms, Wish};
 use calendar::{Civil, on_day};
 use day_state::DayState;
@@ -20,8 +21,9 @@ fn push_row(text: &mut String, id: u32, status: Status) -> Result<(), AllocError
         ≡ string_bytes text.old ++ row (decimal id ∷ status_word status ∷ [])) }
 {
     push_number(text, id)?;
-    writeln!(text, ",{status}")?;
-    Ok(())
+    text.push_str(",")?;
+    text.push_str(word_of(status))?;
+    text.push_str("\n")
 }
 
 /// Adds the final state: each wish with its status. What follows the first line is a state slot.
@@ -63,6 +65,28 @@ fn offer_date(state: &DayState<'_>, start: Civil, terms: &Terms, place: u32) -> 
     on_day(start, day)
 }
 
+/// Adds the end of a row: since when an offer stands, and nothing where the wish is not offered.
+fn push_since(
+    text: &mut String,
+    state: &DayState<'_>,
+    start: Civil,
+    terms: &Terms,
+    place: u32,
+) -> Result<(), AllocError>
+    requires start { IsCivil start }
+    requires place { place < length state.now.dossier.wishes }
+    requires before { place < length terms.now.before }
+    requires date { HasDate state.now start terms.now.before place }
+    ensures { OnOk result (string_bytes text.new
+        ≡ string_bytes text.old ++ since_word state.now start terms.now.before place ++ 10 ∷ []) }
+{
+    if let Status::Offered = state.status(place) {
+        let since = DateWord(offer_date(state, start, terms, place));
+        write!(text, "{since}")?;
+    }
+    text.push_str("\n")
+}
+
 /// Adds the row of a wish at its place, with its status, and the date of its offer where it is
 /// offered.
 fn push_dated_row(
@@ -79,15 +103,11 @@ fn push_dated_row(
     requires date { HasDate state.now start terms.now.before place }
     ensures { OnOk result (string_bytes text.new ≡ string_bytes text.old ++ dated_row state.now start terms.now.before (place, wish.now)) }
 {
-    let id = wish.id;
-    match state.status(place) {
-        Status::Offered => {
-            let since = DateWord(offer_date(state, start, terms, place));
-            writeln!(text, "{id},offered,{since}")?;
-        }
-        status => writeln!(text, "{id},{status},")?,
-    }
-    Ok(())
+    push_number(text, wish.id)?;
+    text.push_str(",")?;
+    text.push_str(word_of(state.status(place)))?;
+    text.push_str(",")?;
+    push_since(text, state, start, terms, place)
 }
 
 /// Adds the final state where offers have dates, of which `start` is that of day 1: each wish with

@@ -13,6 +13,7 @@ mod number;
 mod order;
 mod refusal;
 mod sample;
+mod status;
 mod words;
 mod worked;
 

@@ -3,8 +3,8 @@ use Rattle.admit_core.specs.AutoAnswer.{auto_all}
 use Rattle.admit_core.specs.State.{State}
 use Rattle.day_run.proofs.passes.follow.Goals as goal
 
-pub returns-then-stamp-gt1 : goal.returns-then-stamp-gt1
-returns-then-stamp-gt1 c =
+pub returns-then-is_answered : goal.returns-then-is_answered
+returns-then-is_answered c =
     c.auto_some.ensures.state
     ∙ ap (λ (t : State). auto_all t c.args.stamp) c.offer_all.ensures.offered
-    ∙ sym (c.requires.steps c.if-stamp-gt1.true)
+    ∙ sym (c.requires.steps c.if-is_answered.true)

@@ -3,7 +3,7 @@ use Rattle.admit_core.specs.declared.state.Mark.{Mark}
 use Rattle.admit_core.specs.AutoAnswer.{auto_all}
 use Rattle.admit_core.specs.State.{State}
 use Rattle.day_run.specs.DayPasses.{IsAnswered}
-use Rattle.day_run.proofs.LaterPasses.{answered_but, closing_answered, offers_within, same_but}
+use Rattle.day_run.proofs.LaterPasses.{answered_but, asked_within, closing_answered, same_but}
 use Rattle.day_run.proofs.OnePass.{closed, pass_ended, fewer_open, closed_long}
 use Rattle.day_run.proofs.passes.make_pass.Goals as goal
 
@@ -33,12 +33,16 @@ answer_after-freed-requires g c =
     let s = c.args.state.now in
     let orders = c.args.orders.now.orders in
     let bars = c.in_ok-pass.pass.bars in
+    let beside = c.args.beside.now.items in
+    let offers = c.as_slice.result.now in
+    let asked = c.as_slice-2.result.now in
     let long : length s.marks ≡ length s.dossier.wishes = ap (λ (ms : List Mark). length ms) (sym c.marks.ensures.marks) ∙ c.marks.ensures.one_each in
-    let offers = c.as_slice.ensures ∙ c.in_ok-pass.ensures.pass.offers in
+    let are = c.as_slice.ensures ∙ c.in_ok-pass.ensures.pass.offers in
+    let asked_are = c.as_slice-2.ensures.value ∙ c.in_ok-extend_from_slice.ensures.items in
     let made = c.in_ok-pass.ensures.state in
     record {
-      within = offers_within s c.pass.new.state orders bars c.as_slice.result.now (ap (λ (t : State). t.dossier) made) offers;
-      others = λ later. answered_but s c.pass.new.state orders bars c.as_slice.result.now c.args.stamp long made offers (c.requires.answered later);
+      asked = asked_within s c.pass.new.state orders bars beside offers asked (ap (λ (t : State). t.dossier) made) are c.requires.beside asked_are;
+      others = λ known. answered_but s c.pass.new.state orders bars beside offers asked c.args.stamp long made are asked_are (c.requires.answered known c.args.stamp);
     }
 
 pub changes_after-requires : goal.changes_after-requires
@@ -47,16 +51,21 @@ changes_after-requires g c =
     let orders = c.args.orders.now.orders in
     let bars = c.in_ok-pass.pass.bars in
     let stamp = c.args.stamp in
+    let beside = c.args.beside.now.items in
+    let offers = c.as_slice.result.now in
+    let asked = c.as_slice-3.result.now in
     let long : length s.marks ≡ length s.dossier.wishes = ap (λ (ms : List Mark). length ms) (sym c.marks.ensures.marks) ∙ c.marks.ensures.one_each in
-    let offers = c.as_slice-2.ensures ∙ c.in_ok-pass.ensures.pass.offers in
+    let are = c.as_slice.ensures ∙ c.in_ok-pass.ensures.pass.offers in
+    let asked_are = c.as_slice-3.ensures.value ∙ c.in_ok-extend_from_slice.ensures.items in
     let made = c.in_ok-pass.ensures.state in
     let close = c.answer_after-freed.ensures.state in
     let opens = ap (λ (t : State). t.dossier) c.requires.opening in
     record {
       same = ap (λ (t : State). t.dossier) (close ∙ ap (λ (t : State). auto_all t stamp) made) ∙ sym opens;
-      within = offers_within s c.args.opening.now orders bars c.as_slice-2.result.now opens offers;
-      others = λ later.
-          same_but s c.pass.new.state c.answer_after-freed.new.state c.args.opening.now orders bars c.as_slice-2.result.now stamp long made close c.requires.opening offers (c.requires.answered later);
+      asked = asked_within s c.args.opening.now orders bars beside offers asked opens are c.requires.beside asked_are;
+      others = λ known.
+          same_but s c.pass.new.state c.answer_after-freed.new.state c.args.opening.now orders bars beside offers asked stamp long made close c.requires.opening are asked_are
+          (c.requires.answered known stamp);
     }
 
 pub returns-clause-answered : goal.returns-clause-answered

@@ -1,6 +1,7 @@
-use Rattle.std.proofs.Common.{◌≡◌, ◌<◌, ◌++◌}
+use Rattle.std.proofs.Common.{◌≡◌, ◌++◌, true}
 use Rattle.day_run.proofs.PassesSoFar.{SoFar}
-use Rattle.day_run.specs.DayPasses.{AreChosenPasses, IsAnswered, open_wishes, schools_of_passes}
+use Rattle.day_run.specs.DayPlaces.{AreWishesOf}
+use Rattle.day_run.specs.DayPasses.{AreChosenPasses, IsAnsweredBut, open_wishes, schools_of_passes}
 use Rattle.day_run.proofs.passes.make_passes.Given as goal
 
 abbrev pub invariant-passes : goal.invariant-passes
@@ -10,7 +11,8 @@ invariant-passes g l =
     record {
       so_far : SoFar l.orders.orders l.ceilings l.day l.number l.fn.state l.state l.ends.items;
       opening : l.opening ≡ l.state;
-      answered : 1 < l.number → IsAnswered l.state;
+      beside : AreWishesOf l.fn.state.dossier l.beside.items;
+      answered : l.is_answered ≡ true → IsAnsweredBut l.beside.items l.state;
       chosen : AreChosenPasses l.orders.orders l.ceilings l.day 1 l.fn.state (first.choice l.fn.picker.now.1) (first.told l.fn.picker.now.1) l.ends.items;
       told : now.told l.picker.now.1 ≡ first.told l.fn.picker.now.1 ++ schools_of_passes l.ends.items;
       choice : now.choice l.picker.now.1 ≡ first.choice l.fn.picker.now.1;
