@@ -27,7 +27,7 @@ fn lists_in(alloc: Global, text: &str) -> Result<Vec<Vec<u32>>, OutOfMemory> {
 }
 
 /// The parts of a market in words: the candidates' lists between `;`, and behind `/` each programme's
-/// seats with `:` and its order.
+/// seats with `:` and its order. Blank behind `/` is no programme.
 fn parts_in(alloc: Global, input: &str) -> Result<Parts, OutOfMemory> {
     let (lists, programmes) = input.split_once("/").unwrap_or((input, ""));
     let mut parts = Parts {
@@ -35,6 +35,9 @@ fn parts_in(alloc: Global, input: &str) -> Result<Parts, OutOfMemory> {
         orders: Vec::new(alloc),
         seats: Vec::new(alloc),
     };
+    if programmes.trim().is_empty() {
+        return Ok(parts);
+    }
     for programme in programmes.split(";") {
         let (seats, order) = programme.split_once(":").unwrap_or((programme, ""));
         parts.orders.push(numbers_in(alloc, order)?)?;
@@ -104,8 +107,19 @@ fn push_matching(text: &mut String, solved: &Solved) -> Result<(), OutOfMemory> 
     push_places(text, solved.places.as_slice())
 }
 
-/// A market by the first, the last and the next place in turn, and by a picker that refuses its
-/// second pick and is asked again.
+/// Adds the answers of a picker that refuses a pick and is asked again.
+fn push_tired(
+    alloc: Global,
+    text: &mut String,
+    market: &Market,
+    mut picker: TiredPicker,
+) -> Result<(), OutOfMemory> {
+    push_solved(alloc, text, market, &mut picker)?;
+    push_solved(alloc, text, market, &mut picker)
+}
+
+/// A market by the first, the last and the next place in turn, and by pickers that refuse their
+/// second pick or their first and are asked again.
 fn market_shown(alloc: Global, market: &Market) -> Result<String, OutOfMemory> {
     let mut text = String::new(alloc);
     push_solved(alloc, &mut text, market, &mut FirstPicker::new(alloc))?;
@@ -114,9 +128,9 @@ fn market_shown(alloc: Global, market: &Market) -> Result<String, OutOfMemory> {
     text.push_str(", turn")?;
     push_solved(alloc, &mut text, market, &mut TurnPicker::new(alloc))?;
     text.push_str(", tired")?;
-    let mut tired = TiredPicker::new(alloc, 2);
-    push_solved(alloc, &mut text, market, &mut tired)?;
-    push_solved(alloc, &mut text, market, &mut tired)?;
+    push_tired(alloc, &mut text, market, TiredPicker::new(alloc, 2))?;
+    text.push_str(", tired at once")?;
+    push_tired(alloc, &mut text, market, TiredPicker::new(alloc, 1))?;
     Ok(text)
 }
 

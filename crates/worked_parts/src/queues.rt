@@ -48,26 +48,43 @@ fn push_all_of<L: Ledger>(
 /// Adds whom the queues give when they are emptied one after another.
 fn push_emptied<L: Ledger>(
     alloc: Global,
-    blank: Blank,
     text: &mut String,
     group: &RankGroup,
+    steps: &mut Steps<L>,
 ) -> Result<(), OutOfMemory>
-    requires ranking { IsRanking group.now }
-    requires name { blank.name ≡ L.name }
-    requires parts { blank.parts ≡ L.parts }
-    requires shared { 0 < L.parts }
+    requires { IsRanking group.now }
 {
-    let mut steps: Steps<L> = Steps::new(blank);
     let mut queues = Queues::build(alloc, group.list.as_slice())?;
     push_heads(text, &queues)?;
     for kind in KINDS {
-        push_all_of(text, &mut queues, kind, &mut steps)?;
+        push_all_of(text, &mut queues, kind, steps)?;
     }
     push_heads(text, &queues)
 }
 
 /// Adds the call order, and what is left in the queues behind it.
 fn push_called<L: Ledger>(
+    alloc: Global,
+    text: &mut String,
+    group: &RankGroup,
+    steps: &mut Steps<L>,
+) -> Result<(), OutOfMemory>
+    requires { IsRanking group.now }
+{
+    let mut queues = Queues::build(alloc, group.list.as_slice())?;
+    let order = call_order_queued(
+        alloc,
+        &mut queues,
+        group.scholar_pct,
+        group.resident_pct,
+        steps,
+    )?;
+    push_words(text, order.list.as_slice())?;
+    push_heads(text, &queues)
+}
+
+/// Adds the queues of a group, emptied and called.
+fn push_group<L: Ledger>(
     alloc: Global,
     blank: Blank,
     text: &mut String,
@@ -79,16 +96,9 @@ fn push_called<L: Ledger>(
     requires shared { 0 < L.parts }
 {
     let mut steps: Steps<L> = Steps::new(blank);
-    let mut queues = Queues::build(alloc, group.list.as_slice())?;
-    let order = call_order_queued(
-        alloc,
-        &mut queues,
-        group.scholar_pct,
-        group.resident_pct,
-        &mut steps,
-    )?;
-    push_words(text, order.list.as_slice())?;
-    push_heads(text, &queues)
+    push_emptied(alloc, text, group, &mut steps)?;
+    push_word(text, &"called")?;
+    push_called(alloc, text, group, &mut steps)
 }
 
 fn queues_shown(alloc: Global, groups: &[RankGroup]) -> Result<String, OutOfMemory>
@@ -96,9 +106,7 @@ fn queues_shown(alloc: Global, groups: &[RankGroup]) -> Result<String, OutOfMemo
 {
     let mut text = String::new(alloc);
     for group in groups {
-        push_emptied::<Brand>(alloc, Blank::new(1), &mut text, group)?;
-        push_word(&mut text, &"called")?;
-        push_called::<Brand>(alloc, Blank::new(1), &mut text, group)?;
+        push_group::<Brand>(alloc, Blank::new(1), &mut text, group)?;
     }
     Ok(text)
 }
