@@ -117,7 +117,24 @@ impl Model for Dossier {
 
     ghost Value = { DossierRows };
 
-    ghost view = { λ d. record { groups = d.groups; programmes = d.programmes; schools = d.schools; wishes = d.wishes; statuses = d.statuses; ceilings = d.ceilings; answers = d.answers } };
+    ghost view = { λ d. record {
+      groups = d.groups;
+      programmes = d.programmes;
+      schools = d.schools;
+      wishes = d.wishes;
+      statuses = d.statuses;
+      ceilings = d.ceilings;
+      answers = d.answers;
+    } };
 
-    ghost invariant = { λ d. IsValid (record { groups = d.groups; programmes = d.programmes; schools = d.schools; wishes = d.wishes; statuses = d.statuses; ceilings = d.ceilings; answers = d.answers }) };
+    ghost invariant = { λ d. IsValid
+        (record {
+          groups = d.groups;
+          programmes = d.programmes;
+          schools = d.schools;
+          wishes = d.wishes;
+          statuses = d.statuses;
+          ceilings = d.ceilings;
+          answers = d.answers;
+        }) };
 }

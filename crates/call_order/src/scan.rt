@@ -72,7 +72,8 @@ fn count_called(group: &RankGroup, before: &[u32], favoured: Favoured) -> usize
 
 /// Whether the rate of the favoured binds.
 fn rate_binds(group: &RankGroup, before: &[u32], favoured: Favoured) -> bool
-    ensures { result ≡ binds (rate_of favoured group.now) (is_favoured favoured) group.now before.now }
+    ensures { result ≡ binds (rate_of favoured group.now) (is_favoured favoured)
+        group.now before.now }
 {
     any_remain(group, before, favoured)
         && 100 * (count_called(group, before, favoured) as u128)

@@ -26,9 +26,13 @@ impl Model for Queues {
 
     ghost Value = { QueueLists };
 
-    ghost view = { λ q. record { remaining = remaining_of q.heads q.list.items; taken = q.taken.items } };
+    ghost view = { λ q. record {
+      remaining = remaining_of q.heads q.list.items;
+      taken = q.taken.items;
+    } };
 
-    ghost invariant = { λ q. AreHeads q.heads q.list.items (vec_len q.taken) (vec_capacity q.taken) };
+    ghost invariant = { λ q. AreHeads q.heads q.list.items (vec_len q.taken)
+        (vec_capacity q.taken) };
 }
 
 impl Queues {
@@ -63,7 +67,8 @@ impl Queues {
     pub fn pop<L: Ledger>(&mut self, kind: Kind, steps: &mut Steps<L>) -> Option<Ranked>
         ensures head { result ≡ head_of kind self.old.remaining }
         ensures remaining { self.new.remaining ≡ without_head kind self.old.remaining }
-        ensures taken { self.new.taken ≡ self.old.taken ++ option_to_list (option_map (λ r. r.candidate) result) }
+        ensures taken { self.new.taken ≡ self.old.taken
+            ++ option_to_list (option_map (λ r. r.candidate) result) }
         ensures steps { steps.new ≡ steps.old + (if is_some result then 1 else 0) }
 
         ensures empty { IfNone result (self.new ≡ self.old) }

@@ -19,7 +19,8 @@ pub(crate) struct AnswersOn<'d> {
 fn first_not_before(answers: &[Answer], day: u32) -> usize
     requires { IsNonDecreasingBy (λ a. a.day) answers.now }
     ensures within { result ≤ length answers.now }
-    ensures point { IsPartitionPoint (λ a. nat_lt a.day day ≡ true) (λ a. nat_lt a.day day ≡ false) answers.now result }
+    ensures point { IsPartitionPoint (λ a. nat_lt a.day day ≡ true) (λ a. nat_lt a.day day ≡ false)
+        answers.now result }
 {
     answers.partition_point(|answer| answer.day < day)
 }
@@ -28,7 +29,8 @@ fn first_not_before(answers: &[Answer], day: u32) -> usize
 fn first_after(answers: &[Answer], day: u32) -> usize
     requires { IsNonDecreasingBy (λ a. a.day) answers.now }
     ensures within { result ≤ length answers.now }
-    ensures point { IsPartitionPoint (λ a. nat_le a.day day ≡ true) (λ a. nat_le a.day day ≡ false) answers.now result }
+    ensures point { IsPartitionPoint (λ a. nat_le a.day day ≡ true) (λ a. nat_le a.day day ≡ false)
+        answers.now result }
 {
     answers.partition_point(|answer| answer.day <= day)
 }

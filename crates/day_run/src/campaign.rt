@@ -34,7 +34,8 @@ impl<'d> Campaign<'d> {
         picker: Box<dyn Picker>,
     ) -> Result<Campaign<'d>, NoRoom>
         requires { AreCallOrders dossier.now.groups orders.now.orders }
-        ensures begun { IfOk result (λ campaign. IsBegun dossier.now orders.now.orders None campaign.course) }
+        ensures begun { IfOk result (λ campaign. IsBegun dossier.now orders.now.orders None
+            campaign.course) }
         ensures picker { IfOk result (λ campaign. campaign.picker ≡ picker) }
         ensures back { IfErr result (λ no_room. no_room.picker ≡ picker) }
     {
@@ -54,7 +55,8 @@ impl<'d> Campaign<'d> {
     ) -> Result<Campaign<'d>, NoRoom>
         requires orders { AreCallOrders dossier.now.groups orders.now.orders }
         requires before { length terms.before ≡ length dossier.now.wishes }
-        ensures begun { IfOk result (λ campaign. IsBegun dossier.now orders.now.orders (Some terms) campaign.course) }
+        ensures begun { IfOk result (λ campaign. IsBegun dossier.now orders.now.orders (Some terms)
+            campaign.course) }
         ensures picker { IfOk result (λ campaign. campaign.picker ≡ picker) }
         ensures back { IfErr result (λ no_room. no_room.picker ≡ picker) }
     {
@@ -70,8 +72,18 @@ impl<'d> Campaign<'d> {
         requires { self.old.course.day < 366 }
 
         ensures { EndsNextDay
-            (record { course = self.old.course; told = told self.old.picker; choice = choice self.old.picker })
-            (record { course = self.new.course; told = told self.new.picker; choice = choice self.new.picker }) result }
+            (record {
+              course = self.old.course;
+              told = told self.old.picker;
+              choice = choice
+                  self.old.picker;
+            })
+            (record {
+              course = self.new.course;
+              told = told self.new.picker;
+              choice = choice
+                  self.new.picker;
+            }) result }
     {
         self.course.next_day(alloc, &mut *self.picker)
     }
@@ -86,7 +98,8 @@ impl<'d> Campaign<'d> {
     /// Whether the last day that was tried came about; it then left its last pass.
     pub fn has_day(&self) -> bool
         ensures has_day { result ≡ self.now.course.has_day }
-        ensures last { IsTrue result → IsLastPass (pass_of self.now.course) self.now.course.present }
+        ensures last { IsTrue result → IsLastPass (pass_of self.now.course)
+            self.now.course.present }
     {
         self.course.has_day()
     }

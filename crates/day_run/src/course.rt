@@ -50,9 +50,30 @@ impl<'d> Model for Course<'d> {
 
     ghost Value = { Progress };
 
-    ghost view = { λ s. record { orders = s.orders.now.orders; terms = s.terms; day = s.day; has_day = s.has_day; present = s.desk.present; evening = s.desk.evening; opening = s.desk.opening; bars = s.bars.items; ceilings = s.ceilings.items } };
+    ghost view = { λ s. record {
+      orders = s.orders.now.orders;
+      terms = s.terms;
+      day = s.day;
+      has_day = s.has_day;
+      present = s.desk.present;
+      evening = s.desk.evening;
+      opening = s.desk.opening;
+      bars = s.bars.items;
+      ceilings = s.ceilings.items;
+    } };
 
-    ghost invariant = { λ s. IsAlong s.lineup (record { orders = s.orders.now.orders; terms = s.terms; day = s.day; has_day = s.has_day; present = s.desk.present; evening = s.desk.evening; opening = s.desk.opening; bars = s.bars.items; ceilings = s.ceilings.items }) };
+    ghost invariant = { λ s. IsAlong s.lineup
+        (record {
+          orders = s.orders.now.orders;
+          terms = s.terms;
+          day = s.day;
+          has_day = s.has_day;
+          present = s.desk.present;
+          evening = s.desk.evening;
+          opening = s.desk.opening;
+          bars = s.bars.items;
+          ceilings = s.ceilings.items;
+        }) };
 }
 
 impl<'d> Course<'d> {
@@ -93,7 +114,8 @@ impl<'d> Course<'d> {
 
         ensures { EndsNextDay
             (record { course = self.old; told = told picker.old; choice = choice picker.old })
-            (record { course = self.new; told = told picker.new; choice = choice picker.new }) result }
+            (record { course = self.new; told = told picker.new; choice = choice picker.new })
+            result }
     {
         self.has_day = false;
         let day = self.day + 1;
@@ -144,7 +166,8 @@ impl<'d> Course<'d> {
         self.desk.opening()
     }
 
-    /// The bars of the last pass, by school; before the first day they are the schools' own ceilings.
+    /// The bars of the last pass, by school; before the first day they are the schools' own
+    /// ceilings.
     pub fn bars(&self) -> &[u32]
         ensures { result.now ≡ self.now.bars }
     {

@@ -15,10 +15,13 @@ pub(crate) fn lapse_offers(
     terms: Option<&Terms>,
     day: u32,
 ) -> Result<Vec<Lapse>, OutOfMemory>
-    requires before { ForSome (option_copied terms) (λ t. length t.before ≡ length state.old.dossier.wishes) }
+    requires before { ForSome (option_copied terms)
+        (λ t. length t.before ≡ length state.old.dossier.wishes) }
     requires day { day ≤ 366 }
-    ensures lapsed { IfOk result (λ v. v.items ≡ lapsed_on (option_copied terms.entry) day state.old) }
-    ensures state { IfOk result (λ _. state.new ≡ after_lapse (option_copied terms.entry) day state.old) }
+    ensures lapsed { IfOk result (λ v. v.items ≡ lapsed_on (option_copied terms.entry)
+        day state.old) }
+    ensures state { IfOk result (λ _. state.new ≡ after_lapse (option_copied terms.entry)
+        day state.old) }
     ensures dossier { state.new.dossier ≡ state.old.dossier }
 {
     match terms {

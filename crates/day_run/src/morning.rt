@@ -12,7 +12,8 @@ use day_state::DayState;
 
 /// Ends the offers whose deadline has passed, where terms are given.
 fn lapse(state: &mut DayState<'_>, terms: Option<&Terms>, day: u32)
-    requires { ForSome (option_copied terms) (λ t. length t.before ≡ length state.old.dossier.wishes) }
+    requires { ForSome (option_copied terms)
+        (λ t. length t.before ≡ length state.old.dossier.wishes) }
     ensures state { state.new ≡ after_lapse (option_copied terms.entry) day state.old }
     ensures dossier { state.new.dossier ≡ state.old.dossier }
 {
@@ -23,17 +24,19 @@ fn lapse(state: &mut DayState<'_>, terms: Option<&Terms>, day: u32)
 }
 
 /// Leads from the evening before to the state in which the passes of a day begin: the offers whose
-/// deadline has passed end, where terms are given, and then the answers of the day are done. A refusal
-/// of the first answer that does not fit may come in their midst.
+/// deadline has passed end, where terms are given, and then the answers of the day are done. A
+/// refusal of the first answer that does not fit may come in their midst.
 pub fn make_morning(
     state: &mut DayState<'_>,
     terms: Option<&Terms>,
     day: u32,
 ) -> Result<(), DayRefusal>
-    requires { ForSome (option_copied terms) (λ t. length t.before ≡ length state.old.dossier.wishes) }
+    requires { ForSome (option_copied terms)
+        (λ t. length t.before ≡ length state.old.dossier.wishes) }
     ensures morning { OnOk result (state.new ≡ morning (option_copied terms.entry) day state.old) }
     ensures fits { OnOk result (unfit_on (option_copied terms.entry) day state.old ≡ None) }
-    ensures unfit { IfErr result (λ refusal. IsSomeAnd (unfit_on (option_copied terms.entry) day state.old)
+    ensures unfit { IfErr result
+        (λ refusal. IsSomeAnd (unfit_on (option_copied terms.entry) day state.old)
         (λ x. refusal ≡ refusals.Unfit (unfit_refusal state.old.dossier day x))) }
     ensures dossier { state.new.dossier ≡ state.old.dossier }
 {

@@ -29,7 +29,8 @@ pub fn firsts_of(
     count: usize,
 ) -> Result<Vec<Option<u32>>, OutOfMemory>
     requires order { IsIndex wishes.now order.now }
-    requires sites { (k : ℕ) → k < length wishes.now → ForSome (site_of sites (wish_in wishes.now k)) (λ h. h < count) }
+    requires sites { (k : ℕ) → k < length wishes.now
+        → ForSome (site_of sites (wish_in wishes.now k)) (λ h. h < count) }
     ensures { IfOk result (λ v. v.items ≡ bundles_of sites wishes.now) }
 {
     let mut last = no_numbers(alloc, count)?;
@@ -68,7 +69,8 @@ fn no_numbers(alloc: Global, count: usize) -> Result<Vec<Option<u32>>, OutOfMemo
 fn bundle_there(wishes: &[Wish], last: &[Option<u32>], site: Option<u32>, place: u32) -> Option<u32>
     requires place { place < length wishes.now }
     requires site { ForSome site (λ h. h < length last.now) }
-    requires found { ForSome site (λ h. ForSome (number_in last.now h) (λ b. b < length wishes.now)) }
+    requires found { ForSome site
+        (λ h. ForSome (number_in last.now h) (λ b. b < length wishes.now)) }
     ensures { result ≡ bundle_there wishes.now last.now site place }
 {
     match site {

@@ -18,9 +18,9 @@ pub enum Sites {
     Schools,
 }
 
-/// Of each wish the number of its bundle, and of each bundle of two wishes or more the number of its
-/// live wishes: a wish that is alone in its bundle is live where its mark is. The numbers follow
-/// from the wishes, so copies share them.
+/// Of each wish the number of its bundle, and of each bundle of two wishes or more the number of
+/// its live wishes: a wish that is alone in its bundle is live where its mark is. The numbers
+/// follow from the wishes, so copies share them.
 #[derive(Drop)]
 pub struct Bundles {
     numbers: Rc<Numbers>,
@@ -45,10 +45,12 @@ impl Bundles {
         count: usize,
     ) -> Result<Bundles, OutOfMemory>
         requires order { IsIndex wishes.now order.now }
-        requires sites { (k : ℕ) → k < length wishes.now → ForSome (site_of sites (wish_in wishes.now k)) (λ h. h < count) }
+        requires sites { (k : ℕ) → k < length wishes.now
+            → ForSome (site_of sites (wish_in wishes.now k)) (λ h. h < count) }
         requires few { length wishes.now < 2 ^ 31 }
         ensures numbers { IfOk result (λ b. b.numbers.value ≡ all_numbers sites wishes.now) }
-        ensures live { IfOk result (λ b. b.live.items ≡ replicate (shared_in_all sites wishes.now) 0) }
+        ensures live { IfOk result
+            (λ b. b.live.items ≡ replicate (shared_in_all sites wishes.now) 0) }
     {
         let firsts = firsts_of(alloc, sites, wishes, order, count)?;
         let shared = shared_among(alloc, firsts.as_slice())?;
@@ -89,8 +91,10 @@ impl Bundles {
     /// Whether one of a wish's bundle is live; `lives` tells it of the wish.
     pub fn is_live(&self, wish: u32, lives: bool) -> bool
         requires place { wish < length self.now.numbers.value }
-        requires number { ForSome (count_at self.now.numbers.value wish) (λ n. n < length self.now.live.items) }
-        ensures { result ≡ has_live self.now.live.items (number_at self.now.numbers.value wish) lives }
+        requires number { ForSome (count_at self.now.numbers.value wish)
+            (λ n. n < length self.now.live.items) }
+        ensures { result ≡ has_live self.now.live.items
+            (number_at self.now.numbers.value wish) lives }
     {
         has_live(&self.live, self.numbers.get(wish), lives)
     }
@@ -98,13 +102,19 @@ impl Bundles {
     /// Counts a wish anew that was live, or wasn't, and is live, or isn't.
     pub fn turn(&mut self, wish: u32, was_live: bool, lives: bool) -> Turn
         requires place { wish < length self.old.numbers.value }
-        requires number { ForSome (count_at self.old.numbers.value wish) (λ n. n < length self.old.live.items) }
-        requires comes { ForSome (count_at self.old.numbers.value wish) (λ n. slice_index self.old.live.items n + one_if lives < 2 ^ 32) }
-        requires goes { ForSome (count_at self.old.numbers.value wish) (λ n. one_if was_live ≤ slice_index self.old.live.items n + one_if lives) }
+        requires number { ForSome (count_at self.old.numbers.value wish)
+            (λ n. n < length self.old.live.items) }
+        requires comes { ForSome (count_at self.old.numbers.value wish)
+            (λ n. slice_index self.old.live.items n + one_if lives < 2 ^ 32) }
+        requires goes { ForSome (count_at self.old.numbers.value wish)
+            (λ n. one_if was_live ≤ slice_index self.old.live.items n + one_if lives) }
         ensures numbers { self.new.numbers.value ≡ self.old.numbers.value }
-        ensures live { self.new.live.items ≡ recount_some self.old.live.items (count_at self.old.numbers.value wish) was_live lives }
-        ensures had { result.had ≡ has_live self.old.live.items (number_at self.old.numbers.value wish) was_live }
-        ensures has { result.has ≡ has_live self.new.live.items (number_at self.old.numbers.value wish) lives }
+        ensures live { self.new.live.items ≡ recount_some self.old.live.items
+            (count_at self.old.numbers.value wish) was_live lives }
+        ensures had { result.had ≡ has_live self.old.live.items
+            (number_at self.old.numbers.value wish) was_live }
+        ensures has { result.has ≡ has_live self.new.live.items
+            (number_at self.old.numbers.value wish) lives }
     {
         let number = self.numbers.get(wish);
         let had = has_live(&self.live, number, was_live);

@@ -41,7 +41,9 @@ impl<'d> Model for CountedMarks<'d> {
 
     ghost view = { λ s. record { dossier = s.dossier.now; marks = s.marks.items } };
 
-    ghost invariant = { λ s. KeepsCounts (record { dossier = s.dossier.now; marks = s.marks.items }) s.seats.items s.beds.items s.in_programmes.numbers.value s.in_programmes.live.items s.in_schools.numbers.value s.in_schools.live.items };
+    ghost invariant = { λ s. KeepsCounts (record { dossier = s.dossier.now; marks = s.marks.items })
+        s.seats.items s.beds.items s.in_programmes.numbers.value s.in_programmes.live.items
+        s.in_schools.numbers.value s.in_schools.live.items };
 }
 
 impl<'d> CountedMarks<'d> {
@@ -52,7 +54,8 @@ impl<'d> CountedMarks<'d> {
         order: &[u32],
     ) -> Result<CountedMarks<'d>, OutOfMemory>
         requires { IsIndex dossier.now.wishes order.now }
-        ensures { IfOk result (λ s. s ≡ state_of dossier.now (replicate (length dossier.now.wishes) waiting_mark)) }
+        ensures { IfOk result (λ s. s ≡ state_of dossier.now
+            (replicate (length dossier.now.wishes) waiting_mark)) }
     {
         let wishes = dossier.wishes.as_slice();
         let programmes = dossier.programmes.len();
@@ -309,7 +312,8 @@ fn copy_marks(marks: &mut Vec<Mark>, from: &Vec<Mark>)
 fn any_in_programme(wishes: &[Wish], marks: &[Mark], own: &[u32], programme: u32) -> bool
     requires wishes { All (λ k. k < length wishes.now) own.now }
     requires marks { length marks.now ≡ length wishes.now }
-    ensures { result ≡ list_any (lives_at wishes.now marks.now (λ w. w.programme == programme)) own.now }
+    ensures { result ≡ list_any (lives_at wishes.now marks.now (λ w. w.programme == programme))
+        own.now }
 {
     own.iter().any(|place| lives_in_programme(wishes, marks, *place, programme))
 }

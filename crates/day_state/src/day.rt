@@ -184,7 +184,8 @@ impl<'d> DayState<'d> {
     /// Whether a wish's candidate is live in its programme.
     pub fn is_live_in_its_programme(&self, wish: u32) -> bool
         requires { wish < length self.now.dossier.wishes }
-        ensures { result ≡ holds_seat self.now (wish_in self.now.dossier.wishes wish).candidate (wish_in self.now.dossier.wishes wish).programme }
+        ensures { result ≡ holds_seat self.now (wish_in self.now.dossier.wishes wish).candidate
+            (wish_in self.now.dossier.wishes wish).programme }
     {
         self.live.is_live_in_its_programme(wish)
     }
@@ -192,7 +193,8 @@ impl<'d> DayState<'d> {
     /// Whether a wish's candidate is live in its school.
     pub fn is_live_in_its_school(&self, wish: u32) -> bool
         requires { wish < length self.now.dossier.wishes }
-        ensures { result ≡ holds_bed_in self.now (wish_in self.now.dossier.wishes wish).candidate (wish_in self.now.dossier.wishes wish).school }
+        ensures { result ≡ holds_bed_in self.now (wish_in self.now.dossier.wishes wish).candidate
+            (wish_in self.now.dossier.wishes wish).school }
     {
         self.live.is_live_in_its_school(wish)
     }
@@ -229,7 +231,8 @@ impl<'d> DayState<'d> {
     /// Offers wishes that wait, and keeps one mark for each wish.
     pub fn offer_all(&mut self, wishes: &[u32], stamp: Stamp)
         requires { All (λ k. k < length self.old.dossier.wishes) wishes.now }
-        ensures offered { self.new ≡ change_along (λ w m. changed_to Offered stamp m) wishes.now self.old }
+        ensures offered { self.new ≡ change_along (λ w m. changed_to Offered stamp m)
+            wishes.now self.old }
         ensures marks { length self.new.marks ≡ length self.new.dossier.wishes }
     {
         let _ = &self.live; // learns the invariant
@@ -329,8 +332,8 @@ impl<'d> DayState<'d> {
     }
 
     /// Answers for a candidate, where they rank their wishes and one of them is live: the best live
-    /// one is accepted, their other live wishes are given up, and so are the waiting ones behind it.
-    /// Tells what they free.
+    /// one is accepted, their other live wishes are given up, and so are the waiting ones behind
+    /// it. Tells what they free.
     pub fn answer_automatically(&mut self, candidate: u32, stamp: Stamp) -> Freed
         ensures state { self.new ≡ auto_one self.old candidate stamp }
         ensures freed { result ≡ freed_by self.old self.new candidate }
@@ -370,7 +373,9 @@ impl<'d> DayState<'d> {
 fn lapse_at(live: &mut CountedMarks<'_>, terms: &Terms, day: u32, wish: u32)
     requires before { wish < length terms.now.before }
     requires place { wish < length live.old.marks }
-    ensures { live.new ≡ with_mark_at live.old wish (lapsed terms.now.term day (slice_index_or terms.now.before wish (pos 0)) (mark_in live.old.marks wish)) }
+    ensures { live.new ≡ with_mark_at live.old wish
+        (lapsed terms.now.term day (slice_index_or terms.now.before wish (pos 0))
+        (mark_in live.old.marks wish)) }
 {
     let mark = live.mark(wish);
     if lapses(terms, day, wish, mark) {

@@ -107,7 +107,8 @@ fn order_of(alloc: Global, wishes: &[Wish]) -> Result<Vec<u32>, OutOfMemory>
 fn sort_places(wishes: &[Wish], order: &mut Vec<u32>) -> Result<(), AllocError>
     ensures moved { IsPermutation order.old.items order.new.items }
     ensures rises { OnOk result (IsNonDecreasingBy (candidate_in wishes.now) order.new.items) }
-    ensures stable { OnOk result (IsStableByKey (candidate_in wishes.now) nat_cmp order.old.items order.new.items) }
+    ensures stable { OnOk result (IsStableByKey (candidate_in wishes.now) nat_cmp order.old.items
+        order.new.items) }
 {
     order.sort_by_key(|place| candidate_at(wishes, *place))?;
     Ok(())
@@ -117,7 +118,8 @@ fn sort_places(wishes: &[Wish], order: &mut Vec<u32>) -> Result<(), AllocError>
 fn first_not_below(wishes: &[Wish], order: &[u32], candidate: u32) -> usize
     requires { IsNonDecreasingBy (candidate_in wishes.now) order.now }
     ensures within { result ≤ length order.now }
-    ensures point { IsPartitionPoint (λ k. nat_lt (candidate_in wishes.now k) candidate ≡ true) (λ k. nat_lt (candidate_in wishes.now k) candidate ≡ false) order.now result }
+    ensures point { IsPartitionPoint (λ k. nat_lt (candidate_in wishes.now k) candidate ≡ true)
+        (λ k. nat_lt (candidate_in wishes.now k) candidate ≡ false) order.now result }
 {
     order.partition_point(|place| candidate_at(wishes, *place) < candidate)
 }
@@ -126,7 +128,8 @@ fn first_not_below(wishes: &[Wish], order: &[u32], candidate: u32) -> usize
 fn first_above(wishes: &[Wish], order: &[u32], candidate: u32) -> usize
     requires { IsNonDecreasingBy (candidate_in wishes.now) order.now }
     ensures within { result ≤ length order.now }
-    ensures point { IsPartitionPoint (λ k. nat_le (candidate_in wishes.now k) candidate ≡ true) (λ k. nat_le (candidate_in wishes.now k) candidate ≡ false) order.now result }
+    ensures point { IsPartitionPoint (λ k. nat_le (candidate_in wishes.now k) candidate ≡ true)
+        (λ k. nat_le (candidate_in wishes.now k) candidate ≡ false) order.now result }
 {
     order.partition_point(|place| candidate_at(wishes, *place) <= candidate)
 }

@@ -47,7 +47,8 @@ pub fn offer_day(terms: &Terms, wish: u32, mark: Mark) -> i64
 /// Whether a wish's offer ends before a day.
 pub fn lapses(terms: &Terms, day: u32, wish: u32, mark: Mark) -> bool
     requires { wish < length terms.now.before }
-    ensures { result ≡ lapses terms.now.term day (slice_index_or terms.now.before wish (pos 0)) mark }
+    ensures { result ≡ lapses terms.now.term day
+        (slice_index_or terms.now.before wish (pos 0)) mark }
 {
     matches!(mark.status, Status::Offered)
         && offer_day(terms, wish, mark) + i64::from(terms.term) < i64::from(day)
@@ -92,8 +93,8 @@ pub fn changed_by(change: OwnChange, wish: Wish, mark: Mark, stamp: Stamp) -> Ma
     }
 }
 
-/// The status of a wish whose candidate is answered for: it is their best live one, or stands behind
-/// that.
+/// The status of a wish whose candidate is answered for: it is their best live one, or stands
+/// behind that.
 fn auto_status(status: Status, is_best: bool, is_behind: bool) -> Status
     ensures { result ≡ auto_status status is_best is_behind }
 {

@@ -105,7 +105,8 @@ pub(crate) fn optional_number(
     limits: Limits,
 ) -> Result<Option<u32>, Reason>
     ensures value { result ≡ Columns.optional_number limits (fields_of row.now) position }
-    ensures range { IfOk result (λ found. ForSome found (λ n. (limits.least ≤ n) × (n ≤ limits.most))) }
+    ensures range { IfOk result
+        (λ found. ForSome found (λ n. (limits.least ≤ n) × (n ≤ limits.most))) }
 {
     if text_at(row, position).is_empty() {
         return Ok(None);
@@ -157,7 +158,8 @@ pub(crate) fn word<T: Copy>(
     position: u32,
     table: &[(&str, T)],
 ) -> Result<T, Reason>
-    ensures { result ≡ Columns.word (map (λ entry. (entry.0.now, entry.1)) table.now) (fields_of row.now) position }
+    ensures { result ≡ Columns.word (map (λ entry. (entry.0.now, entry.1)) table.now)
+        (fields_of row.now) position }
 {
     choice(table, text_at(row, position)).ok_or(Reason::NotWord(position))
 }

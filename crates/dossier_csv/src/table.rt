@@ -47,7 +47,8 @@ fn reader_of(alloc: Global, bytes: &[u8]) -> Reader<&[u8]>
 
 /// The next row, and whether there was one.
 fn next_row(reader: &mut Reader<&[u8]>, row: &mut ByteRecord) -> Result<bool, InFault>
-    ensures next { IfOk result (λ found. (left : List (List (List ℕ))) → HasLeft (λ text. Some text.now) reader.old left
+    ensures next { IfOk result (λ found. (left : List (List (List ℕ))) → HasLeft
+        (λ text. Some text.now) reader.old left
         → GivesNext (λ text. Some text.now) reader.new found (fields_of row.new) left) }
     ensures memory { IfErr result (λ fault. fault ≡ InFault.OutOfMemory) }
 {
@@ -86,7 +87,8 @@ fn is_header<T: TableRow>(row: &ByteRecord) -> bool
 
 /// The row with this number, under a header of so many columns.
 fn typed_row<T: TableRow>(row: &ByteRecord, width: usize, number: u64) -> Result<T, Refusal>
-    ensures value { result ≡ at_row T.layout.slot number (row_of T.layout width number (fields_of row.now)) }
+    ensures value { result ≡ at_row T.layout.slot number
+        (row_of T.layout width number (fields_of row.now)) }
     ensures ranges { IfOk result T.in_range }
     ensures bounded { OnOk result (number < MAX_ROWS + 2) }
 {

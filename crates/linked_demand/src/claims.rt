@@ -13,9 +13,11 @@ use std::marker::Model;
 fn first_above(candidates: &[u32], candidate: u32, from: usize) -> usize
     requires rises { IsNonDecreasingBy (λ k. k) candidates.now }
     requires begins { from ≤ length candidates.now }
-    requires point { IsPartitionPoint (λ k. nat_lt k candidate ≡ true) (λ k. nat_lt k candidate ≡ false) candidates.now from }
+    requires point { IsPartitionPoint (λ k. nat_lt k candidate ≡ true)
+        (λ k. nat_lt k candidate ≡ false) candidates.now from }
     ensures within { result ≤ length candidates.now }
-    ensures point { IsPartitionPoint (λ k. nat_le k candidate ≡ true) (λ k. nat_le k candidate ≡ false) candidates.now result }
+    ensures point { IsPartitionPoint (λ k. nat_le k candidate ≡ true)
+        (λ k. nat_le k candidate ≡ false) candidates.now result }
 {
     let mut to = from;
     while to < candidates.len() && candidates[to] == candidate {
@@ -45,7 +47,8 @@ fn begins_at(candidates: &[u32], candidate: u32, place: usize) -> bool
 fn first_of(candidates: &[u32], candidate: u32, guess: usize) -> usize
     requires { IsNonDecreasingBy (λ k. k) candidates.now }
     ensures within { result ≤ length candidates.now }
-    ensures point { IsPartitionPoint (λ k. nat_lt k candidate ≡ true) (λ k. nat_lt k candidate ≡ false) candidates.now result }
+    ensures point { IsPartitionPoint (λ k. nat_lt k candidate ≡ true)
+        (λ k. nat_lt k candidate ≡ false) candidates.now result }
 {
     if begins_at(candidates, candidate, guess) {
         return guess;

@@ -11,8 +11,8 @@ use crate::rows::RowWish;
 use admit_core::Steps;
 use std::sync::ledger::Ledger;
 
-/// Closes the wishes of a row that rank past a number, and drops them from the row. It ticks once for
-/// each of them and once for each wish that becomes proposed, whose school is marked.
+/// Closes the wishes of a row that rank past a number, and drops them from the row. It ticks once
+/// for each of them and once for each wish that becomes proposed, whose school is marked.
 pub fn close_past<L: Ledger>(
     links: &mut SeatLinks<'_, '_>,
     row: &mut Vec<RowWish>,
@@ -29,8 +29,11 @@ pub fn close_past<L: Ledger>(
     ensures cut { CutsAt to row.old.items links.old.opens row.new.items links.new.opens }
     ensures state { links.new.state ≡ links.old.state }
     ensures orders { links.new.orders ≡ links.old.orders }
-    ensures steps { steps.new + length row.new.items ≡ steps.old + length row.old.items + count_by (is_new links.old.state bars.now links.old links.new) (enumerate_from 0 (entries links.old.state)) }
-    ensures marked { MarksSchools links.old.state (is_new links.old.state bars.now links.old links.new) marked.old marked.new }
+    ensures steps { steps.new + length row.new.items ≡ steps.old + length row.old.items + count_by
+        (is_new links.old.state bars.now links.old links.new)
+        (enumerate_from 0 (entries links.old.state)) }
+    ensures marked { MarksSchools links.old.state (is_new links.old.state bars.now links.old
+        links.new) marked.old marked.new }
 {
     let mut end = row.len();
     while end > 0 && row[end - 1].rank > to {

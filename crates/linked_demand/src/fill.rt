@@ -84,7 +84,8 @@ pub fn rows_of(
 
 /// The free beds of all schools.
 pub fn free_of(alloc: Global, state: &DayState<'_>) -> Result<Vec<u32>, OutOfMemory>
-    ensures { IfOk result (λ v. v.items ≡ map (free_beds state.now) (range_with_len 0 (length state.now.dossier.schools))) }
+    ensures { IfOk result (λ v. v.items ≡ map (free_beds state.now)
+        (range_with_len 0 (length state.now.dossier.schools))) }
 {
     let mut free = Vec::new(alloc);
     let count = state.dossier().schools.len() as u32;

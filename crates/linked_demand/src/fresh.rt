@@ -50,8 +50,11 @@ pub fn note_fresh<L: Ledger>(
     requires opens { length opens.now ≡ length state.now.dossier.wishes }
     requires early { length early.now ≡ length state.now.dossier.wishes }
     requires marked { length marked.old ≡ length state.now.dossier.schools }
-    ensures steps { steps.new ≡ steps.old + count_by (is_fresh state.now bars.now opens.now (all_sure state.now early.now)) claim.now }
-    ensures marked { MarksSchools state.now (λ x. is_among x.0 claim.now && is_fresh state.now bars.now opens.now (all_sure state.now early.now) x.0) marked.old marked.new }
+    ensures steps { steps.new
+        ≡ steps.old + count_by (is_fresh state.now bars.now opens.now
+        (all_sure state.now early.now)) claim.now }
+    ensures marked { MarksSchools state.now (λ x. is_among x.0 claim.now && is_fresh state.now
+        bars.now opens.now (all_sure state.now early.now) x.0) marked.old marked.new }
 {
     for wish in claim {
         if is_fresh(state, bars, opens, early, *wish) {

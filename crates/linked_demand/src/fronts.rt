@@ -1,5 +1,5 @@
-//! The proposed wishes as flags: of the open wishes those that need no seat, and those in the claims
-//! that the seats reach.
+//! The proposed wishes as flags: of the open wishes those that need no seat, and those in the
+//! claims that the seats reach.
 ghost use Rattle.std.specs.Prelude.{◌≡◌, ◌≤◌, ◌<◌, ◌&&◌, false, length, replicate, take, slice_index_or, All, IfOk};
 ghost use Rattle.admit_core.specs.Lists.{is_among};
 ghost use Rattle.demand.specs.Flags.{SetsAlso};
@@ -56,7 +56,8 @@ pub fn flag_sure(
 fn flag_claim(opens: &[bool], claim: &[u32], flags: &mut Vec<bool>)
     requires claim { All (λ k. k < length opens.now) claim.now }
     requires flags { length flags.old.items ≡ length opens.now }
-    ensures { SetsAlso (λ k. is_among k claim.now && slice_index_or opens.now k false) flags.old.items flags.new.items }
+    ensures { SetsAlso (λ k. is_among k claim.now && slice_index_or opens.now k false)
+        flags.old.items flags.new.items }
 {
     for wish in claim {
         if is_set(opens, *wish) {
@@ -70,7 +71,8 @@ fn flag_front(opens: &[bool], claims: &Claims, reached: usize, flags: &mut Vec<b
     requires reached { reached ≤ length claims.now }
     requires claims { AreBelow (length opens.now) claims.now }
     requires flags { length flags.old.items ≡ length opens.now }
-    ensures { SetsAlso (claimed_open opens.now (take reached claims.now)) flags.old.items flags.new.items }
+    ensures { SetsAlso (claimed_open opens.now (take reached claims.now)) flags.old.items
+        flags.new.items }
 {
     for place in 0..reached {
         flag_claim(opens, claims.at(place), flags);
@@ -81,7 +83,8 @@ fn flag_front(opens: &[bool], claims: &Claims, reached: usize, flags: &mut Vec<b
 pub fn flag_fronts(opens: &[bool], lines: &[Claims], reached: &[usize], flags: &mut Vec<bool>)
     requires fronts { AreFronts (length opens.now) lines.now reached.now }
     requires flags { length flags.old.items ≡ length opens.now }
-    ensures { SetsAlso (reached_open opens.now lines.now reached.now (length lines.now)) flags.old.items flags.new.items }
+    ensures { SetsAlso (reached_open opens.now lines.now reached.now (length lines.now))
+        flags.old.items flags.new.items }
 {
     let count = lines.len();
     for programme in 0..count {

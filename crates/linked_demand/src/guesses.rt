@@ -24,7 +24,8 @@ pub struct Guesses {
 }
 
 impl Guesses {
-    /// As many guesses as the greatest candidate's number asks for, but not more than there are wishes.
+    /// As many guesses as the greatest candidate's number asks for, but not more than there are
+    /// wishes.
     pub fn of_wishes(alloc: Global, state: &DayState<'_>) -> Result<Guesses, OutOfMemory> {
         let by_candidate = state.places_by_candidate();
         let mut count = wish_count(state);

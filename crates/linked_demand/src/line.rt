@@ -1,5 +1,6 @@
-//! The line of those who wish for a programme, of which the first ones are reached: while fewer than
-//! the seats that are left want one before them. Who wants a seat is asked as far as the seats go.
+//! The line of those who wish for a programme, of which the first ones are reached: while fewer
+//! than the seats that are left want one before them. Who wants a seat is asked as far as the seats
+//! go.
 ghost use Rattle.std.specs.Prelude.{◌≡◌, ◌+◌, ◌<◌, ◌≤◌, ◌&&◌, drop, length, not, nat_lt, All, IfSome};
 ghost use Rattle.std.specs.List.{list_any};
 ghost use Rattle.linked_demand.specs.Line.{next, reach, last_new};
@@ -10,7 +11,8 @@ ghost use Rattle.linked_demand.specs.Wants.{wants_along, AreBelow, AllNeedSeatAl
 use crate::claims::Claims;
 use day_state::DayState;
 
-/// Whether the wish at a place is open, by its flag, and its candidate is not live in its programme.
+/// Whether the wish at a place is open, by its flag, and its candidate is not live in its
+/// programme.
 fn is_wanting(state: &DayState<'_>, opens: &[bool], place: u32) -> bool
     requires place { place < length state.now.dossier.wishes }
     requires opens { length opens.now ≡ length state.now.dossier.wishes }
@@ -43,8 +45,8 @@ fn wants_alone(state: &DayState<'_>, opens: &[bool], claim: &[u32]) -> bool
     }
 }
 
-/// How many places of a line are reached: those with fewer who want a seat before them than there are
-/// seats.
+/// How many places of a line are reached: those with fewer who want a seat before them than there
+/// are seats.
 pub fn reach_of(state: &DayState<'_>, opens: &[bool], claims: &Claims, seats: usize) -> usize
     requires claims { AreBelow (length state.now.dossier.wishes) claims.now }
     requires opens { length opens.now ≡ length state.now.dossier.wishes }
@@ -64,8 +66,8 @@ pub fn reach_of(state: &DayState<'_>, opens: &[bool], claims: &Claims, seats: us
     count
 }
 
-/// How many places there are up to the first one from a place on who wants a seat, with it; or all of
-/// them.
+/// How many places there are up to the first one from a place on who wants a seat, with it; or all
+/// of them.
 pub fn next_wanting(state: &DayState<'_>, opens: &[bool], claims: &Claims, from: usize) -> usize
     requires from { from ≤ length claims.now }
     requires claims { AreBelow (length state.now.dossier.wishes) claims.now }

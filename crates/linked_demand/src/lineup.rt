@@ -1,5 +1,5 @@
-//! Those who wish for each programme, in call order: this follows from the dossier and its call orders
-//! alone, so that all passes of a day share it.
+//! Those who wish for each programme, in call order: this follows from the dossier and its call
+//! orders alone, so that all passes of a day share it.
 ghost use Rattle.std.specs.Prelude.{◌≡◌, ℕ, ◌<◌, false, length, map, nat_eq, nat_lt, All, Bool, IfOk, OnOk};
 ghost use Rattle.std.specs.List.{IsDistinct};
 ghost use Rattle.admit_core.specs.CallOrder.{AreCallOrders};
@@ -52,8 +52,8 @@ fn is_early(before: usize, limit: u32) -> bool
     before < limit as usize
 }
 
-/// Goes along the call order of a programme, and notes what is known of the wishes for it. Where there
-/// is none, it goes nowhere.
+/// Goes along the call order of a programme, and notes what is known of the wishes for it. Where
+/// there is none, it goes nowhere.
 fn line_up(
     alloc: Global,
     state: &DayState<'_>,
@@ -71,9 +71,13 @@ fn line_up(
     requires wishes { AreWishesFor state.now.dossier programme wishes.items }
     requires candidates { candidates.items
         ≡ map (candidate_in state.now.dossier.wishes) wishes.items }
-    requires seated { AreSeated state.now.dossier orders.now.orders (is_below programme) places.old.items early.old.items }
-    ensures claims { IfOk result (λ x. x ≡ map (claim_of state.now.dossier programme) (line_of state.now.dossier orders.now.orders programme)) }
-    ensures seated { OnOk result (AreSeated state.now.dossier orders.now.orders (is_passed programme (order_of state.now.dossier orders.now.orders programme)) places.new.items early.new.items) }
+    requires seated { AreSeated state.now.dossier orders.now.orders (is_below programme)
+        places.old.items early.old.items }
+    ensures claims { IfOk result (λ x. x ≡ map (claim_of state.now.dossier programme)
+        (line_of state.now.dossier orders.now.orders programme)) }
+    ensures seated { OnOk result (AreSeated state.now.dossier orders.now.orders
+        (is_passed programme (order_of state.now.dossier orders.now.orders programme))
+        places.new.items early.new.items) }
 {
     let mut spans = Vec::with_capacity(alloc, wishes.len())?;
     if wishes.is_empty() {
@@ -137,9 +141,9 @@ fn claims_of(
     Ok(claims)
 }
 
-/// For each programme those who wish for it, in call order, with their claims; for each wish the place
-/// of its candidate among them, and whether they are called by the programme's limit; the wishes with
-/// a school, and those that may need no seat while they wait.
+/// For each programme those who wish for it, in call order, with their claims; for each wish the
+/// place of its candidate among them, and whether they are called by the programme's limit; the
+/// wishes with a school, and those that may need no seat while they wait.
 pub struct Lineup {
     pub(crate) claims: Vec<Claims>,
     pub(crate) places: Vec<u32>,
@@ -164,7 +168,8 @@ impl Drop for Lineup {
 impl Lineup {
     ghost use Rattle.linked_demand.specs.Lineups.{IsLineupOf};
 
-    /// The lineup of a state's dossier, in one walk along each call order for each of its programmes.
+    /// The lineup of a state's dossier, in one walk along each call order for each of its
+    /// programmes.
     pub fn build(
         alloc: Global,
         state: &DayState<'_>,

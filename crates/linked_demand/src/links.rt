@@ -37,8 +37,8 @@ fn waiting_flags(alloc: Global, marks: &[Mark]) -> Result<Vec<bool>, OutOfMemory
     Ok(marks.iter().map(|mark| mark.is_waiting()).collect(alloc)?)
 }
 
-/// Whether a boarder's wish stays open: its candidate ranks at most at the bar of the school, or has a
-/// bed there.
+/// Whether a boarder's wish stays open: its candidate ranks at most at the bar of the school, or
+/// has a bed there.
 fn stays_open(state: &DayState<'_>, bars: &[u32], boarder: Boarder, open: bool) -> bool
     requires boarder { IsBoarder state.now.dossier boarder }
     requires bars { length bars.now ≡ length state.now.dossier.schools }
@@ -117,9 +117,14 @@ impl<'a, 'd> Model for SeatLinks<'a, 'd> {
 
     ghost Value = { LinksRow };
 
-    ghost view = { λ l. record { state = l.state.now; orders = l.orders.now.orders; opens = l.opens.items } };
+    ghost view = { λ l. record {
+      state = l.state.now;
+      orders = l.orders.now.orders;
+      opens = l.opens.items;
+    } };
 
-    ghost invariant = { λ l. AreKept l.state.now l.orders.now.orders l.opens.items l.reached.items l.lineup.now };
+    ghost invariant = { λ l. AreKept l.state.now l.orders.now.orders l.opens.items
+        l.reached.items l.lineup.now };
 }
 
 impl<'a, 'd> SeatLinks<'a, 'd> {
@@ -133,7 +138,11 @@ impl<'a, 'd> SeatLinks<'a, 'd> {
     ) -> Result<SeatLinks<'a, 'd>, OutOfMemory>
         requires lineup { IsLineupOf state.now.dossier orders.now.orders lineup.now }
         requires bars { length bars.now ≡ length state.now.dossier.schools }
-        ensures { IfOk result (λ l. l ≡ record { state = state.now; orders = orders.now.orders; opens = opens_of state.now bars.now }) }
+        ensures { IfOk result (λ l. l ≡ record {
+          state = state.now;
+          orders = orders.now.orders;
+          opens = opens_of state.now bars.now;
+        }) }
     {
         let _ = state.marks(); // one for each wish
         let opens = open_flags(alloc, state, &lineup.boarders, bars)?;
@@ -173,8 +182,8 @@ impl<'a, 'd> SeatLinks<'a, 'd> {
         is_one_of(reached, item.sure)
     }
 
-    /// Closes a waiting wish. It ticks once for each wish that becomes proposed and is open under these
-    /// bars, and marks its school.
+    /// Closes a waiting wish. It ticks once for each wish that becomes proposed and is open under
+    /// these bars, and marks its school.
     pub fn close<L: Ledger>(
         &mut self,
         item: RowWish,
@@ -186,9 +195,13 @@ impl<'a, 'd> SeatLinks<'a, 'd> {
         requires item { item ≡ row_item self.old.state self.old.orders item.wish }
         requires bars { length bars.now ≡ length self.old.state.dossier.schools }
         requires marked { length marked.old ≡ length self.old.state.dossier.schools }
-        ensures value { self.new ≡ record self.old { opens = slice_set self.old.opens item.wish false } }
-        ensures steps { steps.new ≡ steps.old + count_by (is_new self.old.state bars.now self.old self.new) (enumerate_from 0 (entries self.old.state)) }
-        ensures marked { MarksSchools self.old.state (is_new self.old.state bars.now self.old self.new) marked.old marked.new }
+        ensures value { self.new ≡ record self.old
+            { opens = slice_set self.old.opens item.wish false } }
+        ensures steps { steps.new
+            ≡ steps.old + count_by (is_new self.old.state bars.now self.old self.new)
+            (enumerate_from 0 (entries self.old.state)) }
+        ensures marked { MarksSchools self.old.state (is_new self.old.state bars.now self.old
+            self.new) marked.old marked.new }
     {
         let lineup = self.lineup;
         let programme = item.programme as usize;
@@ -223,8 +236,8 @@ impl<'a, 'd> SeatLinks<'a, 'd> {
         self.state
     }
 
-    /// Whether a boarder's wish stands in the row of its school: it is open, and its candidate has no
-    /// bed there.
+    /// Whether a boarder's wish stands in the row of its school: it is open, and its candidate has
+    /// no bed there.
     pub fn wants_bed(&self, boarder: Boarder) -> bool
         requires { IsBoarder self.now.state.dossier boarder }
         ensures { result ≡ wants_bed self.now.state self.now.opens boarder.wish }
@@ -244,7 +257,8 @@ impl<'a, 'd> SeatLinks<'a, 'd> {
     pub fn proposed_flags(&self, alloc: Global) -> Result<Vec<bool>, OutOfMemory>
         requires { AllOpenWait self.now.state self.now.opens }
         ensures long { IfOk result (λ v. length v.items ≡ length self.now.state.dossier.wishes) }
-        ensures each { IfOk result (λ v. (k : ℕ) → k < length self.now.state.dossier.wishes → slice_index_or v.items k false ≡ is_proposed_at self.now k) }
+        ensures each { IfOk result (λ v. (k : ℕ) → k < length self.now.state.dossier.wishes
+            → slice_index_or v.items k false ≡ is_proposed_at self.now k) }
     {
         let lineup = self.lineup;
         let mut flags = no_flags(alloc, self.opens.len())?;

@@ -45,8 +45,8 @@ fn may_be_sure(state: &DayState<'_>, early: &[bool], place: u32) -> bool
     is_set(early, place) || is_doubled(state, place)
 }
 
-/// The wishes that may need no seat while they wait, by place: those that are called by a limit, and
-/// those whose candidate has another one in the programme, which may be live.
+/// The wishes that may need no seat while they wait, by place: those that are called by a limit,
+/// and those whose candidate has another one in the programme, which may be live.
 pub fn maybe_sure_of(
     alloc: Global,
     state: &DayState<'_>,

@@ -74,11 +74,13 @@ pub fn ask_marked(
     marked: &mut Marks,
     overs: &mut Overs,
 )
-    requires rows { (h : ℕ) (row : Vec RowWish Global) → slice_get rows.now h ≡ Some row → AreOpen links.now row.items }
+    requires rows { (h : ℕ) (row : Vec RowWish Global) → slice_get rows.now h ≡ Some row
+        → AreOpen links.now row.items }
     requires free { length free.now ≡ length rows.now }
     requires marked { length marked.old ≡ length rows.now }
     requires overs { length overs.old ≡ length rows.now }
-    ensures asked { IsAsked links.now rows.now free.now (λ h. slice_index_or marked.old h false) overs.old overs.new }
+    ensures asked { IsAsked links.now rows.now free.now (λ h. slice_index_or marked.old h false)
+        overs.old overs.new }
     ensures unmarked { marked.new ≡ replicate (length marked.old) false }
 {
     while let Some(school) = marked.take() {

@@ -7,8 +7,8 @@ use admit_core::OutOfMemory;
 use std::alloc::Global;
 use std::marker::Model;
 
-/// For each place, counted from 0, the first rank that has no bed, if there is one: then the place is
-/// overfilled.
+/// For each place, counted from 0, the first rank that has no bed, if there is one: then the place
+/// is overfilled.
 pub struct Overs {
     ranks: Vec<Option<u32>>,
     overfilled: Vec<u32>,
@@ -32,11 +32,13 @@ impl Model for Overs {
 
     ghost view = { λ o. o.ranks.items };
 
-    ghost invariant = { λ o. AnswersAreListed o.ranks.items o.overfilled.items (vec_capacity o.overfilled) };
+    ghost invariant = { λ o. AnswersAreListed o.ranks.items o.overfilled.items
+        (vec_capacity o.overfilled) };
 }
 
 impl Overs {
-    /// So many places, of which none is overfilled. All room that the other calls need is made here.
+    /// So many places, of which none is overfilled. All room that the other calls need is made
+    /// here.
     pub fn none(alloc: Global, count: u32) -> Result<Overs, OutOfMemory>
         ensures { IfOk result (λ o. o ≡ replicate count None) }
     {

@@ -6,7 +6,8 @@ ghost use Rattle.std.specs.List.Sorted.{IsNonDecreasing, IsPartitionPoint};
 pub fn first_not_below(numbers: &[u32], number: u32) -> usize
     requires { IsNonDecreasing numbers.now }
     ensures within { result ≤ length numbers.now }
-    ensures point { IsPartitionPoint (λ n. nat_lt n number ≡ true) (λ n. nat_lt n number ≡ false) numbers.now result }
+    ensures point { IsPartitionPoint (λ n. nat_lt n number ≡ true) (λ n. nat_lt n number ≡ false)
+        numbers.now result }
 {
     numbers.partition_point(|other| *other < number)
 }

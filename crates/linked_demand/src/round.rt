@@ -33,9 +33,9 @@ fn school_count(state: &DayState<'_>) -> u32
     state.dossier().schools.len() as u32
 }
 
-/// The boarding schools (*internats*) of a state, with their ceilings and their present bars. It keeps
-/// who is served in each programme and which schools are overfilled: a fall costs the rows of the
-/// schools whose demand it changes.
+/// The boarding schools (*internats*) of a state, with their ceilings and their present bars. It
+/// keeps who is served in each programme and which schools are overfilled: a fall costs the rows of
+/// the schools whose demand it changes.
 pub struct LinkedRound<'a, 'd> {
     links: SeatLinks<'a, 'd>,
     ceilings: Vec<u32>,
@@ -66,9 +66,15 @@ impl<'a, 'd> Model for LinkedRound<'a, 'd> {
 
     ghost Value = { Round };
 
-    ghost view = { λ r. record { state = r.links.state; orders = r.links.orders; ceilings = r.ceilings.items; bars = r.bars.items } };
+    ghost view = { λ r. record {
+      state = r.links.state;
+      orders = r.links.orders;
+      ceilings = r.ceilings.items;
+      bars = r.bars.items;
+    } };
 
-    ghost invariant = { λ r. IsRoundUnder r.links r.ceilings.items r.bars.items r.free.items r.rows.items r.overs r.marked };
+    ghost invariant = { λ r. IsRoundUnder r.links r.ceilings.items r.bars.items r.free.items
+        r.rows.items r.overs r.marked };
 }
 
 impl<'a, 'd> LinkedRound<'a, 'd> {
@@ -84,10 +90,18 @@ impl<'a, 'd> LinkedRound<'a, 'd> {
     ) -> Result<LinkedRound<'a, 'd>, OutOfMemory>
         requires lineup { IsLineupOf state.now.dossier orders.now.orders lineup.now }
         requires ceilings { length ceilings.now ≡ length state.now.dossier.schools }
-        ensures round { IfOk result (λ r. r ≡ record { state = state.now; orders = orders.now.orders; ceilings = ceilings.now; bars = ceilings.now }) }
-        ensures system { IfOk result (λ r. ⟦<LinkedRound<'a, 'd> as Falling>⟧.system r ≡ boarding state.now orders.now.orders ceilings.now) }
+        ensures round { IfOk result
+            (λ r. r ≡ record {
+              state = state.now;
+              orders = orders.now.orders;
+              ceilings = ceilings.now;
+              bars = ceilings.now;
+            }) }
+        ensures system { IfOk result (λ r. ⟦<LinkedRound<'a, 'd> as Falling>⟧.system r ≡ boarding
+            state.now orders.now.orders ceilings.now) }
         ensures bars { IfOk result (λ r. ⟦<LinkedRound<'a, 'd> as Falling>⟧.bars r ≡ ceilings.now) }
-        ensures offers { IfOk result (λ r. ⟦<LinkedRound<'a, 'd> as Falling>⟧.offers r ≡ proposed state.now orders.now.orders) }
+        ensures offers { IfOk result (λ r. ⟦<LinkedRound<'a, 'd> as Falling>⟧.offers r ≡ proposed
+            state.now orders.now.orders) }
     {
         let _ = state.marks(); // one for each wish
         let links = SeatLinks::build(alloc, state, orders, lineup, ceilings)?;
@@ -110,10 +124,12 @@ impl<'a, 'd> LinkedRound<'a, 'd> {
         })
     }
 
-    /// The demanded rank of a school that is the first to have no bed, where the school is overfilled.
+    /// The demanded rank of a school that is the first to have no bed, where the school is
+    /// overfilled.
     pub fn first_over(&self, i: u32) -> Option<u32>
         requires { i < length self.now.bars }
-        ensures { result ≡ slice_get (demanded_ranks self.now.state self.now.orders self.now.bars i) (free_beds self.now.state i) }
+        ensures { result ≡ slice_get (demanded_ranks self.now.state self.now.orders self.now.bars i)
+            (free_beds self.now.state i) }
     {
         self.overs.get(i)
     }
@@ -129,11 +145,13 @@ impl<'a, 'd> LinkedRound<'a, 'd> {
         self.links.is_proposed(wish)
     }
 
-    /// The places of the wishes that are proposed at the present bars, ascending. It goes along the claims
-    /// that the seats reach, and twice along the wishes.
+    /// The places of the wishes that are proposed at the present bars, ascending. It goes along the
+    /// claims that the seats reach, and twice along the wishes.
     pub fn proposed(&self, alloc: Global) -> Result<Vec<u32>, OutOfMemory>
-        ensures places { IfOk result (λ v. v.items ≡ proposed self.now.state self.now.orders self.now.bars) }
-        ensures offers { IfOk result (λ v. v.items ≡ ⟦<LinkedRound<'a, 'd> as Falling>⟧.offers self.now (⟦<LinkedRound<'a, 'd> as Falling>⟧.bars self.now)) }
+        ensures places { IfOk result (λ v. v.items ≡ proposed self.now.state self.now.orders
+            self.now.bars) }
+        ensures offers { IfOk result (λ v. v.items ≡ ⟦<LinkedRound<'a, 'd> as Falling>⟧.offers
+            self.now (⟦<LinkedRound<'a, 'd> as Falling>⟧.bars self.now)) }
     {
         let flags = self.links.proposed_flags(alloc)?;
         let mut places = Vec::new(alloc);
@@ -196,11 +214,15 @@ impl Falling for LinkedRound<'_, '_> {
     fn lower<L: Ledger>(&mut self, i: u32, to: u32, steps: &mut Steps<L>)
         requires in_range { i < length self.old.ceilings }
         requires lower { to < slice_index (bar_each self.old.ceilings self.old.bars) i }
-        ensures bars { bar_each self.new.ceilings self.new.bars ≡ slice_set (bar_each self.old.ceilings self.old.bars) i to }
-        ensures same { boarding self.new.state self.new.orders self.new.ceilings ≡ boarding self.old.state self.old.orders self.old.ceilings }
-        ensures offers { proposed self.new.state self.new.orders ≡ proposed self.old.state self.old.orders }
+        ensures bars { bar_each self.new.ceilings self.new.bars
+            ≡ slice_set (bar_each self.old.ceilings self.old.bars) i to }
+        ensures same { boarding self.new.state self.new.orders self.new.ceilings
+            ≡ boarding self.old.state self.old.orders self.old.ceilings }
+        ensures offers { proposed self.new.state self.new.orders
+            ≡ proposed self.old.state self.old.orders }
         ensures round { self.new ≡ record self.old { bars = slice_set self.old.bars i to } }
-        ensures steps { steps.new ≡ steps.old + changes_between self.old.state self.old.orders self.old.bars self.new.bars }
+        ensures steps { steps.new ≡ steps.old + changes_between self.old.state self.old.orders
+            self.old.bars self.new.bars }
     {
         self.bars[i as usize] = to;
         close_past(

@@ -20,8 +20,8 @@ pub fn is_set(flags: &[bool], place: u32) -> bool
     flags[place as usize]
 }
 
-/// Whether a candidate needs no seat who is live in the programme or not, and is called by its limit or
-/// not.
+/// Whether a candidate needs no seat who is live in the programme or not, and is called by its
+/// limit or not.
 fn is_sure(is_live: bool, is_early: bool) -> bool
     ensures { result ≡ (is_live || is_early) }
 {
@@ -50,7 +50,8 @@ pub fn reached_of(
     requires lineup { IsLineupOf state.now.dossier orders.now.orders lineup.now }
     requires opens { length opens.now ≡ length state.now.dossier.wishes }
     requires waits { AllOpenWait state.now opens.now }
-    ensures { IfOk result (λ v. IsReachedIn state.now orders.now.orders opens.now v.items lineup.now) }
+    ensures { IfOk result (λ v. IsReachedIn state.now orders.now.orders opens.now
+        v.items lineup.now) }
 {
     let _ = state.marks(); // one for each wish
     let programmes = programme_count(state);

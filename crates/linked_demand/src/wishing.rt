@@ -9,7 +9,8 @@ use day_state::DayState;
 use demand::{programme_count, wish_at};
 use std::alloc::Global;
 
-/// How many wishes there are for each programme: room is made by it, so no clause speaks of the numbers.
+/// How many wishes there are for each programme: room is made by it, so no clause speaks of the
+/// numbers.
 fn counts_by_programme(alloc: Global, state: &DayState<'_>) -> Result<Vec<u32>, OutOfMemory>
     ensures { IfOk result (λ v. length v.items ≡ length state.now.dossier.programmes) }
 {

@@ -23,9 +23,12 @@ fn run_with_new<S: Shelf, K: Sink>(
     requires first { option_map (λ p. told (p.vtable, p.value)) pickers.old.first ≡ Some [] }
     requires last { option_map (λ p. told (p.vtable, p.value)) pickers.old.last ≡ Some [] }
     requires turn { option_map (λ p. told (p.vtable, p.value)) pickers.old.turn ≡ Some [] }
-    requires first_of { option_map (λ p. choice (p.vtable, p.value)) pickers.old.first ≡ Some (λ told places. first_of places) }
-    requires last_of { option_map (λ p. choice (p.vtable, p.value)) pickers.old.last ≡ Some (λ told places. last_of places) }
-    requires turn_of { option_map (λ p. choice (p.vtable, p.value)) pickers.old.turn ≡ Some turn_of }
+    requires first_of { option_map (λ p. choice (p.vtable, p.value)) pickers.old.first
+        ≡ Some (λ told places. first_of places) }
+    requires last_of { option_map (λ p. choice (p.vtable, p.value)) pickers.old.last
+        ≡ Some (λ told places. last_of places) }
+    requires turn_of { option_map (λ p. choice (p.vtable, p.value)) pickers.old.turn
+        ≡ Some turn_of }
     ensures { IsNewRun (map string_bytes words.now)
         (on_shelf S.left S.taken S.faults shelf.old) (on_shelf S.left S.taken S.faults shelf.new)
         (at_sink K.held K.faults sink.old) (at_sink K.held K.faults sink.new) result }

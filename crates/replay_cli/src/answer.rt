@@ -20,7 +20,8 @@ use std::alloc::Global;
 /// Reads the words, and takes in what they ask for.
 fn take<S: Shelf>(alloc: Global, words: &[String], shelf: &mut S) -> Result<(Request, Input), Stop>
     ensures { TakesAll (map string_bytes words.now)
-        (on_shelf S.left S.taken S.faults shelf.old) (on_shelf S.left S.taken S.faults shelf.new) result }
+        (on_shelf S.left S.taken S.faults shelf.old)
+        (on_shelf S.left S.taken S.faults shelf.new) result }
 {
     let request = read_request(alloc, words)?;
     let input = take_in(alloc, &request, shelf)?;
@@ -40,10 +41,14 @@ fn play_out(
     requires there { AreThere pickers.old }
 
     ensures there { AreThere pickers.new }
-    ensures back { AreBack (standing (λ p. told p) (λ p. choice p) pickers.old) (standing (λ p. told p) (λ p. choice p) pickers.new) }
-    ensures idle { IsIdle request.now → Untold (standing (λ p. told p) (λ p. choice p) pickers.old) (standing (λ p. told p) (λ p. choice p) pickers.new) }
-    ensures ends { (job : Job) → IsJobOf request.now job → IsInputOf job input.now → IfOk result (λ reply. IsEnding job
-        (standing (λ p. told p) (λ p. choice p) pickers.old) (standing (λ p. told p) (λ p. choice p) pickers.new)
+    ensures back { AreBack (standing (λ p. told p) (λ p. choice p) pickers.old)
+        (standing (λ p. told p) (λ p. choice p) pickers.new) }
+    ensures idle { IsIdle request.now → Untold (standing (λ p. told p) (λ p. choice p) pickers.old)
+        (standing (λ p. told p) (λ p. choice p) pickers.new) }
+    ensures ends { (job : Job) → IsJobOf request.now job → IsInputOf job input.now
+        → IfOk result (λ reply. IsEnding job
+        (standing (λ p. told p) (λ p. choice p) pickers.old)
+        (standing (λ p. told p) (λ p. choice p) pickers.new)
         reply.exit reply.text.items) }
 {
     let dated = dated_terms(alloc, input, deadlines_of(request))?;
@@ -71,7 +76,8 @@ pub(crate) fn answer<S: Shelf>(
     ensures there { AreThere pickers.new }
     ensures replies { Replies (map string_bytes words.now)
         (on_shelf S.left S.taken S.faults shelf.old) (on_shelf S.left S.taken S.faults shelf.new)
-        (standing (λ p. told p) (λ p. choice p) pickers.old) (standing (λ p. told p) (λ p. choice p) pickers.new) result }
+        (standing (λ p. told p) (λ p. choice p) pickers.old)
+        (standing (λ p. told p) (λ p. choice p) pickers.new) result }
 {
     match take(alloc, words, shelf) {
         Ok((request, input)) => play_out(alloc, &request, &input, pickers),

@@ -13,7 +13,8 @@ use std::alloc::{AllocError, Global};
 /// Adds the line of a fall.
 fn push_fall(text: &mut String, dossier: &Dossier, fall: &Fall) -> Result<(), AllocError>
     requires { IsFallOf dossier.now fall.now }
-    ensures { OnOk result (string_bytes text.new ≡ string_bytes text.old ++ fall_line dossier.now fall.now) }
+    ensures { OnOk result (string_bytes text.new ≡ string_bytes text.old ++ fall_line
+        dossier.now fall.now) }
 {
     let (from, to) = (fall.from, fall.to);
     write!(text, "fall {} {from} {to}", school_id(dossier, fall.school))?;
@@ -27,7 +28,8 @@ fn push_fall(text: &mut String, dossier: &Dossier, fall: &Fall) -> Result<(), Al
 /// Adds the lines of falls, each with the ids of its school and wishes.
 pub fn push_falls(text: &mut String, dossier: &Dossier, falls: &[Fall]) -> Result<(), AllocError>
     requires { All (IsFallOf dossier.now) falls.now }
-    ensures { OnOk result (string_bytes text.new ≡ string_bytes text.old ++ flat_map (fall_line dossier.now) falls.now) }
+    ensures { OnOk result (string_bytes text.new ≡ string_bytes text.old ++ flat_map
+        (fall_line dossier.now) falls.now) }
 {
     for fall in falls {
         push_fall(text, dossier, fall)?;
@@ -49,7 +51,8 @@ fn push_offer(text: &mut String, dossier: &Dossier, wish: u32) -> Result<(), All
 /// Adds the lines of the offers of wishes.
 fn push_offers(text: &mut String, dossier: &Dossier, offers: &[u32]) -> Result<(), AllocError>
     requires { All (λ w. w < length dossier.now.wishes) offers.now }
-    ensures { OnOk result (string_bytes text.new ≡ string_bytes text.old ++ flat_map (offer_line dossier.now) offers.now) }
+    ensures { OnOk result (string_bytes text.new ≡ string_bytes text.old ++ flat_map
+        (offer_line dossier.now) offers.now) }
 {
     for wish in offers {
         push_offer(text, dossier, *wish)?;
@@ -73,7 +76,8 @@ fn push_auto(text: &mut String, dossier: &Dossier, change: Change) -> Result<(),
 /// Adds the lines of the changes that automatic answers made.
 fn push_autos(text: &mut String, dossier: &Dossier, autos: &[Change]) -> Result<(), AllocError>
     requires { All (λ c. c.wish < length dossier.now.wishes) autos.now }
-    ensures { OnOk result (string_bytes text.new ≡ string_bytes text.old ++ flat_map (auto_line dossier.now) autos.now) }
+    ensures { OnOk result (string_bytes text.new ≡ string_bytes text.old ++ flat_map
+        (auto_line dossier.now) autos.now) }
 {
     for change in autos {
         push_auto(text, dossier, *change)?;
@@ -89,7 +93,8 @@ fn push_pass(
     end: &PassEnd,
 ) -> Result<(), AllocError>
     requires { IsPassOf dossier.now end.now }
-    ensures { OnOk result (string_bytes text.new ≡ string_bytes text.old ++ pass_text dossier.now (number, end.now)) }
+    ensures { OnOk result (string_bytes text.new ≡ string_bytes text.old ++ pass_text dossier.now
+        (number, end.now)) }
 {
     let pass = &end.pass;
     let (seats, beds) = (end.freed.seats, end.freed.beds);
@@ -110,7 +115,8 @@ fn push_pass(
 /// Adds the lines of a day's passes, numbered from 1.
 fn push_passes(text: &mut String, dossier: &Dossier, passes: &[PassEnd]) -> Result<(), AllocError>
     requires { All (IsPassOf dossier.now) passes.now }
-    ensures { OnOk result (string_bytes text.new ≡ string_bytes text.old ++ passes_text dossier.now passes.now) }
+    ensures { OnOk result (string_bytes text.new ≡ string_bytes text.old ++ passes_text
+        dossier.now passes.now) }
 {
     for (index, pass) in passes.iter().enumerate() {
         push_pass(text, dossier, index + 1, pass)?;
@@ -170,7 +176,8 @@ fn push_lapse(
     term: u32,
 ) -> Result<(), AllocError>
     requires { IsLapseOf dossier.now start term lapse }
-    ensures { OnOk result (string_bytes text.new ≡ string_bytes text.old ++ lapse_line dossier.now start term lapse) }
+    ensures { OnOk result (string_bytes text.new ≡ string_bytes text.old ++ lapse_line dossier.now
+        start term lapse) }
 {
     let last = DateWord(deadline(on_day(start, lapse.offered), term));
     writeln!(text, "lapse {} {last}", wish_id(dossier, lapse.wish))?;
@@ -186,7 +193,8 @@ fn push_lapses(
     term: u32,
 ) -> Result<(), AllocError>
     requires { All (IsLapseOf dossier.now start term) lapses.now }
-    ensures { OnOk result (string_bytes text.new ≡ string_bytes text.old ++ flat_map (lapse_line dossier.now start term) lapses.now) }
+    ensures { OnOk result (string_bytes text.new ≡ string_bytes text.old ++ flat_map
+        (lapse_line dossier.now start term) lapses.now) }
 {
     for lapse in lapses {
         push_lapse(text, dossier, *lapse, start, term)?;
@@ -224,7 +232,8 @@ pub fn dated_day_text(
 ) -> Result<Vec<u8>, OutOfMemory>
     requires passes { All (IsPassOf dossier.now) day.now.passes }
     requires lapses { All (IsLapseOf dossier.now start terms.now.term) day.now.lapsed }
-    ensures { IfOk result (λ text. text.items ≡ dated_day_text dossier.now day.now start terms.now.term) }
+    ensures { IfOk result (λ text. text.items ≡ dated_day_text dossier.now day.now start
+        terms.now.term) }
 {
     let mut text = String::new(alloc);
     push_dated_day(&mut text, dossier, day, start, terms)?;

@@ -101,7 +101,8 @@ fn push_dated_row(
     requires place { place < length state.now.dossier.wishes }
     requires before { place < length terms.now.before }
     requires date { HasDate state.now start terms.now.before place }
-    ensures { OnOk result (string_bytes text.new ≡ string_bytes text.old ++ dated_row state.now start terms.now.before (place, wish.now)) }
+    ensures { OnOk result (string_bytes text.new ≡ string_bytes text.old ++ dated_row state.now
+        start terms.now.before (place, wish.now)) }
 {
     push_number(text, wish.id)?;
     text.push_str(",")?;
@@ -111,8 +112,8 @@ fn push_dated_row(
 }
 
 /// Adds the final state where offers have dates, of which `start` is that of day 1: each wish with
-/// its status and, where it is offered, the date of its offer. What follows the first line is a state
-/// slot.
+/// its status and, where it is offered, the date of its offer. What follows the first line is a
+/// state slot.
 pub fn push_dated_final(
     text: &mut String,
     state: &DayState<'_>,

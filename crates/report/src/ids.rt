@@ -68,7 +68,8 @@ pub(crate) fn push_numbers<T: HasId>(
     items: &[T],
     numbers: &[u32],
 ) -> Result<(), AllocError>
-    ensures { OnOk result (string_bytes text.new ≡ string_bytes text.old ++ numbers_text T.id_of word.now items.now numbers.now) }
+    ensures { OnOk result (string_bytes text.new ≡ string_bytes text.old ++ numbers_text T.id_of
+        word.now items.now numbers.now) }
 {
     for (item, number) in items.iter().zip(numbers) {
         push_line(text, word, item.id(), *number)?;

@@ -41,9 +41,11 @@ impl WishCounts {
     fn with(mut self, status: Status) -> WishCounts
         requires { self.live + self.waiting + self.gone < usize.MAX }
         ensures live { result.live ≡ self.live + (if is_live_status status then 1 else 0) }
-        ensures waiting { result.waiting ≡ self.waiting + (if is_waiting_status status then 1 else 0) }
+        ensures waiting { result.waiting
+            ≡ self.waiting + (if is_waiting_status status then 1 else 0) }
         ensures gone { result.gone ≡ self.gone + (if is_gone_status status then 1 else 0) }
-        ensures total { result.live + result.waiting + result.gone ≡ self.live + self.waiting + self.gone + 1 }
+        ensures total { result.live + result.waiting + result.gone
+            ≡ self.live + self.waiting + self.gone + 1 }
     {
         match status {
             Status::Offered | Status::Accepted => self.live += 1,
@@ -73,7 +75,8 @@ fn wish_counts(state: &DayState<'_>) -> WishCounts
 
 /// Adds the summary of each day.
 fn push_days(text: &mut String, days: &[DayRecord]) -> Result<(), AllocError>
-    ensures { OnOk result (string_bytes text.new ≡ string_bytes text.old ++ flat_map day_summary days.now) }
+    ensures { OnOk result (string_bytes text.new ≡ string_bytes text.old ++ flat_map
+        day_summary days.now) }
 {
     for day in days {
         let number = day.day;

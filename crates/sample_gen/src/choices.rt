@@ -64,7 +64,8 @@ fn add_choices(
 ) -> Result<(), OutOfMemory>
     requires some { 1 ≤ programmes }
     requires candidate { candidate ≤ 1000000 }
-    ensures { OnOk result (choices.new.items ≡ choices.old.items ++ own_choices programmes candidate) }
+    ensures { OnOk result (choices.new.items ≡ choices.old.items ++ own_choices
+        programmes candidate) }
 {
     for place in 0..programmes.min(3) {
         choices.push(choice_at(programmes, candidate, place))?;

@@ -55,7 +55,8 @@ fn boarding(
 ) -> Result<Vec<BoardRow>, OutOfMemory>
     requires some { 1 ≤ programmes }
     requires small { All IsSmall choices.now }
-    ensures { IfOk result (λ rows. rows.items ≡ map board_row (filter (has_board_row programmes) choices.now)) }
+    ensures { IfOk result (λ rows. rows.items ≡ map board_row
+        (filter (has_board_row programmes) choices.now)) }
 {
     let mut rows = Vec::new(alloc);
     for choice in choices {

@@ -105,12 +105,14 @@ impl Shelf for PlainShelf {
     fn read(&mut self, slot: Slot, buf: &mut [u8]) -> Result<usize, IoRefusal>
         requires { 0 < length buf.old }
         ensures bound { ReadsAtMost result buf.new }
-        ensures bytes { ReadConsumes (left_of self.old slot) (left_of self.new slot) result buf.new }
+        ensures bytes { ReadConsumes (left_of self.old slot) (left_of self.new slot)
+            result buf.new }
         ensures taken { CountsTaken result (taken_of self.old slot) (taken_of self.new slot) }
         ensures others { OthersKept slot (left_of self.old) (left_of self.new) }
         ensures others_taken { OthersKept slot (taken_of self.old) (taken_of self.new) }
 
-        ensures moves { IfSome (left_of self.old slot) (λ left. result ≡ Ok (min (length buf.old) (length left))) }
+        ensures moves { IfSome (left_of self.old slot)
+            (λ left. result ≡ Ok (min (length buf.old) (length left))) }
     {
         Ok(self.stocks.get_mut(slot).move_into(buf))
     }
@@ -197,15 +199,20 @@ impl Shelf for MemShelf {
     fn read(&mut self, slot: Slot, buf: &mut [u8]) -> Result<usize, IoRefusal>
         requires { 0 < length buf.old }
         ensures bound { ReadsAtMost result buf.new }
-        ensures bytes { ReadConsumes (mem_left self.old slot) (mem_left self.new slot) result buf.new }
+        ensures bytes { ReadConsumes (mem_left self.old slot) (mem_left self.new slot)
+            result buf.new }
         ensures taken { CountsTaken result (mem_taken self.old slot) (mem_taken self.new slot) }
         ensures others { OthersKept slot (mem_left self.old) (mem_left self.new) }
         ensures others_taken { OthersKept slot (mem_taken self.old) (mem_taken self.new) }
         ensures counts { NoneFell (mem_faults self.old) (mem_faults self.new) }
-        ensures failed { IsErrOf result IoRefusal.Failed → Rose (mem_faults self.old slot) (mem_faults self.new slot) }
+        ensures failed { IsErrOf result IoRefusal.Failed → Rose (mem_faults self.old slot)
+            (mem_faults self.new slot) }
 
-        ensures planned { IsErrOf result IoRefusal.Failed ↔ IsToFail (mem_failing self.old) (mem_calls self.old) }
-        ensures moves { IsToFail (mem_failing self.old) (mem_calls self.old) ⊎ IfSome (mem_left self.old slot) (λ left. result ≡ Ok (min (length buf.old) (length left))) }
+        ensures planned { IsErrOf result IoRefusal.Failed ↔ IsToFail (mem_failing self.old)
+            (mem_calls self.old) }
+        ensures moves { IsToFail (mem_failing self.old) (mem_calls self.old)
+            ⊎ IfSome (mem_left self.old slot) (λ left. result
+            ≡ Ok (min (length buf.old) (length left))) }
         ensures faults { mem_faults self.new slot ≡ faults_after result (mem_faults self.old slot) }
         ensures others_faults { OthersKept slot (mem_faults self.old) (mem_faults self.new) }
         ensures calls { mem_calls self.new ≡ min (mem_calls self.old + 1) (2 ^ 64 - 1) }

@@ -49,7 +49,8 @@ impl Sink for PlainSink {
         requires { 0 < length piece.now }
         ensures bound { WritesAtMost result piece.now }
         ensures some { IfOk result (λ count. 0 < count) }
-        ensures bytes { WriteAppends (Some (plain_held self.old)) (Some (plain_held self.new)) result piece.now }
+        ensures bytes { WriteAppends (Some (plain_held self.old)) (Some (plain_held self.new))
+            result piece.now }
 
         ensures never_failed { ¬ IsErrOf result IoRefusal.Failed }
         ensures moves { IfOk result (λ count. count ≡ length piece.now) }
@@ -108,7 +109,8 @@ impl MemSink {
 
     /// How many bytes of a piece fit.
     fn fitting(&self, piece: &[u8]) -> usize
-        ensures { result ≡ fitting (sink_room self.now) (length (sink_held self.now)) (length piece.now) }
+        ensures { result ≡ fitting (sink_room self.now) (length (sink_held self.now))
+            (length piece.now) }
     {
         match self.room {
             None => piece.len(),
@@ -140,13 +142,17 @@ impl Sink for MemSink {
         requires { 0 < length piece.now }
         ensures bound { WritesAtMost result piece.now }
         ensures some { IfOk result (λ count. 0 < count) }
-        ensures bytes { WriteAppends (Some (sink_held self.old)) (Some (sink_held self.new)) result piece.now }
+        ensures bytes { WriteAppends (Some (sink_held self.old)) (Some (sink_held self.new))
+            result piece.now }
         ensures counts { sink_faults self.old ≤ sink_faults self.new }
-        ensures failed { IsErrOf result IoRefusal.Failed → Rose (sink_faults self.old) (sink_faults self.new) }
+        ensures failed { IsErrOf result IoRefusal.Failed
+            → Rose (sink_faults self.old) (sink_faults self.new) }
 
         ensures planned { IsErrOf result IoRefusal.Failed
-            ↔ (IsToFail (sink_failing self.old) (sink_calls self.old) ⊎ (fitting (sink_room self.old) (length (sink_held self.old)) (length piece.now) ≡ 0)) }
-        ensures moves { IfOk result (λ count. count ≡ fitting (sink_room self.old) (length (sink_held self.old)) (length piece.now)) }
+            ↔ (IsToFail (sink_failing self.old) (sink_calls self.old)
+            ⊎ (fitting (sink_room self.old) (length (sink_held self.old)) (length piece.now) ≡ 0)) }
+        ensures moves { IfOk result (λ count. count ≡ fitting (sink_room self.old)
+            (length (sink_held self.old)) (length piece.now)) }
         ensures faults { sink_faults self.new ≡ faults_after result (sink_faults self.old) }
         ensures calls { sink_calls self.new ≡ min (sink_calls self.old + 1) (2 ^ 64 - 1) }
         ensures failing { sink_failing self.new ≡ sink_failing self.old }

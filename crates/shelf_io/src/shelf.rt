@@ -29,7 +29,8 @@ pub trait Shelf {
         ensures others { OthersKept slot (left self.old) (left self.new) }
         ensures others_taken { OthersKept slot (taken self.old) (taken self.new) }
         ensures counts { NoneFell (faults self.old) (faults self.new) }
-        ensures failed { IsErrOf result IoRefusal.Failed → Rose (faults self.old slot) (faults self.new slot) };
+        ensures failed { IsErrOf result IoRefusal.Failed
+            → Rose (faults self.old slot) (faults self.new slot) };
 }
 
 /// How many bytes are asked for at once.
@@ -44,21 +45,28 @@ pub fn read_slot<S: Shelf>(
     slot: Slot,
     limit: u64,
 ) -> Result<Vec<u8>, SlotRefusal>
-    ensures whole { IfOk result (λ bytes. TakesAll (S.left shelf.old slot) (S.left shelf.new slot) bytes.items) }
+    ensures whole { IfOk result (λ bytes. TakesAll (S.left shelf.old slot)
+        (S.left shelf.new slot) bytes.items) }
     ensures within { IfOk result (λ bytes. vec_len bytes ≤ limit) }
-    ensures counted { IfOk result (λ bytes. Counted (vec_len bytes) (S.taken shelf.old slot) (S.taken shelf.new slot)) }
+    ensures counted { IfOk result (λ bytes. Counted (vec_len bytes) (S.taken shelf.old slot)
+        (S.taken shelf.new slot)) }
 
     // too large exactly where more than the limit was taken
-    ensures too_large { IsErrOf result SlotRefusal.TooLarge → TakesMoreThan limit (S.left shelf.old slot) (S.left shelf.new slot) }
-    ensures over { IsErrOf result SlotRefusal.TooLarge → raised_by (limit + 1) (S.taken shelf.old slot) ≤ S.taken shelf.new slot }
-    ensures not_over { IsErrOf result SlotRefusal.TooLarge ⊎ (S.taken shelf.new slot ≤ S.taken shelf.old slot + limit) }
+    ensures too_large { IsErrOf result SlotRefusal.TooLarge
+        → TakesMoreThan limit (S.left shelf.old slot) (S.left shelf.new slot) }
+    ensures over { IsErrOf result SlotRefusal.TooLarge
+        → raised_by (limit + 1) (S.taken shelf.old slot) ≤ S.taken shelf.new slot }
+    ensures not_over { IsErrOf result SlotRefusal.TooLarge
+        ⊎ (S.taken shelf.new slot ≤ S.taken shelf.old slot + limit) }
 
-    ensures taken { OnErr result (TakesAtMost (limit + 65536) (S.left shelf.old slot) (S.left shelf.new slot)) }
+    ensures taken { OnErr result (TakesAtMost (limit + 65536) (S.left shelf.old slot)
+        (S.left shelf.new slot)) }
     ensures at_most { S.taken shelf.new slot ≤ S.taken shelf.old slot + limit + 65536 }
     ensures others { OthersKept slot (S.left shelf.old) (S.left shelf.new) }
     ensures others_taken { OthersKept slot (S.taken shelf.old) (S.taken shelf.new) }
     ensures counts { NoneFell (S.faults shelf.old) (S.faults shelf.new) }
-    ensures fault { IsErrOf result SlotRefusal.ReadFault → Rose (S.faults shelf.old slot) (S.faults shelf.new slot) }
+    ensures fault { IsErrOf result SlotRefusal.ReadFault → Rose (S.faults shelf.old slot)
+        (S.faults shelf.new slot) }
 {
     let mut buf = [0u8; BUFFER_SIZE];
     let mut bytes = Vec::new(alloc);

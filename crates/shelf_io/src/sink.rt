@@ -22,7 +22,8 @@ pub trait Sink {
         ensures some { IfOk result (λ count. 0 < count) }
         ensures bytes { WriteAppends (held self.old) (held self.new) result piece.now }
         ensures counts { faults self.old ≤ faults self.new }
-        ensures failed { IsErrOf result IoRefusal.Failed → Rose (faults self.old) (faults self.new) };
+        ensures failed { IsErrOf result IoRefusal.Failed
+            → Rose (faults self.old) (faults self.new) };
 }
 
 /// Appends all the bytes in order. Where there are none, it makes no call.
@@ -31,7 +32,8 @@ pub fn write_all<K: Sink>(sink: &mut K, bytes: &[u8]) -> Result<(), IoRefusal>
     ensures prefix { OnErr result (AppendsPrefix (K.held sink.old) (K.held sink.new) bytes.now) }
     ensures nothing { bytes.now ≡ [] → (sink.new ≡ sink.old) }
     ensures counts { K.faults sink.old ≤ K.faults sink.new }
-    ensures failed { IsErrOf result IoRefusal.Failed → Rose (K.faults sink.old) (K.faults sink.new) }
+    ensures failed { IsErrOf result IoRefusal.Failed
+        → Rose (K.faults sink.old) (K.faults sink.new) }
 {
     let mut written = 0;
     while written < bytes.len() {

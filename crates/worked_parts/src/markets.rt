@@ -26,8 +26,8 @@ fn lists_in(alloc: Global, text: &str) -> Result<Vec<Vec<u32>>, OutOfMemory> {
     Ok(lists)
 }
 
-/// The parts of a market in words: the candidates' lists between `;`, and behind `/` each programme's
-/// seats with `:` and its order. Blank behind `/` is no programme.
+/// The parts of a market in words: the candidates' lists between `;`, and behind `/` each
+/// programme's seats with `:` and its order. Blank behind `/` is no programme.
 fn parts_in(alloc: Global, input: &str) -> Result<Parts, OutOfMemory> {
     let (lists, programmes) = input.split_once("/").unwrap_or((input, ""));
     let mut parts = Parts {

@@ -16,8 +16,8 @@ pub(crate) struct GroupSlots {
     rankings: String,
 }
 
-/// A candidate's number in a word, and their flags: `15s` is a scholar, `15r` a resident, and `15sr`
-/// both.
+/// A candidate's number in a word, and their flags: `15s` is a scholar, `15r` a resident, and
+/// `15sr` both.
 fn flags_of(word: &str) -> (&str, &str) {
     if let Some(number) = word.strip_suffix("sr") {
         return (number, "1,1");

@@ -62,7 +62,8 @@ pub(crate) fn bytes_read(alloc: Global, name: &str, input: &str) -> Result<Strin
     read_named(alloc, name, bytes.as_slice())
 }
 
-/// Whether each beginning of these bytes gives rows or a refusal of the slot; the first other answer.
+/// Whether each beginning of these bytes gives rows or a refusal of the slot; the first other
+/// answer.
 pub(crate) fn cuts_in(alloc: Global, name: &str, input: &str) -> Result<String, OutOfMemory> {
     let bytes = bytes_in(alloc, input)?;
     let refused = format!(in alloc; "refused {name} ")?;

@@ -7,8 +7,8 @@ use replay_cli::{Pickers, run};
 use shelf_io::{MemShelf, MemSink};
 use std::alloc::{AllocError, Global};
 
-/// What fails outside: a read by its number, from 1 over all slots, and the sink once it holds so many
-/// bytes.
+/// What fails outside: a read by its number, from 1 over all slots, and the sink once it holds so
+/// many bytes.
 #[derive(Clone, Copy)]
 pub(crate) struct Outside {
     pub(crate) failing_read: Option<u64>,

@@ -44,7 +44,8 @@ fn is_cut_off(
     Ok(true)
 }
 
-/// Whether the sink takes the whole text where there is room for it, and is full at each lesser length.
+/// Whether the sink takes the whole text where there is room for it, and is full at each lesser
+/// length.
 pub(crate) fn each_room_cuts_off(
     alloc: Global,
     words: &str,
@@ -83,8 +84,8 @@ fn is_unread(
     )
 }
 
-/// Whether each read of these slots, which the run reads in this order, ends the run where it fails,
-/// and no read comes after them.
+/// Whether each read of these slots, which the run reads in this order, ends the run where it
+/// fails, and no read comes after them.
 pub(crate) fn each_read_fails(
     alloc: Global,
     words: &str,
@@ -108,8 +109,8 @@ pub(crate) fn each_read_fails(
     comes_about(alloc, words, slots, outside, expected)
 }
 
-/// Whether a run is done, refused, proves nothing, or does not find what it names, with a line that says
-/// so.
+/// Whether a run is done, refused, proves nothing, or does not find what it names, with a line that
+/// says so.
 fn is_answered(ran: &Ran) -> bool {
     let text = ran.text.as_slice();
     let last = text
