@@ -16,8 +16,7 @@ use demand::sort_by_rank;
 use std::alloc::Global;
 use vacancies::beds_left;
 
-/// How many boarders of each school have an open wish: room is made by it, so no clause speaks of
-/// the numbers.
+/// How many boarders of each school are open: room is made by it, so no clause speaks of the numbers.
 fn counts_by_school(
     alloc: Global,
     links: &SeatLinks<'_, '_>,
@@ -60,7 +59,7 @@ fn rows_by_place(
     Ok(rows)
 }
 
-/// The rows of the schools up to their bars, under which these wishes are open.
+/// The rows of the schools up to the bars under which the wishes of these links are open.
 pub fn rows_of(
     alloc: Global,
     links: &SeatLinks<'_, '_>,

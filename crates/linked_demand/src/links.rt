@@ -82,11 +82,11 @@ fn is_served(state: &DayState<'_>, early: &[bool], wish: u32, open: bool, reache
     open && (reached || needs_no_seat(state, early, wish))
 }
 
-/// Whether one of two tests passes.
-fn is_one_of(one: bool, other: bool) -> bool
-    ensures { result ≡ (one || other) }
+/// Whether an open wish is proposed whose candidate is reached or not, and needs no seat or does.
+fn is_seated(reached: bool, sure: bool) -> bool
+    ensures { result ≡ (reached || sure) }
 {
-    one || other
+    reached || sure
 }
 
 /// How far the seats of each programme reach along its line, while wishes are closed.
@@ -179,7 +179,7 @@ impl<'a, 'd> SeatLinks<'a, 'd> {
     {
         let front = self.reached[item.programme as usize];
         let reached = is_reached(item.place as usize, front);
-        is_one_of(reached, item.sure)
+        is_seated(reached, item.sure)
     }
 
     /// Closes a waiting wish. It ticks once for each wish that becomes proposed and is open under

@@ -26,4 +26,4 @@ returns c =
     c.is_reached-reached.result front at.within c.is_reached-reached.ensures in
     item_proposed reach.links c.args.self.now c.self.view_is c.args.item c.requires.waits c.requires.item
     c.requires.flag (seat_row s orders opens p) (row_there s orders opens p (programme_within k))
-    c.is_reached-reached.result c.is_one_of.result reached c.is_one_of.ensures
+    c.is_reached-reached.result c.is_seated.result reached c.is_seated.ensures
