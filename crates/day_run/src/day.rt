@@ -148,8 +148,8 @@ fn keep_evening<'d>(evening: &mut DayState<'d>, present: &DayState<'d>, is_alike
 
 /// Makes the lapse, the answers and the passes of a day. A refusal may come in their midst.
 ///
-/// It is told whether all have been answered for in the evening before, and whether this is the opening;
-/// it lists beside the states of whom that no longer is known.
+/// It is told whether all have been answered for in the evening before, and whether the opening is that
+/// evening. It lists the wishes of those whom the lapse and the answers may have changed.
 fn play<'d>(
     alloc: Global,
     opening: &mut DayState<'d>,

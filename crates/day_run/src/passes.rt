@@ -21,9 +21,10 @@ use linked_demand::Lineup;
 use round::pass;
 use std::alloc::Global;
 
-/// Makes passes from the present state on, up to the first whose automatic answers free nothing. Where
-/// all have been answered for but those who have a wish beside it, the first pass asks for no others;
-/// each later one asks for those with an offer alone.
+/// Makes passes from the present state on, up to the first whose automatic answers free nothing.
+///
+/// Where `is_answered`, all have been answered for but those who have a wish in `beside`: the first
+/// pass then asks them and those with an offer, and no others. Each later pass asks those with an offer.
 ///
 /// A pass that is not the last refuses a live wish, and none comes back to life: so there are at
 /// most as many passes as wishes, and one more.
@@ -100,8 +101,8 @@ pub(crate) fn make_passes<'d>(
     }
 }
 
-/// Opens the first pass of a day with the present state. The opening was this state already where it was
-/// the evening before, and nothing changed since.
+/// Opens the first pass of a day with the present state. The opening is this state already where it was
+/// the evening before, and nothing has changed since.
 fn open_first<'d>(opening: &mut DayState<'d>, state: &DayState<'d>, is_alike: bool, changed: &[u32])
     requires same { opening.old.dossier ≡ state.now.dossier }
     requires alike { is_alike ≡ true → changed.now ≡ [] → opening.old ≡ state.now }
@@ -112,8 +113,8 @@ fn open_first<'d>(opening: &mut DayState<'d>, state: &DayState<'d>, is_alike: bo
     }
 }
 
-/// Leads the opening of a pass to its closing, with which the next pass opens. Where all others had been
-/// answered for, it takes the steps that the pass took: few wishes are looked at then.
+/// Leads the opening of a pass to its closing, with which the next pass opens. Where all but those who
+/// were asked had been answered for, it takes the steps that the pass took: few wishes are looked at.
 fn follow<'d>(
     opening: &mut DayState<'d>,
     closing: &DayState<'d>,
@@ -146,9 +147,8 @@ fn frees_nothing(freed: Freed) -> bool
     freed.seats == 0 && freed.beds == 0
 }
 
-/// Makes a pass, and the automatic answers that follow it. Where all have been answered for but those
-/// who have a wish beside it, only they and those with an offer are asked for; the offers are added
-/// to the wishes beside it.
+/// Makes a pass, and the automatic answers that follow it; its offers are added to `beside`, which then
+/// has the wishes of all whom it asks, where all others have been answered for.
 fn make_pass(
     alloc: Global,
     opening: &DayState<'_>,
