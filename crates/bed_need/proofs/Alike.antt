@@ -34,7 +34,8 @@ map_same f g same (x ∷ xs) = rw (same x, map_same f g same xs) refl
 abbrev Agree : (Wish × Mark → Bool) → (Wish × Mark → Bool) → Type 0
 Agree p q = (w : Wish) (m n : Mark) → IsAlike m n → p (w, m) ≡ q (w, n)
 
-any_alike : (p q : Wish × Mark → Bool) → Agree p q → (ws : List Wish) (ms ns : List Mark) → AreAlike ms ns → list_any p (zip ws ms) ≡ list_any q (zip ws ns)
+any_alike : (p q : Wish × Mark → Bool) → Agree p q → (ws : List Wish) (ms ns : List Mark)
+    → AreAlike ms ns → list_any p (zip ws ms) ≡ list_any q (zip ws ns)
 any_alike p q agree [] ms ns alike = refl
 any_alike p q agree (w ∷ ws) [] [] alike = refl
 any_alike p q agree (w ∷ ws) [] (n ∷ ns) alike = absurd alike
@@ -44,17 +45,21 @@ any_alike p q agree (w ∷ ws) (m ∷ ms) (n ∷ ns) alike = rw (agree w m n ali
 abbrev rank : Wish × Mark → ℕ
 rank e = e.0.board_rank
 
-ranks_step : (b : Bool) (w : Wish) (m n : Mark) (xs ys : List (Wish × Mark)) → map rank xs ≡ map rank ys → map rank (cond b ((w, m) ∷ xs) xs) ≡ map rank (cond b ((w, n) ∷ ys) ys)
+ranks_step : (b : Bool) (w : Wish) (m n : Mark) (xs ys : List (Wish × Mark))
+    → map rank xs ≡ map rank ys
+    → map rank (cond b ((w, m) ∷ xs) xs) ≡ map rank (cond b ((w, n) ∷ ys) ys)
 ranks_step true w m n xs ys same = ap (λ rs. w.board_rank ∷ rs) same
 ranks_step false w m n xs ys same = same
 
-ranks_alike : (p q : Wish × Mark → Bool) → Agree p q → (ws : List Wish) (ms ns : List Mark) → AreAlike ms ns → map rank (filter p (zip ws ms)) ≡ map rank (filter q (zip ws ns))
+ranks_alike : (p q : Wish × Mark → Bool) → Agree p q → (ws : List Wish) (ms ns : List Mark)
+    → AreAlike ms ns → map rank (filter p (zip ws ms)) ≡ map rank (filter q (zip ws ns))
 ranks_alike p q agree [] ms ns alike = refl
 ranks_alike p q agree (w ∷ ws) [] [] alike = refl
 ranks_alike p q agree (w ∷ ws) [] (n ∷ ns) alike = absurd alike
 ranks_alike p q agree (w ∷ ws) (m ∷ ms) [] alike = absurd alike
 ranks_alike p q agree (w ∷ ws) (m ∷ ms) (n ∷ ns) alike =
-    rw (agree w m n alike.0) (ranks_step (q (w, n)) w m n (filter p (zip ws ms)) (filter q (zip ws ns)) (ranks_alike p q agree ws ms ns alike.1))
+    rw (agree w m n alike.0) (ranks_step (q (w, n)) w m n (filter p (zip ws ms))
+    (filter q (zip ws ns)) (ranks_alike p q agree ws ms ns alike.1))
 
 abbrev place : ℕ × (Wish × Mark) → ℕ
 place x = x.0
@@ -65,14 +70,16 @@ found_step true k w m n xs ys same = refl
 found_step false k w m n xs ys same = same
 
 found_alike : (p q : Wish × Mark → Bool) → Agree p q → (k : ℕ) (ws : List Wish) (ms ns : List Mark) → AreAlike ms ns
-    → option_map place (find (λ x. p x.1) (enumerate_from k (zip ws ms))) ≡ option_map place (find (λ x. q x.1) (enumerate_from k (zip ws ns)))
+    → option_map place (find (λ x. p x.1) (enumerate_from k (zip ws ms)))
+    ≡ option_map place (find (λ x. q x.1) (enumerate_from k (zip ws ns)))
 found_alike p q agree k [] ms ns alike = refl
 found_alike p q agree k (w ∷ ws) [] [] alike = refl
 found_alike p q agree k (w ∷ ws) [] (n ∷ ns) alike = absurd alike
 found_alike p q agree k (w ∷ ws) (m ∷ ms) [] alike = absurd alike
 found_alike p q agree k (w ∷ ws) (m ∷ ms) (n ∷ ns) alike =
     rw (agree w m n alike.0)
-    (found_step (q (w, n)) k w m n (find (λ x. p x.1) (enumerate_from (k + 1) (zip ws ms))) (find (λ x. q x.1) (enumerate_from (k + 1) (zip ws ns)))
+    (found_step (q (w, n)) k w m n (find (λ x. p x.1) (enumerate_from (k + 1) (zip ws ms)))
+    (find (λ x. q x.1) (enumerate_from (k + 1) (zip ws ns)))
     (found_alike p q agree (k + 1) ws ms ns alike.1))
 
 -- a state whose marks are others that are alike
@@ -108,14 +115,16 @@ module _ (u : State) (ms : List Mark) (alike : AreAlike ms u.marks) where
 
   has_open : (bars : List ℕ) (p c : ℕ) → has_open_wish t bars p c ≡ has_open_wish u bars p c
   has_open bars p c =
-      any_alike (λ e. is_open_in t bars p c e.0 e.1) (λ e. is_open_in u bars p c e.0 e.1) (λ w m n a. rw (opens bars w m n a) refl) u.dossier.wishes ms u.marks alike
+      any_alike (λ e. is_open_in t bars p c e.0 e.1) (λ e. is_open_in u bars p c e.0 e.1)
+      (λ w m n a. rw (opens bars w m n a) refl) u.dossier.wishes ms u.marks alike
 
   wants : (bars : List ℕ) (p c : ℕ) → wants_seat t bars p c ≡ wants_seat u bars p c
   wants bars p c = rw (has_open bars p c, seat c p) refl
 
   module _ (orders : List CallOrder) where
     same_ahead : (bars : List ℕ) (w : Wish) → ahead t orders bars w ≡ ahead u orders bars w
-    same_ahead bars w = count_same (wants_seat t bars w.programme) (wants_seat u bars w.programme) (wants bars w.programme) (before u orders w)
+    same_ahead bars w = count_same (wants_seat t bars w.programme) (wants_seat u bars w.programme)
+        (wants bars w.programme) (before u orders w)
 
     called : (w : Wish) → needs_no_seat t orders w ≡ needs_no_seat u orders w
     called w = rw (seat w.candidate w.programme) refl
@@ -123,18 +132,21 @@ module _ (u : State) (ms : List Mark) (alike : AreAlike ms u.marks) where
     offers : (bars : List ℕ) (w : Wish) (m n : Mark) → IsAlike m n → is_proposed t orders bars w m ≡ is_proposed u orders bars w n
     offers bars w m n a = rw (opens bars w m n a, called w, same_ahead bars w, same_left w.programme) refl
 
-    demands : (bars : List ℕ) (h : ℕ) (w : Wish) (m n : Mark) → IsAlike m n → demands_bed t orders bars h w m ≡ demands_bed u orders bars h w n
+    demands : (bars : List ℕ) (h : ℕ) (w : Wish) (m n : Mark) → IsAlike m n
+        → demands_bed t orders bars h w m ≡ demands_bed u orders bars h w n
     demands bars h w m n a = rw (bed w.candidate h, offers bars w m n a) refl
 
     pub same_ranks : (bars : List ℕ) (h : ℕ) → demanded_ranks t orders bars h ≡ demanded_ranks u orders bars h
     same_ranks bars h =
         ap ascending
-        (ranks_alike (λ e. demands_bed t orders bars h e.0 e.1) (λ e. demands_bed u orders bars h e.0 e.1) (λ w m n a. demands bars h w m n a) u.dossier.wishes ms u.marks alike)
+        (ranks_alike (λ e. demands_bed t orders bars h e.0 e.1) (λ e. demands_bed u orders bars h
+        e.0 e.1) (λ w m n a. demands bars h w m n a) u.dossier.wishes ms u.marks alike)
 
     same_name : (bars : List ℕ) (h r : ℕ) → name_of t orders bars h r ≡ name_of u orders bars h r
     same_name bars h r =
         ap (λ (found : Option ℕ). unwrap_or found 0)
-        (found_alike (λ e. demands_bed t orders bars h e.0 e.1 && (e.0.board_rank == r)) (λ e. demands_bed u orders bars h e.0 e.1 && (e.0.board_rank == r))
+        (found_alike (λ e. demands_bed t orders bars h e.0 e.1 && (e.0.board_rank == r))
+        (λ e. demands_bed u orders bars h e.0 e.1 && (e.0.board_rank == r))
         (λ w m n a. rw (demands bars h w m n a) refl) 0 u.dossier.wishes ms u.marks alike)
 
     -- the system of bars is the same
@@ -144,5 +156,6 @@ module _ (u : State) (ms : List Mark) (alike : AreAlike ms u.marks) where
         map_same (free_beds t) (free_beds u) same_free (range_with_len 0 (length ceilings)) in
         let ranks : demanded_ranks t orders ≡ demanded_ranks u orders = λ i bars h. same_ranks bars h i in
         let names : name_of t orders ≡ name_of u orders = λ i bars h r. same_name bars h r i in
-        let system : List ℕ → (List ℕ → ℕ → List ℕ) → (List ℕ → ℕ → ℕ → ℕ) → FallingSystem = λ f r n. record { ceilings = ceilings; free = f; ranks = r; name = n } in
+        let system : List ℕ → (List ℕ → ℕ → List ℕ) → (List ℕ → ℕ → ℕ → ℕ) → FallingSystem =
+        λ f r n. record { ceilings = ceilings; free = f; ranks = r; name = n } in
         λ i. system (free i) (ranks i) (names i)

@@ -14,8 +14,11 @@ use Rattle.bed_need.specs.Figures.{Figures, FiguresAreFixed, lacks}
 use Rattle.bed_need.specs.Growing.{with_more_beds}
 use Rattle.bed_need.proofs.RoomyBeds.{free_at, free_here, free_there}
 
-module _ (s : State) (orders : List CallOrder) (low high : List ℕ) (h n : ℕ) (long : length low ≡ length s.dossier.schools) (rise : IsAtMost low high) (more : beds_of s.dossier h ≤ n) where
-  more_free : (i : ℕ) → i < length high → slice_index (boarding s orders low).free i ≤ slice_index (boarding (with_beds s h n) orders high).free i
+module _ (s : State) (orders : List CallOrder) (low high : List ℕ) (h n : ℕ) (long : length low
+    ≡ length s.dossier.schools) (rise : IsAtMost low high) (more : beds_of s.dossier h ≤ n) where
+  more_free : (i : ℕ) → i < length high
+      → slice_index (boarding s orders low).free i
+      ≤ slice_index (boarding (with_beds s h n) orders high).free i
   more_free i lt =
       let in_low : i < length low = omega (arith, lt, rise.as_many) in
       let high_long : length high ≡ length s.dossier.schools = sym rise.as_many ∙ long in
@@ -30,7 +33,11 @@ module _ (s : State) (orders : List CallOrder) (low high : List ℕ) (h n : ℕ)
 
   still_fits : (bars : List ℕ) → Fits (boarding s orders low) bars → Fits (boarding (with_beds s h n) orders high) bars
   still_fits bars fits = record {
-    under_ceilings = record { as_many = fits.under_ceilings.as_many ∙ rise.as_many; each = λ i. omega (arith, fits.under_ceilings.each i, rise.each i) };
+    under_ceilings = record {
+      as_many = fits.under_ceilings.as_many
+          ∙ rise.as_many;
+      each = λ i. omega (arith, fits.under_ceilings.each i, rise.each i);
+    };
     room = λ i lt. omega (arith, fits.room i (omega (arith, lt, rise.as_many)), more_free i lt);
   }
 
@@ -39,7 +46,8 @@ bars_do_not_fall s orders low high bars more_bars h n long rise more greatest th
     then.greatest bars (still_fits s orders low high h n long rise more bars greatest.fits)
 
 -- the need is one, and so are the bars
-one_need : (s : State) (orders : List CallOrder) (ceilings : List ℕ) (h n m : ℕ) → IsLeastBeds s orders ceilings h n → IsLeastBeds s orders ceilings h m → n ≡ m
+one_need : (s : State) (orders : List CallOrder) (ceilings : List ℕ) (h n m : ℕ)
+    → IsLeastBeds s orders ceilings h n → IsLeastBeds s orders ceilings h m → n ≡ m
 one_need s orders ceilings h n m one other = omega (arith, one.least m other.enough, other.least n one.enough)
 
 one_greatest : (sys : FallingSystem) (one other : List ℕ) → IsGreatest sys one → IsGreatest sys other → one ≡ other
@@ -52,9 +60,12 @@ one_greatest sys one other is also =
 pub figures_are_fixed : FiguresAreFixed
 figures_are_fixed s orders ceilings h one other is also =
     let need : one.need ≡ other.need = one_need s orders ceilings h one.need other.need is.need also.need in
-    let before : one.before ≡ other.before = one_greatest (boarding s orders ceilings) one.before other.before is.growth.before also.growth.before in
+    let before : one.before ≡ other.before = one_greatest
+    (boarding s orders ceilings) one.before other.before is.growth.before also.growth.before in
     let grown : IsGreatest (with_more_beds s orders ceilings h (lacks s h other.need)) one.after =
     subst (λ (n : ℕ). IsGreatest (with_more_beds s orders ceilings h (lacks s h n)) one.after) need is.growth.after in
-    let after : one.after ≡ other.after = one_greatest (with_more_beds s orders ceilings h (lacks s h other.need)) one.after other.after grown also.growth.after in
+    let after : one.after ≡ other.after =
+    one_greatest (with_more_beds s orders ceilings h (lacks s h other.need)) one.after
+    other.after grown also.growth.after in
     let figures : ℕ → List ℕ → List ℕ → Figures = λ n b a. record { need = n; before = b; after = a } in
     λ i. figures (need i) (before i) (after i)

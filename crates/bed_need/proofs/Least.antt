@@ -41,7 +41,8 @@ filter_again : (p q : ℕ → Bool) (xs : List ℕ) → filter (λ x. not (p x))
 filter_again p q [] = refl
 filter_again p q (x ∷ xs) = again (q x) (filter_again p q xs) where
   again : (b : Bool) → filter (λ y. not (p y)) (filter q xs) ≡ filter (λ y. q y && not (p y)) xs
-      → filter (λ y. not (p y)) (cond b (x ∷ filter q xs) (filter q xs)) ≡ cond (b && not (p x)) (x ∷ filter (λ y. q y && not (p y)) xs) (filter (λ y. q y && not (p y)) xs)
+      → filter (λ y. not (p y)) (cond b (x ∷ filter q xs) (filter q xs)) ≡ cond (b
+      && not (p x)) (x ∷ filter (λ y. q y && not (p y)) xs) (filter (λ y. q y && not (p y)) xs)
   again true rest = rw rest refl
   again false rest = rest
 
@@ -57,10 +58,20 @@ pub holders_after : (s : State) (orders : List CallOrder) (bars : List ℕ) (sta
 holders_after s orders bars stamp h valid =
     let new = offered s orders bars stamp in
     let kept = holds_kept (λ w. has_school w h) s (λ w m. offer_if stamp (is_proposed s orders bars w m) m) in
-    let all = parted (λ c. holds_bed s c h) (λ c. holds_bed new c h) (λ c lives. kept c (λ w m live. live_stays stamp (is_proposed s orders bars w m) m live) lives) (candidates_of s.dossier) in
-    omega (arith, all, ap length (filter_again (λ c. holds_bed s c h) (λ c. holds_bed new c h) (candidates_of s.dossier)), length-new_bed_holders s orders bars stamp valid h)
+    let all = parted (λ c. holds_bed s c h) (λ c. holds_bed new c h)
+    (λ c lives. kept c (λ w m live. live_stays stamp (is_proposed s orders bars w m) m live)
+    lives) (candidates_of s.dossier) in
+    omega (
+      arith,
+      all,
+      ap length (filter_again (λ c. holds_bed s c h) (λ c. holds_bed new c h)
+          (candidates_of s.dossier)),
+      length-new_bed_holders s orders bars stamp valid h,
+    )
 
-module _ (s : State) (orders : List CallOrder) (ceilings : List ℕ) (h : ℕ) (valid : IsValid s.dossier) (in_range : h < length s.dossier.schools) (long : length ceilings ≡ length s.dossier.schools) where
+module _ (s : State) (orders : List CallOrder) (ceilings : List ℕ) (h : ℕ)
+    (valid : IsValid s.dossier) (in_range : h < length s.dossier.schools)
+    (long : length ceilings ≡ length s.dossier.schools) where
   abbrev with_n : ℕ → FallingSystem
   with_n n = boarding (with_beds s h n) orders ceilings
 
@@ -98,7 +109,13 @@ module _ (s : State) (orders : List CallOrder) (ceilings : List ℕ) (h : ℕ) (
     room = λ i lt.
         elim (cases_eq i h) [
           | inl same ↦ rw same (omega (arith, enough, free_in m))
-          | inr other ↦ omega (arith, fits.room i lt, free_there s orders ceilings h n i long lt other, free_there s orders ceilings h m i long lt other)
+          | inr other ↦ omega (
+            arith,
+            fits.room i lt,
+            free_there s orders ceilings h n i long lt
+                other,
+            free_there s orders ceilings h m i long lt other,
+          )
         ];
   }
 
@@ -111,7 +128,8 @@ module _ (s : State) (orders : List CallOrder) (ceilings : List ℕ) (h : ℕ) (
     at_ceiling =
         elim (cases_lt (slice_index bars h) (slice_index ceilings h)) [
           | inl low ↦
-              let full = full_below (with_n 2000000000) (boarding_is_lawful (with_beds s h 2000000000) orders ceilings) bars greatest h low in
+              let full = full_below (with_n 2000000000) (boarding_is_lawful
+              (with_beds s h 2000000000) orders ceilings) bars greatest h low in
               let at_most = few bars in
               absurd (omega (arith, full, free_in 2000000000))
           | inr high ↦ omega (arith, high, greatest.fits.under_ceilings.each h)
@@ -120,7 +138,10 @@ module _ (s : State) (orders : List CallOrder) (ceilings : List ℕ) (h : ℕ) (
     enough_with : (n : ℕ) → coming bars ≤ n - live → AreEnough s orders ceilings h n
     enough_with n room = (
       bars,
-      record { fits = fits_with 2000000000 n bars room greatest.fits; greatest = λ others fits. greatest.greatest others (fits_roomy n others fits) },
+      record {
+        fits = fits_with 2000000000 n bars room greatest.fits;
+        greatest = λ others fits. greatest.greatest others (fits_roomy n others fits);
+      },
       at_ceiling,
     )
 
@@ -138,7 +159,8 @@ module _ (s : State) (orders : List CallOrder) (ceilings : List ℕ) (h : ℕ) (
         let demanded = Contains-from_any eqb-true q (demanded_ranks s orders bars h) t in
         let to_bar = lawful.to_bar bars h q greatest.fits.under_ceilings bars_in demanded in
         list_any-from_Contains nat_eq_equiv q (demanded_ranks s orders others h)
-        (lawful.stay_demanded others bars h q at_most greatest.fits.under_ceilings others_in demanded (omega (arith, to_bar, at_ceiling, enough.2)))) in
+        (lawful.stay_demanded others bars h q at_most greatest.fits.under_ceilings others_in
+        demanded (omega (arith, to_bar, at_ceiling, enough.2)))) in
         omega (arith, more, enough.1.fits.room h here, free_in k)
 
     pub needs_least : (need : ℕ) → need ≡ need_of live (live + coming bars) → IsLeastBeds s orders ceilings h need
@@ -149,6 +171,14 @@ module _ (s : State) (orders : List CallOrder) (ceilings : List ℕ) (h : ℕ) (
               rw zero_is (record { enough = enough_with 0 (omega (arith, none)); least = λ k enough. omega arith })
           | inr some ↦
               let all_is : need ≡ live + coming bars = rw (ne_eqb live (live + coming bars) some) at is in
-              let comes : 0 < coming bars = elim (cases_eq (coming bars) 0) [ inl none ↦ absurd (some (omega (arith, none))) | inr more ↦ ne_zero (coming bars) more ] in
-              rw all_is (record { enough = enough_with (live + coming bars) (omega arith); least = λ k enough. omega (arith, all_come k enough, comes) })
+              let comes : 0 < coming bars =
+              elim (cases_eq (coming bars) 0) [
+                | inl none ↦ absurd
+                    (some (omega (arith, none)))
+                | inr more ↦ ne_zero (coming bars) more
+              ] in
+              rw all_is (record {
+                enough = enough_with (live + coming bars) (omega arith);
+                least = λ k enough. omega (arith, all_come k enough, comes);
+              })
         ]

@@ -18,7 +18,8 @@ beds_if true n s = refl
 beds_if false n s = refl
 
 beds_at : (k : ℕ) (schools : List School) (h n i : ℕ) → i < length schools
-    → slice_index (map (λ s. s.beds) (map (with_n h n) (enumerate_from k schools))) i ≡ (if (k + i) == h then n else slice_index (map (λ s. s.beds) schools) i)
+    → slice_index (map (λ s. s.beds) (map (with_n h n) (enumerate_from k schools))) i
+    ≡ (if (k + i) == h then n else slice_index (map (λ s. s.beds) schools) i)
 beds_at k [] h n i lt = absurd (omega arith)
 beds_at k (s ∷ schools) h n zero lt =
     let here : k + 0 ≡ k = omega arith in rw here (beds_if (k == h) n s)
@@ -30,20 +31,24 @@ pub beds_with : (d : DossierRows) (h n i : ℕ) → i < length d.schools → bed
 beds_with d h n i lt = let whole : 0 + i ≡ i = omega arith in rw whole at (beds_at 0 d.schools h n i lt)
 
 -- the free beds by place
-pub free_at : (s : State) (orders : List CallOrder) (ceilings : List ℕ) (i : ℕ) → i < length ceilings → slice_index (boarding s orders ceilings).free i ≡ free_beds s i
+pub free_at : (s : State) (orders : List CallOrder) (ceilings : List ℕ) (i : ℕ)
+    → i < length ceilings → slice_index (boarding s orders ceilings).free i ≡ free_beds s i
 free_at s orders ceilings i lt =
     let n = length ceilings in
     let in_range : i < length (range_with_len 0 n) = omega (arith, length-range_with_len 0 n) in
     get_or-map (free_beds s) (range_with_len 0 n) i 0 0 in_range ∙ ap (free_beds s) (get_or-range_with_len 0 n i 0 lt ∙ (omega arith))
 
-module _ (s : State) (orders : List CallOrder) (ceilings : List ℕ) (h n i : ℕ) (long : length ceilings ≡ length s.dossier.schools) (lt : i < length ceilings) where
+module _ (s : State) (orders : List CallOrder) (ceilings : List ℕ) (h n i : ℕ)
+    (long : length ceilings ≡ length s.dossier.schools) (lt : i < length ceilings) where
   free_with : slice_index (boarding (with_beds s h n) orders ceilings).free i ≡ beds_of (rebuilt s.dossier h n) i - length (bed_holders s i)
   free_with = free_at (with_beds s h n) orders ceilings i lt
 
   pub free_here : i ≡ h → slice_index (boarding (with_beds s h n) orders ceilings).free i ≡ n - length (bed_holders s i)
   free_here is =
-      free_with ∙ ap (λ (beds : ℕ). beds - length (bed_holders s i)) (rw (eq-eqb i h is) at (beds_with s.dossier h n i (omega (arith, long, lt))))
+      free_with ∙ ap (λ (beds : ℕ). beds - length (bed_holders s i))
+      (rw (eq-eqb i h is) at (beds_with s.dossier h n i (omega (arith, long, lt))))
 
   pub free_there : (i ≡ h → ⊥) → slice_index (boarding (with_beds s h n) orders ceilings).free i ≡ free_beds s i
   free_there other =
-      free_with ∙ ap (λ (beds : ℕ). beds - length (bed_holders s i)) (rw (ne_eqb i h other) at (beds_with s.dossier h n i (omega (arith, long, lt))))
+      free_with ∙ ap (λ (beds : ℕ). beds - length (bed_holders s i))
+      (rw (ne_eqb i h other) at (beds_with s.dossier h n i (omega (arith, long, lt))))

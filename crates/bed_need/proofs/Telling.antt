@@ -1,5 +1,5 @@
 -- What a picker told.
-use Rattle.std.proofs.Common.{◌≡◌, ◌∙◌, ℕ, List, ◌++◌, Result, IfOk, ap, append_assoc, subst}
+use Rattle.std.proofs.Common.{◌≡◌, ◌∙◌, ℕ, List, ◌++◌, Result, ap, append_assoc, subst}
 use Rattle.admit_core.specs.declared.records.PassRecord.{PassRecord}
 use Rattle.admit_core.specs.declared.ranking.CallOrder.{CallOrder}
 use Rattle.admit_core.specs.Boarding.{boarding}
@@ -9,30 +9,38 @@ use Rattle.admit_core.specs.State.{State}
 use Rattle.bar_fixpoint.specs.Chosen.{AreChosen}
 use Rattle.bar_law.specs.Runs.{schools_of}
 use Rattle.day_run.specs.DayPasses.{TellsMore}
-use Rattle.bed_need.specs.Telling.{TellsOfBoth, TellsOfRun}
-
--- of a run it told more
-pub run_more : (sys : FallingSystem) (choice : List ℕ → List ℕ → ℕ) (told after : List ℕ) → TellsOfRun sys choice told after → TellsMore told after
-run_more sys choice told after run = (schools_of run.falls, run.told_of)
+use Rattle.bed_need.specs.Telling.{IsAsked, TellsOfBoth, TellsOfRun}
 
 -- more, and then more
-pub more_again : (told between after : List ℕ) → TellsMore told between → TellsMore between after → TellsMore told after
-more_again told between after one two = (one.0 ++ two.0, two.1 ∙ ap (λ (l : List ℕ). l ++ two.0) one.1 ∙ append_assoc told one.0 two.0)
+pub more_again : (told between after : List ℕ)
+    → TellsMore told between → TellsMore between after → TellsMore told after
+more_again told between after one two = (
+  one.0 ++ two.0,
+  two.1 ∙ ap (λ (l : List ℕ). l ++ two.0) one.1 ∙ append_assoc told one.0 two.0,
+)
 
 -- of the falls of a pass
-pub run_of_pass : (s : State) (orders : List CallOrder) (ceilings : List ℕ) (choice : List ℕ → List ℕ → ℕ) (told after : List ℕ) (pass : PassRecord) → IsPass s orders ceilings pass
-    → after ≡ told ++ schools_of pass.falls → AreChosen (boarding s orders ceilings) choice told ceilings pass.falls → TellsOfRun (boarding s orders ceilings) choice told after
-run_of_pass s orders ceilings choice told after pass is_pass told_of chosen = record { falls = pass.falls; is_run = is_pass.falls; chosen = chosen; told_of = told_of }
+pub run_of_pass : (s : State) (orders : List CallOrder) (ceilings : List ℕ)
+    (choice : List ℕ → List ℕ → ℕ) (told after : List ℕ) (pass : PassRecord)
+    → IsPass s orders ceilings pass → after ≡ told ++ schools_of pass.falls
+    → AreChosen (boarding s orders ceilings) choice told ceilings pass.falls
+    → TellsOfRun (boarding s orders ceilings) choice told after
+run_of_pass s orders ceilings choice told after pass is_pass told_of chosen =
+    record { falls = pass.falls; is_run = is_pass.falls; chosen = chosen; told_of = told_of }
 
 -- of a run of a system that has another name
-pub run_named : {T E : Type 0} (one other : FallingSystem) (choice : List ℕ → List ℕ → ℕ) (told after : List ℕ) (r : Result T E) → one ≡ other → IfOk r (λ x. TellsOfRun one choice told after)
-    → IfOk r (λ x. TellsOfRun other choice told after)
-run_named one other choice told after r same is = subst (λ (sys : FallingSystem). IfOk r (λ x. TellsOfRun sys choice told after)) same is
+pub asked_named : {T E : Type 0} (one other : FallingSystem) (result : Result T E)
+    (chooses chooses_now : List ℕ → List ℕ → ℕ) (before now : List ℕ)
+    → one ≡ other → IsAsked one result chooses chooses_now before now
+    → IsAsked other result chooses chooses_now before now
+asked_named one other result chooses chooses_now before now same is =
+    subst (λ (sys : FallingSystem). IsAsked sys result chooses chooses_now before now) same is
 
 -- of a run, and then of one whose system and choice have other names
-pub run_again : (one other named : FallingSystem) (choice then : List ℕ → List ℕ → ℕ) (told between after : List ℕ)
-    → TellsOfRun one choice told between → named ≡ other → then ≡ choice → TellsOfRun named then between after
-    → TellsOfBoth one other choice told after
+pub run_again : (one other named : FallingSystem) (choice then : List ℕ → List ℕ → ℕ)
+    (told between after : List ℕ)
+    → TellsOfRun one choice told between → named ≡ other → then ≡ choice
+    → TellsOfRun named then between after → TellsOfBoth one other choice told after
 run_again one other named choice then told between after first same kept second = record {
   between = between;
   first = first;

@@ -1,4 +1,5 @@
--- What a head is told of a school: the beds that it needs, and the bars with its present beds and with those.
+-- What a head is told of a school: the beds that it needs, and the bars with its present beds and
+-- with those.
 use Rattle.std.specs.Prelude.{◌≡◌, ℕ, ◌-◌, List}
 use Rattle.admit_core.specs.declared.ranking.CallOrder.{CallOrder}
 use Rattle.admit_core.specs.Boarding.{boarding}
@@ -17,10 +18,13 @@ pub record Figures : Type 0 where
 abbrev pub lacks : State → ℕ → ℕ → ℕ
 lacks s school need = need - beds_of s.dossier school
 
--- the least number of beds with which the bar stays at its ceiling, and the greatest bars now and with the beds that are lacking
-pub record AreFigures (s : State) (orders : List CallOrder) (ceilings : List ℕ) (school : ℕ) (figures : Figures) : Type 0 where
+-- the least number of beds with which the bar stays at its ceiling, and the greatest bars now and
+-- with the beds that are lacking
+pub record AreFigures (s : State) (orders : List CallOrder) (ceilings : List ℕ) (school : ℕ)
+    (figures : Figures) : Type 0 where
   pub need : IsLeastBeds s orders ceilings school figures.need
-  pub growth : IsGrowth s orders ceilings ceilings school (lacks s school figures.need) figures.before figures.after
+  pub growth : IsGrowth s orders ceilings ceilings school
+      (lacks s school figures.need) figures.before figures.after
 
 -- a state, ceilings and a school have one need and one pair of bars
 abbrev pub FiguresAreFixed : Type 0
@@ -30,9 +34,11 @@ FiguresAreFixed =
     → AreFigures s orders ceilings school other
     → one ≡ other
 
--- what a picker tells as the figures are found: of a run with 2,000,000,000 beds in the school, of one with its present
--- beds, and of one with those that it lacks
-pub record TellsOfFigures (s : State) (orders : List CallOrder) (ceilings : List ℕ) (school need : ℕ) (choice : List ℕ → List ℕ → ℕ) (told after : List ℕ) : Type 0 where
+-- what a picker tells as the figures are found: of a run with 2,000,000,000 beds in the school, of
+-- one with its present beds, and of one with those that it lacks
+pub record TellsOfFigures (s : State) (orders : List CallOrder) (ceilings : List ℕ)
+    (school need : ℕ) (choice : List ℕ → List ℕ → ℕ) (told after : List ℕ) : Type 0 where
   pub between : List ℕ
   pub least : TellsOfRun (with_n_beds s orders ceilings school 2000000000) choice told between
-  pub grown : TellsOfBoth (boarding s orders ceilings) (with_more_beds s orders ceilings school (lacks s school need)) choice between after
+  pub grown : TellsOfBoth (boarding s orders ceilings)
+      (with_more_beds s orders ceilings school (lacks s school need)) choice between after

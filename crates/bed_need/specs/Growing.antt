@@ -13,10 +13,13 @@ with_n_beds s orders ceilings school n = boarding (with_beds s school n) orders 
 
 -- the schools, of which the one at a place has more beds
 abbrev pub with_more_beds : State → List CallOrder → List ℕ → ℕ → ℕ → FallingSystem
-with_more_beds s orders ceilings school more = with_n_beds s orders ceilings school (beds_of s.dossier school + more)
+with_more_beds s orders ceilings school more =
+    with_n_beds s orders ceilings school (beds_of s.dossier school + more)
 
--- the greatest bars under the low ceilings, and those with more beds in a school under the high ones
-pub record IsGrowth (s : State) (orders : List CallOrder) (low high : List ℕ) (school more : ℕ) (bars grown : List ℕ) : Type 0 where
+-- the greatest bars under the low ceilings, and those with more beds in a school under the high
+-- ones
+pub record IsGrowth (s : State) (orders : List CallOrder) (low high : List ℕ) (school more : ℕ)
+    (bars grown : List ℕ) : Type 0 where
   pub before : IsGreatest (boarding s orders low) bars
   pub after : IsGreatest (with_more_beds s orders high school more) grown
   pub rises : IsAtMost bars grown

@@ -11,7 +11,9 @@ abbrev pub need_of : ℕ → ℕ → ℕ
 need_of before after = if before == after then 0 else after
 
 -- those who live there, and those who come under the greatest bars
-pub record IsNeed (s : State) (orders : List CallOrder) (ceilings : List ℕ) (school need : ℕ) : Type 0 where
+pub record IsNeed (s : State) (orders : List CallOrder) (ceilings : List ℕ)
+    (school need : ℕ) : Type 0 where
   pub bars : List ℕ
   pub greatest : IsGreatest (boarding s orders ceilings) bars
-  pub is : need ≡ need_of (length (bed_holders s school)) (length (bed_holders s school) + length (demanded_ranks s orders bars school))
+  pub is : need ≡ need_of (length (bed_holders s school))
+      (length (bed_holders s school) + length (demanded_ranks s orders bars school))

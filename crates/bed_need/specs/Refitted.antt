@@ -22,7 +22,8 @@ AreAlike [] [] = ⊤
 AreAlike (m ∷ ms) (n ∷ ns) = IsAlike m n × AreAlike ms ns
 AreAlike _ _ = ⊥
 
--- the state over the dossier in which a school has n beds: the same wishes are live, and the same wait
+-- the state over the dossier in which a school has n beds: the same wishes are live, and the same
+-- wait
 pub record IsRefitted (s : State) (school n : ℕ) (t : State) : Type 0 where
   pub dossier : t.dossier ≡ rebuilt s.dossier school n
   pub marks : AreAlike t.marks s.marks

@@ -1,19 +1,30 @@
 -- What a picker tells as bars are found.
-use Rattle.std.specs.Prelude.{◌≡◌, ℕ, ◌++◌, List}
+use Rattle.std.specs.Prelude.{◌≡◌, ℕ, ◌++◌, List, Result, IfOk}
 use Rattle.admit_core.specs.declared.records.Fall.{Fall}
 use Rattle.admit_core.specs.Falls.{FallingSystem, IsRun}
 use Rattle.bar_fixpoint.specs.Chosen.{AreChosen}
 use Rattle.bar_law.specs.Runs.{schools_of}
+use Rattle.day_run.specs.DayPasses.{TellsMore}
 
 -- a picker told of the schools of a run of falls, each of which it chose
-pub record TellsOfRun (sys : FallingSystem) (choice : List ℕ → List ℕ → ℕ) (told after : List ℕ) : Type 0 where
+pub record TellsOfRun (sys : FallingSystem) (choice : List ℕ → List ℕ → ℕ)
+    (told after : List ℕ) : Type 0 where
   pub falls : List Fall
   pub is_run : IsRun sys falls
   pub chosen : AreChosen sys choice told sys.ceilings falls
   pub told_of : after ≡ told ++ schools_of falls
 
 -- a picker told of a run of one system, and then of a run of another
-pub record TellsOfBoth (one other : FallingSystem) (choice : List ℕ → List ℕ → ℕ) (told after : List ℕ) : Type 0 where
+pub record TellsOfBoth (one other : FallingSystem) (choice : List ℕ → List ℕ → ℕ)
+    (told after : List ℕ) : Type 0 where
   pub between : List ℕ
   pub first : TellsOfRun one choice told between
   pub second : TellsOfRun other choice between after
+
+-- a picker that was asked for the bars of these schools told
+-- more, of a run where they are found, and chooses as it did
+pub record IsAsked {T E : Type 0} (sys : FallingSystem) (result : Result T E)
+    (chooses chooses_now : List ℕ → List ℕ → ℕ) (before now : List ℕ) : Type 0 where
+  pub told : IfOk result (λ _. TellsOfRun sys chooses before now)
+  pub early : TellsMore before now
+  pub choice : chooses_now ≡ chooses

@@ -10,10 +10,12 @@ use Rattle.report.specs.Words.{line}
 -- a school's bar with the present beds, and with those that are needed
 abbrev pub bar_line : List ℕ → List ℕ → ℕ × School → List ℕ
 bar_line before after (place, school) =
-    line (codes "bar" ∷ decimal school.id ∷ decimal (slice_index before place) ∷ decimal (slice_index after place) ∷ [])
+    line (codes "bar" ∷ decimal school.id ∷ decimal (slice_index before place)
+    ∷ decimal (slice_index after place) ∷ [])
 
 -- the school with its beds and those that it needs, then the bars of all schools in file order
 abbrev pub beds_text : DossierRows → ℕ → ℕ → List ℕ → List ℕ → List ℕ
 beds_text d school need before after =
-    line (codes "school" ∷ decimal (school_id d school) ∷ codes "beds" ∷ decimal (beds_of d school) ∷ codes "need" ∷ decimal need ∷ [])
+    line (codes "school" ∷ decimal (school_id d school) ∷ codes "beds" ∷ decimal (beds_of d school)
+    ∷ codes "need" ∷ decimal need ∷ [])
     ++ flat_map (bar_line before after) (enumerate_from 0 d.schools)

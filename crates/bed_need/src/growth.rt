@@ -7,7 +7,7 @@ ghost use Rattle.admit_core.specs.Falls.{IsAtMost, IsGreatest};
 ghost use Rattle.admit_core.specs.LeastBeds.{rebuilt};
 ghost use Rattle.day_run.specs.DayPasses.{TellsMore};
 ghost use Rattle.bed_need.specs.Growing.{IsGrowth, with_more_beds, with_n_beds};
-ghost use Rattle.bed_need.specs.Telling.{TellsOfBoth, TellsOfRun};
+ghost use Rattle.bed_need.specs.Telling.{IsAsked, TellsOfBoth};
 
 use crate::need::NO_STAMP;
 use crate::refitted::refitted;
@@ -36,10 +36,11 @@ fn bars_in(
     requires orders { AreCallOrders state.old.dossier.groups orders.now.orders }
     requires ceilings { length ceilings.now ≡ length state.old.dossier.schools }
 
-    ensures bars { IfOk result (λ bars. IsGreatest (boarding state.old orders.now.orders ceilings.now) bars.items) }
-    ensures told { IfOk result (λ _. TellsOfRun (boarding state.old orders.now.orders ceilings.now) (choice picker.old) (told picker.old) (told picker.new)) }
-    ensures early { TellsMore (told picker.old) (told picker.new) }
-    ensures choice { choice picker.new ≡ choice picker.old }
+    ensures bars { IfOk result (λ bars.
+        IsGreatest (boarding state.old orders.now.orders ceilings.now) bars.items) }
+    ensures asked { IsAsked
+        (boarding state.old orders.now.orders ceilings.now) result
+        (choice picker.old) (choice picker.new) (told picker.old) (told picker.new) }
 {
     let lineup = Lineup::build(alloc, state, orders)?;
     let found = pass(alloc, state, orders, &lineup, ceilings, NO_STAMP, picker)?;
@@ -57,10 +58,11 @@ fn bars_now(
     requires orders { AreCallOrders state.now.dossier.groups orders.now.orders }
     requires ceilings { length ceilings.now ≡ length state.now.dossier.schools }
 
-    ensures bars { IfOk result (λ bars. IsGreatest (boarding state.now orders.now.orders ceilings.now) bars.items) }
-    ensures told { IfOk result (λ _. TellsOfRun (boarding state.now orders.now.orders ceilings.now) (choice picker.old) (told picker.old) (told picker.new)) }
-    ensures early { TellsMore (told picker.old) (told picker.new) }
-    ensures choice { choice picker.new ≡ choice picker.old }
+    ensures bars { IfOk result (λ bars.
+        IsGreatest (boarding state.now orders.now.orders ceilings.now) bars.items) }
+    ensures asked { IsAsked
+        (boarding state.now orders.now.orders ceilings.now) result
+        (choice picker.old) (choice picker.new) (told picker.old) (told picker.new) }
 {
     let mut copy = state.copy(alloc)?;
     bars_in(alloc, &mut copy, orders, ceilings, picker)
@@ -81,10 +83,12 @@ fn bars_over(
     requires orders { AreCallOrders state.now.dossier.groups orders.now.orders }
     requires ceilings { length ceilings.now ≡ length state.now.dossier.schools }
 
-    ensures bars { IfOk result (λ bars. IsGreatest (with_n_beds state.now orders.now.orders ceilings.now school beds) bars.items) }
-    ensures told { IfOk result (λ _. TellsOfRun (with_n_beds state.now orders.now.orders ceilings.now school beds) (choice picker.old) (told picker.old) (told picker.new)) }
-    ensures early { TellsMore (told picker.old) (told picker.new) }
-    ensures choice { choice picker.new ≡ choice picker.old }
+    ensures bars { IfOk result (λ bars.
+        IsGreatest (with_n_beds state.now orders.now.orders ceilings.now school beds)
+        bars.items) }
+    ensures asked { IsAsked
+        (with_n_beds state.now orders.now.orders ceilings.now school beds) result
+        (choice picker.old) (choice picker.new) (told picker.old) (told picker.new) }
 {
     let mut refitted = refitted(alloc, state, dossier, school, beds)?;
     bars_in(alloc, &mut refitted, orders, ceilings, picker)
@@ -105,10 +109,12 @@ fn bars_with(
     requires school { school < length state.now.dossier.schools }
     requires beds { beds ≤ 2000000000 }
 
-    ensures bars { IfOk result (λ bars. IsGreatest (with_n_beds state.now orders.now.orders ceilings.now school beds) bars.items) }
-    ensures told { IfOk result (λ _. TellsOfRun (with_n_beds state.now orders.now.orders ceilings.now school beds) (choice picker.old) (told picker.old) (told picker.new)) }
-    ensures early { TellsMore (told picker.old) (told picker.new) }
-    ensures choice { choice picker.new ≡ choice picker.old }
+    ensures bars { IfOk result (λ bars.
+        IsGreatest (with_n_beds state.now orders.now.orders ceilings.now school beds)
+        bars.items) }
+    ensures asked { IsAsked
+        (with_n_beds state.now orders.now.orders ceilings.now school beds) result
+        (choice picker.old) (choice picker.new) (told picker.old) (told picker.new) }
 {
     let roomy = state.dossier().with_beds(alloc, school, beds)?;
     bars_over(alloc, state, &roomy, orders, ceilings, school, beds, picker)
@@ -140,8 +146,13 @@ pub fn grown_bars(
     requires school { school < length state.now.dossier.schools }
     requires beds { beds_of state.now.dossier school + more ≤ 2000000000 }
 
-    ensures growth { IfOk result (λ growth. IsGrowth state.now orders.now.orders low.now high.now school more growth.before.items growth.after.items) }
-    ensures told { IfOk result (λ _. TellsOfBoth (boarding state.now orders.now.orders low.now) (with_more_beds state.now orders.now.orders high.now school more) (choice picker.old) (told picker.old) (told picker.new)) }
+    ensures growth { IfOk result (λ growth.
+        IsGrowth state.now orders.now.orders low.now high.now school more
+        growth.before.items growth.after.items) }
+    ensures told { IfOk result (λ _.
+        TellsOfBoth (boarding state.now orders.now.orders low.now)
+        (with_more_beds state.now orders.now.orders high.now school more) (choice picker.old)
+        (told picker.old) (told picker.new)) }
     ensures early { TellsMore (told picker.old) (told picker.new) }
     ensures choice { choice picker.new ≡ choice picker.old }
 {

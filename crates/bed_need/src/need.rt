@@ -6,7 +6,7 @@ ghost use Rattle.admit_core.specs.LeastBeds.{IsLeastBeds, rebuilt};
 ghost use Rattle.day_run.specs.DayPasses.{TellsMore};
 ghost use Rattle.bed_need.specs.Growing.{with_n_beds};
 ghost use Rattle.bed_need.specs.Needing.{IsNeed, need_of};
-ghost use Rattle.bed_need.specs.Telling.{TellsOfRun};
+ghost use Rattle.bed_need.specs.Telling.{IsAsked, TellsOfRun};
 
 use crate::refitted::refitted;
 use admit_core::{CallOrders, Dossier, MAX_NUMBER, OutOfMemory, Stamp};
@@ -41,9 +41,9 @@ fn need_in(
     requires school { school < length roomy.old.dossier.schools }
 
     ensures need { IfOk result (IsNeed roomy.old orders.now.orders ceilings.now school) }
-    ensures told { IfOk result (λ _. TellsOfRun (boarding roomy.old orders.now.orders ceilings.now) (choice picker.old) (told picker.old) (told picker.new)) }
-    ensures early { TellsMore (told picker.old) (told picker.new) }
-    ensures choice { choice picker.new ≡ choice picker.old }
+    ensures asked { IsAsked
+        (boarding roomy.old orders.now.orders ceilings.now) result
+        (choice picker.old) (choice picker.new) (told picker.old) (told picker.new) }
 {
     let dossier = roomy.dossier();
     let _ = &dossier.wishes; // learns that the dossier is valid
@@ -70,9 +70,9 @@ fn need_over(
 
     ensures need { IfOk result (IsLeastBeds state.now orders.now.orders ceilings.now school) }
     ensures few { IfOk result (λ need. need ≤ 16000000) }
-    ensures told { IfOk result (λ _. TellsOfRun (with_n_beds state.now orders.now.orders ceilings.now school 2000000000) (choice picker.old) (told picker.old) (told picker.new)) }
-    ensures early { TellsMore (told picker.old) (told picker.new) }
-    ensures choice { choice picker.new ≡ choice picker.old }
+    ensures asked { IsAsked
+        (with_n_beds state.now orders.now.orders ceilings.now school 2000000000) result
+        (choice picker.old) (choice picker.new) (told picker.old) (told picker.new) }
 {
     let dossier = state.dossier();
     let _ = &dossier.wishes; // learns that the dossier is valid
@@ -99,7 +99,9 @@ pub fn least_beds(
 
     ensures need { IfOk result (IsLeastBeds state.now orders.now.orders ceilings.now school) }
     ensures few { IfOk result (λ need. need ≤ 16000000) }
-    ensures told { IfOk result (λ _. TellsOfRun (with_n_beds state.now orders.now.orders ceilings.now school 2000000000) (choice picker.old) (told picker.old) (told picker.new)) }
+    ensures told { IfOk result (λ _.
+        TellsOfRun (with_n_beds state.now orders.now.orders ceilings.now school 2000000000)
+        (choice picker.old) (told picker.old) (told picker.new)) }
     ensures early { TellsMore (told picker.old) (told picker.new) }
     ensures choice { choice picker.new ≡ choice picker.old }
 {

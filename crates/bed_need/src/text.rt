@@ -16,7 +16,8 @@ fn push_bars(
 ) -> Result<(), AllocError>
     requires before { length before.now ≡ length schools.now }
     requires after { length after.now ≡ length schools.now }
-    ensures { OnOk result (string_bytes text.new ≡ string_bytes text.old ++ flat_map (bar_line before.now after.now) (enumerate_from 0 schools.now)) }
+    ensures { OnOk result (string_bytes text.new ≡ string_bytes text.old
+        ++ flat_map (bar_line before.now after.now) (enumerate_from 0 schools.now)) }
 {
     for (place, school) in schools.iter().enumerate() {
         let id = school.id;
@@ -39,7 +40,8 @@ pub fn beds_text(
     requires school { school < length dossier.now.schools }
     requires before { length growth.now.before.items ≡ length dossier.now.schools }
     requires after { length growth.now.after.items ≡ length dossier.now.schools }
-    ensures { IfOk result (λ text. text.items ≡ beds_text dossier.now school need growth.now.before.items growth.now.after.items) }
+    ensures { IfOk result (λ text. text.items
+        ≡ beds_text dossier.now school need growth.now.before.items growth.now.after.items) }
 {
     let schools = dossier.schools.as_slice();
     let (id, beds) = (schools[school as usize].id, schools[school as usize].beds);

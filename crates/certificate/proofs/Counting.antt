@@ -33,11 +33,13 @@ small_is (Some m) n e =
     ]
 
 -- the only number of words is that of the only word
-only_first : (first : Option ℕ) (others : Option (List ℕ)) (ns : List ℕ) (n : ℕ) → in_front first others ≡ Some ns → only ns ≡ Some n → first ≡ Some n
+only_first : (first : Option ℕ) (others : Option (List ℕ)) (ns : List ℕ) (n : ℕ)
+    → in_front first others ≡ Some ns → only ns ≡ Some n → first ≡ Some n
 only_first None others ns n e is = absurd (cc)
 only_first (Some m) None ns n e is = absurd (cc)
 only_first (Some m) (Some []) ns n e is = let same : m ∷ [] ≡ ns = cc in ap only same ∙ is
-only_first (Some m) (Some (k ∷ ks)) ns n e is = let same : m ∷ k ∷ ks ≡ ns = cc in let none : None ≡ Some n = ap only same ∙ is in absurd (cc)
+only_first (Some m) (Some (k ∷ ks)) ns n e is = let same : m ∷ k ∷ ks ≡ ns =
+    cc in let none : None ≡ Some n = ap only same ∙ is in absurd (cc)
 
 line_small : (a b c : Bool) (o : Option ℕ) (f : Option FallLine) → ((n : ℕ) → o ≡ Some n → n ≤ 4294967295)
     → IsSmall (cond a (option_map Day o) (cond b (option_map Pass o) (cond c (option_map Fall f) None)))
@@ -49,7 +51,8 @@ line_small false false true o None each = tt
 line_small false false true o (Some fall) each = tt
 line_small false false false o f each = tt
 
-numbers_small : (row : ℕ) (word next : List ℕ) (words : List (List ℕ)) (read : Option (List ℕ)) → numbers (next ∷ words) ≡ read → IsSmall (option_and_then (line_with row word) read)
+numbers_small : (row : ℕ) (word next : List ℕ) (words : List (List ℕ)) (read : Option (List ℕ))
+    → numbers (next ∷ words) ≡ read → IsSmall (option_and_then (line_with row word) read)
 numbers_small row word next words None e = tt
 numbers_small row word next words (Some ns) e =
     line_small (is_word word (codes "day")) (is_word word (codes "pass")) (is_word word (codes "fall")) (only ns) (fall_at row ns)
@@ -74,7 +77,11 @@ abbrev CountsFrom : ℕ → ℕ → Result Said ChainFault → Type 0
 CountsFrom day pass said = IfOk said (Counts day pass)
 
 says_nothing : (day pass row : ℕ) → day ≤ 366 → pass ≤ 4294967295 → Counts day pass (nothing row)
-says_nothing day pass row few small_pass = record { passes = omega arith; days = omega arith; each = All-nil (λ (d : DayChain). length d.passes < 2 ^ 32) }
+says_nothing day pass row few small_pass = record {
+  passes = omega arith;
+  days = omega arith;
+  each = All-nil (λ (d : DayChain). length d.passes < 2 ^ 32);
+}
 
 end_counts : (day pass row : ℕ) (others : List (List ℕ)) → day ≤ 366 → pass ≤ 4294967295 → CountsFrom day pass (end_at row others)
 end_counts day pass row [] few small_pass = tt
@@ -83,8 +90,11 @@ end_counts day pass row ([] ∷ next ∷ others) few small_pass = tt
 end_counts day pass row ((byte ∷ bytes) ∷ others) few small_pass = tt
 
 -- a day line with the next number, and a pass line
-day_counts : (follows few : Bool) (day pass row n : ℕ) (said : Result Said ChainFault) → pass ≤ 4294967295 → nat_eq n (day + 1) ≡ follows → nat_le n 366 ≡ few
-    → (n ≤ 366 → CountsFrom n 0 said) → CountsFrom day pass (said_with row (Some (Day n)) (cond (follows && few) None (Some WrongNumber)) said)
+day_counts : (follows few : Bool) (day pass row n : ℕ) (said : Result Said ChainFault)
+    → pass ≤ 4294967295 → nat_eq n (day + 1) ≡ follows → nat_le n 366 ≡ few
+    → (n ≤ 366 → CountsFrom n 0 said)
+    → CountsFrom day pass
+    (said_with row (Some (Day n)) (cond (follows && few) None (Some WrongNumber)) said)
 day_counts true true day pass row n (Err fault) small_pass e f counts = tt
 day_counts true true day pass row n (Ok said) small_pass e f counts =
     let next : n ≡ day + 1 = eqb-true n (day + 1) e in
@@ -93,13 +103,18 @@ day_counts true true day pass row n (Ok said) small_pass e f counts =
     record {
       passes = omega arith;
       days = let d = c.days in omega arith;
-      each = All-cons (λ (d : DayChain). length d.passes < 2 ^ 32) (record { passes = said.passes; next_row = said.day_end }) said.days (let p = c.passes in omega arith) c.each;
+      each = All-cons (λ (d : DayChain). length d.passes < 2 ^ 32)
+          (record { passes = said.passes; next_row = said.day_end }) said.days
+          (let p = c.passes in omega arith) c.each;
     }
 day_counts true false day pass row n said small_pass e f counts = tt
 day_counts false few day pass row n said small_pass e f counts = tt
 
-pass_counts : (none follows : Bool) (day pass row k : ℕ) (said : Result Said ChainFault) → day ≤ 366 → nat_eq k (pass + 1) ≡ follows → k ≤ 4294967295
-    → (k ≤ 4294967295 → CountsFrom day k said) → CountsFrom day pass (said_with row (Some (Pass k)) (cond none (Some NotLine) (cond follows None (Some WrongNumber))) said)
+pass_counts : (none follows : Bool) (day pass row k : ℕ) (said : Result Said ChainFault) → day ≤ 366
+    → nat_eq k (pass + 1) ≡ follows → k ≤ 4294967295
+    → (k ≤ 4294967295 → CountsFrom day k said)
+    → CountsFrom day pass (said_with row (Some (Pass k))
+    (cond none (Some NotLine) (cond follows None (Some WrongNumber))) said)
 pass_counts true follows day pass row k said few e fits counts = tt
 pass_counts false false day pass row k said few e fits counts = tt
 pass_counts false true day pass row k (Err fault) few e fits counts = tt
@@ -114,7 +129,8 @@ fall_counts true day pass row fall said counts = tt
 fall_counts false day pass row fall (Err fault) counts = tt
 fall_counts false day pass row fall (Ok said) counts = record { passes = counts.passes; days = counts.days; each = counts.each }
 
-line_counts : (line : Option Line) (day pass row : ℕ) (others : List (List ℕ)) (said : Result Said ChainFault) → day ≤ 366 → pass ≤ 4294967295 → IsSmall line
+line_counts : (line : Option Line) (day pass row : ℕ) (others : List (List ℕ))
+    (said : Result Said ChainFault) → day ≤ 366 → pass ≤ 4294967295 → IsSmall line
     → (day_after day line ≤ 366 → pass_after pass line ≤ 4294967295 → CountsFrom (day_after day line) (pass_after pass line) said)
     → CountsFrom day pass (cond (is_end line) (end_at row others) (said_with row line (misplaced day pass line) said))
 line_counts None day pass row others said few small_pass fits counts = tt
@@ -122,16 +138,20 @@ line_counts (Some (Day n)) day pass row others said few small_pass fits counts =
     day_counts (nat_eq n (day + 1)) (nat_le n 366) day pass row n said small_pass refl refl (λ within. counts within (omega arith))
 line_counts (Some (Pass k)) day pass row others said few small_pass fits counts =
     pass_counts (nat_eq day 0) (nat_eq k (pass + 1)) day pass row k said few refl fits (λ within. counts few within)
-line_counts (Some (Fall fall)) day pass row others said few small_pass fits counts = fall_counts (nat_eq pass 0) day pass row fall said (counts few small_pass)
+line_counts (Some (Fall fall)) day pass row others said few small_pass fits counts =
+    fall_counts (nat_eq pass 0) day pass row fall said (counts few small_pass)
 line_counts (Some End) day pass row others said few small_pass fits counts = end_counts day pass row others few small_pass
 
-lines_count : (day pass row : ℕ) (texts : List (List ℕ)) → day ≤ 366 → pass ≤ 4294967295 → CountsFrom day pass (said_from day pass row texts)
+lines_count : (day pass row : ℕ) (texts : List (List ℕ)) → day ≤ 366 → pass ≤ 4294967295
+    → CountsFrom day pass (said_from day pass row texts)
 unfolding said_from
 lines_count day pass row [] few small_pass = tt
 lines_count day pass row (last ∷ []) few small_pass = tt
 lines_count day pass row (text ∷ next ∷ others) few small_pass =
     let line = line_of row (parts 32 text) in
-    line_counts line day pass row (next ∷ others) (said_from (day_after day line) (pass_after pass line) (row + 1) (next ∷ others)) few small_pass (all_small row (parts 32 text))
+    line_counts line day pass row (next ∷ others)
+    (said_from (day_after day line) (pass_after pass line) (row + 1) (next ∷ others)) few
+    small_pass (all_small row (parts 32 text))
     (λ few_after small_after. lines_count (day_after day line) (pass_after pass line) (row + 1) (next ∷ others) few_after small_after)
 
 chain_counts : (said : Result Said ChainFault) → CountsFrom 0 0 said → IfOk (chain_of said) IsCounted
@@ -142,6 +162,9 @@ counted_where : (expected : Result Chain ChainFault) (chain : Chain) → IfOk ex
 counted_where expected chain counted is = subst (λ (r : Result Chain ChainFault). IfOk r IsCounted) is counted
 
 -- a chain that is read is counted
-pub read_counted : (bytes : List ℕ) (result : Result Chain ChainRefusal) → Answers (λ (chain : Chain). chain) result (read bytes) → IfOk result IsCounted
+pub read_counted : (bytes : List ℕ) (result : Result Chain ChainRefusal)
+    → Answers (λ (chain : Chain). chain) result (read bytes) → IfOk result IsCounted
 read_counted bytes (Err e) answers = tt
-read_counted bytes (Ok chain) answers = counted_where (read bytes) chain (chain_counts (said_from 0 0 1 (parts 10 bytes)) (lines_count 0 0 1 (parts 10 bytes) (omega arith) (omega arith))) answers
+read_counted bytes (Ok chain) answers =
+    counted_where (read bytes) chain (chain_counts (said_from 0 0 1 (parts 10 bytes))
+    (lines_count 0 0 1 (parts 10 bytes) (omega arith) (omega arith))) answers

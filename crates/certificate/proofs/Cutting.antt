@@ -22,7 +22,8 @@ not_less : (m n : ℕ) → nat_lt m n ≡ false → n ≤ m
 not_less m n h = grind (arith, nat_tests)
 
 -- the first part ends at the first such byte
-pub parts_some : (byte i : ℕ) (text : List ℕ) → position (λ b. b == byte) text ≡ Some i → (i < length text) × (parts byte text ≡ take i text ∷ parts byte (drop (i + 1) text))
+pub parts_some : (byte i : ℕ) (text : List ℕ) → position (λ b. b == byte) text ≡ Some i
+    → (i < length text) × (parts byte text ≡ take i text ∷ parts byte (drop (i + 1) text))
 parts_some byte i text e =
     let p = λ (b : ℕ). b == byte in
     let (is, at) = chosen (nat_lt (position_or_len p text) (length text)) (position_or_len p text) i e in
@@ -33,12 +34,14 @@ parts_some byte i text e =
 pub parts_none : (byte : ℕ) (text : List ℕ) → position (λ b. b == byte) text ≡ None → parts byte text ≡ text ∷ []
 parts_none byte text e =
     let p = λ (b : ℕ). b == byte in
-    let past = not_less (position_or_len p text) (length text) (left_out (nat_lt (position_or_len p text) (length text)) (position_or_len p text) e) in
+    let past = not_less (position_or_len p text) (length text)
+    (left_out (nat_lt (position_or_len p text) (length text)) (position_or_len p text) e) in
     slice_split_none p text (λ k d within. fails_before_first p text k d (omega arith))
 
 -- where no place is found, the first is past the end
 pub no_place : (p : ℕ → Bool) (xs : List ℕ) → position p xs ≡ None → length xs ≤ position_or_len p xs
-no_place p xs e = not_less (position_or_len p xs) (length xs) (left_out (nat_lt (position_or_len p xs) (length xs)) (position_or_len p xs) e)
+no_place p xs e = not_less (position_or_len p xs) (length xs)
+    (left_out (nat_lt (position_or_len p xs) (length xs)) (position_or_len p xs) e)
 
 -- the place that is found
 pub place_found : (p : ℕ → Bool) (xs : List ℕ) (i : ℕ) → position p xs ≡ Some i → (i < length xs) × (position_or_len p xs ≡ i)

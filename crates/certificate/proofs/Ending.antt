@@ -8,7 +8,9 @@ use Rattle.admit_core.specs.Chains.{ArePassChains, IsDayChain, closing_by, day_f
 use Rattle.admit_core.specs.ChainLaws.{NoFaultWhereValid}
 use Rattle.certificate.specs.Checked.{state_after}
 
-pub evening_is : (orders : List CallOrder) (ceilings : List ℕ) (day k : ℕ) (s : State) (passes : List PassChain) (evening : State) → ArePassChains orders ceilings day k s passes evening
+pub evening_is : (orders : List CallOrder) (ceilings : List ℕ) (day k : ℕ) (s : State)
+    (passes : List PassChain) (evening : State)
+    → ArePassChains orders ceilings day k s passes evening
     → evening ≡ state_after orders ceilings day k s passes
 evening_is orders ceilings day k s [] evening are = absurd are
 evening_is orders ceilings day k s (pass ∷ []) evening are = are.2
@@ -16,7 +18,9 @@ evening_is orders ceilings day k s (pass ∷ (next ∷ rest)) evening are =
     evening_is orders ceilings day (k + 1) (closing_by s orders ceilings (record { day = day; pass = k }) pass) (next ∷ rest) evening are.2
 
 -- without a fault the day is valid, and the state after its passes is its evening
-pub is_valid : NoFaultWhereValid → (orders : List CallOrder) (ceilings : List ℕ) (day : ℕ) (morning : State) (chain : DayChain) (evening : State) → day_fault orders ceilings day morning chain ≡ None
+pub is_valid : NoFaultWhereValid
+    → (orders : List CallOrder) (ceilings : List ℕ) (day : ℕ) (morning : State) (chain : DayChain)
+    (evening : State) → day_fault orders ceilings day morning chain ≡ None
     → evening ≡ state_after orders ceilings day 1 morning chain.passes → IsDayChain orders ceilings day morning chain evening
 is_valid law orders ceilings day morning chain evening none is =
     let (last, are) = (law orders ceilings day morning chain).0 none in

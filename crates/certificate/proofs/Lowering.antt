@@ -20,13 +20,16 @@ drop_item xs i x lt is =
     let next : suc i ≡ i + 1 = omega arith in
     drop-cons xs i x lt ∙ ap (λ y. y ∷ drop (suc i) xs) (sym is) ∙ ap (λ k. x ∷ drop k xs) next
 
-module _ (s : State) (now new : Round) (line : FallLine) (h : ℕ) (rest : List FallLine) (is : h ≡ school_of_line s line) (fell : new ≡ record now { bars = slice_set now.bars h line.to }) where
+module _ (s : State) (now new : Round) (line : FallLine) (h : ℕ) (rest : List FallLine) (is : h
+    ≡ school_of_line s line) (fell : new ≡ record now { bars = slice_set now.bars h line.to }) where
   pub bars_are : new.bars ≡ lowered s now.bars line
   bars_are = ap (λ (r : Round). r.bars) fell ∙ ap (λ k. slice_set now.bars k line.to) is
 
   -- a line that is valid
   pub line_passes : (whole : Option (ℕ × CheckReason)) → whole ≡ lines_fault s now.orders now.ceilings now.bars (line ∷ rest)
-      → option_map {U = ℕ × CheckReason} (λ reason. (line.row, reason)) (line_fault s now.orders now.ceilings now.bars line) ≡ None → whole ≡ lines_fault s new.orders new.ceilings new.bars rest
+      → option_map {U = ℕ × CheckReason} (λ reason.
+      (line.row, reason)) (line_fault s now.orders now.ceilings now.bars line) ≡ None
+      → whole ≡ lines_fault s new.orders new.ceilings new.bars rest
   line_passes whole e none =
       goes_on _ (lines_fault s now.orders now.ceilings (lowered s now.bars line) rest) whole e none
       ∙ ap (λ (bs : List ℕ). lines_fault s now.orders now.ceilings bs rest) (sym bars_are)
@@ -37,16 +40,22 @@ module _ (s : State) (now new : Round) (line : FallLine) (h : ℕ) (rest : List 
   bars_pass whole e = e ∙ ap (λ (bs : List ℕ). bars_by s bs rest) (sym bars_are)
 
 -- only the bars change
-pub keeps_round : (old now new : Round) (bars : List ℕ) → now ≡ record old { bars = now.bars } → new ≡ record now { bars = bars } → new ≡ record old { bars = new.bars }
+pub keeps_round : (old now new : Round) (bars : List ℕ) → now ≡ record old { bars = now.bars }
+    → new ≡ record now { bars = bars } → new ≡ record old { bars = new.bars }
 keeps_round old now new bars kept fell =
     let put : Round → List ℕ → Round = λ r bs. record { state = r.state; orders = r.orders; ceilings = r.ceilings; bars = bs } in
     fell ∙ ap (λ (r : Round). put r bars) kept ∙ ap (put old) (sym (ap (λ (r : Round). r.bars) fell))
 
 -- a line that is not valid
-pub line_stops : (s : State) (now : Round) (line : FallLine) (rest : List FallLine) (found : Stop) (whole : Option (ℕ × CheckReason)) → whole ≡ lines_fault s now.orders now.ceilings now.bars (line ∷ rest)
-    → Stops found (option_map {U = ℕ × CheckReason} (λ reason. (line.row, reason)) (line_fault s now.orders now.ceilings now.bars line)) → Stops found whole
+pub line_stops : (s : State) (now : Round) (line : FallLine) (rest : List FallLine) (found : Stop)
+    (whole : Option (ℕ × CheckReason))
+    → whole ≡ lines_fault s now.orders now.ceilings now.bars (line ∷ rest)
+    → Stops found (option_map {U = ℕ × CheckReason} (λ reason. (line.row, reason))
+    (line_fault s now.orders now.ceilings now.bars line)) → Stops found whole
 line_stops s now line rest found whole e stops =
-    stops_at found (option_map {U = ℕ × CheckReason} (λ reason. (line.row, reason)) (line_fault s now.orders now.ceilings now.bars line)) (lines_fault s now.orders now.ceilings (lowered s now.bars line) rest) whole e stops
+    stops_at found (option_map {U = ℕ × CheckReason} (λ reason. (line.row, reason))
+    (line_fault s now.orders now.ceilings now.bars line))
+    (lines_fault s now.orders now.ceilings (lowered s now.bars line) rest) whole e stops
 
 -- what a round that began at its ceilings proposes after the lines of a pass
 pub offers_told : (s : State) (old new : Round) (lines falls : List FallLine) (items : List ℕ) → old.state ≡ s → old.bars ≡ old.ceilings
@@ -58,17 +67,21 @@ offers_told s old new lines falls items same begun new_is are told =
     ∙ ap (λ (bs : List ℕ). proposed s old.orders (bars_by s bs lines)) begun
     ∙ ap (λ (ls : List FallLine). proposed s old.orders (bars_by s old.ceilings ls)) are
 
-module _ (orders : List CallOrder) (ceilings : List ℕ) (day end k : ℕ) (s : State) (pass : PassChain) (rest : List PassChain) (whole : Option (ℕ × CheckReason)) where
+module _ (orders : List CallOrder) (ceilings : List ℕ) (day end k : ℕ) (s : State)
+    (pass : PassChain) (rest : List PassChain) (whole : Option (ℕ × CheckReason)) where
   stamp : Stamp
   stamp = record { day = day; pass = k }
 
   -- a pass whose lines are not valid
-  pub pass_stops : (found : Stop) → whole ≡ passes_fault orders ceilings day end k s (pass ∷ rest) → Stops found (pass_fault s orders ceilings pass) → Stops found whole
+  pub pass_stops : (found : Stop) → whole ≡ passes_fault orders ceilings day end k s (pass ∷ rest)
+      → Stops found (pass_fault s orders ceilings pass) → Stops found whole
   pass_stops found e stops = stops_at found (pass_fault s orders ceilings pass) _ whole e stops
 
   -- a valid pass that frees something
-  pub pass_goes_on : (next : State) → whole ≡ passes_fault orders ceilings day end k s (pass ∷ rest) → pass_fault s orders ceilings pass ≡ None
-      → frees_nothing_by s orders ceilings (record { day = day; pass = k }) pass ≡ false → next ≡ closing_by s orders ceilings (record { day = day; pass = k }) pass
+  pub pass_goes_on : (next : State) → whole ≡ passes_fault orders ceilings day end k s (pass ∷ rest)
+      → pass_fault s orders ceilings pass ≡ None
+      → frees_nothing_by s orders ceilings (record { day = day; pass = k }) pass ≡ false
+      → next ≡ closing_by s orders ceilings (record { day = day; pass = k }) pass
       → whole ≡ passes_fault orders ceilings day end (k + 1) next rest
   pass_goes_on next e none frees is =
       let after = closing_by s orders ceilings (record { day = day; pass = k }) pass in
@@ -84,6 +97,9 @@ module _ (orders : List CallOrder) (ceilings : List ℕ) (day end k : ℕ) (s : 
       goes_on (pass_fault s orders ceilings pass) _ whole e none
       ∙ ap (λ b. cond b (extra_pass rest) (passes_fault orders ceilings day end (k + 1) after rest)) frees
 
-pub state_goes_on : (orders : List CallOrder) (ceilings : List ℕ) (day k : ℕ) (s next : State) (pass : PassChain) (rest : List PassChain) (whole : State) → whole ≡ state_after orders ceilings day k s (pass ∷ rest)
+pub state_goes_on : (orders : List CallOrder) (ceilings : List ℕ) (day k : ℕ) (s next : State)
+    (pass : PassChain) (rest : List PassChain) (whole : State)
+    → whole ≡ state_after orders ceilings day k s (pass ∷ rest)
     → next ≡ closing_by s orders ceilings (record { day = day; pass = k }) pass → whole ≡ state_after orders ceilings day (k + 1) next rest
-state_goes_on orders ceilings day k s next pass rest whole e is = e ∙ ap (λ (t : State). state_after orders ceilings day (k + 1) t rest) (sym is)
+state_goes_on orders ceilings day k s next pass rest whole e is =
+    e ∙ ap (λ (t : State). state_after orders ceilings day (k + 1) t rest) (sym is)

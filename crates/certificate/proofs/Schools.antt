@@ -30,7 +30,8 @@ cond_tells n true one other is are = is
 cond_tells n false one other is are = are
 
 tests_tell : (n row : ℕ) (a b c : Bool)
-    → Tells n (option_map (λ reason. (row, reason)) (if not a then Some NotOver else if not b then Some WrongWishes else if not c then Some WrongBar else None))
+    → Tells n (option_map (λ reason. (row, reason)) (if not a then Some NotOver
+    else if not b then Some WrongWishes else if not c then Some WrongBar else None))
 tests_tell n row false b c = tt
 tests_tell n row true false c = tt
 tests_tell n row true true false = tt
@@ -47,7 +48,9 @@ found_passes p (x ∷ xs) =
 over_tells : (sys : FallingSystem) (bars : List ℕ) (row : ℕ) (found : Option ℕ) → IfSome found (λ h. is_overfilled sys bars h ≡ true)
     → Tells (length sys.ceilings) (option_map (λ h. (row, StillOver h)) found)
 over_tells sys bars row None passes = tt
-over_tells sys bars row (Some h) passes = ltb-true h (length sys.ceilings) (and_parts (nat_lt h (length sys.ceilings)) (nat_lt (slice_index sys.free h) (length (sys.ranks bars h))) passes).0
+over_tells sys bars row (Some h) passes =
+    ltb-true h (length sys.ceilings) (and_parts (nat_lt h (length sys.ceilings))
+    (nat_lt (slice_index sys.free h) (length (sys.ranks bars h))) passes).0
 
 module _ (orders : List CallOrder) (ceilings : List ℕ) where
   lines_tell : (s : State) (bars : List ℕ) (lines : List FallLine) → Tells (length ceilings) (lines_fault s orders ceilings bars lines)
@@ -56,7 +59,8 @@ module _ (orders : List CallOrder) (ceilings : List ℕ) where
       let sys = boarding s orders ceilings in
       let h = school_of_line s line in
       or_tells (length ceilings) _ (lines_fault s orders ceilings (lowered s bars line) lines)
-      (tests_tell (length ceilings) line.row (is_overfilled sys bars h) (shows_ranks s orders bars h (first_over sys bars h) line.wishes) (tells_bars line (fall_of sys bars h)))
+      (tests_tell (length ceilings) line.row (is_overfilled sys bars h) (shows_ranks s orders bars h
+      (first_over sys bars h) line.wishes) (tells_bars line (fall_of sys bars h)))
       (lines_tell s (lowered s bars line) lines)
 
   pass_tells : (s : State) (pass : PassChain) → Tells (length ceilings) (pass_fault s orders ceilings pass)
@@ -64,18 +68,22 @@ module _ (orders : List CallOrder) (ceilings : List ℕ) where
       let sys = boarding s orders ceilings in
       let bars = bars_by s ceilings pass.falls in
       or_tells (length ceilings) (lines_fault s orders ceilings ceilings pass.falls) _ (lines_tell s ceilings pass.falls)
-      (over_tells sys bars pass.next_row (first_overfilled sys bars) (found_passes (is_overfilled sys bars) (range_with_len 0 (length ceilings))))
+      (over_tells sys bars pass.next_row (first_overfilled sys bars)
+      (found_passes (is_overfilled sys bars) (range_with_len 0 (length ceilings))))
 
   extra_tells : (passes : List PassChain) → Tells (length ceilings) (extra_pass passes)
   extra_tells [] = tt
   extra_tells (pass ∷ rest) = tt
 
-  passes_tell : (day end k : ℕ) (s : State) (passes : List PassChain) → Tells (length ceilings) (passes_fault orders ceilings day end k s passes)
+  passes_tell : (day end k : ℕ) (s : State) (passes : List PassChain)
+      → Tells (length ceilings) (passes_fault orders ceilings day end k s passes)
   passes_tell day end k s [] = tt
   passes_tell day end k s (pass ∷ rest) =
       let after = closing_by s orders ceilings (record { day = day; pass = k }) pass in
       or_tells (length ceilings) (pass_fault s orders ceilings pass) _ (pass_tells s pass)
-      (cond_tells (length ceilings) (frees_nothing_by s orders ceilings (record { day = day; pass = k }) pass) (extra_pass rest) (passes_fault orders ceilings day end (k + 1) after rest)
+      (cond_tells (length ceilings)
+      (frees_nothing_by s orders ceilings (record { day = day; pass = k }) pass)
+      (extra_pass rest) (passes_fault orders ceilings day end (k + 1) after rest)
       (extra_tells rest) (passes_tell day end (k + 1) after rest))
 
 verdict_keeps : (n : ℕ) (v : Verdict) → Tells n (fault_told v) → IfRejected v (KeepsSchool n)
@@ -83,8 +91,10 @@ verdict_keeps n (Proved evening) tells = tt
 verdict_keeps n (Rejected row reason) tells = tells
 
 -- a rejected day keeps a school of the dossier, if it keeps one
-pub rejects_school : (orders : List CallOrder) (ceilings : List ℕ) (day : ℕ) (morning : State) (chain : DayChain) (v : Verdict) → length ceilings ≡ length morning.dossier.schools
+pub rejects_school : (orders : List CallOrder) (ceilings : List ℕ) (day : ℕ) (morning : State)
+    (chain : DayChain) (v : Verdict) → length ceilings ≡ length morning.dossier.schools
     → day_fault orders ceilings day morning chain ≡ fault_told v → IfRejected v (KeepsSchool (length morning.dossier.schools))
 rejects_school orders ceilings day morning chain v as_many is =
     subst (λ n. IfRejected v (KeepsSchool n)) as_many
-    (verdict_keeps (length ceilings) v (subst (Tells (length ceilings)) is (passes_tell orders ceilings day chain.next_row 1 morning chain.passes)))
+    (verdict_keeps (length ceilings) v (subst (Tells (length ceilings)) is
+    (passes_tell orders ceilings day chain.next_row 1 morning chain.passes)))

@@ -1,6 +1,6 @@
 -- Lines of falls, tested at the present bars.
 use Rattle.std.proofs.Common.{◌≡◌, ℕ, suc, ◌+◌, ◌-◌, ◌<◌, ◌≤◌, Bool, true, false, cond, not, ◌&&◌, List, length, map, filter, Option, Some, None, refl, sym, ap, ◌∙◌, arith, nat_le, slice_index, zero-add, inl, inr}
-use Rattle.std.specs.Prelude.{◌==◌, find, position, nat_eq, slice_get, slice_set, if◌then◌else◌}
+use Rattle.std.specs.Prelude.{◌==◌, find, option_map, position, nat_eq, slice_get, slice_set, if◌then◌else◌}
 use Rattle.std.specs.Option.{is_some, option_or}
 use Rattle.std.specs.List.{range_with_len}
 use Rattle.std.proofs.lemmas.List.{length-set, length-map}
@@ -12,6 +12,7 @@ use Rattle.admit_core.specs.declared.chain.FallLine.{FallLine}
 use Rattle.admit_core.specs.declared.records.Fall.{Fall}
 use Rattle.admit_core.specs.declared.ranking.CallOrder.{CallOrder}
 use Rattle.admit_core.specs.State.{State, free_beds}
+use Rattle.admit_core.specs.declared.state.Mark.{Mark}
 use Rattle.admit_core.specs.Proposals.{demanded_ranks}
 use Rattle.admit_core.specs.Boarding.{boarding, name_of}
 use Rattle.admit_core.specs.Falls.{IsAtMost, FallingSystem, is_overfilled, first_over, fall_of}
@@ -41,7 +42,8 @@ line_tests over shows tells =
 -- the rank that finds no bed, by the free beds of the state
 pub rank_told : (s : State) (orders : List CallOrder) (ceilings bars : List ℕ) (h : ℕ) → h < length ceilings
     → rank_over (boarding s orders ceilings) bars h ≡ slice_get (demanded_ranks s orders bars h) (free_beds s h)
-rank_told s orders ceilings bars h lt = ap (slice_get (demanded_ranks s orders bars h)) (get_or-map-range_with_len (free_beds s) 0 (length ceilings) h h 0 lt (zero-add h))
+rank_told s orders ceilings bars h lt = ap (slice_get (demanded_ranks s orders bars h))
+    (get_or-map-range_with_len (free_beds s) 0 (length ceilings) h h 0 lt (zero-add h))
 
 -- a school is overfilled where there is such a rank
 pub over_by_rank : (s : State) (orders : List CallOrder) (ceilings bars : List ℕ) (h : ℕ) (found : Option ℕ) → h < length ceilings
@@ -49,18 +51,32 @@ pub over_by_rank : (s : State) (orders : List CallOrder) (ceilings bars : List �
 over_by_rank s orders ceilings bars h found lt told =
     overfilled_by_rank (boarding s orders ceilings) bars h lt ∙ ap is_some (rank_told s orders ceilings bars h lt ∙ sym told)
 
-module _ (s : State) (orders : List CallOrder) (ceilings bars : List ℕ) (line : FallLine) (h : ℕ) (is : school_of_line s line ≡ h) (lt : h < length ceilings) where
+module _ (s : State) (orders : List CallOrder) (ceilings bars : List ℕ) (line : FallLine) (h : ℕ)
+    (is : school_of_line s line ≡ h) (lt : h < length ceilings) where
   sys : FallingSystem
   sys = boarding s orders ceilings
 
-  by_tests : line_fault s orders ceilings bars line ≡ line_tests (is_overfilled (boarding s orders ceilings) bars h) (shows_ranks s orders bars h (first_over (boarding s orders ceilings) bars h) line.wishes) (tells_bars line (fall_of (boarding s orders ceilings) bars h))
+  by_tests : line_fault s orders ceilings bars line
+      ≡ line_tests (is_overfilled (boarding s orders ceilings) bars h)
+      (shows_ranks s orders bars h (first_over (boarding s orders ceilings) bars h) line.wishes)
+      (tells_bars line (fall_of (boarding s orders ceilings) bars h))
   unfolding line_tests
-  by_tests = ap (λ (k : ℕ). line_tests (is_overfilled (boarding s orders ceilings) bars k) (shows_ranks s orders bars k (first_over (boarding s orders ceilings) bars k) line.wishes) (tells_bars line (fall_of (boarding s orders ceilings) bars k))) is
+  by_tests =
+      ap (λ (k : ℕ). line_tests (is_overfilled (boarding s orders ceilings) bars k)
+      (shows_ranks s orders bars k (first_over (boarding s orders ceilings) bars k) line.wishes)
+      (tells_bars line (fall_of (boarding s orders ceilings) bars k))) is
 
   -- no rank finds no bed
-  pub is_not_over : None ≡ slice_get (demanded_ranks s orders bars h) (free_beds s h) → line_fault s orders ceilings bars line ≡ Some NotOver
+  pub is_not_over : None ≡ slice_get (demanded_ranks s orders bars h) (free_beds s h)
+      → line_fault s orders ceilings bars line ≡ Some NotOver
   unfolding line_tests
-  is_not_over told = by_tests ∙ ap (λ b. line_tests b (shows_ranks s orders bars h (first_over (boarding s orders ceilings) bars h) line.wishes) (tells_bars line (fall_of (boarding s orders ceilings) bars h))) (over_by_rank s orders ceilings bars h None lt told)
+  is_not_over told = by_tests
+      ∙ ap
+      (λ b.
+      line_tests b
+      (shows_ranks s orders bars h (first_over (boarding s orders ceilings) bars h) line.wishes)
+      (tells_bars line (fall_of (boarding s orders ceilings) bars h)))
+      (over_by_rank s orders ceilings bars h None lt told)
 
   module _ (under : IsAtMost bars ceilings) (over : ℕ) (told : Some over ≡ slice_get (demanded_ranks s orders bars h) (free_beds s h)) where
     is_over : is_overfilled (boarding s orders ceilings) bars h ≡ true
@@ -70,75 +86,195 @@ module _ (s : State) (orders : List CallOrder) (ceilings bars : List ℕ) (line 
     answered = told ∙ sym (rank_told s orders ceilings bars h lt)
 
     pub from_one : 1 ≤ over
-    from_one = rank_from_one (boarding s orders ceilings) (boarding_is_lawful s orders ceilings) bars h under is_over (Some over) over answered refl
+    from_one = rank_from_one (boarding s orders ceilings)
+        (boarding_is_lawful s orders ceilings) bars h under is_over (Some over) over answered refl
 
     pub below : over - 1 < slice_index bars h
-    below = falls_below (boarding s orders ceilings) (boarding_is_lawful s orders ceilings) bars h under is_over (Some over) over answered refl
+    below = falls_below (boarding s orders ceilings) (boarding_is_lawful s orders ceilings) bars h
+        under is_over (Some over) over answered refl
 
     to_is : (fall_of (boarding s orders ceilings) bars h).to ≡ over - 1
-    to_is = ap (λ r. r - 1) (sym (rank_is (boarding s orders ceilings) (boarding_is_lawful s orders ceilings) bars h under is_over (Some over) over answered refl))
+    to_is =
+        ap (λ r. r - 1) (sym (rank_is (boarding s orders ceilings)
+        (boarding_is_lawful s orders ceilings) bars h under is_over (Some over) over answered refl))
 
     -- the ranks up to it are those that the fall shows
-    front_is : length s.marks ≡ length s.dossier.wishes → filter (λ rank. nat_le rank over) (demanded_ranks s orders bars h) ≡ first_over (boarding s orders ceilings) bars h
+    front_is : length s.marks ≡ length s.dossier.wishes
+        → filter (λ rank. nat_le rank over) (demanded_ranks s orders bars h)
+        ≡ first_over (boarding s orders ceilings) bars h
     front_is long =
         let names = map (name_of s orders bars h) (filter (λ rank. nat_le rank over) (demanded_ranks s orders bars h)) in
-        let made = fall_made (boarding s orders ceilings) (boarding_is_lawful s orders ceilings) bars h under is_over (Some over) over (slice_index bars h) names names answered refl refl refl refl in
+        let made =
+        fall_made (boarding s orders ceilings) (boarding_is_lawful s orders ceilings) bars h
+        under is_over (Some over) over (slice_index bars h) names names answered refl refl refl
+        refl in
         let rank_of = λ (k : ℕ). (wish_in s.dossier.wishes k).board_rank in
         sym (ranks_back s orders bars h over long)
         ∙ ap (λ (f : Fall). map rank_of f.wishes) made
         ∙ map_back rank_of (name_of s orders bars h) (first_over (boarding s orders ceilings) bars h)
-        (λ k d k_in. (All-take (IsNamed s orders bars h) _ (demanded_ranks s orders bars h) (all_ranks_named s orders bars h long) k d k_in).1)
+        (λ k d k_in. (All-take (IsNamed s orders bars h) _ (demanded_ranks s orders bars h)
+        (all_ranks_named s orders bars h long) k d k_in).1)
 
-    module _ (long : length s.marks ≡ length s.dossier.wishes) (ranks : List ℕ) (are : ranks ≡ filter (λ rank. nat_le rank over) (demanded_ranks s orders bars h)) (shows : Bool)
+    module _ (long : length s.marks ≡ length s.dossier.wishes) (ranks : List ℕ) (are : ranks
+        ≡ filter (λ rank. nat_le rank over) (demanded_ranks s orders bars h)) (shows : Bool)
         (shown : shows ≡ shows_ranks s orders bars h ranks line.wishes) where
       shows_is : shows_ranks s orders bars h (first_over (boarding s orders ceilings) bars h) line.wishes ≡ shows
       shows_is = ap (λ (rs : List ℕ). shows_ranks s orders bars h rs line.wishes) (sym (are ∙ front_is long)) ∙ sym shown
 
-      tests_are : (tells : Bool) → tells_bars line (fall_of (boarding s orders ceilings) bars h) ≡ tells → line_fault s orders ceilings bars line ≡ line_tests true shows tells
+      tests_are : (tells : Bool) → tells_bars line (fall_of (boarding s orders ceilings) bars h)
+          ≡ tells → line_fault s orders ceilings bars line ≡ line_tests true shows tells
       tests_are tells told_bars =
           by_tests
-          ∙ ap (λ b. line_tests b (shows_ranks s orders bars h (first_over (boarding s orders ceilings) bars h) line.wishes) (tells_bars line (fall_of (boarding s orders ceilings) bars h))) is_over
+          ∙ ap
+          (λ b.
+          line_tests b
+          (shows_ranks s orders bars h (first_over (boarding s orders ceilings) bars h)
+          line.wishes) (tells_bars line (fall_of (boarding s orders ceilings) bars h))) is_over
           ∙ ap (λ b. line_tests true b (tells_bars line (fall_of (boarding s orders ceilings) bars h))) shows_is
           ∙ ap (line_tests true shows) told_bars
 
       pub has_wrong_wishes : shows ≡ false → line_fault s orders ceilings bars line ≡ Some WrongWishes
       unfolding line_tests
-      has_wrong_wishes fails = tests_are _ refl ∙ ap (λ b. line_tests true b (tells_bars line (fall_of (boarding s orders ceilings) bars h))) fails
+      has_wrong_wishes fails = tests_are _ refl ∙ ap (λ b.
+          line_tests true b (tells_bars line (fall_of (boarding s orders ceilings) bars h))) fails
 
-      bars_told : (from : ℕ) (tells : Bool) → from ≡ slice_index bars h → tells ≡ ((line.from == from) && (line.to == over - 1)) → tells_bars line (fall_of (boarding s orders ceilings) bars h) ≡ tells
+      bars_told : (from : ℕ) (tells : Bool) → from ≡ slice_index bars h
+          → tells ≡ ((line.from == from) && (line.to == over - 1))
+          → tells_bars line (fall_of (boarding s orders ceilings) bars h) ≡ tells
       bars_told from tells is_from told_so =
           ap (λ (t : ℕ). (line.from == slice_index bars h) && (line.to == t)) to_is
           ∙ ap (λ (f : ℕ). (line.from == f) && (line.to == over - 1)) (sym is_from) ∙ sym told_so
 
-      pub has_wrong_bar : (from : ℕ) (tells : Bool) → from ≡ slice_index bars h → tells ≡ ((line.from == from) && (line.to == over - 1)) → shows ≡ true → tells ≡ false → line_fault s orders ceilings bars line ≡ Some WrongBar
+      pub has_wrong_bar : (from : ℕ) (tells : Bool) → from ≡ slice_index bars h
+          → tells ≡ ((line.from == from) && (line.to == over - 1)) → shows ≡ true → tells ≡ false
+          → line_fault s orders ceilings bars line ≡ Some WrongBar
       unfolding line_tests
-      has_wrong_bar from tells is_from told_so good fails = tests_are tells (bars_told from tells is_from told_so) ∙ ap (λ b. line_tests true b tells) good ∙ ap (line_tests true true) fails
+      has_wrong_bar from tells is_from told_so good fails =
+          tests_are tells (bars_told from tells is_from told_so)
+          ∙ ap (λ b. line_tests true b tells) good ∙ ap (line_tests true true) fails
 
-      pub has_none : (from : ℕ) (tells : Bool) → from ≡ slice_index bars h → tells ≡ ((line.from == from) && (line.to == over - 1)) → shows ≡ true → tells ≡ true → line_fault s orders ceilings bars line ≡ None
+      pub has_none : (from : ℕ) (tells : Bool) → from ≡ slice_index bars h
+          → tells ≡ ((line.from == from) && (line.to == over - 1)) → shows ≡ true → tells ≡ true
+          → line_fault s orders ceilings bars line ≡ None
       unfolding line_tests
-      has_none from tells is_from told_so good holds = tests_are tells (bars_told from tells is_from told_so) ∙ ap (λ b. line_tests true b tells) good ∙ ap (line_tests true true) holds
+      has_none from tells is_from told_so good holds =
+          tests_are tells (bars_told from tells is_from told_so)
+          ∙ ap (λ b. line_tests true b tells) good ∙ ap (line_tests true true) holds
 
 -- the overfilled school of least place, place by place
 from_place : (p : ℕ → Bool) (i m n : ℕ) → n ≡ suc m → find p (range_with_len i n) ≡ cond (p i) (Some i) (find p (range_with_len (i + 1) m))
 from_place p i m n e = ap (λ (k : ℕ). find p (range_with_len i k)) e
 
-pub none_at : (p : ℕ → Bool) (i n : ℕ) → i < n → p i ≡ false → find p (range_with_len i (n - i)) ≡ find p (range_with_len (i + 1) (n - (i + 1)))
-none_at p i n lt fails = from_place p i (n - (i + 1)) (n - i) (omega arith) ∙ ap (λ b. cond b (Some i) (find p (range_with_len (i + 1) (n - (i + 1))))) fails
+pub none_at : (p : ℕ → Bool) (i n : ℕ) → i < n → p i ≡ false
+    → find p (range_with_len i (n - i)) ≡ find p (range_with_len (i + 1) (n - (i + 1)))
+none_at p i n lt fails = from_place p i (n - (i + 1)) (n - i) (omega arith)
+    ∙ ap (λ b. cond b (Some i) (find p (range_with_len (i + 1) (n - (i + 1))))) fails
 
 pub one_at : (p : ℕ → Bool) (i n : ℕ) → i < n → p i ≡ true → find p (range_with_len i (n - i)) ≡ Some i
-one_at p i n lt passes = from_place p i (n - (i + 1)) (n - i) (omega arith) ∙ ap (λ b. cond b (Some i) (find p (range_with_len (i + 1) (n - (i + 1))))) passes
+one_at p i n lt passes = from_place p i (n - (i + 1)) (n - i) (omega arith)
+    ∙ ap (λ b. cond b (Some i) (find p (range_with_len (i + 1) (n - (i + 1))))) passes
 
 -- the school of a line, by its place in the index
-pub line_place : (s : State) (index : Ids) (line : FallLine) (h : ℕ) → index ≡ ids_in s.dossier → position (nat_eq line.school) index.schools ≡ Some h
+pub line_place : (s : State) (index : Ids) (line : FallLine) (h : ℕ) → index ≡ ids_in s.dossier
+    → position (nat_eq line.school) index.schools ≡ Some h
     → (h < length s.dossier.schools) × (school_of_line s line ≡ h)
 line_place s index line h are found =
-    let there = place_found (nat_eq line.school) (map (λ (x : School). x.id) s.dossier.schools) h (ap (λ (i : Ids). position (nat_eq line.school) i.schools) (sym are) ∙ found) in
+    let there = place_found (nat_eq line.school) (map (λ (x : School). x.id) s.dossier.schools) h
+    (ap (λ (i : Ids). position (nat_eq line.school) i.schools) (sym are) ∙ found) in
     (omega (arith, there.0, length-map s.dossier.schools (λ (x : School). x.id)), there.1)
 
 -- what a round tells, where its state is this
-pub top_told : (told s : State) (orders : List CallOrder) (bars : List ℕ) (h : ℕ) (found : Option ℕ) → told ≡ s → found ≡ slice_get (demanded_ranks told orders bars h) (free_beds told h)
+pub top_told : (told s : State) (orders : List CallOrder) (bars : List ℕ) (h : ℕ) (found : Option ℕ)
+    → told ≡ s → found ≡ slice_get (demanded_ranks told orders bars h) (free_beds told h)
     → found ≡ slice_get (demanded_ranks s orders bars h) (free_beds s h)
 top_told told s orders bars h found same is = is ∙ ap (λ (t : State). slice_get (demanded_ranks t orders bars h) (free_beds t h)) same
+
+-- what a check of a line has found first: the place of its school, and the rank there that finds no
+-- bed
+pub record IsLookedUp (s : State) (orders : List CallOrder) (ceilings bars : List ℕ)
+    (line : FallLine) (h : ℕ) (found : Option ℕ) : Type 0 where
+  pub is : school_of_line s line ≡ h
+  pub lt : h < length ceilings
+  pub told : found ≡ slice_get (demanded_ranks s orders bars h) (free_beds s h)
+
+pub looked_up : (s told : State) (orders : List CallOrder) (ceilings bars : List ℕ) (index : Ids)
+    (line : FallLine) (h : ℕ) (found : Option ℕ)
+    → told ≡ s → index ≡ ids_in s.dossier → length ceilings ≡ length s.dossier.schools
+    → position (nat_eq line.school) index.schools ≡ Some h
+    → found ≡ slice_get (demanded_ranks told orders bars h) (free_beds told h)
+    → IsLookedUp s orders ceilings bars line h found
+looked_up s told orders ceilings bars index line h found same are as_many there answered =
+    let place = line_place s index line h are there in
+    record {
+      is = place.1;
+      lt = omega (arith, place.0, as_many);
+      told = top_told told s orders bars h found same answered;
+    }
+
+-- what it has found then: the ranks up to that one, and whether the wishes of the line show them
+pub record AreShown (s : State) (orders : List CallOrder) (bars : List ℕ) (line : FallLine)
+    (h over : ℕ) (ranks : List ℕ) (shows : Bool) : Type 0 where
+  pub long : length s.marks ≡ length s.dossier.wishes
+  pub are : ranks ≡ filter (λ rank. nat_le rank over) (demanded_ranks s orders bars h)
+  pub shown : shows ≡ shows_ranks s orders bars h ranks line.wishes
+
+pub are_shown : (s : State) (orders : List CallOrder) (bars : List ℕ) (line : FallLine)
+    (h over : ℕ) (marks : List Mark) (ranks wishes : List ℕ) (shows : Bool)
+    → marks ≡ s.marks → length marks ≡ length s.dossier.wishes
+    → ranks ≡ filter (λ rank. nat_le rank over) (demanded_ranks s orders bars h)
+    → wishes ≡ line.wishes → shows ≡ shows_ranks s orders bars h ranks wishes
+    → AreShown s orders bars line h over ranks shows
+are_shown s orders bars line h over marks ranks wishes shows marks_are long are named shown =
+    record {
+      long = ap (λ (ms : List Mark). length ms) (sym marks_are) ∙ long;
+      are = are;
+      shown = shown ∙ ap (λ (ws : List ℕ). shows_ranks s orders bars h ranks ws) named;
+    }
+
+-- the fault of a line, with its row
+abbrev fault_there : State → List CallOrder → List ℕ → List ℕ → FallLine
+    → Option (ℕ × CheckReason)
+fault_there s orders ceilings bars line =
+    option_map (λ reason. (line.row, reason)) (line_fault s orders ceilings bars line)
+
+module _ {s : State} {orders : List CallOrder} {ceilings bars : List ℕ} {line : FallLine} {h : ℕ} where
+  pub stops_not_over : IsLookedUp s orders ceilings bars line h None
+      → fault_there s orders ceilings bars line ≡ Some (line.row, NotOver)
+  stops_not_over seen =
+      ap (option_map (λ (reason : CheckReason). (line.row, reason)))
+      (is_not_over s orders ceilings bars line h seen.is seen.lt seen.told)
+
+  module _ {over : ℕ} (seen : IsLookedUp s orders ceilings bars line h (Some over))
+      (under : IsAtMost bars ceilings) where
+    pub over_from_one : 1 ≤ over
+    over_from_one = from_one s orders ceilings bars line h seen.is seen.lt under over seen.told
+
+    pub over_below : over - 1 < slice_index bars h
+    over_below = below s orders ceilings bars line h seen.is seen.lt under over seen.told
+
+    module _ {ranks : List ℕ} {shows : Bool}
+        (shown : AreShown s orders bars line h over ranks shows) where
+      pub stops_wrong_wishes : shows ≡ false
+          → fault_there s orders ceilings bars line ≡ Some (line.row, WrongWishes)
+      stops_wrong_wishes fails =
+          ap (option_map (λ (reason : CheckReason). (line.row, reason)))
+          (has_wrong_wishes s orders ceilings bars line h seen.is seen.lt under over seen.told
+          shown.long ranks shown.are shows shown.shown fails)
+
+      module _ (from : ℕ) (tells : Bool) (from_is : from ≡ slice_index bars h)
+          (told : tells ≡ ((line.from == from) && (line.to == over - 1))) (good : shows ≡ true) where
+        pub stops_wrong_bar : tells ≡ false
+            → fault_there s orders ceilings bars line ≡ Some (line.row, WrongBar)
+        stops_wrong_bar fails =
+            ap (option_map (λ (reason : CheckReason). (line.row, reason)))
+            (has_wrong_bar s orders ceilings bars line h seen.is seen.lt under over seen.told
+            shown.long ranks shown.are shows shown.shown from tells from_is told good fails)
+
+        pub passes_line : tells ≡ true → fault_there s orders ceilings bars line ≡ None
+        passes_line holds =
+            ap (option_map (λ (reason : CheckReason). (line.row, reason)))
+            (has_none s orders ceilings bars line h seen.is seen.lt under over seen.told
+            shown.long ranks shown.are shows shown.shown from tells from_is told good holds)
 
 -- a fault at a line, or none there
 pub stops_at : (found : Stop) (fault rest all : Option (ℕ × CheckReason)) → all ≡ option_or fault rest → Stops found fault → Stops found all
@@ -149,11 +285,13 @@ pub goes_on : (fault rest all : Option (ℕ × CheckReason)) → all ≡ option_
 goes_on fault rest all is none = is ∙ ap (λ o. option_or o rest) none
 
 -- a bar that falls stays under its ceiling
-pub falls_under : (bars ceilings : List ℕ) (h to : ℕ) → IsAtMost bars ceilings → h < length bars → to < slice_index bars h → IsAtMost (slice_set bars h to) ceilings
+pub falls_under : (bars ceilings : List ℕ) (h to : ℕ) → IsAtMost bars ceilings → h < length bars
+    → to < slice_index bars h → IsAtMost (slice_set bars h to) ceilings
 falls_under bars ceilings h to under lt below = record {
   as_many = length-set bars h to ∙ under.as_many;
   each = λ i. elim (at_set bars h to i lt) [
-    | inl here ↦ let u = under.each i in let e = here.1 in let same : slice_index bars i ≡ slice_index bars h = ap (slice_index bars) here.0 in omega arith
+    | inl here ↦ let u = under.each i in let e = here.1 in let same : slice_index bars i
+        ≡ slice_index bars h = ap (slice_index bars) here.0 in omega arith
     | inr other ↦ let u = under.each i in omega arith
   ];
 }

@@ -33,7 +33,8 @@ body_of w ws = w ++ tail_of ws
 
 tail_ends : (ws : List (List ℕ)) → further 32 ws ≡ tail_of ws ++ 10 ∷ []
 tail_ends [] = refl
-tail_ends (w ∷ ws) = ap (λ (bs : List ℕ). 32 ∷ (w ++ bs)) (tail_ends ws) ∙ ap (λ (bs : List ℕ). 32 ∷ bs) (sym (append_assoc w (tail_of ws) (10 ∷ [])))
+tail_ends (w ∷ ws) = ap (λ (bs : List ℕ). 32 ∷ (w ++ bs)) (tail_ends ws)
+    ∙ ap (λ (bs : List ℕ). 32 ∷ bs) (sym (append_assoc w (tail_of ws) (10 ∷ [])))
 
 not_byte : (byte b : ℕ) → byte ≤ 32 → 32 < b → (b == byte) ≡ false
 not_byte byte b low high = grind (arith, nat_tests)
@@ -49,7 +50,8 @@ tail_fails (w ∷ ws) are =
     (All-append (λ (b : ℕ). (b == 10) ≡ false) w (tail_of ws) (word_fails 10 w (omega arith) are.0) (tail_fails ws are.1))
 
 -- a line is cut off at its line feed
-pub line_cut : (w : List ℕ) (ws : List (List ℕ)) (rest : List ℕ) → AreWords (w ∷ ws) → parts 10 (line (w ∷ ws) ++ rest) ≡ body_of w ws ∷ parts 10 rest
+pub line_cut : (w : List ℕ) (ws : List (List ℕ)) (rest : List ℕ) → AreWords (w ∷ ws)
+    → parts 10 (line (w ∷ ws) ++ rest) ≡ body_of w ws ∷ parts 10 rest
 line_cut w ws rest are =
     ap (λ (bs : List ℕ). parts 10 ((w ++ bs) ++ rest)) (tail_ends ws)
     ∙ ap (λ (bs : List ℕ). parts 10 (bs ++ rest)) (sym (append_assoc w (tail_of ws) (10 ∷ [])))
@@ -95,13 +97,19 @@ number_read n few =
     let some = lt-ltb 0 (length (decimal n)) (decimal_nonempty n big) in
     let short = le-leb (length (decimal n)) 10 (length-decimal-le 10 n (omega arith) (omega arith) big) in
     let digits = digits_pass (decimal n) (all_digits n few) in
-    let fits = and_from (nat_lt 0 (length (decimal n)) && nat_le (length (decimal n)) 10) (list_all is_ascii_digit (decimal n)) (and_from (nat_lt 0 (length (decimal n))) (nat_le (length (decimal n)) 10) some short) digits in
+    let fits = and_from (nat_lt 0 (length (decimal n)) && nat_le (length (decimal n)) 10)
+    (list_all is_ascii_digit (decimal n)) (and_from (nat_lt 0 (length (decimal n)))
+    (nat_le (length (decimal n)) 10) some short) digits in
     ap (λ b. option_and_then small (cond b (Some (digits_value 10 (decimal n))) None)) fits
     ∙ ap small (decimal_is_IsNumeral n big).1 ∙ small_some n few
 
 pub numbers_words : (ns : List ℕ) → All (λ n. n ≤ 4294967295) ns → AreWords (map decimal ns)
 numbers_words [] few = tt
-numbers_words (n ∷ ns) few = (number_word n (All-head (λ (k : ℕ). k ≤ 4294967295) n ns few), numbers_words ns (All-tail (λ (k : ℕ). k ≤ 4294967295) n ns few))
+numbers_words (n ∷ ns) few = (
+  number_word n (All-head (λ (k : ℕ). k ≤ 4294967295) n ns few),
+  numbers_words ns
+      (All-tail (λ (k : ℕ). k ≤ 4294967295) n ns few),
+)
 
 pub numbers_read : (ns : List ℕ) → All (λ n. n ≤ 4294967295) ns → numbers (map decimal ns) ≡ Some ns
 numbers_read [] few = refl

@@ -17,7 +17,8 @@ IsDayOf d day = All (IsPassOf d) day.passes
 
 -- a pass with its number, and its falls
 abbrev pub pass_lines : DossierRows → ℕ × PassEnd → List ℕ
-pass_lines d (number, end) = line (codes "pass" ∷ decimal number ∷ []) ++ flat_map (fall_line d) end.pass.falls
+pass_lines d (number, end) =
+    line (codes "pass" ∷ decimal number ∷ []) ++ flat_map (fall_line d) end.pass.falls
 
 -- a day, and its passes, numbered from 1
 abbrev pub passes_lines : DossierRows → List PassEnd → List ℕ

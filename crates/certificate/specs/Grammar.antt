@@ -46,7 +46,8 @@ only (n ∷ m ∷ ns) = None
 
 -- a fall names a school, the bar before and after, and at least one wish
 abbrev pub fall_at : ℕ → List ℕ → Option FallLine
-fall_at row (school ∷ from ∷ to ∷ wish ∷ wishes) = Some (record { row = row; school = school; from = from; to = to; wishes = wish ∷ wishes })
+fall_at row (school ∷ from ∷ to ∷ wish ∷ wishes) =
+    Some (record { row = row; school = school; from = from; to = to; wishes = wish ∷ wishes })
 fall_at row _ = None
 
 -- the line of a word and numbers
@@ -63,11 +64,14 @@ line_of row [] = None
 line_of row (word ∷ []) = if is_word word (codes "end") then Some End else None
 line_of row (word ∷ next ∷ words) = option_and_then (line_with row word) (numbers (next ∷ words))
 
--- why a line may not stand after day lines up to this number and pass lines of the last day up to that; 0 is none yet
+-- why a line may not stand after day lines up to this number and pass lines of the last day up to
+-- that; 0 is none yet
 abbrev pub misplaced : ℕ → ℕ → Option Line → Option ChainReason
 misplaced day pass None = Some NotLine
-misplaced day pass (Some (Day n)) = if nat_eq n (day + 1) && nat_le n 366 then None else Some WrongNumber
-misplaced day pass (Some (Pass k)) = if nat_eq day 0 then Some NotLine else if nat_eq k (pass + 1) then None else Some WrongNumber
+misplaced day pass (Some (Day n)) =
+    if nat_eq n (day + 1) && nat_le n 366 then None else Some WrongNumber
+misplaced day pass (Some (Pass k)) = if nat_eq day 0 then Some NotLine
+    else if nat_eq k (pass + 1) then None else Some WrongNumber
 misplaced day pass (Some (Fall f)) = if nat_eq pass 0 then Some NotLine else None
 misplaced day pass (Some End) = None
 
@@ -81,8 +85,8 @@ pass_after pass (Some (Day n)) = 0
 pass_after pass (Some (Pass k)) = k
 pass_after pass _ = pass
 
--- what lines say: further falls of the pass that is open before them, with the row that ends it; further passes of the
--- day that is open, with the row that ends it; and further days
+-- what lines say: further falls of the pass that is open before them, with the row that ends it;
+-- further passes of the day that is open, with the row that ends it; and further days
 pub record Said : Type 0 where
   pub falls : List FallLine
   pub pass_end : ℕ
@@ -97,9 +101,15 @@ nothing row = record { falls = []; pass_end = row; passes = []; day_end = row; d
 -- what a line at this row says, and those after it
 abbrev pub with_line : ℕ → Line → Said → Said
 with_line row (Day n) said =
-    record (nothing row) { days = record { passes = said.passes; next_row = said.day_end } ∷ said.days }
+    record (nothing row) {
+      days = record { passes = said.passes; next_row = said.day_end } ∷ said.days;
+    }
 with_line row (Pass k) said =
-    record said { falls = []; pass_end = row; passes = record { row = row; falls = said.falls; next_row = said.pass_end } ∷ said.passes }
+    record said {
+      falls = [];
+      pass_end = row;
+      passes = record { row = row; falls = said.falls; next_row = said.pass_end } ∷ said.passes;
+    }
 with_line row (Fall fall) said = record said { falls = fall ∷ said.falls }
 with_line row End said = said
 
@@ -117,7 +127,8 @@ unended_at [] = NoEnd
 unended_at (byte ∷ bytes) = NotLine
 
 -- a line that may stand, and what the others say
-abbrev pub said_with : ℕ → Option Line → Option ChainReason → Result Said ChainFault → Result Said ChainFault
+abbrev pub said_with : ℕ → Option Line → Option ChainReason → Result Said ChainFault
+    → Result Said ChainFault
 said_with row line (Some reason) others = Err (fault_at row reason)
 said_with row None None others = others
 said_with row (Some line) None (Err fault) = Err fault
@@ -127,14 +138,16 @@ abbrev pub is_end : Option Line → Bool
 is_end (Some End) = true
 is_end _ = false
 
--- what the lines from a row on say, each ended by a line feed, after day and pass lines of these numbers; or the first fault
+-- what the lines from a row on say, each ended by a line feed, after day and pass lines of these
+-- numbers; or the first fault
 unfoldable pub said_from : ℕ → ℕ → ℕ → List (List ℕ) → Result Said ChainFault
 said_from day pass row [] = Err (fault_at row NoEnd)
 said_from day pass row (last ∷ []) = Err (fault_at row (unended_at last))
 said_from day pass row (text ∷ next ∷ others) =
     let line = line_of row (parts 32 text) in
     if is_end line then end_at row (next ∷ others)
-    else said_with row line (misplaced day pass line) (said_from (day_after day line) (pass_after pass line) (row + 1) (next ∷ others))
+    else said_with row line (misplaced day pass line)
+    (said_from (day_after day line) (pass_after pass line) (row + 1) (next ∷ others))
 
 -- the chain that a text writes, or its first fault
 abbrev pub chain_of : Result Said ChainFault → Result Chain ChainFault

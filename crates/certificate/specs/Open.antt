@@ -22,14 +22,17 @@ pub record Open : Type 0 where
 
 -- the passes of the open day and the days, where the line at this row ends both
 abbrev pub passes_until : ℕ → Open → List PassChain
-passes_until row o = o.passes ++ (if nat_eq o.pass 0 then [] else record { row = o.row; falls = o.falls; next_row = row } ∷ [])
+passes_until row o = o.passes ++ (if nat_eq o.pass 0 then []
+    else record { row = o.row; falls = o.falls; next_row = row } ∷ [])
 
 abbrev pub days_until : ℕ → Open → List DayChain
-days_until row o = o.days ++ (if nat_eq o.day 0 then [] else record { passes = passes_until row o; next_row = row } ∷ [])
+days_until row o = o.days ++ (if nat_eq o.day 0 then []
+    else record { passes = passes_until row o; next_row = row } ∷ [])
 
 -- the same with the line at this row
 abbrev pub opened : ℕ → Line → Open → Open
-opened row (Day n) o = record { days = days_until row o; day = n; passes = []; pass = 0; row = row; falls = [] }
+opened row (Day n) o =
+    record { days = days_until row o; day = n; passes = []; pass = 0; row = row; falls = [] }
 opened row (Pass k) o = record o { passes = passes_until row o; pass = k; row = row; falls = [] }
 opened row (Fall fall) o = record o { falls = o.falls ++ fall ∷ [] }
 opened row End o = o
@@ -37,10 +40,13 @@ opened row End o = o
 -- what has been read, with what the further lines say
 abbrev pub passes_with : Open → Said → List PassChain
 passes_with o said =
-    o.passes ++ (if nat_eq o.pass 0 then said.passes else record { row = o.row; falls = o.falls ++ said.falls; next_row = said.pass_end } ∷ said.passes)
+    o.passes ++ (if nat_eq o.pass 0 then said.passes
+    else record { row = o.row; falls = o.falls ++ said.falls; next_row = said.pass_end }
+    ∷ said.passes)
 
 abbrev pub days_with : Open → Said → List DayChain
-days_with o said = o.days ++ (if nat_eq o.day 0 then said.days else record { passes = passes_with o said; next_row = said.day_end } ∷ said.days)
+days_with o said = o.days ++ (if nat_eq o.day 0 then said.days
+    else record { passes = passes_with o said; next_row = said.day_end } ∷ said.days)
 
 abbrev pub chain_with : Open → Result Said ChainFault → Result Chain ChainFault
 chain_with o (Err fault) = Err fault

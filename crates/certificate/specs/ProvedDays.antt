@@ -8,8 +8,10 @@ use Rattle.admit_core.specs.declared.ranking.CallOrder.{CallOrder}
 use Rattle.admit_core.specs.declared.records.Terms.{Terms}
 use Rattle.certificate.specs.Checked.{state_after}
 
--- days from day d on: on each every answer fits, and its chain is valid in its morning and under its ceilings; they lead from one evening to another
-abbrev pub AreProvedDays : Option Terms → List CallOrder → ℕ → State → List DayChain → State → Type 0
+-- days from day d on: on each every answer fits, and its chain is valid in its morning and under
+-- its ceilings; they lead from one evening to another
+abbrev pub AreProvedDays : Option Terms → List CallOrder → ℕ → State → List DayChain
+    → State → Type 0
 AreProvedDays terms orders d old [] new = old ≡ new
 AreProvedDays terms orders d old (chain ∷ chains) new =
     (evening : State)
@@ -19,8 +21,10 @@ AreProvedDays terms orders d old (chain ∷ chains) new =
 
 -- the evening to which the passes of a day's chain lead, and that of many days
 abbrev pub evening_by : Option Terms → List CallOrder → ℕ → State → DayChain → State
-evening_by terms orders d old chain = state_after orders (ceilings_of old.dossier d) d 1 (morning terms d old) chain.passes
+evening_by terms orders d old chain =
+    state_after orders (ceilings_of old.dossier d) d 1 (morning terms d old) chain.passes
 
 abbrev pub evening_after : Option Terms → List CallOrder → ℕ → State → List DayChain → State
 evening_after terms orders d old [] = old
-evening_after terms orders d old (chain ∷ chains) = evening_after terms orders (d + 1) (evening_by terms orders d old chain) chains
+evening_after terms orders d old (chain ∷ chains) =
+    evening_after terms orders (d + 1) (evening_by terms orders d old chain) chains

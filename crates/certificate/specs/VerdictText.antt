@@ -19,4 +19,5 @@ kept_id d PassExtra = []
 
 abbrev pub verdict_text : DossierRows → ℕ → CheckReason → List ℕ
 verdict_text d row reason =
-    line (codes "not" ∷ codes "proved" ∷ codes "row" ∷ decimal row ∷ codes "reason" ∷ decimal (check_reason_number reason) ∷ check_reason_name reason ∷ kept_id d reason)
+    line (codes "not" ∷ codes "proved" ∷ codes "row" ∷ decimal row ∷ codes "reason"
+    ∷ decimal (check_reason_number reason) ∷ check_reason_name reason ∷ kept_id d reason)

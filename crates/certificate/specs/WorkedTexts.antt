@@ -10,12 +10,14 @@ use Rattle.certificate.specs.Grammar.{fault_at, read}
 abbrev pub chain_of_days : List DayChain → Chain
 chain_of_days days = record { days = days }
 
--- the rows are counted from 1, and each pass and day tells the row after it; leading zeros are allowed
+-- the rows are counted from 1, and each pass and day tells the row after it; leading zeros are
+-- allowed
 abbrev pub TextsOfChains : Type 0
 TextsOfChains =
     (read (codes "end\n") ≡ Ok (chain_of_days []))
     × (read (codes "day 1\nend\n") ≡ Ok (chain_of_days (day_lines [] 2 ∷ [])))
-    × (read (codes "day 1\npass 1\nfall 5 10 2 1 3\nend\n") ≡ Ok (chain_of_days (day_lines (pass_lines 2 (line 3 5 10 2 (1 ∷ 3 ∷ []) ∷ []) 4 ∷ []) 4 ∷ [])))
+    × (read (codes "day 1\npass 1\nfall 5 10 2 1 3\nend\n") ≡ Ok
+    (chain_of_days (day_lines (pass_lines 2 (line 3 5 10 2 (1 ∷ 3 ∷ []) ∷ []) 4 ∷ []) 4 ∷ [])))
     × (read (codes "day 01\npass 1\npass 2\nfall 5 4294967295 0 1\nday 2\npass 1\nend\n")
     ≡ Ok (chain_of_days (
     day_lines (pass_lines 2 [] 3 ∷ pass_lines 3 (line 4 5 4294967295 0 (1 ∷ []) ∷ []) 5 ∷ []) 5

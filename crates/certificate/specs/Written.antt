@@ -13,7 +13,13 @@ use Rattle.report.specs.Ids.{school_id, wish_id}
 -- the line of a fall at a row, by ids, and those of many from a row on
 abbrev pub fall_at : DossierRows → ℕ → Fall → FallLine
 fall_at d row fall =
-    record { row = row; school = school_id d fall.school; from = fall.from; to = fall.to; wishes = map (wish_id d) fall.wishes }
+    record {
+      row = row;
+      school = school_id d fall.school;
+      from = fall.from;
+      to = fall.to;
+      wishes = map (wish_id d) fall.wishes;
+    }
 
 abbrev pub falls_from : DossierRows → ℕ → List Fall → List FallLine
 falls_from d row [] = []
@@ -28,14 +34,21 @@ row_after row [] = row
 row_after row (end ∷ ends) = row_after (row_after_pass row end) ends
 
 abbrev pub pass_at : DossierRows → ℕ → PassEnd → PassChain
-pass_at d row end = record { row = row; falls = falls_from d (row + 1) end.pass.falls; next_row = row_after_pass row end }
+pass_at d row end = record {
+  row = row;
+  falls = falls_from d (row + 1) end.pass.falls;
+  next_row = row_after_pass row end;
+}
 
 abbrev pub passes_from : DossierRows → ℕ → List PassEnd → List PassChain
 passes_from d row [] = []
 passes_from d row (end ∷ ends) = pass_at d row end ∷ passes_from d (row_after_pass row end) ends
 
 abbrev pub day_at : DossierRows → ℕ → DayRecord → DayChain
-day_at d row day = record { passes = passes_from d (row + 1) day.passes; next_row = row_after (row + 1) day.passes }
+day_at d row day = record {
+  passes = passes_from d (row + 1) day.passes;
+  next_row = row_after (row + 1) day.passes;
+}
 
 abbrev pub days_from : DossierRows → ℕ → List DayRecord → List DayChain
 days_from d row [] = []

@@ -41,12 +41,16 @@ pub fn check_day<'d>(
     requires passes { length chain.now.passes < 2 ^ 32 }
 
     // Proved exactly where no fault stands, else the first one.
-    ensures exact { IfOk result (λ v. day_fault orders.now.orders ceilings.now day morning.now chain.now ≡ fault_told v) }
-    ensures school { IfOk result (λ v. IfRejected v (KeepsSchool (length morning.now.dossier.schools))) }
-    ensures valid { IfOk result (λ v. IfProved v (IsDayChain orders.now.orders ceilings.now day morning.now chain.now)) }
+    ensures exact { IfOk result (λ v.
+        day_fault orders.now.orders ceilings.now day morning.now chain.now ≡ fault_told v) }
+    ensures school { IfOk result (λ v.
+        IfRejected v (KeepsSchool (length morning.now.dossier.schools))) }
+    ensures valid { IfOk result (λ v.
+        IfProved v (IsDayChain orders.now.orders ceilings.now day morning.now chain.now)) }
 
     // The chain tells the passes of the rules: the last bars of each are the greatest.
-    ensures greatest { IfOk result (λ v. IfProved v (Passes orders.now.orders ceilings.now day 1 morning.now
+    ensures greatest { IfOk result (λ v.
+        IfProved v (Passes orders.now.orders ceilings.now day 1 morning.now
         (passes_told orders.now.orders ceilings.now day 1 morning.now chain.now.passes))) }
 {
     laws_of_chains();

@@ -37,7 +37,8 @@ fn check_line(
     requires index { index.now ≡ ids_in state.now.dossier }
     requires ceilings { length round.now.ceilings ≡ length state.now.dossier.schools }
     requires under { IsAtMost round.now.bars round.now.ceilings }
-    ensures found { Finds result (option_map (λ reason. (line.now.row, reason)) (line_fault state.now round.now.orders round.now.ceilings round.now.bars line.now)) }
+    ensures found { Finds result (option_map (λ reason. (line.now.row, reason))
+        (line_fault state.now round.now.orders round.now.ceilings round.now.bars line.now)) }
     ensures school { IfOk result (λ h. h ≡ school_of_line state.now line.now) }
     ensures within { IfOk result (λ h. h < length round.now.ceilings) }
     ensures falls { IfOk result (λ h. line.now.to < slice_index round.now.bars h) }
@@ -74,8 +75,10 @@ fn check_lines<L: Ledger>(
     requires index { index.now ≡ ids_in state.now.dossier }
     requires ceilings { length round.old.ceilings ≡ length state.now.dossier.schools }
     requires under { IsAtMost round.old.bars round.old.ceilings }
-    ensures found { Finds result (lines_fault state.now round.old.orders round.old.ceilings round.old.bars lines.now) }
-    ensures bars { OnOk result (round.new ≡ record round.old { bars = bars_by state.now round.old.bars lines.now }) }
+    ensures found { Finds result
+        (lines_fault state.now round.old.orders round.old.ceilings round.old.bars lines.now) }
+    ensures bars { OnOk result
+        (round.new ≡ record round.old { bars = bars_by state.now round.old.bars lines.now }) }
     ensures under { OnOk result (IsAtMost round.new.bars round.new.ceilings) }
 {
     for line in lines {
@@ -88,7 +91,8 @@ fn check_lines<L: Ledger>(
 /// The overfilled school of least place.
 fn first_overfilled(round: &LinkedRound<'_, '_>) -> Option<u32>
     requires bars { length round.now.bars ≡ length round.now.ceilings }
-    ensures { result ≡ first_overfilled (boarding round.now.state round.now.orders round.now.ceilings) round.now.bars }
+    ensures { result ≡ first_overfilled
+        (boarding round.now.state round.now.orders round.now.ceilings) round.now.bars }
 {
     for school in 0..round.count() {
         if round.first_over(school).is_some() {

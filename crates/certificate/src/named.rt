@@ -17,7 +17,8 @@ use std::alloc::Global;
 /// The boarding ranks of wishes.
 fn ranks_of(alloc: Global, state: &DayState<'_>, places: &[u32]) -> Result<Vec<u32>, OutOfMemory>
     requires { All (λ k. k < length state.now.dossier.wishes) places.now }
-    ensures { IfOk result (λ v. v.items ≡ map (λ k. (wish_in state.now.dossier.wishes k).board_rank) places.now) }
+    ensures { IfOk result (λ v.
+        v.items ≡ map (λ k. (wish_in state.now.dossier.wishes k).board_rank) places.now) }
 {
     let mut ranks = Vec::with_capacity(alloc, places.len())?;
     for place in places {
@@ -38,7 +39,8 @@ pub(crate) fn ranks_up_to(
     requires ceilings { length round.now.ceilings ≡ length state.now.dossier.schools }
     requires bars { length round.now.bars ≡ length round.now.ceilings }
     requires school { school < length round.now.ceilings }
-    ensures { IfOk result (λ v. v.items ≡ filter (λ rank. nat_le rank most) (demanded_ranks state.now round.now.orders round.now.bars school)) }
+    ensures { IfOk result (λ v. v.items ≡ filter (λ rank. nat_le rank most)
+        (demanded_ranks state.now round.now.orders round.now.bars school)) }
 {
     let _ = state.marks(); // one for each wish
     let names = round.names(alloc, school, most)?;
@@ -49,7 +51,8 @@ pub(crate) fn ranks_up_to(
 fn demands_bed(round: &LinkedRound<'_, '_>, state: &DayState<'_>, school: u32, place: u32) -> bool
     requires same { round.now.state ≡ state.now }
     requires place { place < length state.now.dossier.wishes }
-    ensures { result ≡ demands_bed state.now round.now.orders round.now.bars school (wish_in state.now.dossier.wishes place) (mark_in state.now.marks place) }
+    ensures { result ≡ demands_bed state.now round.now.orders round.now.bars school
+        (wish_in state.now.dossier.wishes place) (mark_in state.now.marks place) }
 {
     let wish = wish_at(state, place);
     let Some(own) = wish.school else {
@@ -100,7 +103,9 @@ fn each_shows(
 ) -> bool
     requires same { round.now.state ≡ state.now }
     requires index { index.now ≡ ids_in state.now.dossier }
-    ensures { result ≡ list_all (λ x. shows_rank state.now round.now.orders round.now.bars school x.0 x.1) (zip ranks.now ids.now) }
+    ensures { result
+        ≡ list_all (λ x. shows_rank state.now round.now.orders round.now.bars school x.0 x.1)
+        (zip ranks.now ids.now) }
 {
     ranks.iter().zip(ids).all(|(rank, id)| shows_rank(round, state, index, school, *rank, *id))
 }
@@ -116,7 +121,8 @@ pub(crate) fn show_ranks(
 ) -> bool
     requires same { round.now.state ≡ state.now }
     requires index { index.now ≡ ids_in state.now.dossier }
-    ensures { result ≡ shows_ranks state.now round.now.orders round.now.bars school ranks.now ids.now }
+    ensures { result
+        ≡ shows_ranks state.now round.now.orders round.now.bars school ranks.now ids.now }
 {
     ids.len() == ranks.len() && each_shows(round, state, index, school, ranks, ids)
 }

@@ -29,8 +29,10 @@ fn check_pass(
     requires lineup { IsLineupOf state.old.dossier orders.now.orders lineup.now }
     requires ceilings { length ceilings.now ≡ length state.old.dossier.schools }
     ensures found { Finds result (pass_fault state.old orders.now.orders ceilings.now pass.now) }
-    ensures state { OnOk result (state.new ≡ closing_by state.old orders.now.orders ceilings.now stamp pass.now) }
-    ensures freed { IfOk result (λ freed. freed ≡ freed_after state.old orders.now.orders (bars_by state.old ceilings.now pass.now.falls) stamp) }
+    ensures state { OnOk result
+        (state.new ≡ closing_by state.old orders.now.orders ceilings.now stamp pass.now) }
+    ensures freed { IfOk result (λ freed. freed ≡ freed_after state.old orders.now.orders
+        (bars_by state.old ceilings.now pass.now.falls) stamp) }
     ensures dossier { OnOk result (state.new.dossier ≡ state.old.dossier) }
 {
     let offers = offers_of(alloc, state, index, orders, lineup, ceilings, pass)?;
@@ -72,8 +74,10 @@ pub(crate) fn check_passes(
     requires lineup { IsLineupOf state.old.dossier orders.now.orders lineup.now }
     requires ceilings { length ceilings.now ≡ length state.old.dossier.schools }
     requires passes { length chain.now.passes < 2 ^ 32 }
-    ensures found { Finds result (day_fault orders.now.orders ceilings.now day state.old chain.now) }
-    ensures state { OnOk result (state.new ≡ state_after orders.now.orders ceilings.now day 1 state.old chain.now.passes) }
+    ensures found { Finds result
+        (day_fault orders.now.orders ceilings.now day state.old chain.now) }
+    ensures state { OnOk result
+        (state.new ≡ state_after orders.now.orders ceilings.now day 1 state.old chain.now.passes) }
 {
     let passes = chain.passes.as_slice();
     for (place, pass) in passes.iter().enumerate() {

@@ -34,7 +34,8 @@ fn unended(row: u64, rest: &[u8]) -> ChainRefusal
 /// The chain that an `end` line ends, where nothing follows it.
 fn ended(alloc: Global, reading: Reading, row: u64, after: &[u8]) -> Result<Chain, ChainRefusal>
     requires { row + 1 < 2 ^ 64 }
-    ensures { Answers (λ chain. chain) result (chain_with reading (end_at row (parts 10 after.now))) }
+    ensures { Answers (λ chain. chain) result
+        (chain_with reading (end_at row (parts 10 after.now))) }
 {
     if !after.is_empty() {
         return Err(fault_at(row + 1, ChainReason::AfterEnd));

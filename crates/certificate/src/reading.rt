@@ -39,13 +39,21 @@ impl Model for Reading {
 
     ghost Value = { Open };
 
-    ghost view = { λ r. record { days = r.days.items; day = r.day; passes = r.passes.items; pass = r.pass; row = r.row; falls = r.falls.items } };
+    ghost view = { λ r. record {
+      days = r.days.items;
+      day = r.day;
+      passes = r.passes.items;
+      pass = r.pass;
+      row = r.row;
+      falls = r.falls.items;
+    } };
 }
 
 impl Reading {
     /// Nothing read yet.
     pub(crate) fn new(alloc: Global) -> Reading
-        ensures { result ≡ record { days = []; day = 0; passes = []; pass = 0; row = 0; falls = [] } }
+        ensures { result
+            ≡ record { days = []; day = 0; passes = []; pass = 0; row = 0; falls = [] } }
     {
         Reading {
             days: Vec::new(alloc),
@@ -92,7 +100,8 @@ impl Reading {
 
     /// Ends the open pass, if there is one, with the line at a row.
     fn end_pass(&mut self, alloc: Global, row: u64) -> Result<(), OutOfMemory>
-        ensures { OnOk result (self.new ≡ record self.old { passes = passes_until row self.old; falls = [] }) }
+        ensures { OnOk result
+            (self.new ≡ record self.old { passes = passes_until row self.old; falls = [] }) }
     {
         let falls = mem::replace(&mut self.falls, Vec::new(alloc));
         if self.pass > 0 {
@@ -108,7 +117,8 @@ impl Reading {
 
     /// Ends the open pass and day, if there are any, with the line at a row.
     fn end_day(&mut self, alloc: Global, row: u64) -> Result<(), OutOfMemory>
-        ensures { OnOk result (self.new ≡ record self.old { days = days_until row self.old; passes = []; falls = [] }) }
+        ensures { OnOk result (self.new
+            ≡ record self.old { days = days_until row self.old; passes = []; falls = [] }) }
     {
         self.end_pass(alloc, row)?;
         let passes = mem::replace(&mut self.passes, Vec::new(alloc));
@@ -144,27 +154,12 @@ impl Reading {
         Ok(())
     }
 
-    /// The days that have ended.
-    fn into_days(self) -> Vec<DayChain>
-        ensures { result.items ≡ self.days }
-    {
-        let Reading {
-            days,
-            day: _,
-            passes: _,
-            pass: _,
-            row: _,
-            falls: _,
-        } = self;
-        days
-    }
-
     /// The days, which the line at a row ends.
     pub(crate) fn finish(self, alloc: Global, row: u64) -> Result<Vec<DayChain>, OutOfMemory>
         ensures { IfOk result (λ days. days.items ≡ days_until row self) }
     {
         let mut reading = self;
         reading.end_day(alloc, row)?;
-        Ok(reading.into_days())
+        Ok(mem::replace(&mut reading.days, Vec::new(alloc)))
     }
 }

@@ -14,7 +14,8 @@ fn push_pass(
     end: &PassEnd,
 ) -> Result<(), AllocError>
     requires { IsPassOf dossier.now end.now }
-    ensures { OnOk result (string_bytes text.new ≡ string_bytes text.old ++ pass_lines dossier.now (number, end.now)) }
+    ensures { OnOk result (string_bytes text.new
+        ≡ string_bytes text.old ++ pass_lines dossier.now (number, end.now)) }
 {
     writeln!(text, "pass {number}")?;
     push_falls(text, dossier, end.pass.falls.as_slice())?;
@@ -24,7 +25,8 @@ fn push_pass(
 /// Adds the lines of a day's passes, numbered from 1.
 fn push_passes(text: &mut String, dossier: &Dossier, passes: &[PassEnd]) -> Result<(), AllocError>
     requires { All (IsPassOf dossier.now) passes.now }
-    ensures { OnOk result (string_bytes text.new ≡ string_bytes text.old ++ passes_lines dossier.now passes.now) }
+    ensures { OnOk result
+        (string_bytes text.new ≡ string_bytes text.old ++ passes_lines dossier.now passes.now) }
 {
     for (index, pass) in passes.iter().enumerate() {
         push_pass(text, dossier, index + 1, pass)?;
@@ -35,7 +37,8 @@ fn push_passes(text: &mut String, dossier: &Dossier, passes: &[PassEnd]) -> Resu
 /// Adds the lines of a day.
 fn push_day(text: &mut String, dossier: &Dossier, day: &DayRecord) -> Result<(), AllocError>
     requires { IsDayOf dossier.now day.now }
-    ensures { OnOk result (string_bytes text.new ≡ string_bytes text.old ++ day_lines dossier.now day.now) }
+    ensures { OnOk result
+        (string_bytes text.new ≡ string_bytes text.old ++ day_lines dossier.now day.now) }
 {
     let number = day.day;
     writeln!(text, "day {number}")?;

@@ -38,15 +38,21 @@ passes_keep_fair orders s bars stamp valid called plain long fair = closing_fair
 -- nothing passes a test that nothing passes
 pub filtered_none : {X : Type 0} (test : X → Bool) (xs : List X) → All (λ x. test x ≡ false) xs → filter test xs ≡ []
 filtered_none test [] none = refl
-filtered_none test (x ∷ xs) none = rw (All-head (λ y. test y ≡ false) x xs none) (filtered_none test xs (All-tail (λ y. test y ≡ false) x xs none))
+filtered_none test (x ∷ xs) none = rw (All-head (λ y. test y ≡ false) x xs none)
+    (filtered_none test xs (All-tail (λ y. test y ≡ false) x xs none))
 
-placed_none : {X : Type 0} (test : X → Bool) (k : ℕ) (xs : List X) → All (λ x. test x ≡ false) xs → filter (λ (x : ℕ × X). test x.1) (enumerate_from k xs) ≡ []
+placed_none : {X : Type 0} (test : X → Bool) (k : ℕ) (xs : List X) → All (λ x. test x ≡ false) xs
+    → filter (λ (x : ℕ × X). test x.1) (enumerate_from k xs) ≡ []
 placed_none test k [] none = refl
-placed_none test k (x ∷ xs) none = rw (All-head (λ y. test y ≡ false) x xs none) (placed_none test (k + 1) xs (All-tail (λ y. test y ≡ false) x xs none))
+placed_none test k (x ∷ xs) none = rw (All-head (λ y. test y ≡ false) x xs none)
+    (placed_none test (k + 1) xs (All-tail (λ y. test y ≡ false) x xs none))
 
 -- where nobody behind a candidate is live, they envy nobody
-nobody_envied : (s : State) (orders : List CallOrder) (w : Wish) → All (λ c. holds_seat s c w.programme ≡ false) (behind s orders w) → has_envy s orders w ≡ false
-nobody_envied s orders w none = ap (λ (cs : List ℕ). is_some (last_of cs)) (filtered_none (λ c. holds_seat s c w.programme) (behind s orders w) none)
+nobody_envied : (s : State) (orders : List CallOrder) (w : Wish)
+    → All (λ c. holds_seat s c w.programme ≡ false) (behind s orders w)
+    → has_envy s orders w ≡ false
+nobody_envied s orders w none = ap (λ (cs : List ℕ). is_some (last_of cs))
+    (filtered_none (λ c. holds_seat s c w.programme) (behind s orders w) none)
 
 -- of a status that neither waits nor was given up nothing is missed
 kept_in_person : (st : Status) → is_waiting_status st ≡ false → is_given_up st ≡ false → is_missed st ≡ false
@@ -76,13 +82,16 @@ and_second : (a b : Bool) → b ≡ false → (a && b) ≡ false
 and_second true b is = is
 and_second false b is = refl
 
-module _ (orders : List CallOrder) (s : State) (bars : List ℕ) (plain : IsRankedPlainly s.dossier) (fair : IsFair orders s) (filled : All (IsFilled s bars) (entries s)) where
+module _ (orders : List CallOrder) (s : State) (bars : List ℕ) (plain : IsRankedPlainly s.dossier)
+    (fair : IsFair orders s) (filled : All (IsFilled s bars) (entries s)) where
   -- a waiting wish finds its programme full
-  no_seat : (w : Wish) (m : Mark) → w.school ≡ None → is_waiting m ≡ true → IsFilled s bars (w, m) → nat_lt 0 (seats_left s w.programme) ≡ false
+  no_seat : (w : Wish) (m : Mark) → w.school ≡ None → is_waiting m ≡ true → IsFilled s bars (w, m)
+      → nat_lt 0 (seats_left s w.programme) ≡ false
   no_seat w m none waits full =
       false_from_ne_true (nat_lt 0 (seats_left s w.programme)) (λ left.
       let barred : is_barred s bars w m ≡ true = full waits (ltb-true 0 (seats_left s w.programme) left) in
-      let behind_none : (is_waiting m && is_behind_bar s bars w None) ≡ true = ap (λ (h : Option ℕ). is_waiting m && is_behind_bar s bars w h) (sym none) ∙ barred in
+      let behind_none : (is_waiting m && is_behind_bar s bars w None) ≡ true =
+      ap (λ (h : Option ℕ). is_waiting m && is_behind_bar s bars w h) (sym none) ∙ barred in
       false≢true (and_parts (is_waiting m) false behind_none).1)
 
   blocks_not : (k : ℕ) (x : Wish × Mark) → k < length (entries s) → get_or (entries s) k x ≡ x → is_blocking s orders x.0 x.1 ≡ false
@@ -101,11 +110,16 @@ module _ (orders : List CallOrder) (s : State) (bars : List ℕ) (plain : IsRank
         | inr waits_not ↦ elim (cases_Bool (is_given_up m.status)) [
           | inl given ↦
               let better : HoldsBetter s x = subst (HoldsBetter s) at (fair.better k x lt) in
-              and_first (wants_more s w m) rest (none_last (lacks_school w.school && nat_lt 0 w.preference && is_missed m.status && not (holds_seat s w.candidate w.programme)) (has_better s w) (better given))
+              and_first (wants_more s w m) rest
+              (none_last (lacks_school w.school && nat_lt 0 w.preference && is_missed m.status
+              && not (holds_seat s w.candidate w.programme)) (has_better s w) (better given))
           | inr given_not ↦
               and_first (wants_more s w m) rest
-              (and_first (lacks_school w.school && nat_lt 0 w.preference && is_missed m.status && not (holds_seat s w.candidate w.programme)) (not (has_better s w))
-              (none_of (lacks_school w.school) (nat_lt 0 w.preference) (is_missed m.status) (not (holds_seat s w.candidate w.programme)) (kept_in_person m.status waits_not given_not)))
+              (and_first (lacks_school w.school && nat_lt 0 w.preference && is_missed m.status
+              && not (holds_seat s w.candidate w.programme)) (not (has_better s w))
+              (none_of (lacks_school w.school) (nat_lt 0 w.preference) (is_missed m.status)
+              (not (holds_seat s w.candidate w.programme))
+              (kept_in_person m.status waits_not given_not)))
         ]
       ]
 
@@ -121,25 +135,36 @@ record IsAfter (orders : List CallOrder) (opening evening : State) : Type 0 wher
   dossier : evening.dossier ≡ opening.dossier
   long : length evening.marks ≡ length opening.dossier.wishes
 
-closing_long : (s : State) (orders : List CallOrder) (bars : List ℕ) (stamp : Stamp) → length s.marks ≡ length s.dossier.wishes → length (closing s orders bars stamp).marks ≡ length s.dossier.wishes
+closing_long : (s : State) (orders : List CallOrder) (bars : List ℕ) (stamp : Stamp)
+    → length s.marks ≡ length s.dossier.wishes
+    → length (closing s orders bars stamp).marks ≡ length s.dossier.wishes
 closing_long s orders bars stamp long =
     let offers = length-with_marks (offer s orders bars stamp) s long in
     length-with_marks (answer s orders bars stamp) (after_offers s orders bars stamp) (offers ∙ long) ∙ offers ∙ long
 
 -- the passes of a day
-fair_after : (orders : List CallOrder) (ceilings : List ℕ) (day k : ℕ) (opening : State) (passes : List PassEnd) (evening : State) → IsValid opening.dossier → AreCallOrders opening.dossier.groups orders
-    → IsRankedPlainly opening.dossier → length opening.marks ≡ length opening.dossier.wishes → IsFair orders opening → Passes orders ceilings day k opening passes evening → IsAfter orders opening evening
+fair_after : (orders : List CallOrder) (ceilings : List ℕ) (day k : ℕ) (opening : State)
+    (passes : List PassEnd) (evening : State) → IsValid opening.dossier
+    → AreCallOrders opening.dossier.groups orders
+    → IsRankedPlainly opening.dossier → length opening.marks ≡ length opening.dossier.wishes
+    → IsFair orders opening → Passes orders ceilings day k opening passes evening
+    → IsAfter orders opening evening
 fair_after orders ceilings day k s [] evening valid called plain long fair passes = absurd passes
 fair_after orders ceilings day k s (pass ∷ []) evening valid called plain long fair passes =
     let stamp : Stamp = record { day = day; pass = k } in
     let night = closing s orders pass.pass.bars stamp in
     let at_night : IsAfter orders s night =
-    record { fair = closing_fair orders s pass.pass.bars stamp valid called plain fair; dossier = refl; long = closing_long s orders pass.pass.bars stamp long } in
+    record {
+      fair = closing_fair orders s pass.pass.bars stamp valid called plain fair;
+      dossier = refl;
+      long = closing_long s orders pass.pass.bars stamp long;
+    } in
     subst (IsAfter orders s) (sym passes.2) at_night
 fair_after orders ceilings day k s (pass ∷ next ∷ rest) evening valid called plain long fair passes =
     let stamp : Stamp = record { day = day; pass = k } in
     let later =
-    fair_after orders ceilings day (k + 1) (closing s orders pass.pass.bars stamp) (next ∷ rest) evening valid called plain (closing_long s orders pass.pass.bars stamp long)
+    fair_after orders ceilings day (k + 1) (closing s orders pass.pass.bars stamp)
+    (next ∷ rest) evening valid called plain (closing_long s orders pass.pass.bars stamp long)
     (closing_fair orders s pass.pass.bars stamp valid called plain fair) passes.2 in
     record { fair = later.fair; dossier = later.dossier; long = later.long }
 
@@ -148,7 +173,9 @@ days_end_fair orders ceilings day k opening passes evening valid called plain lo
     let after = fair_after orders ceilings day k opening passes evening valid called plain long fair are in
     record {
       fair = after.fair;
-      none_blocks = none_blocks orders evening (last_bars passes) (subst IsRankedPlainly (sym after.dossier) plain) after.fair (seats_are_filled orders ceilings day k opening passes evening valid called are);
+      none_blocks = none_blocks orders evening (last_bars passes)
+          (subst IsRankedPlainly (sym after.dossier) plain) after.fair
+          (seats_are_filled orders ceilings day k opening passes evening valid called are);
     }
 
 -- a wish that waits has the one status of those that wait
@@ -164,7 +191,8 @@ waits_is AutoWithdrawn waits = absurd (cc)
 waits_is Lapsed waits = absurd (cc)
 
 -- the mark of an entry
-entry_mark : (s : State) (k : ℕ) (x : Wish × Mark) → k < length (entries s) → get_or (entries s) k x ≡ x → (k < length s.marks) × (x.1 ≡ get_or s.marks k x.1)
+entry_mark : (s : State) (k : ℕ) (x : Wish × Mark) → k < length (entries s)
+    → get_or (entries s) k x ≡ x → (k < length s.marks) × (x.1 ≡ get_or s.marks k x.1)
 entry_mark s k x lt at =
     let ws = s.dossier.wishes in
     let ms = s.marks in
@@ -182,17 +210,21 @@ module _ (orders : List CallOrder) (s : State) (waiting : All (λ m. is_waiting 
   nobody_live : (c p : ℕ) → holds_seat s c p ≡ false
   nobody_live c p =
       false_from_ne_true (holds_seat s c p) (λ held.
-      let (j, e, lt, at, lives) = Any-from_list_any (λ (e : Wish × Mark). is_live e.1 && nat_eq e.0.candidate c && nat_eq e.0.programme p) (entries s) held in
+      let (j, e, lt, at, lives) = Any-from_list_any (λ (e : Wish × Mark). is_live e.1
+      && nat_eq e.0.candidate c && nat_eq e.0.programme p) (entries s) held in
       let outer = and_parts (is_live e.1 && nat_eq e.0.candidate c) (nat_eq e.0.programme p) lives in
-      false≢true (sym (ap is_live_status (waits_is e.1.status (waits_at j e lt at))) ∙ (and_parts (is_live e.1) (nat_eq e.0.candidate c) outer.0).0))
+      false≢true (sym (ap is_live_status (waits_is e.1.status (waits_at j e lt at)))
+      ∙ (and_parts (is_live e.1) (nat_eq e.0.candidate c) outer.0).0))
 
-  at_entry : (P : Wish × Mark → Type 0) → ((k : ℕ) (x : Wish × Mark) → k < length (entries s) → get_or (entries s) k x ≡ x → P x) → All P (entries s)
+  at_entry : (P : Wish × Mark → Type 0) → ((k : ℕ) (x : Wish × Mark) → k < length (entries s)
+      → get_or (entries s) k x ≡ x → P x) → All P (entries s)
   at_entry P holds_at k d lt = holds_at k (get_or (entries s) k d) lt (get_or_default (entries s) k (get_or (entries s) k d) d lt)
 
   pub waiting_fair : IsFair orders s
   waiting_fair = record {
     behind = at_entry (NobodyBehind orders s) (λ k x lt at waits j d j_lt. nobody_live (get_or (behind s orders x.0) j d) x.0.programme);
-    better = at_entry (HoldsBetter s) (λ k x lt at given. absurd (false≢true (sym (ap is_given_up (waits_is x.1.status (waits_at k x lt at))) ∙ given)));
+    better = at_entry (HoldsBetter s) (λ k x lt at given. absurd
+        (false≢true (sym (ap is_given_up (waits_is x.1.status (waits_at k x lt at))) ∙ given)));
     settled = λ k d lt. ap is_offered (waits_is (get_or s.marks k d).status (waiting k d lt));
   }
 
@@ -201,7 +233,8 @@ waiting_is_fair orders s waiting = waiting_fair orders s waiting
 
 -- where no wish is merely offered, nothing lapses
 kept_marks : (term day : ℕ) (bs : List ℤ) (ms : List Mark) → length bs ≡ length ms → All (λ m. is_offered m.status ≡ false) ms
-    → map (λ (x : ℤ × Mark). if lapses term day x.0 x.1 then changed_to Lapsed (record { day = day; pass = 0 }) x.1 else x.1) (zip bs ms) ≡ ms
+    → map (λ (x : ℤ × Mark). if lapses term day x.0 x.1
+    then changed_to Lapsed (record { day = day; pass = 0 }) x.1 else x.1) (zip bs ms) ≡ ms
 kept_marks term day [] [] long none = refl
 kept_marks term day [] (m ∷ ms) long none = absurd (omega (arith, long))
 kept_marks term day (b ∷ bs) [] long none = absurd (omega (arith, long))
@@ -210,44 +243,62 @@ kept_marks term day (b ∷ bs) (m ∷ ms) long none =
     (ap (λ l. m ∷ l) (kept_marks term day bs ms (omega (arith, long)) (All-tail (λ n. is_offered n.status ≡ false) m ms none)))
 
 -- so a day on which nobody answers begins with the evening before
-lapsed_none : (terms : Option Terms) (day : ℕ) (s : State) → AreTermsFor s.dossier terms → length s.marks ≡ length s.dossier.wishes → All IsSettled s.marks → after_lapse terms day s ≡ s
+lapsed_none : (terms : Option Terms) (day : ℕ) (s : State) → AreTermsFor s.dossier terms
+    → length s.marks ≡ length s.dossier.wishes → All IsSettled s.marks → after_lapse terms day s ≡ s
 lapsed_none None day s fit long settled = refl
 lapsed_none (Some terms) day s fit long settled =
     ap (λ (ms : List Mark). record s { marks = ms }) (kept_marks terms.term day terms.before s.marks (fit ∙ sym long) settled)
 
-quiet_morning : (terms : Option Terms) (day : ℕ) (s : State) → AreTermsFor s.dossier terms → length s.marks ≡ length s.dossier.wishes → All IsSettled s.marks → answers_of s.dossier day ≡ []
+quiet_morning : (terms : Option Terms) (day : ℕ) (s : State) → AreTermsFor s.dossier terms
+    → length s.marks ≡ length s.dossier.wishes → All IsSettled s.marks
+    → answers_of s.dossier day ≡ []
     → morning terms day s ≡ s
 quiet_morning terms day s fit long settled quiet =
-    ap (λ (answers : List Answer). after_all (after_lapse terms day s) (record { day = day; pass = 0 }) answers) quiet ∙ lapsed_none terms day s fit long settled
+    ap (λ (answers : List Answer). after_all (after_lapse terms day s)
+    (record { day = day; pass = 0 }) answers) quiet ∙ lapsed_none terms day s fit long settled
 
-quiet_passes : (terms : Option Terms) (orders : List CallOrder) (ceilings : List ℕ) (old : State) (day : DayRecord) (evening : State) → AreTermsFor old.dossier terms → length old.marks ≡ length old.dossier.wishes
-    → answers_of old.dossier day.day ≡ [] → IsFair orders old → IsDay terms orders ceilings old day evening → Passes orders ceilings day.day 1 old day.passes evening
+quiet_passes : (terms : Option Terms) (orders : List CallOrder) (ceilings : List ℕ) (old : State)
+    (day : DayRecord) (evening : State) → AreTermsFor old.dossier terms
+    → length old.marks ≡ length old.dossier.wishes
+    → answers_of old.dossier day.day ≡ [] → IsFair orders old
+    → IsDay terms orders ceilings old day evening
+    → Passes orders ceilings day.day 1 old day.passes evening
 quiet_passes terms orders ceilings old day evening fit long quiet fair is =
-    subst (λ (o : State). Passes orders ceilings day.day 1 o day.passes evening) (quiet_morning terms day.day old fit long fair.settled quiet) is.passes
+    subst (λ (o : State). Passes orders ceilings day.day 1 o day.passes evening)
+    (quiet_morning terms day.day old fit long fair.settled quiet) is.passes
 
 pub quiet_days_end_fair : QuietDaysEndFair
 quiet_days_end_fair terms orders ceilings old day evening valid called fit plain long quiet fair is =
-    days_end_fair orders ceilings day.day 1 old day.passes evening valid called plain long fair (quiet_passes terms orders ceilings old day evening fit long quiet fair is)
+    days_end_fair orders ceilings day.day 1 old day.passes evening valid called plain long fair
+    (quiet_passes terms orders ceilings old day evening fit long quiet fair is)
 
 -- so do several days
-several : (terms : Option Terms) (orders : List CallOrder) (k : ℕ) (old : State) (days : List DayRecord) (evening : State) → IsValid old.dossier → AreCallOrders old.dossier.groups orders
+several : (terms : Option Terms) (orders : List CallOrder) (k : ℕ) (old : State) (days : List
+    DayRecord) (evening : State) → IsValid old.dossier → AreCallOrders old.dossier.groups orders
     → AreTermsFor old.dossier terms → IsRankedPlainly old.dossier → length old.marks ≡ length old.dossier.wishes → 0 < length days
-    → ((d : ℕ) → d < k + length days → answers_of old.dossier d ≡ []) → IsFair orders old → Days terms orders k old days evening → IsFairEvening orders evening
+    → ((d : ℕ) → d < k + length days → answers_of old.dossier d ≡ []) → IsFair orders old
+    → Days terms orders k old days evening → IsFairEvening orders evening
 several terms orders k old [] evening valid called fit plain long some quiet fair are = absurd (omega (arith, some))
 several terms orders k old (day ∷ []) evening valid called fit plain long some quiet fair are =
     let today : answers_of old.dossier day.day ≡ [] = quiet day.day (omega (arith, are.1)) in
-    subst (IsFairEvening orders) are.3 (quiet_days_end_fair terms orders (ceilings_of old.dossier k) old day are.0 valid called fit plain long today fair are.2)
+    subst (IsFairEvening orders) are.3 (quiet_days_end_fair terms orders
+    (ceilings_of old.dossier k) old day are.0 valid called fit plain long today fair are.2)
 several terms orders k old (day ∷ next ∷ rest) evening valid called fit plain long some quiet fair are =
     let today : answers_of old.dossier day.day ≡ [] = quiet day.day (omega (arith, are.1)) in
     let mid = are.0 in
-    let after = fair_after orders (ceilings_of old.dossier k) day.day 1 old day.passes mid valid called plain long fair (quiet_passes terms orders (ceilings_of old.dossier k) old day mid fit long today fair are.2) in
+    let after = fair_after orders (ceilings_of old.dossier k) day.day 1 old day.passes mid valid
+    called plain long fair (quiet_passes terms orders
+    (ceilings_of old.dossier k) old day mid fit long today fair are.2) in
     let same = sym after.dossier in
-    several terms orders (k + 1) mid (next ∷ rest) evening (subst IsValid same valid) (subst (λ (d : DossierRows). AreCallOrders d.groups orders) same called)
-    (subst (λ (d : DossierRows). AreTermsFor d terms) same fit) (subst IsRankedPlainly same plain) (after.long ∙ ap (λ (d : DossierRows). length d.wishes) same) (omega arith)
+    several terms orders (k + 1) mid (next ∷ rest) evening (subst IsValid same valid)
+    (subst (λ (d : DossierRows). AreCallOrders d.groups orders) same called)
+    (subst (λ (d : DossierRows). AreTermsFor d terms) same fit) (subst IsRankedPlainly same plain)
+    (after.long ∙ ap (λ (d : DossierRows). length d.wishes) same) (omega arith)
     (λ d lt. subst (λ (e : DossierRows). answers_of e d ≡ []) same (quiet d (omega (arith, lt)))) after.fair are.3
 
 -- the evening that a dossier comes in with, where all of its wishes wait
-module _ (d : DossierRows) (valid : IsValid d) (orders : List CallOrder) (waiting : All (λ st. is_waiting_status st ≡ true) d.statuses) where
+module _ (d : DossierRows) (valid : IsValid d) (orders : List CallOrder)
+    (waiting : All (λ st. is_waiting_status st ≡ true) d.statuses) where
   first_fair : IsFair orders (first_evening d)
   first_fair = waiting_fair orders (first_evening d) (All-map (λ (m : Mark). is_waiting m ≡ true) first_mark d.statuses waiting)
 
@@ -258,12 +309,14 @@ pub first_evening_blocks_none : FirstEveningsBlockNone
 first_evening_blocks_none orders evening valid called is =
     let d = evening.dossier in
     let automatic = is.automatic in
-    (quiet_days_end_fair is.terms orders is.ceilings (first_evening d) is.day evening valid called automatic.terms_fit automatic.plain (first_long d valid orders automatic.waiting)
+    (quiet_days_end_fair is.terms orders is.ceilings (first_evening d) is.day evening valid called
+    automatic.terms_fit automatic.plain (first_long d valid orders automatic.waiting)
     (ap (answers_of d) is.first ∙ is.quiet) (first_fair d valid orders automatic.waiting) is.is_day).none_blocks
 
 pub later_evening_blocks_none : LaterEveningsBlockNone
 later_evening_blocks_none orders evening valid called is =
     let d = evening.dossier in
     let automatic = is.automatic in
-    (several is.terms orders 1 (first_evening d) is.days evening valid called automatic.terms_fit automatic.plain (first_long d valid orders automatic.waiting) is.some
+    (several is.terms orders 1 (first_evening d) is.days evening valid called automatic.terms_fit
+    automatic.plain (first_long d valid orders automatic.waiting) is.some
     (λ day lt. is.quiet day (omega (arith, lt))) (first_fair d valid orders automatic.waiting) is.are_days).none_blocks

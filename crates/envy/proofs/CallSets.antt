@@ -35,11 +35,13 @@ not_yet xs i d apart lt =
     eq-eqb (get_or xs j x) (get_or xs i x) (there ∙ sym (eqb-true c x same) ∙ get_or_default xs i d x lt) in
     false≢true (sym (apart_from_distinct nat_eq xs j i x apart before lt) ∙ turned))
 
-pub set_more : (xs ks : List ℕ) (i d : ℕ) → IsDistinct nat_eq xs → i < length xs → ks ≡ take i xs → insert_key nat_eq ks (get_or xs i d) ≡ take (i + 1) xs
+pub set_more : (xs ks : List ℕ) (i d : ℕ) → IsDistinct nat_eq xs → i < length xs → ks ≡ take i xs
+    → insert_key nat_eq ks (get_or xs i d) ≡ take (i + 1) xs
 set_more xs ks i d apart lt is = rw (is, not_yet xs i d apart lt) (sym (take_more xs i d lt))
 
 -- nobody stands twice in a call order
-pub each_once : (gs : List RankGroup) (os : List CallOrder) → All IsValidGroup gs → AreCallOrders gs os → All (λ (o : CallOrder). IsDistinct nat_eq o.list) os
+pub each_once : (gs : List RankGroup) (os : List CallOrder) → All IsValidGroup gs
+    → AreCallOrders gs os → All (λ (o : CallOrder). IsDistinct nat_eq o.list) os
 each_once [] [] valid calls = All-nil (λ (o : CallOrder). IsDistinct nat_eq o.list)
 each_once [] (o ∷ os) valid calls = absurd calls
 each_once (g ∷ gs) [] valid calls = absurd calls
@@ -48,16 +50,27 @@ each_once (g ∷ gs) (o ∷ os) valid calls =
     (distinct-order g o (All-head IsValidGroup g gs valid).ranking calls.0) (each_once gs os (All-tail IsValidGroup g gs valid) calls.1)
 
 -- the call order at a place
-list_at : (os : List CallOrder) (g : ℕ) → unwrap_or (option_map (λ (o : CallOrder). o.list) (slice_get os g)) [] ≡ get_or (map (λ (o : CallOrder). o.list) os) g []
+list_at : (os : List CallOrder) (g : ℕ)
+    → unwrap_or (option_map (λ (o : CallOrder). o.list) (slice_get os g)) []
+    ≡ get_or (map (λ (o : CallOrder). o.list) os) g []
 list_at [] g = refl
 list_at (o ∷ os) zero = refl
 list_at (o ∷ os) (suc g) = list_at os g
 
 -- the candidates kept at a place are those of the call order
-pub keys_at : {S : Type 0} (sets : List (IndexSet ℕ S)) (os : List CallOrder) (g : ℕ) (set : IndexSet ℕ S) → map (λ (x : IndexSet ℕ S). x.keys) sets ≡ map (λ (o : CallOrder). o.list) os
+pub keys_at : {S : Type 0} (sets : List (IndexSet ℕ S)) (os : List CallOrder) (g : ℕ)
+    (set : IndexSet ℕ S)
+    → map (λ (x : IndexSet ℕ S). x.keys) sets ≡ map (λ (o : CallOrder). o.list) os
     → g < length os → set ≡ get_or sets g set → set.keys ≡ unwrap_or (option_map (λ (o : CallOrder). o.list) (slice_get os g)) []
 keys_at {S} sets os g set same lt is =
     let keys = λ (x : IndexSet ℕ S). x.keys in
     let lists = λ (o : CallOrder). o.list in
-    let within : g < length sets = omega (arith, lt, length-map sets keys, ap (λ (ls : List (List ℕ)). length ls) same, length-map os lists) in
+    let within : g < length sets =
+    omega (
+      arith,
+      lt,
+      length-map sets keys,
+      ap (λ (ls : List (List ℕ)). length ls) same,
+      length-map os lists,
+    ) in
     ap keys is ∙ sym (get_or-map keys sets g set [] within) ∙ ap (λ (ls : List (List ℕ)). get_or ls g []) same ∙ sym (list_at os g)

@@ -25,19 +25,23 @@ pub entry_at : (s : State) (k : ℕ) → length s.marks ≡ length s.dossier.wis
 entry_at s k long lt =
     let ws = s.dossier.wishes in
     let ms = s.marks in
-    get_or-zip ws ms k no_entry lt (omega (arith, long, lt)) ∙ rw (unwrap_or-slice_get ws k (wish_in [] 0), unwrap_or-slice_get ms k (mark_in [] 0)) refl
+    get_or-zip ws ms k no_entry lt (omega (arith, long, lt))
+    ∙ rw (unwrap_or-slice_get ws k (wish_in [] 0), unwrap_or-slice_get ms k (mark_in [] 0)) refl
 
 entries_long : (s : State) → length s.marks ≡ length s.dossier.wishes → length (entries s) ≡ length s.dossier.wishes
 entries_long s long = omega (arith, long, length-zip s.dossier.wishes s.marks)
 
 module _ (s : State) (long : length s.marks ≡ length s.dossier.wishes) (k : ℕ) (lt : k < length s.dossier.wishes) where
-  any_more : (p : Wish × Mark → Bool) → list_any p (take (k + 1) (entries s)) ≡ (list_any p (take k (entries s)) || p (wish_in s.dossier.wishes k, mark_in s.marks k))
+  any_more : (p : Wish × Mark → Bool)
+      → list_any p (take (k + 1) (entries s))
+      ≡ (list_any p (take k (entries s)) || p (wish_in s.dossier.wishes k, mark_in s.marks k))
   any_more p =
       list_any_more p (entries s) k no_entry (omega (arith, lt, entries_long s long))
       ∙ ap (λ e. list_any p (take k (entries s)) || p e) (entry_at s k long lt)
 
   -- one more wish in the best ones
-  pub best_more : (w : Wish) (m : Mark) (old new : ℕ → Option ℕ) → w ≡ wish_in s.dossier.wishes k → m ≡ mark_in s.marks k → AreBest (take k (entries s)) old
+  pub best_more : (w : Wish) (m : Mark) (old new : ℕ → Option ℕ) → w ≡ wish_in s.dossier.wishes k
+      → m ≡ mark_in s.marks k → AreBest (take k (entries s)) old
       → ((c q : ℕ) → is_below (new c) q ≡ (is_below (old c) q || is_better c q (w, m)))
       → AreBest (take (k + 1) (entries s)) new
   best_more w m old new w_is m_is are noted c q =
@@ -48,7 +52,8 @@ module _ (s : State) (long : length s.marks ≡ length s.dossier.wishes) (k : �
       ∙ sym (any_more (is_better c q))
 
   -- and in the last ones
-  pub last_more : (orders : List CallOrder) (w : Wish) (m : Mark) (place : ℕ) (old new : List (Option ℕ)) → w ≡ wish_in s.dossier.wishes k → m ≡ mark_in s.marks k
+  pub last_more : (orders : List CallOrder) (w : Wish) (m : Mark) (place : ℕ)
+      (old new : List (Option ℕ)) → w ≡ wish_in s.dossier.wishes k → m ≡ mark_in s.marks k
       → place ≡ place_of s.dossier orders (wish_in s.dossier.wishes k) → length new ≡ length old
       → AreLast s.dossier orders (take k (entries s)) old
       → ((p j : ℕ) → reaches (number_in new p) j ≡ (reaches (number_in old p) j || ((is_live m && nat_eq w.programme p) && nat_le j place)))
@@ -68,14 +73,18 @@ module _ (s : State) (long : length s.marks ≡ length s.dossier.wishes) (k : �
       }
 
 -- what is known of all entries
-pub best_all : (s : State) (k : ℕ) (best : ℕ → Option ℕ) → length s.marks ≡ length s.dossier.wishes → length s.dossier.wishes ≤ k → AreBest (take k (entries s)) best → AreBest (entries s) best
-best_all s k best long le are c q = are c q ∙ ap (list_any (is_better c q)) (take_all k (entries s) (omega (arith, le, entries_long s long)))
+pub best_all : (s : State) (k : ℕ) (best : ℕ → Option ℕ) → length s.marks ≡ length s.dossier.wishes
+    → length s.dossier.wishes ≤ k → AreBest (take k (entries s)) best → AreBest (entries s) best
+best_all s k best long le are c q = are c q ∙ ap (list_any (is_better c q))
+    (take_all k (entries s) (omega (arith, le, entries_long s long)))
 
-pub last_all : (s : State) (orders : List CallOrder) (k : ℕ) (lasts : List (Option ℕ)) → length s.marks ≡ length s.dossier.wishes → length s.dossier.wishes ≤ k
+pub last_all : (s : State) (orders : List CallOrder) (k : ℕ) (lasts : List (Option ℕ))
+    → length s.marks ≡ length s.dossier.wishes → length s.dossier.wishes ≤ k
     → AreLast s.dossier orders (take k (entries s)) lasts → AreLast s.dossier orders (entries s) lasts
 last_all s orders k lasts long le are = record {
   as_long = are.as_long;
-  each = λ p j lt. are.each p j lt ∙ ap (list_any (is_live_from s.dossier orders p j)) (take_all k (entries s) (omega (arith, le, entries_long s long)));
+  each = λ p j lt. are.each p j lt ∙ ap (list_any (is_live_from s.dossier orders p j))
+      (take_all k (entries s) (omega (arith, le, entries_long s long)));
 }
 
 -- the number at a place
@@ -83,14 +92,17 @@ pub number_at : (ns : List (Option ℕ)) (k : ℕ) (n : Option ℕ) → k < leng
 number_at ns k n lt is = is ∙ get_or_default ns k n None lt ∙ sym (unwrap_or-slice_get ns k None)
 
 -- a number at a place that is set
-number_set : (ns : List (Option ℕ)) (k p : ℕ) (n : Option ℕ) → k < length ns → number_in (set ns k n) p ≡ (if nat_eq k p then n else number_in ns p)
+number_set : (ns : List (Option ℕ)) (k p : ℕ) (n : Option ℕ) → k < length ns
+    → number_in (set ns k n) p ≡ (if nat_eq k p then n else number_in ns p)
 number_set ns k p n lt =
     elim (cases_Bool (nat_eq k p)) [
       | inl here ↦
           let same : k ≡ p = eqb-true k p here in
-          rw here (unwrap_or-slice_get (set ns k n) p None ∙ ap (λ j. get_or (set ns k n) j None) (sym same) ∙ get_or-set_same ns k n None lt)
+          rw here (unwrap_or-slice_get (set ns k n) p None
+          ∙ ap (λ j. get_or (set ns k n) j None) (sym same) ∙ get_or-set_same ns k n None lt)
       | inr other ↦
-          rw other (unwrap_or-slice_get (set ns k n) p None ∙ get_or-set_other ns k p n None (λ e. eqb-false k p other (sym e)) ∙ sym (unwrap_or-slice_get ns p None))
+          rw other (unwrap_or-slice_get (set ns k n) p None ∙ get_or-set_other ns k p n None
+          (λ e. eqb-false k p other (sym e)) ∙ sym (unwrap_or-slice_get ns p None))
     ]
 
 -- the last place of a programme is noted
@@ -110,7 +122,8 @@ last_noted ns q live place later lt lives is p j =
     or_none false = refl
 
 -- the place noted of a wish
-pub place_at : (d : DossierRows) (orders : List CallOrder) (places : List ℕ) (k : ℕ) → places ≡ map (place_of d orders) d.wishes → k < length d.wishes
+pub place_at : (d : DossierRows) (orders : List CallOrder) (places : List ℕ) (k : ℕ)
+    → places ≡ map (place_of d orders) d.wishes → k < length d.wishes
     → get_or places k 0 ≡ place_of d orders (wish_in d.wishes k)
 place_at d orders places k are lt =
     ap (λ (ps : List ℕ). get_or ps k 0) are ∙ get_or-map (place_of d orders) d.wishes k (wish_in [] 0) 0 lt

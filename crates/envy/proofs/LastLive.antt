@@ -30,7 +30,11 @@ pub last_passes : (test : ℕ → Bool) (xs : List ℕ) (r : ℕ) → r < length
     → ((k : ℕ) → r < k → k < length xs → test (get_or xs k 0) ≡ false) → last_of (filter test xs) ≡ Some (get_or xs r 0)
 last_passes test [] r lt passes rest = absurd (omega arith)
 last_passes test (x ∷ xs) zero lt passes rest =
-    rw (passes, filtered_none test xs (λ k d k_lt. ap test (get_or_default xs k d 0 k_lt) ∙ rest (suc k) (omega arith) (omega (arith, k_lt)))) refl
+    rw (
+      passes,
+      filtered_none test xs (λ k d k_lt. ap test (get_or_default xs k d 0 k_lt)
+          ∙ rest (suc k) (omega arith) (omega (arith, k_lt))),
+    ) refl
 last_passes test (x ∷ xs) (suc r) lt passes rest =
     let later = last_passes test xs r (omega arith) passes (λ k after k_lt. rest (suc k) (omega arith) (omega arith)) in
     elim (cases_Bool (test x)) [
@@ -39,10 +43,13 @@ last_passes test (x ∷ xs) (suc r) lt passes rest =
     ]
 
 -- as many stand before the wish's candidate as their place says
-pub behind_is : (s : State) (orders : List CallOrder) (w : Wish) → behind s orders w ≡ drop (place_of s.dossier orders w + 1) (order_of s.dossier orders w.programme)
+pub behind_is : (s : State) (orders : List CallOrder) (w : Wish)
+    → behind s orders w ≡ drop (place_of s.dossier orders w + 1)
+    (order_of s.dossier orders w.programme)
 behind_is s orders w =
     let order = order_of s.dossier orders w.programme in
-    ap (λ n. drop (n + 1) order) (length-take-le (place_of s.dossier orders w) order (prefix_len-le-length (λ x. not (nat_eq w.candidate x)) order))
+    ap (λ n. drop (n + 1) order) (length-take-le (place_of s.dossier orders w) order
+    (prefix_len-le-length (λ x. not (nat_eq w.candidate x)) order))
 
 three : (a b c : Bool) → a ≡ true → b ≡ true → c ≡ true → ((a && b) && c) ≡ true
 three a b c x y z = rw (x, y, z) refl
@@ -60,7 +67,9 @@ module _ (s : State) (orders : List CallOrder) (p : ℕ) (last : Option ℕ) (ap
   reached : (k : ℕ) → k < length order → live (get_or order k 0) ≡ true → reaches last k ≡ true
   reached k lt held =
       let c = get_or order k 0 in
-      let (j, e, j_lt, at, lives) = Any-from_list_any (λ (x : Wish × Mark). (is_live x.1 && nat_eq x.0.candidate c) && nat_eq x.0.programme p) (entries s) held in
+      let (j, e, j_lt, at, lives) =
+      Any-from_list_any (λ (x : Wish × Mark). (is_live x.1 && nat_eq x.0.candidate c)
+      && nat_eq x.0.programme p) (entries s) held in
       let outer = and_parts (is_live e.1 && nat_eq e.0.candidate c) (nat_eq e.0.programme p) lives in
       let inner = and_parts (is_live e.1) (nat_eq e.0.candidate c) outer.0 in
       let place : place_of s.dossier orders e.0 ≡ k =
@@ -68,7 +77,8 @@ module _ (s : State) (orders : List CallOrder) (p : ℕ) (last : Option ℕ) (ap
       ∙ ap (λ x. position_or_len (nat_eq x) order) (eqb-true e.0.candidate c inner.1)
       ∙ first_there order apart k lt in
       let passes : is_live_from s.dossier orders p k e ≡ true =
-      three (is_live e.1) (nat_eq e.0.programme p) (nat_le k (place_of s.dossier orders e.0)) inner.0 outer.1 (le-leb k (place_of s.dossier orders e.0) (omega (arith, place))) in
+      three (is_live e.1) (nat_eq e.0.programme p) (nat_le k (place_of s.dossier orders e.0))
+      inner.0 outer.1 (le-leb k (place_of s.dossier orders e.0) (omega (arith, place))) in
       known k ∙ list_any_at (is_live_from s.dossier orders p k) (entries s) j e j_lt (ap (is_live_from s.dossier orders p k) at ∙ passes)
 
   -- so nobody is live from a place on that it does not reach
@@ -77,7 +87,8 @@ module _ (s : State) (orders : List CallOrder) (p : ℕ) (last : Option ℕ) (ap
       let within : n + j < length order = omega (arith, lt, length-drop n order) in
       let there : get_or (drop n order) j d ≡ get_or order (n + j) 0 = get_or-drop n order j d ∙ get_or_default order (n + j) d 0 within in
       ap live there
-      ∙ false_from_ne_true (live (get_or order (n + j) 0)) (λ held. false≢true (sym (past (n + j) (omega arith)) ∙ reached (n + j) within held))
+      ∙ false_from_ne_true (live (get_or order (n + j) 0))
+      (λ held. false≢true (sym (past (n + j) (omega arith)) ∙ reached (n + j) within held))
 
   none_from : (n : ℕ) → ((k : ℕ) → n ≤ k → reaches last k ≡ false) → last_of (filter live (drop n order)) ≡ None
   none_from n past = ap last_of (filtered_none live (drop n order) (dead_from n past))
@@ -85,13 +96,16 @@ module _ (s : State) (orders : List CallOrder) (p : ℕ) (last : Option ℕ) (ap
 -- somebody is live there
 module _ (s : State) (orders : List CallOrder) (p n : ℕ) (apart : IsDistinct nat_eq (order_of s.dossier orders p))
     (known : (k : ℕ) → nat_le k n ≡ list_any (is_live_from s.dossier orders p k) (entries s))
-    (called : (j : ℕ) (e : Wish × Mark) → j < length (entries s) → get_or (entries s) j e ≡ e → e.0.programme ≡ p → place_of s.dossier orders e.0 < length (order_of s.dossier orders p)) where
+    (called : (j : ℕ) (e : Wish × Mark) → j < length (entries s) → get_or (entries s) j e ≡ e
+    → e.0.programme ≡ p
+    → place_of s.dossier orders e.0 < length (order_of s.dossier orders p)) where
   abbrev line : List ℕ
   line = order_of s.dossier orders p
 
   there_is : (n < length line) × (holds_seat s (get_or line n 0) p ≡ true)
   there_is =
-      let (j, e, j_lt, at, lives) = Any-from_list_any (is_live_from s.dossier orders p n) (entries s) (sym (known n) ∙ le-leb n n (omega arith)) in
+      let (j, e, j_lt, at, lives) = Any-from_list_any (is_live_from s.dossier orders p n)
+      (entries s) (sym (known n) ∙ le-leb n n (omega arith)) in
       let place = place_of s.dossier orders e.0 in
       let outer = and_parts (is_live e.1 && nat_eq e.0.programme p) (nat_le n place) lives in
       let inner = and_parts (is_live e.1) (nat_eq e.0.programme p) outer.0 in
@@ -99,15 +113,19 @@ module _ (s : State) (orders : List CallOrder) (p n : ℕ) (apart : IsDistinct n
       let up : nat_le place n ≡ true =
       known place
       ∙ list_any_at (is_live_from s.dossier orders p place) (entries s) j e j_lt
-      (ap (is_live_from s.dossier orders p place) at ∙ three (is_live e.1) (nat_eq e.0.programme p) (nat_le place place) inner.0 inner.1 (le-leb place place (omega arith))) in
+      (ap (is_live_from s.dossier orders p place) at ∙ three (is_live e.1) (nat_eq e.0.programme p)
+      (nat_le place place) inner.0 inner.1 (le-leb place place (omega arith))) in
       let is : place ≡ n = omega (arith, leb-true n place outer.1, leb-true place n up) in
       let within = called j e j_lt at same in
-      let first : place ≡ position_or_len (nat_eq e.0.candidate) line = ap (λ q. position_or_len (nat_eq e.0.candidate) (order_of s.dossier orders q)) same in
+      let first : place ≡ position_or_len (nat_eq e.0.candidate) line =
+      ap (λ q. position_or_len (nat_eq e.0.candidate) (order_of s.dossier orders q)) same in
       let candidate : e.0.candidate ≡ get_or line n 0 =
-      eqb-true e.0.candidate (get_or line (position_or_len (nat_eq e.0.candidate) line) 0) (passes_at_first (nat_eq e.0.candidate) line 0 (omega (arith, within, first)))
+      eqb-true e.0.candidate (get_or line (position_or_len (nat_eq e.0.candidate) line) 0)
+      (passes_at_first (nat_eq e.0.candidate) line 0 (omega (arith, within, first)))
       ∙ ap (λ k. get_or line k 0) (sym first ∙ is) in
       let holds : ((is_live e.1 && nat_eq e.0.candidate (get_or line n 0)) && nat_eq e.0.programme p) ≡ true =
-      three (is_live e.1) (nat_eq e.0.candidate (get_or line n 0)) (nat_eq e.0.programme p) inner.0 (eq-eqb e.0.candidate (get_or line n 0) candidate) inner.1 in
+      three (is_live e.1) (nat_eq e.0.candidate (get_or line n 0)) (nat_eq e.0.programme p) inner.0
+      (eq-eqb e.0.candidate (get_or line n 0) candidate) inner.1 in
       let test = λ (x : Wish × Mark). (is_live x.1 && nat_eq x.0.candidate (get_or line n 0)) && nat_eq x.0.programme p in
       (omega (arith, within, is), list_any_at test (entries s) j e j_lt (ap test at ∙ holds))
 
@@ -122,7 +140,9 @@ stands c xs among =
     ]
 
 module _ (s : State) (orders : List CallOrder) (w : Wish) (apart : IsDistinct nat_eq (order_of s.dossier orders w.programme))
-    (called : (j : ℕ) (e : Wish × Mark) → j < length (entries s) → get_or (entries s) j e ≡ e → e.0.programme ≡ w.programme → place_of s.dossier orders e.0 < length (order_of s.dossier orders w.programme)) where
+    (called : (j : ℕ) (e : Wish × Mark) → j < length (entries s) → get_or (entries s) j e ≡ e
+    → e.0.programme ≡ w.programme
+    → place_of s.dossier orders e.0 < length (order_of s.dossier orders w.programme)) where
   by_last : (last : Option ℕ) → ((k : ℕ) → reaches last k ≡ list_any (is_live_from s.dossier orders w.programme k) (entries s))
       → envied_at (order_of s.dossier orders w.programme) last (place_of s.dossier orders w) ≡ last_envied s orders w
   by_last None known =
@@ -152,7 +172,8 @@ module _ (s : State) (orders : List CallOrder) (w : Wish) (apart : IsDistinct na
             let rest = dead_from s orders p (Some l) apart known (n + 1 + k) (λ j le. lt-leb j l (omega (arith, after, le, before))) in
             let first : get_or (drop (n + 1 + k) order_p) 0 0 ≡ get_or order_p (n + 1 + k + 0) 0 = get_or-drop (n + 1 + k) order_p 0 0 in
             let zero_is : n + 1 + k + 0 ≡ n + 1 + k = omega arith in
-            ap lives (there k 0 ∙ sym (first ∙ ap (λ j. get_or order_p j 0) zero_is)) ∙ rest 0 0 (omega (arith, deep, length-drop (n + 1 + k) order_p)) in
+            ap lives (there k 0 ∙ sym (first ∙ ap (λ j. get_or order_p j 0) zero_is))
+            ∙ rest 0 0 (omega (arith, deep, length-drop (n + 1 + k) order_p)) in
             rw (lt-ltb n l before)
             (slice_get-get_or order_p l 0 held.0 ∙ ap (λ (c : ℕ). let o : Option ℕ = Some c in o) (sym at)
             ∙ sym (last_passes lives tail r r_lt (ap lives at ∙ held.1) dead) ∙ turned)
@@ -160,7 +181,8 @@ module _ (s : State) (orders : List CallOrder) (w : Wish) (apart : IsDistinct na
       ]
 
 -- the last one whom a wish's candidate envies
-pub envied_is : (s : State) (orders : List CallOrder) (lasts : List (Option ℕ)) (w : Wish) → IsDistinct nat_eq (order_of s.dossier orders w.programme) → AreCalled s.dossier orders
+pub envied_is : (s : State) (orders : List CallOrder) (lasts : List (Option ℕ)) (w : Wish)
+    → IsDistinct nat_eq (order_of s.dossier orders w.programme) → AreCalled s.dossier orders
     → AreLast s.dossier orders (entries s) lasts → w.programme < length s.dossier.programmes
     → envied_at (order_of s.dossier orders w.programme) (number_in lasts w.programme) (place_of s.dossier orders w) ≡ last_envied s orders w
 envied_is s orders lasts w apart called are lt =
@@ -168,7 +190,8 @@ envied_is s orders lasts w apart called are lt =
     by_last s orders w apart
     (λ j e j_lt at same.
     let place = entry_wish s j e j_lt at in
-    let is : wish_in d.wishes j ≡ e.0 = unwrap_or-slice_get d.wishes j (wish_in [] 0) ∙ get_or_default d.wishes j (wish_in [] 0) e.0 place.0 ∙ sym place.1 in
+    let is : wish_in d.wishes j ≡ e.0 = unwrap_or-slice_get d.wishes j (wish_in [] 0)
+    ∙ get_or_default d.wishes j (wish_in [] 0) e.0 place.0 ∙ sym place.1 in
     let among : is_among e.0.candidate (order_of d orders e.0.programme) ≡ true =
     sym (ap (λ (v : Wish). is_among v.candidate (order_of d orders v.programme)) is) ∙ called.each j place.0 in
     let short = stands e.0.candidate (order_of d orders e.0.programme) among in

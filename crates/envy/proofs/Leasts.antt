@@ -42,7 +42,8 @@ module _ {X : Type 0} (key : X → ℕ) (test : X → Bool) where
       on (suc j) d within t = is.least j d (omega arith) t
 
   -- a first one that passes, and has no greater key than all that pass later
-  before : (x : X) (xs : List X) → test x ≡ true → ((j : ℕ) (d : X) → j < length xs → test (get_or xs j d) ≡ true → key x ≤ key (get_or xs j d)) → IsLeastOf key test (x ∷ xs) x
+  before : (x : X) (xs : List X) → test x ≡ true → ((j : ℕ) (d : X) → j < length xs
+      → test (get_or xs j d) ≡ true → key x ≤ key (get_or xs j d)) → IsLeastOf key test (x ∷ xs) x
   before x xs passes none = record {
     place = zero;
     within = omega arith;
@@ -55,7 +56,8 @@ module _ {X : Type 0} (key : X → ℕ) (test : X → Bool) where
       on zero d within t = omega arith
       on (suc j) d within t = none j d (omega arith) t
 
-  no_first : (x : X) (xs : List X) → test x ≡ false → ((j : ℕ) (d : X) → j < length xs → test (get_or xs j d) ≡ true → ⊥) → (j : ℕ) (d : X) → j < length (x ∷ xs)
+  no_first : (x : X) (xs : List X) → test x ≡ false → ((j : ℕ) (d : X) → j < length xs
+      → test (get_or xs j d) ≡ true → ⊥) → (j : ℕ) (d : X) → j < length (x ∷ xs)
       → test (get_or (x ∷ xs) j d) ≡ true → ⊥
   no_first x xs fails rest zero d lt t = false≢true (sym fails ∙ t)
   no_first x xs fails rest (suc j) d lt t = rest j d (omega arith) t
@@ -68,7 +70,9 @@ module _ {X : Type 0} (key : X → ℕ) (test : X → Bool) where
         | inr fails ↦ no_first x xs fails (none_passes xs (rw fails at none)) j d lt t
       ]
 
-  chosen : (x : X) (xs : List X) (b : X) (o : Option X) → test x ≡ true → least_by key (filter test xs) ≡ o → ((y : X) → least_by key (filter test xs) ≡ Some y → IsLeastOf key test xs y)
+  chosen : (x : X) (xs : List X) (b : X) (o : Option X) → test x ≡ true
+      → least_by key (filter test xs) ≡ o
+      → ((y : X) → least_by key (filter test xs) ≡ Some y → IsLeastOf key test xs y)
       → lesser key x o ≡ b → IsLeastOf key test (x ∷ xs) b
   chosen x xs b None passes is found same =
       subst (IsLeastOf key test (x ∷ xs)) same (before x xs passes (λ j d lt t. absurd (none_passes xs is j d lt t)))
@@ -93,5 +97,6 @@ module _ {X : Type 0} (key : X → ℕ) (test : X → Bool) where
         | inr fails ↦ later x xs b fails (filtered_least xs b (rw fails at some))
       ]
 
-  pub filtered_none : (xs : List X) → least_by key (filter test xs) ≡ None → (j : ℕ) (d : X) → j < length xs → test (get_or xs j d) ≡ true → ⊥
+  pub filtered_none : (xs : List X) → least_by key (filter test xs) ≡ None → (j : ℕ) (d : X)
+      → j < length xs → test (get_or xs j d) ≡ true → ⊥
   filtered_none = none_passes

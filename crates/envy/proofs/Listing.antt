@@ -16,7 +16,8 @@ use Rattle.envy.specs.declared.blocks.Block.{Block}
 use Rattle.envy.specs.Blocks.{block_at, blocks_of, is_block}
 
 pub same_block : (wish left left_too : ℕ) (envied envied_too : Option ℕ) → left ≡ left_too → envied ≡ envied_too
-    → (let b : Block = record { wish = wish; left = left; envied = envied } in b) ≡ (let b : Block = record { wish = wish; left = left_too; envied = envied_too } in b)
+    → (let b : Block = record { wish = wish; left = left; envied = envied } in b)
+    ≡ (let b : Block = record { wish = wish; left = left_too; envied = envied_too } in b)
 same_block wish left left_too envied envied_too a b = rw (a, b) refl
 
 -- what is listed of the first places
@@ -24,7 +25,8 @@ abbrev pub listed : State → List CallOrder → ℕ → List Block
 listed s orders n = filter (is_block s orders) (map (block_at s orders) (range_with_len 0 n))
 
 -- one more place, of a wish that blocks or not
-pub listed_some : (s : State) (orders : List CallOrder) (k : ℕ) (block : Block) (now new : List Block) → now ≡ listed s orders k → block ≡ block_at s orders k → is_block s orders block ≡ true
+pub listed_some : (s : State) (orders : List CallOrder) (k : ℕ) (block : Block) (now new : List
+    Block) → now ≡ listed s orders k → block ≡ block_at s orders k → is_block s orders block ≡ true
     → new ≡ now ++ block ∷ [] → new ≡ listed s orders (k + 1)
 listed_some s orders k block now new are is blocks pushed =
     pushed
@@ -33,7 +35,8 @@ listed_some s orders k block now new are is blocks pushed =
     ∙ sym (filter_of_map_range_with_len_more (is_block s orders) (block_at s orders) 0 k k (omega arith)
     ∙ ap (λ t. listed s orders k ++ cond t (block_at s orders k ∷ []) []) (ap (is_block s orders) (sym is) ∙ blocks))
 
-pub listed_none : (s : State) (orders : List CallOrder) (k : ℕ) (block : Block) (now : List Block) → now ≡ listed s orders k → block ≡ block_at s orders k → is_block s orders block ≡ false
+pub listed_none : (s : State) (orders : List CallOrder) (k : ℕ) (block : Block) (now : List Block)
+    → now ≡ listed s orders k → block ≡ block_at s orders k → is_block s orders block ≡ false
     → now ≡ listed s orders (k + 1)
 listed_none s orders k block now are is blocks_not =
     are
@@ -42,8 +45,11 @@ listed_none s orders k block now are is blocks_not =
     ∙ append-nil (listed s orders k))
 
 -- all places: the blocks of the state
-blocks_from : (f : ℕ → Wish × Mark) (g : ℕ → Block) (test : Wish × Mark → Bool) (p : Block → Bool) → ((k : ℕ) → p (g k) ≡ test (f k)) → (n a : ℕ)
-    → filter p (map g (range_with_len a n)) ≡ map g (map (λ (x : ℕ × (Wish × Mark)). x.0) (filter (λ (x : ℕ × (Wish × Mark)). test x.1) (enumerate_from a (map f (range_with_len a n)))))
+blocks_from : (f : ℕ → Wish × Mark) (g : ℕ → Block) (test : Wish × Mark → Bool) (p : Block → Bool)
+    → ((k : ℕ) → p (g k) ≡ test (f k)) → (n a : ℕ)
+    → filter p (map g (range_with_len a n))
+    ≡ map g (map (λ (x : ℕ × (Wish × Mark)). x.0) (filter (λ (x : ℕ × (Wish × Mark)). test x.1)
+    (enumerate_from a (map f (range_with_len a n)))))
 blocks_from f g test p same zero a = refl
 blocks_from f g test p same (suc n) a =
     let later = blocks_from f g test p same n (a + 1) in
@@ -52,24 +58,34 @@ blocks_from f g test p same (suc n) a =
       | inr fails ↦ rw (same a, fails) later
     ]
 
-pub listed_all : (s : State) (orders : List CallOrder) (now : List Block) (n : ℕ) → length s.marks ≡ length s.dossier.wishes → n ≡ length s.dossier.wishes → now ≡ listed s orders n → now ≡ blocks_of s orders
+pub listed_all : (s : State) (orders : List CallOrder) (now : List Block) (n : ℕ)
+    → length s.marks ≡ length s.dossier.wishes → n ≡ length s.dossier.wishes
+    → now ≡ listed s orders n → now ≡ blocks_of s orders
 listed_all s orders now n long all are =
     are
     ∙ ap (listed s orders) all
-    ∙ blocks_from (entry_in s) (block_at s orders) (λ (e : Wish × Mark). is_blocking s orders e.0 e.1) (is_block s orders) (λ k. refl) (length s.dossier.wishes) 0
-    ∙ ap (λ (es : List (Wish × Mark)). map (block_at s orders) (map (λ (x : ℕ × (Wish × Mark)). x.0) (filter (λ (x : ℕ × (Wish × Mark)). is_blocking s orders x.1.0 x.1.1) (enumerate_from 0 es))))
+    ∙ blocks_from (entry_in s) (block_at s orders) (λ (e : Wish × Mark).
+    is_blocking s orders e.0 e.1) (is_block s orders) (λ k. refl) (length s.dossier.wishes) 0
+    ∙ ap (λ (es : List (Wish × Mark)).
+    map (block_at s orders)
+    (map (λ (x : ℕ × (Wish × Mark)). x.0) (filter
+    (λ (x : ℕ × (Wish × Mark)). is_blocking s orders x.1.0 x.1.1) (enumerate_from 0 es))))
     (sym (entries_by_place s long))
 
 -- each block is of a wish
-within_from : (g : ℕ → Block) (test : Wish × Mark → Bool) → ((k : ℕ) → (g k).wish ≡ k) → (n count : ℕ) (es : List (Wish × Mark)) → n + length es ≤ count
-    → All (λ (b : Block). b.wish < count) (map g (map (λ (x : ℕ × (Wish × Mark)). x.0) (filter (λ (x : ℕ × (Wish × Mark)). test x.1) (enumerate_from n es))))
+within_from : (g : ℕ → Block) (test : Wish × Mark → Bool) → ((k : ℕ) → (g k).wish ≡ k)
+    → (n count : ℕ) (es : List (Wish × Mark)) → n + length es ≤ count
+    → All (λ (b : Block). b.wish < count) (map g (map (λ (x : ℕ × (Wish × Mark)). x.0)
+    (filter (λ (x : ℕ × (Wish × Mark)). test x.1) (enumerate_from n es))))
 within_from g test own n count [] le = All-nil (λ (b : Block). b.wish < count)
 within_from g test own n count (e ∷ es) le =
     let later = within_from g test own (n + 1) count es (omega arith) in
     elim (cases_Bool (test e)) [
       | inl passes ↦
           rw passes
-          (All-cons (λ (b : Block). b.wish < count) (g n) (map g (map (λ (x : ℕ × (Wish × Mark)). x.0) (filter (λ (x : ℕ × (Wish × Mark)). test x.1) (enumerate_from (n + 1) es))))
+          (All-cons (λ (b : Block). b.wish < count) (g n)
+          (map g (map (λ (x : ℕ × (Wish × Mark)). x.0)
+          (filter (λ (x : ℕ × (Wish × Mark)). test x.1) (enumerate_from (n + 1) es))))
           (omega (arith, own n)) later)
       | inr fails ↦ rw fails later
     ]

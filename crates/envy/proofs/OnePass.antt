@@ -76,7 +76,8 @@ offered_is_live Lapsed is = absurd (cc)
 abbrev GivenUpFrom : Status → Bool → Bool → Type 0
 GivenUpFrom st is_best is_behind = (is_given_up st ≡ true) ⊎ ((is_behind ≡ true) ⊎ ((is_live_status st ≡ true) × (is_best ≡ false)))
 
-given_up_from : (st : Status) (is_best is_behind : Bool) → is_given_up (auto_status st is_best is_behind) ≡ true → GivenUpFrom st is_best is_behind
+given_up_from : (st : Status) (is_best is_behind : Bool)
+    → is_given_up (auto_status st is_best is_behind) ≡ true → GivenUpFrom st is_best is_behind
 given_up_from Waiting is_best true given = inr (inl refl)
 given_up_from Waiting is_best false given = absurd (cc)
 given_up_from Offered true is_behind given = absurd (cc)
@@ -102,7 +103,8 @@ is_own_live c e = is_live e.1 && (e.0.candidate == c) && nat_lt 0 e.0.preference
 abbrev preference : Wish × Mark → ℕ
 preference e = e.0.preference
 
-module _ (orders : List CallOrder) (o : State) (bars : List ℕ) (stamp : Stamp) (valid : IsValid o.dossier) (called : AreCallOrders o.dossier.groups orders)
+module _ (orders : List CallOrder) (o : State) (bars : List ℕ) (stamp : Stamp)
+    (valid : IsValid o.dossier) (called : AreCallOrders o.dossier.groups orders)
     (plain : IsRankedPlainly o.dossier) (fair : IsFair orders o) where
   abbrev offer_to : Wish → Mark → Mark
   offer_to = offer o orders bars stamp
@@ -117,17 +119,20 @@ module _ (orders : List CallOrder) (o : State) (bars : List ℕ) (stamp : Stamp)
   night = closing o orders bars stamp
 
   -- of the wishes
-  unboarded : (s : State) (k : ℕ) (x : Wish × Mark) → s.dossier ≡ o.dossier → k < length (entries s) → get_or (entries s) k x ≡ x → x.0.school ≡ None
+  unboarded : (s : State) (k : ℕ) (x : Wish × Mark) → s.dossier ≡ o.dossier → k < length (entries s)
+      → get_or (entries s) k x ≡ x → x.0.school ≡ None
   unboarded s k x same lt at =
       let place = entry_wish s k x lt at in
       let within : k < length o.dossier.wishes = omega (arith, place.0, ap (λ d. length d.wishes) same) in
       ap (λ (w : Wish). w.school) (place.1 ∙ ap (λ d. get_or d.wishes k x.0) same) ∙ plain.schools k x.0 within
 
-  ranked : (s : State) (k : ℕ) (x : Wish × Mark) → s.dossier ≡ o.dossier → k < length (entries s) → get_or (entries s) k x ≡ x → 0 < x.0.preference
+  ranked : (s : State) (k : ℕ) (x : Wish × Mark) → s.dossier ≡ o.dossier → k < length (entries s)
+      → get_or (entries s) k x ≡ x → 0 < x.0.preference
   ranked s k x same lt at =
       let place = entry_wish s k x lt at in
       let within : k < length o.dossier.wishes = omega (arith, place.0, ap (λ d. length d.wishes) same) in
-      let is : x.0.preference ≡ (get_or o.dossier.wishes k x.0).preference = ap (λ (w : Wish). w.preference) (place.1 ∙ ap (λ d. get_or d.wishes k x.0) same) in
+      let is : x.0.preference ≡ (get_or o.dossier.wishes k x.0).preference =
+      ap (λ (w : Wish). w.preference) (place.1 ∙ ap (λ d. get_or d.wishes k x.0) same) in
       omega (arith, is, plain.preferences k x.0 within)
 
   never_barred : (w : Wish) (m : Mark) → w.school ≡ None → is_barred o bars w m ≡ false
@@ -164,28 +169,44 @@ module _ (orders : List CallOrder) (o : State) (bars : List ℕ) (stamp : Stamp)
 
     module _ (c : ℕ) (is_behind : IsBehind xs n c) (free : holds_seat o c p ≡ false) where
       not_called : nat_le (length (before_first (nat_eq c) xs) + 1) (limit_of o.dossier p) ≡ true → ⊥
-      not_called early = omega (arith, leb-true (length (before_first (nat_eq c) xs) + 1) (limit_of o.dossier p) early, front_long c, is_behind.first, is_behind.later, past_limit)
+      not_called early = omega (
+        arith,
+        leb-true (length (before_first (nat_eq c) xs) + 1)
+            (limit_of o.dossier p) early,
+        front_long c,
+        is_behind.first,
+        is_behind.later,
+        past_limit,
+      )
 
       not_served : nat_lt (count_by (wants_seat o bars p) (before_first (nat_eq c) xs)) (seats_left o p) ≡ true → ⊥
       not_served early =
           let k = position_or_len (nat_eq c) xs in
           let le : n ≤ k = omega (arith, is_behind.first, is_behind.later) in
-          omega (arith, ltb-true (count_by (wants_seat o bars p) (before_first (nat_eq c) xs)) (seats_left o p) early, count_front (wants_seat o bars p) xs n k le, all_taken)
+          omega (
+            arith,
+            ltb-true (count_by (wants_seat o bars p) (before_first (nat_eq c) xs))
+                (seats_left o p) early,
+            count_front (wants_seat o bars p) xs n k le,
+            all_taken,
+          )
 
       -- who stands behind gets no offer there
       not_offered : (v : Wish) (mv : Mark) → v.candidate ≡ c → v.programme ≡ p → is_proposed o orders bars v mv ≡ true → ⊥
       not_offered v mv is_c is_p proposed =
           let wants : (needs_no_seat o orders v || nat_lt (ahead o orders bars v) (seats_left o v.programme)) ≡ true =
-          (and_parts (is_open o bars v mv) (needs_no_seat o orders v || nat_lt (ahead o orders bars v) (seats_left o v.programme)) proposed).1 in
+          (and_parts (is_open o bars v mv) (needs_no_seat o orders v
+          || nat_lt (ahead o orders bars v) (seats_left o v.programme)) proposed).1 in
           let here :
           ((holds_seat o c p || nat_le (length (before_first (nat_eq c) xs) + 1) (limit_of o.dossier p))
           || nat_lt (count_by (wants_seat o bars p) (before_first (nat_eq c) xs)) (seats_left o p)) ≡ true = rw (is_c, is_p) at wants in
           elim (or_cases (holds_seat o c p || nat_le (length (before_first (nat_eq c) xs) + 1) (limit_of o.dossier p))
           (nat_lt (count_by (wants_seat o bars p) (before_first (nat_eq c) xs)) (seats_left o p)) here) [
-            | inl needs ↦ elim (or_cases (holds_seat o c p) (nat_le (length (before_first (nat_eq c) xs) + 1) (limit_of o.dossier p)) needs) [
-              | inl seated ↦ false≢true (sym free ∙ seated)
-              | inr early ↦ not_called early
-            ]
+            | inl needs ↦ elim (or_cases (holds_seat o c p)
+                (nat_le (length (before_first (nat_eq c) xs) + 1) (limit_of o.dossier p)) needs) [
+                  | inl seated ↦ false≢true (sym free ∙ seated)
+                  | inr early ↦ not_called early
+                ]
             | inr early ↦ not_served early
           ]
 
@@ -203,17 +224,23 @@ module _ (orders : List CallOrder) (o : State) (bars : List ℕ) (stamp : Stamp)
           elim (live_or_offered stamp (is_proposed o orders bars v mv) mv inner.0) [
             | inl proposed ↦ not_offered v mv (eqb-true v.candidate c inner.1) (eqb-true v.programme p outer.1) proposed
             | inr was_live ↦
-                let here : lives_with in_p c e ≡ true = and_from (is_live mv && nat_eq v.candidate c) (nat_eq v.programme p) (and_from (is_live mv) (nat_eq v.candidate c) was_live inner.1) outer.1 in
+                let here : lives_with in_p c e ≡ true =
+                and_from (is_live mv && nat_eq v.candidate c) (nat_eq v.programme p)
+                (and_from (is_live mv) (nat_eq v.candidate c) was_live inner.1) outer.1 in
                 let seated : holds_seat o c p ≡ true = list_any_at (lives_with in_p c) (entries o) j e e_lt (rw e_at here) in
                 false≢true (sym free ∙ seated)
           ])
 
-  nobody_behind : (k : ℕ) (x : Wish × Mark) → k < length (entries o) → get_or (entries o) k x ≡ x → NobodyBehind orders night (marked_by answer_to (marked_by offer_to x))
+  nobody_behind : (k : ℕ) (x : Wish × Mark) → k < length (entries o) → get_or (entries o) k x ≡ x
+      → NobodyBehind orders night (marked_by answer_to (marked_by offer_to x))
   nobody_behind k x lt at waits = λ j d j_lt.
       let w = x.0 in
       let m = x.1 in
-      let still = waits_still stamp (is_proposed o orders bars w m) m (auto_waits stamp (best_live mid w.candidate) w (offer_to w m) waits) in
-      let opens : is_open o bars w m ≡ true = and_from (is_waiting m) (not (is_barred o bars w m)) still.1 (not_from_false (is_barred o bars w m) (never_barred w m (unboarded o k x refl lt at))) in
+      let still = waits_still stamp (is_proposed o orders bars w m) m
+      (auto_waits stamp (best_live mid w.candidate) w (offer_to w m) waits) in
+      let opens : is_open o bars w m ≡ true =
+      and_from (is_waiting m) (not (is_barred o bars w m)) still.1
+      (not_from_false (is_barred o bars w m) (never_barred w m (unboarded o k x refl lt at))) in
       let ys = order_of o.dossier orders w.programme in
       let first = position_or_len (nat_eq w.candidate) ys in
       let pos : position_of o orders w ≡ first + 1 = ap (λ (i : ℕ). i + 1) (front_long w m opens still.0 w.candidate) in
@@ -226,7 +253,8 @@ module _ (orders : List CallOrder) (o : State) (bars : List ℕ) (stamp : Stamp)
 
   -- the best live wish of a candidate after the offers
   module _ (c : ℕ) where
-    in_night : (test : Wish → Bool) (b : Wish × Mark) → best_live mid c ≡ Some b → (least : IsLeastOf preference (is_own_live c) (entries mid) b) → test b.0 ≡ true
+    in_night : (test : Wish → Bool) (b : Wish × Mark) → best_live mid c ≡ Some b
+        → (least : IsLeastOf preference (is_own_live c) (entries mid) b) → test b.0 ≡ true
         → holds test night c ≡ true
     in_night test b best least passes =
         let outer = and_parts (is_live b.1 && (b.0.candidate == c)) (nat_lt 0 b.0.preference) least.passes in
@@ -235,18 +263,27 @@ module _ (orders : List CallOrder) (o : State) (bars : List ℕ) (stamp : Stamp)
         let status : (answer_to b.0 b.1).status ≡ auto_status b.1.status true (nat_lt b.0.preference b.0.preference) =
         ap (λ (o : Option (Wish × Mark)). (auto_mark stamp o b.0 b.1).status) own ∙ status_of_auto stamp b b.0 b.1
         ∙ ap (λ (t : Bool). auto_status b.1.status t (nat_lt b.0.preference b.0.preference)) (eq-eqb b.0.preference b.0.preference refl) in
-        let lives : is_live (answer_to b.0 b.1) ≡ true = ap is_live_status status ∙ best_stays b.1.status (nat_lt b.0.preference b.0.preference) inner.0 in
-        let here : lives_with test c (marked_by answer_to b) ≡ true = and_from (is_live (answer_to b.0 b.1) && nat_eq b.0.candidate c) (test b.0) (and_from (is_live (answer_to b.0 b.1)) (nat_eq b.0.candidate c) lives inner.1) passes in
-        holds_after test mid answer_to c ∙ list_any_at (λ (e : Wish × Mark). lives_with test c (marked_by answer_to e)) (entries mid) least.place b least.within (rw least.is_there here)
+        let lives : is_live (answer_to b.0 b.1) ≡ true = ap is_live_status status
+        ∙ best_stays b.1.status (nat_lt b.0.preference b.0.preference) inner.0 in
+        let here : lives_with test c (marked_by answer_to b) ≡ true =
+        and_from (is_live (answer_to b.0 b.1) && nat_eq b.0.candidate c) (test b.0) (and_from
+        (is_live (answer_to b.0 b.1)) (nat_eq b.0.candidate c) lives inner.1) passes in
+        holds_after test mid answer_to c
+        ∙ list_any_at (λ (e : Wish × Mark). lives_with test c (marked_by answer_to e))
+        (entries mid) least.place b least.within (rw least.is_there here)
 
-    in_mid : (test : Wish → Bool) (b : Wish × Mark) → IsLeastOf preference (is_own_live c) (entries mid) b → test b.0 ≡ true → holds test mid c ≡ true
+    in_mid : (test : Wish → Bool) (b : Wish × Mark)
+        → IsLeastOf preference (is_own_live c) (entries mid) b → test b.0 ≡ true
+        → holds test mid c ≡ true
     in_mid test b least passes =
         let outer = and_parts (is_live b.1 && (b.0.candidate == c)) (nat_lt 0 b.0.preference) least.passes in
         let here : lives_with test c b ≡ true = and_from (is_live b.1 && nat_eq b.0.candidate c) (test b.0) outer.0 passes in
         list_any_at (lives_with test c) (entries mid) least.place b least.within (rw least.is_there here)
 
     -- who is live after the offers by a better wish than one holds a better one in the evening
-    better_by : (q : ℕ) (best : Option (Wish × Mark)) → best_live mid c ≡ best → holds (λ v. nat_lt v.preference q) mid c ≡ true → holds (λ v. nat_lt v.preference q) night c ≡ true
+    better_by : (q : ℕ) (best : Option (Wish × Mark)) → best_live mid c ≡ best
+        → holds (λ v. nat_lt v.preference q) mid c ≡ true
+        → holds (λ v. nat_lt v.preference q) night c ≡ true
     better_by q best is held =
         let (j, e, lt, at, lives) = Any-from_list_any (lives_with (λ v. nat_lt v.preference q) c) (entries mid) held in
         let outer = and_parts (is_live e.1 && nat_eq e.0.candidate c) (nat_lt e.0.preference q) lives in
@@ -255,20 +292,24 @@ module _ (orders : List CallOrder) (o : State) (bars : List ℕ) (stamp : Stamp)
         let there : is_own_live c (get_or (entries mid) j e) ≡ true = rw at own in
         by j e lt at outer.1 there best is
       where
-        by : (j : ℕ) (e : Wish × Mark) → j < length (entries mid) → get_or (entries mid) j e ≡ e → nat_lt e.0.preference q ≡ true → is_own_live c (get_or (entries mid) j e) ≡ true
+        by : (j : ℕ) (e : Wish × Mark) → j < length (entries mid) → get_or (entries mid) j e ≡ e
+            → nat_lt e.0.preference q ≡ true → is_own_live c (get_or (entries mid) j e) ≡ true
             → (best : Option (Wish × Mark)) → best_live mid c ≡ best → holds (λ v. nat_lt v.preference q) night c ≡ true
         by j e lt at less there None none = absurd (filtered_none preference (is_own_live c) (entries mid) none j e lt there)
         by j e lt at less there (Some b) some =
             let least = filtered_least preference (is_own_live c) (entries mid) b some in
             let le : preference b ≤ preference (get_or (entries mid) j e) = least.least j e lt there in
             let same : preference (get_or (entries mid) j e) ≡ e.0.preference = ap preference at in
-            in_night (λ v. nat_lt v.preference q) b some least (lt-ltb b.0.preference q (omega (arith, le, same, ltb-true e.0.preference q less)))
+            in_night (λ v. nat_lt v.preference q) b some least
+            (lt-ltb b.0.preference q (omega (arith, le, same, ltb-true e.0.preference q less)))
 
   kept_better : (w : Wish) → has_better mid w ≡ true → has_better night w ≡ true
   kept_better w held = better_by w.candidate w.preference (best_live mid w.candidate) refl held
 
   -- the mark of a wish after the offers stands in its place
-  in_place : (k : ℕ) (x : Wish × Mark) → k < length (entries o) → get_or (entries o) k x ≡ x → (k < length (entries mid)) × (get_or (entries mid) k (marked_by offer_to x) ≡ marked_by offer_to x)
+  in_place : (k : ℕ) (x : Wish × Mark) → k < length (entries o) → get_or (entries o) k x ≡ x
+      → (k < length (entries mid))
+      × (get_or (entries mid) k (marked_by offer_to x) ≡ marked_by offer_to x)
   in_place k x lt at =
       let y = marked_by offer_to x in
       let es = map (marked_by offer_to) (entries o) in
@@ -280,13 +321,16 @@ module _ (orders : List CallOrder) (o : State) (bars : List ℕ) (stamp : Stamp)
       )
 
   -- a wish that is given up in the evening was so before the answers, or a better one of its candidate is live
-  given_up : (k : ℕ) (w : Wish) (m : Mark) → k < length (entries mid) → get_or (entries mid) k (w, m) ≡ (w, m) → (best : Option (Wish × Mark)) → best_live mid w.candidate ≡ best
+  given_up : (k : ℕ) (w : Wish) (m : Mark) → k < length (entries mid)
+      → get_or (entries mid) k (w, m) ≡ (w, m) → (best : Option (Wish × Mark))
+      → best_live mid w.candidate ≡ best
       → is_given_up (auto_mark stamp best w m).status ≡ true → (is_given_up m.status ≡ true) ⊎ (has_better mid w ≡ true)
   given_up k w m lt at None none given = inl given
   given_up k w m lt at (Some b) some given =
       let c = w.candidate in
       let least = filtered_least preference (is_own_live c) (entries mid) b some in
-      let better = λ (less : b.0.preference < w.preference). in_mid c (λ v. nat_lt v.preference w.preference) b least (lt-ltb b.0.preference w.preference less) in
+      let better = λ (less : b.0.preference < w.preference). in_mid c (λ v.
+      nat_lt v.preference w.preference) b least (lt-ltb b.0.preference w.preference less) in
       let is_best = w.preference == b.0.preference in
       let is_behind = nat_lt b.0.preference w.preference in
       elim (given_up_from m.status is_best is_behind (sym (ap is_given_up (status_of_auto stamp b w m)) ∙ given)) [
@@ -295,7 +339,9 @@ module _ (orders : List CallOrder) (o : State) (bars : List ℕ) (stamp : Stamp)
           | inl less ↦ inr (better (ltb-true b.0.preference w.preference less))
           | inr other ↦
               let own : is_own_live c (w, m) ≡ true =
-              and_from (is_live m && (c == c)) (nat_lt 0 w.preference) (and_from (is_live m) (c == c) other.0 (eq-eqb c c refl)) (lt-ltb 0 w.preference (ranked mid k (w, m) refl lt at)) in
+              and_from (is_live m && (c == c)) (nat_lt 0 w.preference)
+              (and_from (is_live m) (c == c) other.0 (eq-eqb c c refl))
+              (lt-ltb 0 w.preference (ranked mid k (w, m) refl lt at)) in
               let le : b.0.preference ≤ preference (get_or (entries mid) k (w, m)) = least.least k (w, m) lt (rw at own) in
               let same : preference (get_or (entries mid) k (w, m)) ≡ w.preference = ap preference at in
               elim (cases_order w.preference b.0.preference) [
@@ -308,7 +354,8 @@ module _ (orders : List CallOrder) (o : State) (bars : List ℕ) (stamp : Stamp)
         ]
       ]
 
-  better_held : (k : ℕ) (x : Wish × Mark) → k < length (entries o) → get_or (entries o) k x ≡ x → HoldsBetter night (marked_by answer_to (marked_by offer_to x))
+  better_held : (k : ℕ) (x : Wish × Mark) → k < length (entries o) → get_or (entries o) k x ≡ x
+      → HoldsBetter night (marked_by answer_to (marked_by offer_to x))
   better_held k x lt at given =
       let w = x.0 in
       let place = in_place k x lt at in
@@ -316,22 +363,31 @@ module _ (orders : List CallOrder) (o : State) (bars : List ℕ) (stamp : Stamp)
         | inl before ↦
             let was = given_up_before_offer stamp (is_proposed o orders bars w x.1) x.1 before in
             let fact : HoldsBetter o x = subst (HoldsBetter o) at (fair.better k x lt) in
-            kept_better w (holds_kept (λ v. nat_lt v.preference w.preference) o offer_to w.candidate (λ v mv live. live_stays stamp (is_proposed o orders bars v mv) mv live) (fact was))
+            kept_better w (holds_kept (λ v. nat_lt v.preference w.preference) o offer_to w.candidate
+            (λ v mv live. live_stays stamp (is_proposed o orders bars v mv) mv live) (fact was))
         | inr held ↦ kept_better w held
       ]
 
-  settled_by : (k : ℕ) (w : Wish) (m : Mark) → k < length (entries mid) → get_or (entries mid) k (w, m) ≡ (w, m) → (best : Option (Wish × Mark)) → best_live mid w.candidate ≡ best
+  settled_by : (k : ℕ) (w : Wish) (m : Mark) → k < length (entries mid)
+      → get_or (entries mid) k (w, m) ≡ (w, m) → (best : Option (Wish × Mark))
+      → best_live mid w.candidate ≡ best
       → is_offered (auto_mark stamp best w m).status ≡ false
-  settled_by k w m lt at (Some b) some = ap is_offered (status_of_auto stamp b w m) ∙ settled_by_answer m.status (w.preference == b.0.preference) (nat_lt b.0.preference w.preference)
+  settled_by k w m lt at (Some b) some = ap is_offered (status_of_auto stamp b w m)
+      ∙ settled_by_answer m.status (w.preference == b.0.preference)
+      (nat_lt b.0.preference w.preference)
   settled_by k w m lt at None none =
       false_from_ne_true (is_offered m.status) (λ offers.
       let c = w.candidate in
       let own : is_own_live c (w, m) ≡ true =
-      and_from (is_live m && (c == c)) (nat_lt 0 w.preference) (and_from (is_live m) (c == c) (offered_is_live m.status offers) (eq-eqb c c refl)) (lt-ltb 0 w.preference (ranked mid k (w, m) refl lt at)) in
+      and_from (is_live m && (c == c)) (nat_lt 0 w.preference)
+      (and_from (is_live m) (c == c) (offered_is_live m.status offers) (eq-eqb c c refl))
+      (lt-ltb 0 w.preference (ranked mid k (w, m) refl lt at)) in
       filtered_none preference (is_own_live c) (entries mid) none k (w, m) lt (rw at own))
 
   -- of each entry of the evening
-  each : (P : Wish × Mark → Type 0) → ((k : ℕ) (x : Wish × Mark) → k < length (entries o) → get_or (entries o) k x ≡ x → P (marked_by answer_to (marked_by offer_to x))) → All P (entries night)
+  each : (P : Wish × Mark → Type 0)
+      → ((k : ℕ) (x : Wish × Mark) → k < length (entries o) → get_or (entries o) k x ≡ x
+      → P (marked_by answer_to (marked_by offer_to x))) → All P (entries night)
   each P holds_at =
       All-same P (entries night) (map (marked_by answer_to) (map (marked_by offer_to) (entries o)))
       (entries_marked mid answer_to ∙ ap (map (marked_by answer_to)) (entries_marked o offer_to))

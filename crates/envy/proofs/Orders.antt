@@ -29,10 +29,12 @@ pub record IsBehind (xs : List ℕ) (n : ℕ) (c : ℕ) : Type 0 where
   pub is_there : get_or xs place 0 ≡ c
   pub first : position_or_len (nat_eq c) xs ≡ place
 
-pub behind_at : (xs : List ℕ) → IsDistinct nat_eq xs → (n j d : ℕ) → j < length (drop (n + 1) xs) → IsBehind xs n (get_or (drop (n + 1) xs) j d)
+pub behind_at : (xs : List ℕ) → IsDistinct nat_eq xs → (n j d : ℕ) → j < length (drop (n + 1) xs)
+    → IsBehind xs n (get_or (drop (n + 1) xs) j d)
 behind_at xs apart n j d lt =
     let within : n + 1 + j < length xs = omega (arith, lt, length-drop (n + 1) xs) in
-    let there : get_or (drop (n + 1) xs) j d ≡ get_or xs (n + 1 + j) 0 = get_or-drop (n + 1) xs j d ∙ get_or_default xs (n + 1 + j) d 0 within in
+    let there : get_or (drop (n + 1) xs) j d ≡ get_or xs (n + 1 + j) 0 = get_or-drop (n + 1) xs j d
+    ∙ get_or_default xs (n + 1 + j) d 0 within in
     record {
       place = n + 1 + j;
       within = within;

@@ -28,9 +28,11 @@ is_given_up AutoRefused = true
 is_given_up AutoWithdrawn = true
 is_given_up _ = false
 
--- nobody who is live in a programme stands in its call order behind a candidate with a waiting wish there
+-- nobody who is live in a programme stands in its call order behind a candidate with a waiting wish
+-- there
 abbrev pub NobodyBehind : List CallOrder → State → Wish × Mark → Type 0
-NobodyBehind orders s (w, m) = IsTrue (is_waiting m) → All (λ c. holds_seat s c w.programme ≡ false) (behind s orders w)
+NobodyBehind orders s (w, m) =
+    IsTrue (is_waiting m) → All (λ c. holds_seat s c w.programme ≡ false) (behind s orders w)
 
 -- of a wish that was given up for its candidate, they hold a better one
 abbrev pub HoldsBetter : State → Wish × Mark → Type 0
@@ -48,7 +50,8 @@ pub record IsFair (orders : List CallOrder) (s : State) : Type 0 where
 
 -- where every wish waits, a state is fair
 abbrev pub WaitingIsFair : Type 0
-WaitingIsFair = (orders : List CallOrder) (s : State) → All (λ m. IsTrue (is_waiting m)) s.marks → IsFair orders s
+WaitingIsFair = (orders : List CallOrder) (s : State)
+    → All (λ m. IsTrue (is_waiting m)) s.marks → IsFair orders s
 
 -- a pass with its automatic answers leaves a fair state fair, whatever the bars
 abbrev pub PassesKeepFair : Type 0
@@ -69,7 +72,8 @@ pub record IsFairEvening (orders : List CallOrder) (evening : State) : Type 0 wh
 -- so the passes of a day from a fair opening, under whatever ceilings
 abbrev pub DaysEndFair : Type 0
 DaysEndFair =
-    (orders : List CallOrder) (ceilings : List ℕ) (day k : ℕ) (opening : State) (passes : List PassEnd) (evening : State)
+    (orders : List CallOrder) (ceilings : List ℕ) (day k : ℕ) (opening : State)
+    (passes : List PassEnd) (evening : State)
     → IsValid opening.dossier
     → AreCallOrders opening.dossier.groups orders
     → IsRankedPlainly opening.dossier
@@ -85,7 +89,8 @@ AreTermsFor d terms = IfSome terms (λ t. length t.before ≡ length d.wishes)
 -- and a day from a fair evening, on which nobody answers
 abbrev pub QuietDaysEndFair : Type 0
 QuietDaysEndFair =
-    (terms : Option Terms) (orders : List CallOrder) (ceilings : List ℕ) (old : State) (day : DayRecord) (evening : State)
+    (terms : Option Terms) (orders : List CallOrder) (ceilings : List ℕ) (old : State)
+    (day : DayRecord) (evening : State)
     → IsValid old.dossier
     → AreCallOrders old.dossier.groups orders
     → AreTermsFor old.dossier terms

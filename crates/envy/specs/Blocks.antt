@@ -1,4 +1,5 @@
--- The wishes that block a state, each with its programme's seats left and the last candidate who is envied.
+-- The wishes that block a state, each with its programme's seats left and the last candidate who is
+-- envied.
 use Rattle.std.specs.Prelude.{ℕ, Bool, List, Option, Some, None, map}
 use Rattle.std.specs.List.{filter_map}
 use Rattle.admit_core.specs.declared.ranking.CallOrder.{CallOrder}
@@ -16,7 +17,8 @@ block_at s orders place =
 
 -- whether a block is of a wish that blocks
 abbrev pub is_block : State → List CallOrder → Block → Bool
-is_block s orders block = is_blocking s orders (wish_in s.dossier.wishes block.wish) (mark_in s.marks block.wish)
+is_block s orders block =
+    is_blocking s orders (wish_in s.dossier.wishes block.wish) (mark_in s.marks block.wish)
 
 -- the blocks of a state, by place
 abbrev pub blocks_of : State → List CallOrder → List Block

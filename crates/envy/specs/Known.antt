@@ -36,9 +36,11 @@ abbrev pub AreBest : List (Wish × Mark) → (ℕ → Option ℕ) → Type 0
 AreBest es best = (c q : ℕ) → is_below (best c) q ≡ list_any (is_better c q) es
 
 -- of each programme the last place in its call order at which somebody is live there
-pub record AreLast (d : DossierRows) (orders : List CallOrder) (es : List (Wish × Mark)) (lasts : List (Option ℕ)) : Type 0 where
+pub record AreLast (d : DossierRows) (orders : List CallOrder) (es : List (Wish × Mark))
+    (lasts : List (Option ℕ)) : Type 0 where
   pub as_long : length lasts ≡ length d.programmes
-  pub each : (p k : ℕ) → p < length d.programmes → reaches (number_in lasts p) k ≡ list_any (is_live_from d orders p k) es
+  pub each : (p k : ℕ) → p < length d.programmes
+      → reaches (number_in lasts p) k ≡ list_any (is_live_from d orders p k) es
 
 -- who stands at the last place where somebody is live, where this is behind a place
 abbrev pub envied_at : List ℕ → Option ℕ → ℕ → Option ℕ

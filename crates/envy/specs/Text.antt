@@ -14,8 +14,10 @@ envied_words (Some candidate) = codes "envies" ∷ decimal candidate ∷ []
 -- a block, with its wish's id and the seats left
 abbrev pub block_line : DossierRows → Block → List ℕ
 block_line d block =
-    line (codes "block" ∷ decimal (wish_id d block.wish) ∷ codes "left" ∷ decimal block.left ∷ envied_words block.envied)
+    line (codes "block" ∷ decimal (wish_id d block.wish) ∷ codes "left" ∷ decimal block.left
+    ∷ envied_words block.envied)
 
 -- a line for each block, and last their number
 abbrev pub envy_text : DossierRows → List Block → List ℕ
-envy_text d blocks = flat_map (block_line d) blocks ++ line (codes "blocks" ∷ decimal (length blocks) ∷ [])
+envy_text d blocks =
+    flat_map (block_line d) blocks ++ line (codes "blocks" ∷ decimal (length blocks) ∷ [])

@@ -101,7 +101,8 @@ fn block_at(
     wish: u32,
 ) -> Block
     requires orders { AreCallOrders state.now.dossier.groups orders.now.orders }
-    requires places { places.now ≡ map (place_of state.now.dossier orders.now.orders) state.now.dossier.wishes }
+    requires places { places.now
+        ≡ map (place_of state.now.dossier orders.now.orders) state.now.dossier.wishes }
     requires lasts { AreLast state.now.dossier orders.now.orders (entries state.now) lasts.now }
     requires wish { wish < length state.now.dossier.wishes }
     ensures { result ≡ block_at state.now orders.now.orders wish }
@@ -133,8 +134,8 @@ fn is_block(state: &DayState<'_>, best: &IndexMap<u32, u32, Keyed>, block: Block
     wants_more(state, best, block.wish) && (block.left > 0 || block.envied.is_some())
 }
 
-/// The blocks of a state, by place, of whose wishes it is known where each stands, which is the last
-/// live one of each programme, and which is the best one of each candidate.
+/// The blocks of a state, by place, of whose wishes it is known where each stands, which is the
+/// last live one of each programme, and which is the best one of each candidate.
 fn listed_blocks(
     alloc: Global,
     state: &DayState<'_>,
@@ -161,23 +162,6 @@ fn listed_blocks(
     Ok(blocks)
 }
 
-/// The blocks of a state, by place. The map comes last: it is held over no `?`, where each of its
-/// parts would be dropped.
-fn blocks_of(
-    alloc: Global,
-    state: &DayState<'_>,
-    orders: &CallOrders,
-) -> Result<Vec<Block>, OutOfMemory>
-    requires { AreCallOrders state.now.dossier.groups orders.now.orders }
-    ensures { IfOk result (λ blocks. blocks.items ≡ blocks_of state.now orders.now.orders) }
-{
-    let _ = state.marks(); // one for each wish
-    let places = places_of(alloc, state, orders)?;
-    let lasts = last_live(alloc, state, &places)?;
-    let best = best_wishes(alloc, state)?;
-    listed_blocks(alloc, state, orders, &places, &lasts, &best)
-}
-
 /// The wishes that block a state, by place. After automatic days there are none.
 ///
 /// It costs about the wishes and the call orders together: what each candidate holds, where they
@@ -189,7 +173,8 @@ pub fn blocking_pairs(
 ) -> Result<Vec<Block>, OutOfMemory>
     requires { AreCallOrders state.now.dossier.groups orders.now.orders }
     ensures blocks { IfOk result (λ blocks. blocks.items ≡ blocks_of state.now orders.now.orders) }
-    ensures within { IfOk result (λ blocks. All (λ block. block.wish < length state.now.dossier.wishes) blocks.items) }
+    ensures within { IfOk result (λ blocks.
+        All (λ block. block.wish < length state.now.dossier.wishes) blocks.items) }
     ensures first_evening { IsFirstEvening orders.now.orders state.now
         → IfOk result (λ blocks. blocks.items ≡ []) }
     ensures later_evening { IsLaterEvening orders.now.orders state.now
@@ -197,8 +182,13 @@ pub fn blocking_pairs(
 {
     let dossier = state.dossier();
     let _ = &dossier.wishes; // learns that the dossier is valid
+    let _ = state.marks(); // one for each wish
     laws_of_automatic_days();
-    blocks_of(alloc, state, orders)
+    let places = places_of(alloc, state, orders)?;
+    let lasts = last_live(alloc, state, &places)?;
+    // The map comes last: it is held over no `?`, where each of its parts would be dropped.
+    let best = best_wishes(alloc, state)?;
+    listed_blocks(alloc, state, orders, &places, &lasts, &best)
 }
 
 /// Who is envied in a block, where somebody is.
@@ -230,6 +220,6 @@ pub fn envy_list(
     requires { AreCallOrders state.now.dossier.groups orders.now.orders }
     ensures { IfOk result (λ envies. envies.items ≡ envies_of state.now orders.now.orders) }
 {
-    let blocks = blocks_of(alloc, state, orders)?;
+    let blocks = blocking_pairs(alloc, state, orders)?;
     envies_of(alloc, &blocks)
 }

@@ -36,7 +36,8 @@ fn set_of(alloc: Global, order: &[u32]) -> Result<IndexSet<u32, Keyed>, OutOfMem
 /// The candidates of each call order.
 fn sets_of(alloc: Global, orders: &[CallOrder]) -> Result<Vec<IndexSet<u32, Keyed>>, OutOfMemory>
     requires { All (λ order. IsDistinct nat_eq order.list) orders.now }
-    ensures { IfOk result (λ sets. map (λ set. set.keys) sets.items ≡ map (λ order. order.list) orders.now) }
+    ensures { IfOk result (λ sets.
+        map (λ set. set.keys) sets.items ≡ map (λ order. order.list) orders.now) }
 {
     let mut sets = Vec::new(alloc);
     for order in orders {
@@ -83,7 +84,8 @@ pub(crate) fn places_of(
     orders: &CallOrders,
 ) -> Result<Vec<usize>, OutOfMemory>
     requires { AreCallOrders state.now.dossier.groups orders.now.orders }
-    ensures { IfOk result (λ places. places.items ≡ map (place_of state.now.dossier orders.now.orders) state.now.dossier.wishes) }
+    ensures { IfOk result (λ places. places.items
+        ≡ map (place_of state.now.dossier orders.now.orders) state.now.dossier.wishes) }
 {
     call_once(state, orders);
     let sets = sets_of(alloc, orders.orders.as_slice())?;

@@ -88,7 +88,8 @@ fn note_last(lasts: &mut Vec<Option<usize>>, wish: Wish, mark: Mark, place: usiz
     requires { wish.programme < length lasts.old.items }
     ensures as_long { length lasts.new.items ≡ length lasts.old.items }
     ensures each { (p k : ℕ) → reaches (number_in lasts.new.items p) k
-        ≡ (reaches (number_in lasts.old.items p) k || (is_live mark && (wish.programme == p) && nat_le k place)) }
+        ≡ (reaches (number_in lasts.old.items p) k
+        || (is_live mark && (wish.programme == p) && nat_le k place)) }
 {
     if mark.is_live() {
         let programme = wish.programme as usize;

@@ -36,7 +36,8 @@ fn push_blocks(
     blocks: &[Block],
 ) -> Result<(), AllocError>
     requires { All (λ block. block.wish < length dossier.now.wishes) blocks.now }
-    ensures { OnOk result (string_bytes text.new ≡ string_bytes text.old ++ flat_map (block_line dossier.now) blocks.now) }
+    ensures { OnOk result (string_bytes text.new
+        ≡ string_bytes text.old ++ flat_map (block_line dossier.now) blocks.now) }
 {
     for block in blocks {
         let line = block_line(alloc, dossier, *block)?;

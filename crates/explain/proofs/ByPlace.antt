@@ -33,8 +33,14 @@ each_is_listed last evening same long long_too =
     let in_pairs : k < length pairs = omega (arith, lt, pairs_long) in
     let pair : get_or pairs k none ≡ (mark_in evening.marks k, (wish_in ws k, mark_in o.marks k)) =
     get_or-zip evening.marks (entries o) k none in_now in_es
-    ∙ ap (λ (e : Wish × Mark). (get_or evening.marks k (mark_in [] 0), e)) (get_or-zip ws o.marks k (wish_in [] 0, mark_in [] 0) in_ws in_ms)
-    ∙ rw (unwrap_or-slice_get evening.marks k (mark_in [] 0), unwrap_or-slice_get ws k (wish_in [] 0), unwrap_or-slice_get o.marks k (mark_in [] 0)) refl in
+    ∙ ap (λ (e : Wish × Mark). (get_or evening.marks k (mark_in [] 0), e))
+    (get_or-zip ws o.marks k (wish_in [] 0, mark_in [] 0) in_ws in_ms)
+    ∙ rw (
+      unwrap_or-slice_get evening.marks k (mark_in [] 0),
+      unwrap_or-slice_get ws k
+          (wish_in [] 0),
+      unwrap_or-slice_get o.marks k (mark_in [] 0),
+    ) refl in
     get_or-map f pairs k none (f none) in_pairs
     ∙ ap f pair
     ∙ ap (λ (d : DossierRows). explanation last (mark_in evening.marks k) (wish_in d.wishes k) (mark_in o.marks k)) (sym same))

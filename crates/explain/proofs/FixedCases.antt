@@ -44,10 +44,13 @@ pub days_fix_them : DaysFixThem
 days_fix_them terms orders ceilings old one other evening night number a b =
     let fixed = only_falls_differ terms orders ceilings old one other evening night number a b in
     let bars = same_bars one.passes other.passes fixed.1.passes in
-    let opening = same_opening orders one.day 1 (morning terms one.day old) (morning terms one.day old) one.passes other.passes refl fixed.1.passes
+    let opening = same_opening orders one.day 1 (morning terms one.day old)
+    (morning terms one.day old) one.passes other.passes refl fixed.1.passes
     ∙ ap (λ (d : ℕ). last_opening orders d 1 (morning terms d old) other.passes) number in
     ap (λ (s : State). explained (last_pass s orders ceilings (last_bars one.passes)) evening.marks) opening
-    ∙ ap (λ (bs : List ℕ). explained (last_pass (last_opening orders other.day 1 (morning terms other.day old) other.passes) orders ceilings bs) evening.marks) bars
+    ∙ ap (λ (bs : List ℕ).
+    explained (last_pass (last_opening orders other.day 1
+    (morning terms other.day old) other.passes) orders ceilings bs) evening.marks) bars
     ∙ ap (λ (s : State). explained (last_of terms orders ceilings old other) s.marks) fixed.0
 
 -- the groups of a dossier have one list of call orders
@@ -61,7 +64,8 @@ same_orders (g ∷ gs) (x ∷ xs) (y ∷ ys) a b =
     ap (λ (o : CallOrder). o ∷ xs) (same_order g x y a.0 b.0) ∙ ap (λ (os : List CallOrder). y ∷ os) (same_orders gs xs ys a.1 b.1)
 
 pub campaigns_fix_them : CampaignsFixThem
-campaigns_fix_them terms orders others first last old days twins day twin noon noon_too evening night called called_too same one other number a b =
+campaigns_fix_them terms orders others first last old days twins day twin noon noon_too evening
+    night called called_too same one other number a b =
     let ceilings = ceilings_of old.dossier last in
     let noons = (campaigns_are_fixed terms orders others first old days twins noon noon_too called called_too same one other).0 in
     let as_orders = same_orders old.dossier.groups others orders called_too called in

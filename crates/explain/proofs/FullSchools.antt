@@ -16,7 +16,8 @@ use Rattle.admit_core.proofs.Tests.{filter_implied}
 use Rattle.linked_demand.proofs.Lining.{filter_twice}
 use Rattle.round.specs.PassLaws.{new_bed_holders}
 
-module _ (o : State) (orders : List CallOrder) (bars : List ℕ) (stamp : Stamp) (none : IsTrue (frees_nothing (freed_after o orders bars stamp))) where
+module _ (o : State) (orders : List CallOrder) (bars : List ℕ) (stamp : Stamp)
+    (none : IsTrue (frees_nothing (freed_after o orders bars stamp))) where
   abbrev after : State
   after = offered o orders bars stamp
 
@@ -32,11 +33,14 @@ module _ (o : State) (orders : List CallOrder) (bars : List ℕ) (stamp : Stamp)
       (eqb-true freed.beds 0 parts.1) c h (holder_has_wish (λ u. has_school u h) after c held) lt held
 
   -- where as many became live as beds were free, all beds are taken
-  pub beds_taken : (h : ℕ) → h < length o.dossier.schools → length (new_bed_holders o after h) ≡ free_beds o h → beds_of o.dossier h ≤ length (bed_holders night h)
+  pub beds_taken : (h : ℕ) → h < length o.dossier.schools
+      → length (new_bed_holders o after h) ≡ free_beds o h
+      → beds_of o.dossier h ≤ length (bed_holders night h)
   beds_taken h lt full =
       let cs = candidates_of o.dossier in
       let kept = split_count (λ c. holds_bed o c h) (λ c. holds_bed after c h)
-      (λ c t. holds_kept (λ u. has_school u h) o (offer o orders bars stamp) c (λ v mv live. live_stays stamp (is_proposed o orders bars v mv) mv live) t) cs in
+      (λ c t. holds_kept (λ u. has_school u h) o (offer o orders bars stamp) c
+      (λ v mv live. live_stays stamp (is_proposed o orders bars v mv) mv live) t) cs in
       let new = ap length (filter_twice (λ (c : ℕ). not (holds_bed o c h)) (λ (c : ℕ). holds_bed after c h) cs) in
       let more = filter_implied (λ c. holds_bed after c h) (λ c. holds_bed night c h) (bed_kept h lt) cs in
       omega (arith, full, kept, new, more)

@@ -12,7 +12,9 @@ use Rattle.admit_core.specs.Proposals.{is_barred, is_behind_bar}
 use Rattle.admit_core.specs.Explanations.{LastPass, barred_at, explanation, no_seat}
 use Rattle.explain.specs.Laws.{EachHasOne, IsExplanation}
 
-waits_not_live : (status : Status) → is_waiting (record { status = status; stamp = record { day = 0; pass = 0 } }) ≡ true → is_live (record { status = status; stamp = record { day = 0; pass = 0 } }) ≡ false
+waits_not_live : (status : Status)
+    → is_waiting (record { status = status; stamp = record { day = 0; pass = 0 } }) ≡ true
+    → is_live (record { status = status; stamp = record { day = 0; pass = 0 } }) ≡ false
 waits_not_live Waiting t = refl
 waits_not_live Offered t = absurd (false≢true t)
 waits_not_live Accepted t = absurd (false≢true t)
@@ -37,20 +39,33 @@ module _ (last : LastPass) (now : Mark) (w : Wish) (m : Mark) where
   pub when_live : is_live now ≡ true → explanation last now w m ≡ Live now.status now.stamp
   when_live live = rw live refl
 
-  pub when_barred : is_live now ≡ false → is_waiting now ≡ true → is_barred last.opening last.bars w m ≡ true → explanation last now w m ≡ barred_at last w.board_rank w.school
+  pub when_barred : is_live now ≡ false → is_waiting now ≡ true
+      → is_barred last.opening last.bars w m ≡ true
+      → explanation last now w m ≡ barred_at last w.board_rank w.school
   when_barred not_live waits barred = rw (not_live, waits, barred) refl
 
-  pub when_seatless : is_live now ≡ false → is_waiting now ≡ true → is_barred last.opening last.bars w m ≡ false → explanation last now w m ≡ no_seat last w
+  pub when_seatless : is_live now ≡ false → is_waiting now ≡ true
+      → is_barred last.opening last.bars w m ≡ false → explanation last now w m ≡ no_seat last w
   when_seatless not_live waits not_barred = rw (not_live, waits, not_barred) refl
 
-  barred_holds : (school : Option ℕ) → w.school ≡ school → is_live now ≡ false → is_waiting now ≡ true → is_barred last.opening last.bars w m ≡ true
+  barred_holds : (school : Option ℕ) → w.school ≡ school → is_live now ≡ false
+      → is_waiting now ≡ true → is_barred last.opening last.bars w m ≡ true
       → IsExplanation last now w m (explanation last now w m)
   barred_holds None is not_live waits barred =
       let behind = (and_parts (is_waiting m) (is_behind_bar last.opening last.bars w w.school) barred).1 in
       absurd (false≢true (sym (ap (is_behind_bar last.opening last.bars w) is) ∙ behind))
   barred_holds (Some h) is not_live waits barred =
       let e = when_barred not_live waits barred ∙ ap (barred_at last w.board_rank) is in
-      subst (IsExplanation last now w m) (sym e) (record { waits = waits; barred = barred; school = is; own_rank = refl; own_bar = refl }, refl)
+      subst (IsExplanation last now w m) (sym e) (
+        record {
+          waits = waits;
+          barred = barred;
+          school = is;
+          own_rank = refl;
+          own_bar = refl;
+        },
+        refl,
+      )
 
   holds : IsExplanation last now w m (explanation last now w m)
   holds =
@@ -65,7 +80,12 @@ module _ (last : LastPass) (now : Mark) (w : Wish) (m : Mark) where
                 | inl barred ↦ barred_holds w.school refl not_live waits barred
                 | inr not_barred ↦
                     subst P (sym (when_seatless not_live waits not_barred))
-                    (record { waits = waits; not_barred = not_from_false (is_barred last.opening last.bars w m) not_barred; numbers = refl })
+                    (record {
+                      waits = waits;
+                      not_barred = not_from_false
+                          (is_barred last.opening last.bars w m) not_barred;
+                      numbers = refl;
+                    })
               ]
         ]
       ]
@@ -78,7 +98,8 @@ module _ (last : LastPass) (now : Mark) (w : Wish) (m : Mark) where
       let same : Barred h rank bar cause ≡ barred_at last w.board_rank (Some h) = rw (b.own_rank, b.own_bar, is.1) refl in
       same ∙ ap (barred_at last w.board_rank) (sym b.school) ∙ sym (when_barred (waits_not_live now.status b.waits) b.waits b.barred)
   alone (NoSeat ahead left position limit) is =
-      is.numbers ∙ sym (when_seatless (waits_not_live now.status is.waits) is.waits (not-true (is_barred last.opening last.bars w m) is.not_barred))
+      is.numbers ∙ sym (when_seatless (waits_not_live now.status is.waits) is.waits
+      (not-true (is_barred last.opening last.bars w m) is.not_barred))
 
 pub each_has_one : EachHasOne
 each_has_one last now w m x = (alone last now w m x, λ e. subst (IsExplanation last now w m) (sym e) (holds last now w m))

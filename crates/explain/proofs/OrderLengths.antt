@@ -21,5 +21,6 @@ few_at (x ∷ gs) (o ∷ os) valid calls zero =
     omega (arith, length-order x o first.ranking calls.0, first.size)
 few_at (x ∷ gs) (o ∷ os) valid calls (suc g) = few_at gs os (All-tail IsValidGroup x gs valid) calls.1 g
 
-pub few_called : (d : DossierRows) (orders : List CallOrder) → IsValid d → AreCallOrders d.groups orders → (p : ℕ) → length (order_of d orders p) ≤ 16000000
+pub few_called : (d : DossierRows) (orders : List CallOrder) → IsValid d
+    → AreCallOrders d.groups orders → (p : ℕ) → length (order_of d orders p) ≤ 16000000
 few_called d orders valid calls p = few_at d.groups orders valid.groups calls (group_of d p)

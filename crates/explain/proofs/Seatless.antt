@@ -26,9 +26,11 @@ module _ (o : State) (orders : List CallOrder) (bars : List ℕ) (stamp : Stamp)
   same_seat : (v w : Wish) → v.candidate ≡ w.candidate → v.programme ≡ w.programme → has_seat v ≡ true → has_seat w ≡ true
   same_seat v w same_candidate same_programme t = rw (← same_candidate, ← same_programme) t
 
-  pub finds_none : (w : Wish) (m : Mark) → IsValid o.dossier → AreCallOrders o.dossier.groups orders → IsTrue (frees_nothing (freed_after o orders bars stamp))
+  pub finds_none : (w : Wish) (m : Mark) → IsValid o.dossier → AreCallOrders o.dossier.groups orders
+      → IsTrue (frees_nothing (freed_after o orders bars stamp))
       → w.programme < length o.dossier.programmes → is_open o bars w m ≡ true → is_proposed o orders bars w m ≡ false
-      → FindsNoSeat (closing o orders bars stamp) w (ahead o orders bars w) (seats_left o w.programme) (position_of o orders w) (limit_of o.dossier w.programme)
+      → FindsNoSeat (closing o orders bars stamp) w (ahead o orders bars w)
+      (seats_left o w.programme) (position_of o orders w) (limit_of o.dossier w.programme)
   finds_none w m valid called none there opens not_proposed =
       let c = w.candidate in
       let p = w.programme in
@@ -51,5 +53,6 @@ module _ (o : State) (orders : List CallOrder) (bars : List ℕ) (stamp : Stamp)
             let v = new.entry.0 in
             let parts = and_parts (is_open o bars v new.entry.1) (has_seat v) new.offers in
             both_ways (has_seat w) no_seat (same_seat v w (eqb-true v.candidate c new.own) (eqb-true v.programme p new.passes) parts.1));
-        filled = full_in_evening o orders bars stamp none p there (takers_fill o orders bars stamp w m (order_distinct o.dossier orders valid called p) opens not_proposed);
+        filled = full_in_evening o orders bars stamp none p there (takers_fill o orders bars stamp w
+            m (order_distinct o.dossier orders valid called p) opens not_proposed);
       }

@@ -53,7 +53,12 @@ module _ (last : LastPass) (stamp : Stamp) (of_dossier : IsOfDossier last) (vali
             let e : cause_of last h ≡ Full (beds_of o.dossier h) = rw (ne_eqb bar ceiling differ) refl in
             let fell : bar < ceiling = omega (arith, differ, greatest.fits.under_ceilings.each h) in
             let full = lowered_for_beds o last.orders last.ceilings last.bars stamp valid greatest h fell in
-            subst (IsCause last night h) (sym e) (record { all_beds = refl; fell = fell; taken = beds_taken o last.orders last.bars stamp none h there full })
+            subst (IsCause last night h) (sym e)
+            (record {
+              all_beds = refl;
+              fell = fell;
+              taken = beds_taken o last.orders last.bars stamp none h there full;
+            })
       ]
 
   module _ (long : length o.marks ≡ length o.dossier.wishes) (k : ℕ) (lt : k < length o.dossier.wishes) where
@@ -66,7 +71,9 @@ module _ (last : LastPass) (stamp : Stamp) (of_dossier : IsOfDossier last) (vali
     abbrev now : Mark
     now = mark_in night.marks k
 
-    barred_says : (school : Option ℕ) → w.school ≡ school → is_behind_bar o last.bars w school ≡ true → Says last night w (barred_at last w.board_rank school)
+    barred_says : (school : Option ℕ) → w.school ≡ school
+        → is_behind_bar o last.bars w school ≡ true
+        → Says last night w (barred_at last w.board_rank school)
     barred_says None is t = absurd (false≢true t)
     barred_says (Some h) is t =
         let parts = and_parts (not (holds_bed o w.candidate h)) (nat_lt (slice_index last.bars h) w.board_rank) t in
@@ -98,8 +105,10 @@ module _ (last : LastPass) (stamp : Stamp) (of_dossier : IsOfDossier last) (vali
     seatless_says waits not_barred =
         let answered = ap is_waiting (sym now_is) ∙ waits in
         let still = waits_still stamp (is_proposed o last.orders last.bars w m) m
-        (auto_waits stamp (best_live (after_offers o last.orders last.bars stamp) w.candidate) w (offer o last.orders last.bars stamp w m) answered) in
-        let opens = and_from (is_waiting m) (not (is_barred o last.bars w m)) still.1 (not_from_false (is_barred o last.bars w m) not_barred) in
+        (auto_waits stamp (best_live (after_offers o last.orders last.bars stamp) w.candidate) w
+        (offer o last.orders last.bars stamp w m) answered) in
+        let opens = and_from (is_waiting m) (not (is_barred o last.bars w m)) still.1
+        (not_from_false (is_barred o last.bars w m) not_barred) in
         finds_none o last.orders last.bars stamp w m valid of_dossier.called none (wish_valid o.dossier valid k lt).programme opens still.0
 
     pub said_at_night : Says last night w (explanation last now w m)
@@ -124,16 +133,19 @@ module _ (last : LastPass) (stamp : Stamp) (of_dossier : IsOfDossier last) (vali
 pub same_dossier : (last : LastPass) (evening : State) → IsLastPass last evening → evening.dossier ≡ last.opening.dossier
 same_dossier last evening is = ap (λ (s : State). s.dossier) is.leaves
 
-pub said : (last : LastPass) (evening : State) → IsLastPass last evening → IsValid evening.dossier → length last.opening.marks ≡ length last.opening.dossier.wishes
+pub said : (last : LastPass) (evening : State) → IsLastPass last evening → IsValid evening.dossier
+    → length last.opening.marks ≡ length last.opening.dossier.wishes
     → (k : ℕ) → k < length evening.dossier.wishes → Says last evening (wish_in evening.dossier.wishes k) (explanation_at last evening k)
 said last evening is valid long k lt =
     let same = same_dossier last evening is in
     let P : State → Type 0 = λ s. Says last s (wish_in s.dossier.wishes k) (explanation_at last s k) in
     subst P (sym is.leaves)
-    (said_at_night last is.stamp is.of_dossier (subst IsValid same valid) is.greatest is.freed_none long k (subst (λ (d : DossierRows). k < length d.wishes) same lt))
+    (said_at_night last is.stamp is.of_dossier (subst IsValid same valid) is.greatest is.freed_none
+    long k (subst (λ (d : DossierRows). k < length d.wishes) same lt))
 
 -- the case of a wish by its mark of the evening
-pub explains_so : (last : LastPass) (evening : State) → IsLastPass last evening → IsValid evening.dossier → length last.opening.marks ≡ length last.opening.dossier.wishes
+pub explains_so : (last : LastPass) (evening : State) → IsLastPass last evening
+    → IsValid evening.dossier → length last.opening.marks ≡ length last.opening.dossier.wishes
     → (k : ℕ) → k < length evening.dossier.wishes → (mark : Mark) (x : Explanation) → mark ≡ mark_in evening.marks k
     → x ≡ explanation last mark (wish_in last.opening.dossier.wishes k) (mark_in last.opening.marks k) → Explains last evening k x
 explains_so last evening is valid long k lt mark x mark_is x_is =
@@ -143,10 +155,15 @@ explains_so last evening is valid long k lt mark x mark_is x_is =
     x_is
     ∙ ap (λ (n : Mark). explanation last n (wish_in last.opening.dossier.wishes k) was) mark_is
     ∙ ap (λ (d : DossierRows). explanation last (mark_in evening.marks k) (wish_in d.wishes k) was) (sym same) in
-    record { is_case = case_is; says = subst (Says last evening (wish_in evening.dossier.wishes k)) (sym case_is) (said last evening is valid long k lt) }
+    record {
+      is_case = case_is;
+      says = subst (Says last evening (wish_in evening.dossier.wishes k))
+          (sym case_is) (said last evening is valid long k lt);
+    }
 
 -- the same of what equals the pass and the evening
-pub explains_there : (one last : LastPass) (night evening : State) (k : ℕ) (x : Explanation) → one ≡ last → night ≡ evening → Explains one night k x → Explains last evening k x
+pub explains_there : (one last : LastPass) (night evening : State) (k : ℕ) (x : Explanation)
+    → one ≡ last → night ≡ evening → Explains one night k x → Explains last evening k x
 explains_there one last night evening k x one_is night_is explains =
     let by_pass = subst (λ (l : LastPass). Explains l night k x) one_is explains in
     subst (λ (s : State). Explains last s k x) night_is by_pass

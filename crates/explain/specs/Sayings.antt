@@ -10,7 +10,8 @@ use Rattle.admit_core.specs.State.{State, bed_holders, holds_bed, holds_seat, se
 use Rattle.admit_core.specs.Explanations.{LastPass, explanation}
 use Rattle.day_state.specs.Kept.{mark_in, wish_in}
 
--- the bar of a school fell below its ceiling, and at least as many candidates as it has beds are live there
+-- the bar of a school fell below its ceiling, and at least as many candidates as it has beds are
+-- live there
 pub record IsFull (last : LastPass) (evening : State) (h beds : ℕ) : Type 0 where
   pub all_beds : beds ≡ beds_of evening.dossier h
   pub fell : slice_index last.bars h < slice_index last.ceilings h
@@ -20,16 +21,18 @@ abbrev pub IsCause : LastPass → State → ℕ → BarCause → Type 0
 IsCause last evening h Ceiling = slice_index last.bars h ≡ slice_index last.ceilings h
 IsCause last evening h (Full beds) = IsFull last evening h beds
 
--- the candidate ranks behind the bar of the wish's school, which is one of the dossier, and is not live there
-pub record FindsNoBed (last : LastPass) (evening : State) (w : Wish) (h rank bar : ℕ) (cause : BarCause) : Type 0 where
+-- the candidate ranks behind the bar of the wish's school, which is one of the dossier, and is not
+-- live there
+pub record FindsNoBed (last : LastPass) (evening : State) (w : Wish) (h rank bar : ℕ)
+    (cause : BarCause) : Type 0 where
   pub school : w.school ≡ Some h
   pub there : h < length evening.dossier.schools
   pub behind : bar < rank
   pub bedless : holds_bed evening w.candidate h ≡ false
   pub because : IsCause last evening h cause
 
--- at least as many stood ahead as seats were left, and the position is past the limit; the candidate is not live in the
--- programme, which has no seat left
+-- at least as many stood ahead as seats were left, and the position is past the limit; the
+-- candidate is not live in the programme, which has no seat left
 pub record FindsNoSeat (evening : State) (w : Wish) (ahead left position limit : ℕ) : Type 0 where
   pub taken : left ≤ ahead
   pub beyond : limit < position
@@ -41,12 +44,14 @@ abbrev pub Says : LastPass → State → Wish → Explanation → Type 0
 Says last evening w (Gone status stamp) = ⊤
 Says last evening w (Live status stamp) = ⊤
 Says last evening w (Barred h rank bar cause) = FindsNoBed last evening w h rank bar cause
-Says last evening w (NoSeat ahead left position limit) = FindsNoSeat evening w ahead left position limit
+Says last evening w (NoSeat ahead left position limit) =
+    FindsNoSeat evening w ahead left position limit
 
 -- the explanation of the wish at a place
 abbrev pub explanation_at : LastPass → State → ℕ → Explanation
 explanation_at last evening place =
-    explanation last (mark_in evening.marks place) (wish_in evening.dossier.wishes place) (mark_in last.opening.marks place)
+    explanation last (mark_in evening.marks place) (wish_in evening.dossier.wishes place)
+    (mark_in last.opening.marks place)
 
 -- the one case that holds of the wish at a place in an evening, and what it says of that evening
 pub record Explains (last : LastPass) (evening : State) (place : ℕ) (x : Explanation) : Type 0 where

@@ -30,7 +30,8 @@ impl<'p, 'd> Model for Closing<'p, 'd> {
 
     ghost view = { λ p. last_pass p.opening.now p.orders.now.orders p.ceilings.now p.bars.now };
 
-    ghost invariant = { λ p. IsOfDossier (last_pass p.opening.now p.orders.now.orders p.ceilings.now p.bars.now) };
+    ghost invariant = { λ p. IsOfDossier
+        (last_pass p.opening.now p.orders.now.orders p.ceilings.now p.bars.now) };
 }
 
 impl<'p, 'd> Closing<'p, 'd> {

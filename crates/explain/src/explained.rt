@@ -43,7 +43,8 @@ pub fn explain_on_desk(
         (last_pass desk.now.opening orders.now.orders ceilings.now bars.now) desk.now.present }
     requires wish { wish < length desk.now.present.dossier.wishes }
     ensures { Explains
-        (last_pass desk.now.opening orders.now.orders ceilings.now bars.now) desk.now.present wish result }
+        (last_pass desk.now.opening orders.now.orders ceilings.now bars.now)
+        desk.now.present wish result }
 {
     let last = Closing::of_desk(desk, orders, ceilings, bars);
     explained(desk.now(), &last, wish)

@@ -19,7 +19,8 @@ use Rattle.played.specs.PlayedDays.{EndsNext, IsNext, IsPlayed, Lead, Plan, Play
 use Rattle.played.proofs.Naming.{back_again, back_untouched, picked_by-append, told_more}
 
 -- so many days were played
-pub record SoFar (plan : Plan) (old : DeskStates) (before : Lent) (played : ℕ) (days : List DayRecord) (new : DeskStates) (after : Lent) : Type 0 where
+pub record SoFar (plan : Plan) (old : DeskStates) (before : Lent) (played : ℕ)
+    (days : List DayRecord) (new : DeskStates) (after : Lent) : Type 0 where
   pub lead : Lead plan 1 old before days new
   pub number : length days ≡ played
   pub told : Told plan.who days before after
@@ -30,18 +31,23 @@ abbrev lents_after : PickerChoice → List DayRecord → Lent → Lent
 lents_after who [] lent = lent
 lents_after who (day ∷ days) lent = lents_after who days (lent_after who day lent)
 
-told_after : (who : PickerChoice) (days : List DayRecord) (lent : Lent) (name : PickerName) → (lents_after who days lent).told name ≡ lent.told name ++ picked_by who name days
+told_after : (who : PickerChoice) (days : List DayRecord) (lent : Lent) (name : PickerName)
+    → (lents_after who days lent).told name ≡ lent.told name ++ picked_by who name days
 told_after who [] lent name = sym (append-nil (lent.told name))
 told_after who (day ∷ days) lent name =
-    told_after who days (lent_after who day lent) name ∙ append_assoc (lent.told name) (picked_by who name (day ∷ [])) (picked_by who name days)
+    told_after who days (lent_after who day lent) name
+    ∙ append_assoc (lent.told name) (picked_by who name (day ∷ [])) (picked_by who name days)
     ∙ ap (λ l. lent.told name ++ l) (sym (picked_by-append who name (day ∷ []) days))
 
-choice_after : (who : PickerChoice) (days : List DayRecord) (lent : Lent) (name : PickerName) → (lents_after who days lent).choice name ≡ lent.choice name
+choice_after : (who : PickerChoice) (days : List DayRecord) (lent : Lent) (name : PickerName)
+    → (lents_after who days lent).choice name ≡ lent.choice name
 choice_after who [] lent name = refl
 choice_after who (day ∷ days) lent name = choice_after who days (lent_after who day lent) name
 
 -- a day speaks of its own picker alone
-next_same : (plan : Plan) (d : ℕ) (old new : DeskStates) (one other : Lent) (day : DayRecord) → one.told (picker_on plan.who d) ≡ other.told (picker_on plan.who d) → one.choice (picker_on plan.who d) ≡ other.choice (picker_on plan.who d)
+next_same : (plan : Plan) (d : ℕ) (old new : DeskStates) (one other : Lent) (day : DayRecord)
+    → one.told (picker_on plan.who d) ≡ other.told (picker_on plan.who d)
+    → one.choice (picker_on plan.who d) ≡ other.choice (picker_on plan.who d)
     → IsNext plan d old one day new → IsNext plan d old other day new
 next_same plan d old new one other day told choice next =
     let name = picker_on plan.who d in
@@ -55,11 +61,18 @@ next_same plan d old new one other day told choice next =
       dossier = next.dossier;
     }
 
-lead_more : (plan : Plan) (d : ℕ) (old : DeskStates) (before : Lent) (days : List DayRecord) (mid : DeskStates) (day : DayRecord) (new : DeskStates)
-    → Lead plan d old before days mid → IsNext plan (d + length days) mid (lents_after plan.who days before) day new → Lead plan d old before (days ++ day ∷ []) new
+lead_more : (plan : Plan) (d : ℕ) (old : DeskStates) (before : Lent) (days : List DayRecord)
+    (mid : DeskStates) (day : DayRecord) (new : DeskStates)
+    → Lead plan d old before days mid
+    → IsNext plan (d + length days) mid (lents_after plan.who days before) day new
+    → Lead plan d old before (days ++ day ∷ []) new
 lead_more plan d old before [] mid day new same next =
-    let at : d + 0 ≡ d = omega arith in
-    (new, subst (λ (desk : DeskStates). IsNext plan d desk before day new) (sym same) (subst (λ (n : ℕ). IsNext plan n mid before day new) at next), refl)
+    let at : d + 0 ≡ d = omega arith in (
+      new,
+      subst (λ (desk : DeskStates). IsNext plan d desk before day new) (sym same)
+          (subst (λ (n : ℕ). IsNext plan n mid before day new) at next),
+      refl,
+    )
 lead_more plan d old before (first ∷ days) mid day new lead next =
     let at : d + length (first ∷ days) ≡ d + 1 + length days = omega arith in (
       lead.0,
@@ -69,26 +82,33 @@ lead_more plan d old before (first ∷ days) mid day new lead next =
     )
 
 -- the dossier stays as it was
-pub lead_dossier : (plan : Plan) (d : ℕ) (old : DeskStates) (before : Lent) (days : List DayRecord) (new : DeskStates) → Lead plan d old before days new → new.present.dossier ≡ old.present.dossier
+pub lead_dossier : (plan : Plan) (d : ℕ) (old : DeskStates) (before : Lent) (days : List DayRecord)
+    (new : DeskStates) → Lead plan d old before days new → new.present.dossier ≡ old.present.dossier
 lead_dossier plan d old before [] new same = ap (λ (desk : DeskStates). desk.present.dossier) (sym same)
-lead_dossier plan d old before (day ∷ days) new lead = lead_dossier plan (d + 1) lead.0 (lent_after plan.who day before) days new lead.2 ∙ lead.1.dossier
+lead_dossier plan d old before (day ∷ days) new lead = lead_dossier plan (d + 1) lead.0
+    (lent_after plan.who day before) days new lead.2 ∙ lead.1.dossier
 
-pub nothing_played : (plan : Plan) (begun : DeskStates) (before : Lent) (days : List DayRecord) → days ≡ [] → SoFar plan begun before 0 days begun before
+pub nothing_played : (plan : Plan) (begun : DeskStates) (before : Lent) (days : List DayRecord)
+    → days ≡ [] → SoFar plan begun before 0 days begun before
 nothing_played plan begun before days none =
     subst (λ (ds : List DayRecord). SoFar plan begun before 0 ds begun before) (sym none)
     (record { lead = refl; number = refl; told = λ name. sym (append-nil (before.told name)); back = back_untouched before })
 
-told_nothing : (who : PickerChoice) (days : List DayRecord) (before after : Lent) → length days ≡ 0 → Told who days before after → Untold before after
+told_nothing : (who : PickerChoice) (days : List DayRecord) (before after : Lent) → length days ≡ 0
+    → Told who days before after → Untold before after
 told_nothing who [] before after none told = λ name. told name ∙ append-nil (before.told name)
 told_nothing who (day ∷ days) before after none told = absurd (omega (arith, none))
 
-module _ (plan : Plan) (old : DeskStates) (before : Lent) (played : ℕ) (days : List DayRecord) (mid : DeskStates) (between : Lent) (so_far : SoFar plan old before played days mid between) where
+module _ (plan : Plan) (old : DeskStates) (before : Lent) (played : ℕ) (days : List DayRecord)
+    (mid : DeskStates) (between : Lent)
+    (so_far : SoFar plan old before played days mid between) where
   -- what holds of the dossier holds of it still
   pub still : (P : DossierRows → Type 0) → P old.present.dossier → P mid.present.dossier
   still P holds = subst P (sym (lead_dossier plan 1 old before days mid so_far.lead)) holds
 
   -- one more day
-  pub played_on : (day : DayRecord) (more : List DayRecord) (new : DeskStates) (after : Lent) → EndsNext plan (played + 1) mid between (Ok day) new after → more ≡ days ++ day ∷ []
+  pub played_on : (day : DayRecord) (more : List DayRecord) (new : DeskStates) (after : Lent)
+      → EndsNext plan (played + 1) mid between (Ok day) new after → more ≡ days ++ day ∷ []
       → SoFar plan old before (played + 1) more new after
   played_on day more new after ends more_is =
       let at : played + 1 ≡ 1 + length days = omega (arith, so_far.number) in
@@ -96,8 +116,10 @@ module _ (plan : Plan) (old : DeskStates) (before : Lent) (played : ℕ) (days :
       subst (λ (ds : List DayRecord). SoFar plan old before (played + 1) ds new after) (sym more_is)
       (record {
         lead = lead_more plan 1 old before days mid day new so_far.lead
-            (next_same plan (1 + length days) mid new between (lents_after plan.who days before) day (so_far.told name ∙ sym (told_after plan.who days before name))
-            (so_far.back.choice name ∙ sym (choice_after plan.who days before name)) (subst (λ (n : ℕ). IsNext plan n mid between day new) at ends.done));
+            (next_same plan (1 + length days) mid new between (lents_after plan.who days before) day
+            (so_far.told name ∙ sym (told_after plan.who days before name))
+            (so_far.back.choice name ∙ sym (choice_after plan.who days before name))
+            (subst (λ (n : ℕ). IsNext plan n mid between day new) at ends.done));
         number = omega (arith, so_far.number, length-append days (day ∷ []));
         told = told_more plan.who days day before between after so_far.told ends.told;
         back = back_again before between after so_far.back ends.back;
@@ -107,7 +129,8 @@ module _ (plan : Plan) (old : DeskStates) (before : Lent) (played : ℕ) (days :
   untold_still after untold = λ name. untold name ∙ so_far.told name
 
   -- the next day does not come about
-  stopped : (number : ℕ) (refusal : DayRefusal) (new : DeskStates) (after : Lent) → played < number → EndsNext plan (played + 1) mid between (Err refusal) new after
+  stopped : (number : ℕ) (refusal : DayRefusal) (new : DeskStates) (after : Lent) → played < number
+      → EndsNext plan (played + 1) mid between (Err refusal) new after
       → PlaysDays plan number old before days (Err refusal) new after
   stopped number (refusals.Unfit refusal) new after fewer ends =
       let at : played + 1 ≡ length days + 1 = omega (arith, so_far.number) in
@@ -116,28 +139,49 @@ module _ (plan : Plan) (old : DeskStates) (before : Lent) (played : ℕ) (days :
         lead = so_far.lead;
         stops = record {
           fewer = omega (arith, so_far.number);
-          unfit = subst (λ (n : ℕ). IsSomeAnd (unfit_on plan.terms n mid.present) (λ x. refusal ≡ unfit_refusal mid.present.dossier n x)) at ends.unfit;
+          unfit = subst (λ (n : ℕ). IsSomeAnd (unfit_on plan.terms n mid.present)
+              (λ x. refusal ≡ unfit_refusal mid.present.dossier n x)) at ends.unfit;
         };
         told = untold_still after ends.untold;
         back = back_again before between after so_far.back ends.back;
         idle = λ none. absurd (omega arith);
       }
   stopped number refusals.OutOfMemory new after fewer ends =
-      record { last = mid; lead = tt; stops = tt; told = tt; back = back_again before between after so_far.back ends.back; idle = λ none. absurd (omega arith) }
+      record {
+        last = mid;
+        lead = tt;
+        stops = tt;
+        told = tt;
+        back = back_again before between after
+            so_far.back ends.back;
+        idle = λ none. absurd (omega arith);
+      }
 
-  pub plays_some : (number : ℕ) (refusal : DayRefusal) (new : DeskStates) (after : Lent) (r : Result (Unit {0}) DayRefusal) → IsErrAnd r (λ x. x ≡ refusal) → played < number
+  pub plays_some : (number : ℕ) (refusal : DayRefusal) (new : DeskStates) (after : Lent)
+      (r : Result (Unit {0}) DayRefusal) → IsErrAnd r (λ x. x ≡ refusal) → played < number
       → EndsNext plan (played + 1) mid between (Err refusal) new after → PlaysDays plan number old before days r new after
   plays_some number refusal new after (Ok done) from fewer ends = absurd from
   plays_some number refusal new after (Err other) from fewer ends =
-      subst (λ (x : DayRefusal). PlaysDays plan number old before days (Err x) new after) (sym from) (stopped number refusal new after fewer ends)
+      subst (λ (x : DayRefusal). PlaysDays plan number old before days (Err x) new after) (sym from)
+      (stopped number refusal new after fewer ends)
 
   -- memory runs out after the next day
-  pub plays_out : (number : ℕ) (day : DayRecord) (kept : List DayRecord) (new : DeskStates) (after : Lent) (r : Result (Unit {0}) DayRefusal) → IsErrAnd r (λ x. x ≡ refusals.OutOfMemory) → played < number
+  pub plays_out : (number : ℕ) (day : DayRecord) (kept : List DayRecord) (new : DeskStates)
+      (after : Lent) (r : Result (Unit {0}) DayRefusal) → IsErrAnd r (λ x. x ≡ refusals.OutOfMemory)
+      → played < number
       → EndsNext plan (played + 1) mid between (Ok day) new after → PlaysDays plan number old before kept r new after
   plays_out number day kept new after (Ok done) from fewer ends = absurd from
   plays_out number day kept new after (Err other) from fewer ends =
       subst (λ (x : DayRefusal). PlaysDays plan number old before kept (Err x) new after) (sym from)
-      (record { last = mid; lead = tt; stops = tt; told = tt; back = back_again before between after so_far.back ends.back; idle = λ none. absurd (omega arith) })
+      (record {
+        last = mid;
+        lead = tt;
+        stops = tt;
+        told = tt;
+        back = back_again before between after
+            so_far.back ends.back;
+        idle = λ none. absurd (omega arith);
+      })
 
   pub plays_all : (number : ℕ) → played ≡ number → PlaysDays plan number old before days (Ok tt) mid between
   plays_all number all = record {
@@ -150,7 +194,9 @@ module _ (plan : Plan) (old : DeskStates) (before : Lent) (played : ℕ) (days :
   }
 
 -- what became of the days that were asked for
-module _ (d : DossierRows) (number : ℕ) (plan : Plan) (old new : DeskStates) (before after : Lent) (days : List DayRecord) (end : Result DeskStates Refusal) (called : AreCallOrders d.groups plan.orders) (begun : old ≡ first_desk d) where
+module _ (d : DossierRows) (number : ℕ) (plan : Plan) (old new : DeskStates) (before after : Lent)
+    (days : List DayRecord) (end : Result DeskStates Refusal)
+    (called : AreCallOrders d.groups plan.orders) (begun : old ≡ first_desk d) where
   abbrev IsAll : Type 0
   IsAll = IsPlayed d plan.terms number plan.who before (record { orders = plan.orders; days = days; end = end }) after
 
@@ -166,7 +212,9 @@ module _ (d : DossierRows) (number : ℕ) (plan : Plan) (old new : DeskStates) (
     told = plays.told;
   }
 
-  pub cut_short : (refusal : Refusal) → PlaysDays plan number old before days (Err (refusals.Unfit refusal)) new after → end ≡ Err refusal → IsAll
+  pub cut_short : (refusal : Refusal)
+      → PlaysDays plan number old before days (Err (refusals.Unfit refusal)) new after
+      → end ≡ Err refusal → IsAll
   cut_short refusal plays is = record {
     called = called;
     last = plays.last;

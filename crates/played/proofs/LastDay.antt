@@ -20,10 +20,13 @@ use Rattle.played.specs.Lent.{Lent}
 use Rattle.played.specs.PlayedDays.{EndsAfter, IsNext, IsPlayed, Lead, Plan, Played, first_desk, lent_after, moment_of, plan_of}
 
 -- a day that came about ended with its last pass
-next_ends : (plan : Plan) (d : ℕ) (rows : DossierRows) (old : DeskStates) (before : Lent) (day : DayRecord) (new : DeskStates) → AreCallOrders rows.groups plan.orders → old.present.dossier ≡ rows
+next_ends : (plan : Plan) (d : ℕ) (rows : DossierRows) (old : DeskStates) (before : Lent)
+    (day : DayRecord) (new : DeskStates) → AreCallOrders rows.groups plan.orders
+    → old.present.dossier ≡ rows
     → IsNext plan d old before day new → IsLastPass (pass_on rows plan.orders day new) new.present
 next_ends plan d rows old before day new called same next =
-    desk_ends_so plan.terms plan.orders (ceilings_of old.present.dossier d) (ceilings_of rows day.day) (last_bars day.passes) d (moment_of plan d old before)
+    desk_ends_so plan.terms plan.orders (ceilings_of old.present.dossier d)
+    (ceilings_of rows day.day) (last_bars day.passes) d (moment_of plan d old before)
     (moment_of plan d new (lent_after plan.who day before)) day
     (subst (λ (e : DossierRows). AreCallOrders e.groups plan.orders) (sym same) called) (length-ceilings_of old.present.dossier d) next.done
     (ap (λ (e : DossierRows). ceilings_of e d) same ∙ ap (ceilings_of rows) (sym next.done.number)) refl
@@ -33,10 +36,13 @@ last_later : (one two : DayRecord) (days : List DayRecord) (day : DayRecord) →
 last_later one two days day is =
     let at : length (one ∷ two ∷ days) - 1 ≡ suc (length days) = omega arith in
     let then : length (two ∷ days) - 1 ≡ length days = omega arith in
-    let there : slice_get (one ∷ two ∷ days) (suc (length days)) ≡ Some day = subst (λ (n : ℕ). slice_get (one ∷ two ∷ days) n ≡ Some day) at is in
+    let there : slice_get (one ∷ two ∷ days) (suc (length days)) ≡ Some day =
+    subst (λ (n : ℕ). slice_get (one ∷ two ∷ days) n ≡ Some day) at is in
     subst (λ (n : ℕ). slice_get (two ∷ days) n ≡ Some day) (sym then) there
 
-desk_after : (plan : Plan) (d : ℕ) (rows : DossierRows) (old : DeskStates) (before : Lent) (days : List DayRecord) (new : DeskStates) → AreCallOrders rows.groups plan.orders → old.present.dossier ≡ rows
+desk_after : (plan : Plan) (d : ℕ) (rows : DossierRows) (old : DeskStates) (before : Lent)
+    (days : List DayRecord) (new : DeskStates) → AreCallOrders rows.groups plan.orders
+    → old.present.dossier ≡ rows
     → Lead plan d old before days new → IsDeskAfter rows plan.orders days new
 desk_after plan d rows old before [] new called same lead = record {
   dossier = ap (λ (s : DeskStates). s.present.dossier) (sym lead) ∙ same;
@@ -46,14 +52,18 @@ desk_after plan d rows old before (one ∷ []) new called same lead =
     let next = subst (λ (s : DeskStates). IsNext plan d old before one s) lead.2 lead.1 in
     record {
       dossier = next.dossier ∙ same;
-      last = λ day is. let here : one ≡ day = cc in subst (λ (x : DayRecord). IsLastPass (pass_on rows plan.orders x new) new.present) here (next_ends plan d rows old before one new called same next);
+      last = λ day is. let here : one ≡ day =
+          cc in subst (λ (x : DayRecord). IsLastPass (pass_on rows plan.orders x new) new.present)
+          here (next_ends plan d rows old before one new called same next);
     }
 desk_after plan d rows old before (one ∷ two ∷ days) new called same lead =
-    let later = desk_after plan (d + 1) rows lead.0 (lent_after plan.who one before) (two ∷ days) new called (lead.1.dossier ∙ same) lead.2 in
+    let later = desk_after plan (d + 1) rows lead.0 (lent_after plan.who one before)
+    (two ∷ days) new called (lead.1.dossier ∙ same) lead.2 in
     record { dossier = later.dossier; last = λ day is. later.last day (last_later one two days day is) }
 
 -- the desk at which days end is the one that they led to
-desk_at : (rows : DossierRows) (orders : List CallOrder) (terms : Option Terms) (number : ℕ) (days : List DayRecord) (last : DeskStates) (end : Result DeskStates Refusal)
+desk_at : (rows : DossierRows) (orders : List CallOrder) (terms : Option Terms) (number : ℕ)
+    (days : List DayRecord) (last : DeskStates) (end : Result DeskStates Refusal)
     → EndsAfter terms number days last end → IsDeskAfter rows orders days last → ForOk end (IsDeskAfter rows orders days)
 desk_at rows orders terms number days last (Ok desk) ends is =
     λ x same.
@@ -62,7 +72,9 @@ desk_at rows orders terms number days last (Ok desk) ends is =
 desk_at rows orders terms number days last (Err refusal) ends is = λ x same. absurd (cc)
 
 -- the desk after the days that were asked for
-pub desk_played : (rows : DossierRows) (terms : Option Terms) (number : ℕ) (who : PickerChoice) (before : Lent) (played : Played) (after : Lent) → IsPlayed rows terms number who before played after
+pub desk_played : (rows : DossierRows) (terms : Option Terms) (number : ℕ) (who : PickerChoice)
+    (before : Lent) (played : Played) (after : Lent)
+    → IsPlayed rows terms number who before played after
     → ForOk played.end (IsDeskAfter rows played.orders played.days)
 desk_played rows terms number who before played after plays =
     desk_at rows played.orders terms number played.days plays.last played.end plays.ends

@@ -29,17 +29,22 @@ named_same Turn Last is = cc
 named_same Turn Turn is = refl
 
 -- what holds of the picker of a name and of each other one holds of all
-pub each_named : (P : PickerName → Type 0) (name : PickerName) → P name → ((other : PickerName) → is_named other name ≡ false → P other) → (n : PickerName) → P n
+pub each_named : (P : PickerName → Type 0) (name : PickerName) → P name
+    → ((other : PickerName) → is_named other name ≡ false → P other) → (n : PickerName) → P n
 each_named P name here others n =
     elim (cases_Bool (is_named n name)) [ inl is ↦ subst P (sym (named_same n name is)) here | inr none ↦ others n none ]
 
-pub picked_here : (who : PickerChoice) (name : PickerName) (day : DayRecord) → is_named name (picker_on who day.day) ≡ true → picked_by who name (day ∷ []) ≡ schools_of_passes day.passes
+pub picked_here : (who : PickerChoice) (name : PickerName) (day : DayRecord)
+    → is_named name (picker_on who day.day) ≡ true
+    → picked_by who name (day ∷ []) ≡ schools_of_passes day.passes
 picked_here who name day is = rw (is, append-nil (schools_of_passes day.passes)) refl
 
-pub picked_none : (who : PickerChoice) (name : PickerName) (day : DayRecord) → is_named name (picker_on who day.day) ≡ false → picked_by who name (day ∷ []) ≡ []
+pub picked_none : (who : PickerChoice) (name : PickerName) (day : DayRecord)
+    → is_named name (picker_on who day.day) ≡ false → picked_by who name (day ∷ []) ≡ []
 picked_none who name day none = rw none refl
 
-pub picked_by-append : (who : PickerChoice) (name : PickerName) (xs ys : List DayRecord) → picked_by who name (xs ++ ys) ≡ picked_by who name xs ++ picked_by who name ys
+pub picked_by-append : (who : PickerChoice) (name : PickerName) (xs ys : List DayRecord)
+    → picked_by who name (xs ++ ys) ≡ picked_by who name xs ++ picked_by who name ys
 picked_by-append who name xs ys =
     let on : DayRecord → Bool = λ day. is_named name (picker_on who day.day) in
     let schools : DayRecord → List ℕ = λ day. schools_of_passes day.passes in
@@ -58,10 +63,13 @@ back_again before between after one two = record {
 pub back_untouched : (before : Lent) → AreBack before before
 back_untouched before = record { choice = λ name. refl; told = λ name. ([], sym (append-nil (before.told name))) }
 
-pub told_more : (who : PickerChoice) (days : List DayRecord) (day : DayRecord) (before between after : Lent) → Told who days before between → Told who (day ∷ []) between after → Told who (days ++ day ∷ []) before after
+pub told_more : (who : PickerChoice) (days : List DayRecord) (day : DayRecord)
+    (before between after : Lent) → Told who days before between → Told who (day ∷ []) between after
+    → Told who (days ++ day ∷ []) before after
 told_more who days day before between after one two =
     λ name.
-    two name ∙ ap (λ x. x ++ picked_by who name (day ∷ [])) (one name) ∙ append_assoc (before.told name) (picked_by who name days) (picked_by who name (day ∷ []))
+    two name ∙ ap (λ x. x ++ picked_by who name (day ∷ [])) (one name)
+    ∙ append_assoc (before.told name) (picked_by who name days) (picked_by who name (day ∷ []))
     ∙ ap (λ x. before.told name ++ x) (sym (picked_by-append who name days (day ∷ [])))
 
 -- only the picker of the name was lent
@@ -74,23 +82,32 @@ module _ {B : Type 0} (told : B → List ℕ) (choice : B → List ℕ → List 
   abbrev these : Option B → Option B → Option B → Lent
   these x y z = record { told = λ n. told_in told (named x y z n); choice = λ n. choice_in choice (named x y z n) }
 
+  -- three of which the others of the name are as they were
+  only_where : (name : PickerName) (x y z : Option B)
+      → ((n : PickerName) → is_named n name ≡ false → named x y z n ≡ named a b c n)
+      → OnlyNamed name (these a b c) (these x y z)
+  only_where name x y z same = record {
+    told = λ n other. ap (told_in told) (same n other);
+    choice = λ n other. ap (choice_in choice) (same n other);
+  }
+
   pub only_first : OnlyNamed First (these a b c) (these new b c)
-  only_first = record { told = λ n none. ap (told_in told) (first_else n none); choice = λ n none. ap (choice_in choice) (first_else n none) } where
-    first_else : (n : PickerName) → is_named n First ≡ false → named new b c n ≡ named a b c n
-    first_else First none = cc
-    first_else Last none = refl
-    first_else Turn none = refl
+  only_first = only_where First new b c same where
+    same : (n : PickerName) → is_named n First ≡ false → named new b c n ≡ named a b c n
+    same First other = cc
+    same Last other = refl
+    same Turn other = refl
 
   pub only_last : OnlyNamed Last (these a b c) (these a new c)
-  only_last = record { told = λ n none. ap (told_in told) (last_else n none); choice = λ n none. ap (choice_in choice) (last_else n none) } where
-    last_else : (n : PickerName) → is_named n Last ≡ false → named a new c n ≡ named a b c n
-    last_else First none = refl
-    last_else Last none = cc
-    last_else Turn none = refl
+  only_last = only_where Last a new c same where
+    same : (n : PickerName) → is_named n Last ≡ false → named a new c n ≡ named a b c n
+    same First other = refl
+    same Last other = cc
+    same Turn other = refl
 
   pub only_turn : OnlyNamed Turn (these a b c) (these a b new)
-  only_turn = record { told = λ n none. ap (told_in told) (turn_else n none); choice = λ n none. ap (choice_in choice) (turn_else n none) } where
-    turn_else : (n : PickerName) → is_named n Turn ≡ false → named a b new n ≡ named a b c n
-    turn_else First none = refl
-    turn_else Last none = refl
-    turn_else Turn none = cc
+  only_turn = only_where Turn a b new same where
+    same : (n : PickerName) → is_named n Turn ≡ false → named a b new n ≡ named a b c n
+    same First other = refl
+    same Last other = refl
+    same Turn other = cc

@@ -26,26 +26,34 @@ module _ (plan : Plan) (d : ℕ) (old new : DeskStates) (before after : Lent) (o
   choices same = each_named (λ n. after.choice n ≡ before.choice n) name same only.choice
 
   more : TellsMore (before.told name) (after.told name) → (n : PickerName) → TellsMore (before.told n) (after.told n)
-  more told = each_named (λ n. TellsMore (before.told n) (after.told n)) name told (λ other none. ([], only.told other none ∙ sym (append-nil (before.told other))))
+  more told = each_named (λ n. TellsMore (before.told n) (after.told n)) name told
+      (λ other none. ([], only.told other none ∙ sym (append-nil (before.told other))))
 
   picked : (day : DayRecord) → day.day ≡ d → picked_by plan.who name (day ∷ []) ≡ schools_of_passes day.passes
   picked day number = picked_here plan.who name day (ap (λ n. is_named name (picker_on plan.who n)) number ∙ named_self name)
 
   -- what the pickers told on a day that came about
-  told_on : (day : DayRecord) → day.day ≡ d → after.told name ≡ before.told name ++ schools_of_passes day.passes → Told plan.who (day ∷ []) before after
+  told_on : (day : DayRecord) → day.day ≡ d
+      → after.told name ≡ before.told name ++ schools_of_passes day.passes
+      → Told plan.who (day ∷ []) before after
   told_on day number told =
-      each_named (λ n. after.told n ≡ before.told n ++ picked_by plan.who n (day ∷ [])) name (told ∙ ap (λ l. before.told name ++ l) (sym (picked day number)))
+      each_named (λ n. after.told n ≡ before.told n ++ picked_by plan.who n (day ∷ [])) name
+      (told ∙ ap (λ l. before.told name ++ l) (sym (picked day number)))
       (λ other none.
       only.told other none ∙ sym (append-nil (before.told other))
-      ∙ ap (λ l. before.told other ++ l) (sym (picked_none plan.who other day (ap (λ n. is_named other (picker_on plan.who n)) number ∙ none))))
+      ∙ ap (λ l. before.told other ++ l)
+      (sym (picked_none plan.who other day
+      (ap (λ n. is_named other (picker_on plan.who n)) number ∙ none))))
 
   is_next : (day : DayRecord) → Ends (Ok day) → IsNext plan d old before day new
   is_next day ends =
       let P : List ℕ → (List ℕ → List ℕ → ℕ) → Type 0 =
-      λ told choice. IsDayDone plan.terms plan.orders (ceilings_of old.present.dossier d) d (moment_of plan d old before) day (record { desk = new; told = told; choice = choice }) in
+      λ told choice. IsDayDone plan.terms plan.orders (ceilings_of old.present.dossier d) d
+      (moment_of plan d old before) day (record { desk = new; told = told; choice = choice }) in
       record {
         done = subst (λ choice. P (before.told name ++ picked_by plan.who name (day ∷ [])) choice) ends.choice
-            (subst (λ told. P told (after.choice name)) (ends.done.told ∙ ap (λ l. before.told name ++ l) (sym (picked day ends.done.number))) ends.done);
+            (subst (λ told. P told (after.choice name)) (ends.done.told
+            ∙ ap (λ l. before.told name ++ l) (sym (picked day ends.done.number))) ends.done);
         evening = ends.evening;
         dossier = ends.dossier;
       }
@@ -74,11 +82,16 @@ module _ (plan : Plan) (d : ℕ) (old new : DeskStates) (before after : Lent) (o
   }
 
 -- the same of a picker whose name was found
-pub ends_next : (plan : Plan) (d : ℕ) (old new : DeskStates) (before after : Lent) (n : PickerName) (r : Result DayRecord DayRefusal) → n ≡ picker_on plan.who d → OnlyNamed n before after
-    → EndsWith plan.orders plan.terms d (record { desk = old; told = before.told n; choice = before.choice n }) (record { desk = new; told = after.told n; choice = after.choice n }) r
+pub ends_next : (plan : Plan) (d : ℕ) (old new : DeskStates) (before after : Lent) (n : PickerName)
+    (r : Result DayRecord DayRefusal) → n ≡ picker_on plan.who d → OnlyNamed n before after
+    → EndsWith plan.orders plan.terms d
+    (record { desk = old; told = before.told n; choice = before.choice n })
+    (record { desk = new; told = after.told n; choice = after.choice n }) r
     → EndsNext plan d old before r new after
 ends_next plan d old new before after n r is only ends =
     ends_at plan d old new before after (subst (λ x. OnlyNamed x before after) is only) r
     (subst
-    (λ x. EndsWith plan.orders plan.terms d (record { desk = old; told = before.told x; choice = before.choice x }) (record { desk = new; told = after.told x; choice = after.choice x }) r)
+    (λ x. EndsWith plan.orders plan.terms d
+    (record { desk = old; told = before.told x; choice = before.choice x })
+    (record { desk = new; told = after.told x; choice = after.choice x }) r)
     is ends)

@@ -13,12 +13,15 @@ use Rattle.day_run.specs.LastPasses.{IsLastPass, last_pass}
 abbrev pub IsLastOf : List DayRecord → DayRecord → Type 0
 IsLastOf days day = slice_get days (length days - 1) ≡ Some day
 
--- the last pass of a day, on the desk that the day left: the ceilings are those of that day, and the bars those of its
--- last pass
+-- the last pass of a day, on the desk that the day left: the ceilings are those of that day, and
+-- the bars those of its last pass
 abbrev pub pass_on : DossierRows → List CallOrder → DayRecord → DeskStates → LastPass
-pass_on d orders day desk = last_pass desk.opening orders (ceilings_of d day.day) (last_bars day.passes)
+pass_on d orders day desk =
+    last_pass desk.opening orders (ceilings_of d day.day) (last_bars day.passes)
 
 -- the desk after days of a dossier: the last of them ended with its last pass
-pub record IsDeskAfter (d : DossierRows) (orders : List CallOrder) (days : List DayRecord) (desk : DeskStates) : Type 0 where
+pub record IsDeskAfter (d : DossierRows) (orders : List CallOrder) (days : List DayRecord)
+    (desk : DeskStates) : Type 0 where
   pub dossier : desk.present.dossier ≡ d
-  pub last : (day : DayRecord) → IsLastOf days day → IsLastPass (pass_on d orders day desk) desk.present
+  pub last : (day : DayRecord) → IsLastOf days day
+      → IsLastPass (pass_on d orders day desk) desk.present

@@ -11,7 +11,8 @@ use Rattle.request.specs.declared.pickers.PickerName.{PickerName}
 use Rattle.request.specs.declared.pickers.PickerName.TheVariants.{First, Last, Turn}
 use Rattle.played.specs.declared.pickers.Pickers.{Pickers}
 
--- of each picker what it has told, and what it answers, by what it has told and the places it is asked with
+-- of each picker what it has told, and what it answers, by what it has told and the places it is
+-- asked with
 pub record Lent : Type 0 where
   pub told : PickerName → List ℕ
   pub choice : PickerName → List ℕ → List ℕ → ℕ
@@ -36,7 +37,8 @@ abbrev pub choice_in : {B : Type 0} → (B → List ℕ → List ℕ → ℕ) �
 choice_in choice place = option_map_or choice place (λ told places. 0)
 
 -- the pickers as they stand, by what a picker has told and how it chooses
-abbrev pub lent : {X : Type 0} {F : X → Type 0} → (DynBox X Global F → List ℕ) → (DynBox X Global F → List ℕ → List ℕ → ℕ) → Pickers X F → Lent
+abbrev pub lent : {X : Type 0} {F : X → Type 0} → (DynBox X Global F → List ℕ)
+    → (DynBox X Global F → List ℕ → List ℕ → ℕ) → Pickers X F → Lent
 lent told choice pickers =
     record {
       told = λ name. told_in told (named pickers.first pickers.last pickers.turn name);
@@ -44,7 +46,8 @@ lent told choice pickers =
     }
 
 -- the same, as the crates above see a picker
-abbrev pub standing : {X : Type 0} {F : X → Type 0} → ((x : X) × F x → List ℕ) → ((x : X) × F x → List ℕ → List ℕ → ℕ) → Pickers X F → Lent
+abbrev pub standing : {X : Type 0} {F : X → Type 0} → ((x : X) × F x → List ℕ)
+    → ((x : X) × F x → List ℕ → List ℕ → ℕ) → Pickers X F → Lent
 standing told choice = lent (λ p. told (p.vtable, p.value)) (λ p. choice (p.vtable, p.value))
 
 abbrev pub is_named : PickerName → PickerName → Bool
@@ -55,17 +58,20 @@ is_named _ _ = false
 
 -- the schools that fell on the days of a picker, in their order
 abbrev pub picked_by : PickerChoice → PickerName → List DayRecord → List ℕ
-picked_by who name days = flat_map (λ day. schools_of_passes day.passes) (filter (λ day. is_named name (picker_on who day.day)) days)
+picked_by who name days = flat_map (λ day. schools_of_passes day.passes)
+    (filter (λ day. is_named name (picker_on who day.day)) days)
 
 -- each picker told what it had told, and then of the schools that fell on its days
 abbrev pub Told : PickerChoice → List DayRecord → Lent → Lent → Type 0
-Told who days before after = (name : PickerName) → after.told name ≡ before.told name ++ picked_by who name days
+Told who days before after =
+    (name : PickerName) → after.told name ≡ before.told name ++ picked_by who name days
 
 -- no picker was asked
 abbrev pub Untold : Lent → Lent → Type 0
 Untold before after = (name : PickerName) → after.told name ≡ before.told name
 
--- in each place is the picker that was lent: it chooses as it did, and what it had told is a prefix of what it tells
+-- in each place is the picker that was lent: it chooses as it did, and what it had told is a prefix
+-- of what it tells
 pub record AreBack (before after : Lent) : Type 0 where
   pub choice : (name : PickerName) → after.choice name ≡ before.choice name
   pub told : (name : PickerName) → TellsMore (before.told name) (after.told name)

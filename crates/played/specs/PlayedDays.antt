@@ -1,4 +1,5 @@
--- The days of a campaign, each with the picker of the day, and what becomes of the days that are asked for.
+-- The days of a campaign, each with the picker of the day, and what becomes of the days that are
+-- asked for.
 use Rattle.std.specs.Prelude.{◌≡◌, ℕ, ◌+◌, ◌<◌, List, [], ◌∷◌, ◌++◌, Option, IsSomeAnd, Result, Ok, Err, IfErr, IfOk, length, ⊤}
 use Rattle.admit_core.specs.CallOrder.{AreCallOrders}
 use Rattle.admit_core.specs.Days.{ceilings_of, first_evening, unfit_on}
@@ -25,15 +26,22 @@ pub record Plan : Type 0 where
 
 -- a desk, and how the picker of day d stands beside it
 abbrev pub moment_of : Plan → ℕ → DeskStates → Lent → Moment
-moment_of plan d desk lent = record { desk = desk; told = lent.told (picker_on plan.who d); choice = lent.choice (picker_on plan.who d) }
+moment_of plan d desk lent = record {
+  desk = desk;
+  told = lent.told (picker_on plan.who d);
+  choice = lent.choice (picker_on plan.who d);
+}
 
 -- the pickers after a day
 abbrev pub lent_after : PickerChoice → DayRecord → Lent → Lent
-lent_after who day lent = record lent { told = λ name. lent.told name ++ picked_by who name (day ∷ []) }
+lent_after who day lent =
+    record lent { told = λ name. lent.told name ++ picked_by who name (day ∷ []) }
 
 -- day d came about under its own ceilings, and the picker of the day made each choice of it
-pub record IsNext (plan : Plan) (d : ℕ) (old : DeskStates) (before : Lent) (day : DayRecord) (new : DeskStates) : Type 0 where
-  pub done : IsDayDone plan.terms plan.orders (ceilings_of old.present.dossier d) d (moment_of plan d old before) day (moment_of plan d new (lent_after plan.who day before))
+pub record IsNext (plan : Plan) (d : ℕ) (old : DeskStates) (before : Lent) (day : DayRecord)
+    (new : DeskStates) : Type 0 where
+  pub done : IsDayDone plan.terms plan.orders (ceilings_of old.present.dossier d) d
+      (moment_of plan d old before) day (moment_of plan d new (lent_after plan.who day before))
   pub evening : new.evening ≡ old.present
   pub dossier : new.present.dossier ≡ old.present.dossier
 
@@ -43,7 +51,8 @@ AsksNone before after (refusals.Unfit refusal) = Untold before after
 AsksNone before after refusals.OutOfMemory = ⊤
 
 -- how day d ends, on a desk and with the pickers of a run
-pub record EndsNext (plan : Plan) (d : ℕ) (old : DeskStates) (before : Lent) (result : Result DayRecord DayRefusal) (new : DeskStates) (after : Lent) : Type 0 where
+pub record EndsNext (plan : Plan) (d : ℕ) (old : DeskStates) (before : Lent)
+    (result : Result DayRecord DayRefusal) (new : DeskStates) (after : Lent) : Type 0 where
   pub done : IfOk result (λ day. IsNext plan d old before day new)
   pub told : IfOk result (λ day. Told plan.who (day ∷ []) before after)
   pub unfit : IfErr result (IsUnfitOf old.present.dossier d (unfit_on plan.terms d old.present))
@@ -54,12 +63,15 @@ pub record EndsNext (plan : Plan) (d : ℕ) (old : DeskStates) (before : Lent) (
 abbrev pub Lead : Plan → ℕ → DeskStates → Lent → List DayRecord → DeskStates → Type 0
 Lead plan d old before [] new = old ≡ new
 Lead plan d old before (day ∷ days) new =
-    (desk : DeskStates) × IsNext plan d old before day desk × Lead plan (d + 1) desk (lent_after plan.who day before) days new
+    (desk : DeskStates) × IsNext plan d old before day desk
+    × Lead plan (d + 1) desk (lent_after plan.who day before) days new
 
 -- after fewer days than so many, an answer of the next day does not fit
-pub record IsCutShort (terms : Option Terms) (number : ℕ) (days : List DayRecord) (evening : State) (refusal : Refusal) : Type 0 where
+pub record IsCutShort (terms : Option Terms) (number : ℕ) (days : List DayRecord) (evening : State)
+    (refusal : Refusal) : Type 0 where
   pub fewer : length days < number
-  pub unfit : IsSomeAnd (unfit_on terms (length days + 1) evening) (λ x. refusal ≡ unfit_refusal evening.dossier (length days + 1) x)
+  pub unfit : IsSomeAnd (unfit_on terms (length days + 1) evening)
+      (λ x. refusal ≡ unfit_refusal evening.dossier (length days + 1) x)
 
 -- what holds unless memory ran out
 abbrev pub OnFit : Result (Unit {0}) DayRefusal → Type 0 → Type 0
@@ -68,13 +80,17 @@ OnFit (Err (refusals.Unfit refusal)) Fact = Fact
 OnFit (Err refusals.OutOfMemory) Fact = ⊤
 
 -- where days end: after so many of them, or before one with an answer that does not fit
-abbrev pub StopsAfter : Plan → ℕ → List DayRecord → DeskStates → DeskStates → Result (Unit {0}) DayRefusal → Type 0
+abbrev pub StopsAfter : Plan → ℕ → List DayRecord → DeskStates → DeskStates
+    → Result (Unit {0}) DayRefusal → Type 0
 StopsAfter plan number days last new (Ok done) = (length days ≡ number) × (new ≡ last)
-StopsAfter plan number days last new (Err (refusals.Unfit refusal)) = IsCutShort plan.terms number days last.present refusal
+StopsAfter plan number days last new (Err (refusals.Unfit refusal)) =
+    IsCutShort plan.terms number days last.present refusal
 StopsAfter plan number days last new (Err refusals.OutOfMemory) = ⊤
 
 -- days from day 1 on, of which so many are asked for
-pub record PlaysDays (plan : Plan) (number : ℕ) (old : DeskStates) (before : Lent) (days : List DayRecord) (result : Result (Unit {0}) DayRefusal) (new : DeskStates) (after : Lent) : Type 0 where
+pub record PlaysDays (plan : Plan) (number : ℕ) (old : DeskStates) (before : Lent)
+    (days : List DayRecord) (result : Result (Unit {0}) DayRefusal) (new : DeskStates)
+    (after : Lent) : Type 0 where
   pub last : DeskStates
   pub lead : OnFit result (Lead plan 1 old before days last)
   pub stops : StopsAfter plan number days last new result
@@ -84,16 +100,19 @@ pub record PlaysDays (plan : Plan) (number : ℕ) (old : DeskStates) (before : L
 
 -- the desk on which a campaign begins
 abbrev pub first_desk : DossierRows → DeskStates
-first_desk d = record { present = first_evening d; evening = first_evening d; opening = first_evening d }
+first_desk d =
+    record { present = first_evening d; evening = first_evening d; opening = first_evening d }
 
--- the call orders, the days that came about, and the desk after them or the refusal of the first answer that does not fit
+-- the call orders, the days that came about, and the desk after them or the refusal of the first
+-- answer that does not fit
 pub record Played : Type 0 where
   pub orders : List CallOrder
   pub days : List DayRecord
   pub end : Result DeskStates Refusal
 
 -- so many days came about, or those before one with an answer that does not fit
-abbrev pub EndsAfter : Option Terms → ℕ → List DayRecord → DeskStates → Result DeskStates Refusal → Type 0
+abbrev pub EndsAfter : Option Terms → ℕ → List DayRecord → DeskStates
+    → Result DeskStates Refusal → Type 0
 EndsAfter terms number days last (Ok desk) = (length days ≡ number) × (desk ≡ last)
 EndsAfter terms number days last (Err refusal) = IsCutShort terms number days last.present refusal
 
@@ -101,7 +120,8 @@ abbrev pub plan_of : Option Terms → PickerChoice → Played → Plan
 plan_of terms who played = record { orders = played.orders; terms = terms; who = who }
 
 -- what became of the days of a dossier, of which so many were asked for
-pub record IsPlayed (d : DossierRows) (terms : Option Terms) (number : ℕ) (who : PickerChoice) (before : Lent) (played : Played) (after : Lent) : Type 0 where
+pub record IsPlayed (d : DossierRows) (terms : Option Terms) (number : ℕ) (who : PickerChoice)
+    (before : Lent) (played : Played) (after : Lent) : Type 0 where
   pub called : AreCallOrders d.groups played.orders
   pub last : DeskStates
   pub days : Lead (plan_of terms who played) 1 (first_desk d) before played.days last

@@ -27,7 +27,8 @@ fn run_with(
 ) -> Result<DayRecord, DayRefusal>
     requires orders { AreCallOrders desk.old.present.dossier.groups orders.now.orders }
     requires lineup { IsLineupOf desk.old.present.dossier orders.now.orders lineup.now }
-    requires terms { IfSome (option_copied terms) (λ t. length t.before ≡ length desk.old.present.dossier.wishes) }
+    requires terms { IfSome (option_copied terms)
+        (λ t. length t.before ≡ length desk.old.present.dossier.wishes) }
     requires day { IsDayNumber day }
 
     ensures { EndsWith orders.now.orders (option_copied terms.entry) day
@@ -50,14 +51,23 @@ fn run_lent(
 ) -> Result<DayRecord, DayRefusal>
     requires orders { AreCallOrders desk.old.present.dossier.groups orders.now.orders }
     requires lineup { IsLineupOf desk.old.present.dossier orders.now.orders lineup.now }
-    requires terms { IfSome (option_copied terms) (λ t. length t.before ≡ length desk.old.present.dossier.wishes) }
+    requires terms { IfSome (option_copied terms)
+        (λ t. length t.before ≡ length desk.old.present.dossier.wishes) }
     requires day { IsDayNumber day }
     requires there { IsSome place.old }
 
     ensures there { IsSome place.new }
     ensures ends { EndsWith orders.now.orders (option_copied terms.entry) day
-        (record { desk = desk.old; told = told_in (λ p. told p) place.old; choice = choice_in (λ p. choice p) place.old })
-        (record { desk = desk.new; told = told_in (λ p. told p) place.new; choice = choice_in (λ p. choice p) place.new }) result }
+        (record {
+          desk = desk.old;
+          told = told_in (λ p. told p) place.old;
+          choice = choice_in (λ p. choice p) place.old;
+        })
+        (record {
+          desk = desk.new;
+          told = told_in (λ p. told p) place.new;
+          choice = choice_in (λ p. choice p) place.new;
+        }) result }
 {
     let Some(mut picker) = place.take() else {
         unreachable!()
@@ -80,12 +90,14 @@ pub(crate) fn next_day(
 ) -> Result<DayRecord, DayRefusal>
     requires orders { AreCallOrders desk.old.present.dossier.groups orders.now.orders }
     requires lineup { IsLineupOf desk.old.present.dossier orders.now.orders lineup.now }
-    requires terms { IfSome (option_copied terms) (λ t. length t.before ≡ length desk.old.present.dossier.wishes) }
+    requires terms { IfSome (option_copied terms)
+        (λ t. length t.before ≡ length desk.old.present.dossier.wishes) }
     requires day { IsDayNumber day }
     requires there { AreThere pickers.old }
 
     ensures there { AreThere pickers.new }
-    ensures ends { EndsNext (record { orders = orders.now.orders; terms = option_copied terms.entry; who = who }) day
+    ensures ends { EndsNext
+        (record { orders = orders.now.orders; terms = option_copied terms.entry; who = who }) day
         desk.old (lent (λ p. told p) (λ p. choice p) pickers.old) result
         desk.new (lent (λ p. told p) (λ p. choice p) pickers.new) }
 {

@@ -46,13 +46,15 @@ fn play_days(
 ) -> Result<(), DayRefusal>
     requires orders { AreCallOrders desk.old.present.dossier.groups orders.now.orders }
     requires lineup { IsLineupOf desk.old.present.dossier orders.now.orders lineup.now }
-    requires terms { IfSome (option_copied terms) (λ t. length t.before ≡ length desk.old.present.dossier.wishes) }
+    requires terms { IfSome (option_copied terms)
+        (λ t. length t.before ≡ length desk.old.present.dossier.wishes) }
     requires number { number ≤ 366 }
     requires there { AreThere pickers.old }
     requires none { days.old.items ≡ [] }
 
     ensures there { AreThere pickers.new }
-    ensures plays { PlaysDays (record { orders = orders.now.orders; terms = option_copied terms.entry; who = who }) number
+    ensures plays { PlaysDays
+        (record { orders = orders.now.orders; terms = option_copied terms.entry; who = who }) number
         desk.old (lent (λ p. told p) (λ p. choice p) pickers.old) days.new.items result
         desk.new (lent (λ p. told p) (λ p. choice p) pickers.new) }
 {
@@ -86,8 +88,8 @@ fn begin<'d>(alloc: Global, dossier: &'d Dossier) -> Result<Begun<'d>, OutOfMemo
     })
 }
 
-/// Runs so many days of a dossier, each with the picker of the day, from the evening that it comes in
-/// with: all of them, or those before one with an answer that does not fit.
+/// Runs so many days of a dossier, each with the picker of the day, from the evening that it comes
+/// in with: all of them, or those before one with an answer that does not fit.
 pub fn play<'d>(
     alloc: Global,
     dossier: &'d Dossier,
@@ -96,13 +98,16 @@ pub fn play<'d>(
     who: PickerChoice,
     pickers: &mut Pickers,
 ) -> Result<Played<'d>, OutOfMemory>
-    requires terms { IfSome (option_copied terms) (λ t. length t.before ≡ length dossier.now.wishes) }
+    requires terms { IfSome (option_copied terms)
+        (λ t. length t.before ≡ length dossier.now.wishes) }
     requires number { number ≤ 366 }
     requires there { AreThere pickers.old }
 
     ensures there { AreThere pickers.new }
-    ensures back { AreBack (lent (λ p. told p) (λ p. choice p) pickers.old) (lent (λ p. told p) (λ p. choice p) pickers.new) }
-    ensures idle { number ≡ 0 → Untold (lent (λ p. told p) (λ p. choice p) pickers.old) (lent (λ p. told p) (λ p. choice p) pickers.new) }
+    ensures back { AreBack (lent (λ p. told p) (λ p. choice p) pickers.old)
+        (lent (λ p. told p) (λ p. choice p) pickers.new) }
+    ensures idle { number ≡ 0 → Untold (lent (λ p. told p) (λ p. choice p) pickers.old)
+        (lent (λ p. told p) (λ p. choice p) pickers.new) }
     ensures played { IfOk result (λ p. IsPlayed dossier.now (option_copied terms.entry) number who
         (lent (λ p. told p) (λ p. choice p) pickers.old)
         (record { orders = p.orders.orders; days = p.days.items; end = p.end })

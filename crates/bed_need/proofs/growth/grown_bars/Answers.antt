@@ -10,26 +10,37 @@ pub returns-clause-growth : goal.returns-clause-growth
 returns-clause-growth g c =
     let s = c.args.state.now in
     let orders = c.args.orders.now.orders in
+    let high = c.args.high.now in
     let h = c.args.school in
     let more = c.args.more in
-    let beds : c.beds_of.result ≡ beds_of s.dossier h = c.beds_of.ensures ∙ ap (λ (d : DossierRows). beds_of d h) c.dossier.ensures in
-    let after : IsGreatest (with_more_beds s orders c.args.high.now h more) c.in_ok-after.after.items =
-    subst (λ (n : ℕ). IsGreatest (with_n_beds s orders c.args.high.now h (n + more)) c.in_ok-after.after.items) beds c.in_ok-after.ensures.bars in
+    let one = c.in_ok-before in
+    let two = c.in_ok-after in
+    let beds : c.beds_of.result ≡ beds_of s.dossier h =
+    c.beds_of.ensures ∙ ap (λ (d : DossierRows). beds_of d h) c.dossier.ensures in
+    let after : IsGreatest (with_more_beds s orders high h more) two.after.items =
+    subst (λ (n : ℕ). IsGreatest (with_n_beds s orders high h (n + more)) two.after.items) beds
+    two.ensures.bars in
     record {
-      before = c.in_ok-before.ensures.bars;
+      before = one.ensures.bars;
       after = after;
       rises =
-          bars_do_not_fall s orders c.args.low.now c.args.high.now c.in_ok-before.before.items c.in_ok-after.after.items h (beds_of s.dossier h + more) c.requires.ceilings c.requires.rise (omega arith)
-          c.in_ok-before.ensures.bars after;
+          bars_do_not_fall s orders c.args.low.now high one.before.items two.after.items h
+          (beds_of s.dossier h + more) c.requires.ceilings c.requires.rise (omega arith)
+          one.ensures.bars after;
     }
 
 pub returns-clause-told : goal.returns-clause-told
 returns-clause-told g c =
     let s = c.args.state.now in
+    let orders = c.args.orders.now.orders in
     let h = c.args.school in
-    let beds : c.beds_of.result ≡ beds_of s.dossier h = c.beds_of.ensures ∙ ap (λ (d : DossierRows). beds_of d h) c.dossier.ensures in
-    let same = ap (λ (n : ℕ). with_n_beds s c.args.orders.now.orders c.args.high.now h (n + c.args.more)) beds in
-    run_again _ _ _ _ _ _ _ _ c.in_ok-before.ensures.told same c.in_ok-before.ensures.choice c.in_ok-after.ensures.told
+    let one = c.in_ok-before.ensures.asked in
+    let two = c.in_ok-after.ensures.asked in
+    let beds : c.beds_of.result ≡ beds_of s.dossier h =
+    c.beds_of.ensures ∙ ap (λ (d : DossierRows). beds_of d h) c.dossier.ensures in
+    let same = ap (λ (n : ℕ). with_n_beds s orders c.args.high.now h (n + c.args.more)) beds in
+    run_again _ _ _ _ _ _ _ _ one.told same one.choice two.told
 
 pub returns-clause-early : goal.returns-clause-early
-returns-clause-early g c = more_again _ _ _ c.in_ok-before.ensures.early c.in_ok-after.ensures.early
+returns-clause-early g c =
+    more_again _ _ _ c.in_ok-before.ensures.asked.early c.in_ok-after.ensures.asked.early

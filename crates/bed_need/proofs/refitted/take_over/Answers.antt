@@ -14,9 +14,11 @@ set-requires-clause-one_accepted c =
     let now = c.loop-wish.refitted in
     let count = ap (λ (d : DossierRows). length d.wishes) (c.behind-state.view_is ∙ c.dossier.ensures) in
     let wishes = ap (λ (ws : List Wish). length ws) c.requires.wishes in
-    let lt : c.loop-wish.wish < length c.args.refitted.now.dossier.wishes = omega (arith, c.len-count.ensures, count, wishes, c.loop-wish-test.true) in
+    let lt : c.loop-wish.wish < length c.args.refitted.now.dossier.wishes =
+    omega (arith, c.len-count.ensures, count, wishes, c.loop-wish-test.true) in
     subst (λ (x : Status). IsOneAccepted (change_at now c.loop-wish.wish x c.stamp.result)) (sym c.unaccepted.ensures)
-    (takes_one c.args.refitted.now.dossier c.args.state.now now c.loop-wish.wish c.loop-wish.invariant lt c.status.result c.stamp.result c.status.ensures)
+    (takes_one c.args.refitted.now.dossier c.args.state.now now c.loop-wish.wish
+    c.loop-wish.invariant lt c.status.result c.stamp.result c.status.ensures)
 
 pub loop-wish-preserved : goal.loop-wish-preserved
 loop-wish-preserved c =
@@ -27,7 +29,8 @@ loop-wish-preserved c =
     let wishes = ap (λ (ws : List Wish). length ws) c.requires.wishes in
     let lt : c.loop-wish.wish < length start.wishes = omega (arith, c.len-count.ensures, count, wishes, c.loop-wish-test.true) in
     subst (λ (s : State). AreTaken start state s (c.loop-wish.wish + 1)) (sym c.set.ensures)
-    (subst (λ (x : Status). AreTaken start state (change_at now c.loop-wish.wish x c.stamp.result) (c.loop-wish.wish + 1)) (sym c.unaccepted.ensures)
+    (subst (λ (x : Status). AreTaken start state (change_at now c.loop-wish.wish x c.stamp.result)
+    (c.loop-wish.wish + 1)) (sym c.unaccepted.ensures)
     (one_more start state now c.loop-wish.wish c.loop-wish.invariant lt c.status.result c.stamp.result c.status.ensures))
 
 pub returns-clause-marks : goal.returns-clause-marks

@@ -14,7 +14,9 @@ returns-in-Ok-clause-valid c =
     let orders = c.args.orders.now.orders in
     let ceilings = c.args.ceilings.now in
     let chain = c.args.chain.now in
-    let none : day_fault orders ceilings c.args.day c.args.morning.now chain ≡ None = ap (λ (t : State). day_fault orders ceilings c.args.day t chain) (sym c.in_ok-evening.ensures) ∙ c.in-Ok.ensures.found in
+    let none : day_fault orders ceilings c.args.day c.args.morning.now chain ≡ None =
+    ap (λ (t : State). day_fault orders ceilings c.args.day t chain)
+    (sym c.in_ok-evening.ensures) ∙ c.in-Ok.ensures.found in
     is_valid c.laws_of_chains.ensures.no_fault orders ceilings c.args.day c.args.morning.now chain c.check_passes.new.state none
     (c.in-Ok.ensures.state ∙ ap (λ (t : State). state_after orders ceilings c.args.day 1 t chain.passes) c.in_ok-evening.ensures)
 
@@ -23,7 +25,9 @@ returns-in-Ok-clause-greatest c =
     let orders = c.args.orders.now.orders in
     let ceilings = c.args.ceilings.now in
     let chain = c.args.chain.now in
-    let none : day_fault orders ceilings c.args.day c.args.morning.now chain ≡ None = ap (λ (t : State). day_fault orders ceilings c.args.day t chain) (sym c.in_ok-evening.ensures) ∙ c.in-Ok.ensures.found in
+    let none : day_fault orders ceilings c.args.day c.args.morning.now chain ≡ None =
+    ap (λ (t : State). day_fault orders ceilings c.args.day t chain)
+    (sym c.in_ok-evening.ensures) ∙ c.in-Ok.ensures.found in
     let valid : IsDayChain orders ceilings c.args.day c.args.morning.now chain c.check_passes.new.state =
     is_valid c.laws_of_chains.ensures.no_fault orders ceilings c.args.day c.args.morning.now chain c.check_passes.new.state none
     (c.in-Ok.ensures.state ∙ ap (λ (t : State). state_after orders ceilings c.args.day 1 t chain.passes) c.in_ok-evening.ensures) in
@@ -35,6 +39,8 @@ returns-in-Err-Rejected-clause-school c =
     let ceilings = c.args.ceilings.now in
     let chain = c.args.chain.now in
     subst (KeepsSchool (length c.args.morning.now.dossier.schools)) (sym c.in-Err-Rejected.reason-is)
-    (rejects_school orders ceilings c.args.day c.args.morning.now chain (verdict.Rejected c.in-Err-Rejected.row c.in-Err-Rejected.reason) c.requires.ceilings
+    (rejects_school orders ceilings c.args.day c.args.morning.now chain
+    (verdict.Rejected c.in-Err-Rejected.row c.in-Err-Rejected.reason) c.requires.ceilings
     (ap (λ (t : State). day_fault orders ceilings c.args.day t chain) (sym c.in_ok-evening.ensures)
-    ∙ subst (λ (x : Stop). Stops x (day_fault orders ceilings c.args.day c.in_ok-evening.evening chain)) c.in-Err-Rejected.field-0-is c.in-Err-Rejected.ensures.found))
+    ∙ subst (λ (x : Stop). Stops x (day_fault orders ceilings c.args.day c.in_ok-evening.evening
+    chain)) c.in-Err-Rejected.field-0-is c.in-Err-Rejected.ensures.found))

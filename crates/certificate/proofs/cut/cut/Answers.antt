@@ -8,4 +8,5 @@ returns-in-None-clause-none c = parts_none c.args.byte c.args.text.now (search r
 pub returns-in-Some-clause-first : goal.returns-in-Some-clause-first
 returns-in-Some-clause-first c =
     let found = parts_some c.args.byte c.in-Some.at c.args.text.now (search rules) in
-    rw (take_all (length c.args.text.now - (c.in-Some.at + 1)) (drop (c.in-Some.at + 1) c.args.text.now) (omega (arith, length-drop (c.in-Some.at + 1) c.args.text.now))) found.1
+    rw (take_all (length c.args.text.now - (c.in-Some.at + 1)) (drop (c.in-Some.at + 1)
+    c.args.text.now) (omega (arith, length-drop (c.in-Some.at + 1) c.args.text.now))) found.1

@@ -33,9 +33,11 @@ loop-line-preserved g c =
     let inv = c.loop-line.invariant in
     let school = c.in_ok-school.ensures.school in
     let fell = c.lower.ensures.round in
-    let under = falls_under now.bars now.ceilings h line.to inv.under (omega (arith, c.in_ok-school.ensures.within, inv.under.as_many)) c.in_ok-school.ensures.falls in
+    let under = falls_under now.bars now.ceilings h line.to inv.under (omega
+    (arith, c.in_ok-school.ensures.within, inv.under.as_many)) c.in_ok-school.ensures.falls in
     record {
-      fault = line_passes s now new line h rest school fell _ (inv.fault ∙ ap (lines_fault s now.orders now.ceilings now.bars) here) c.in_ok-school.ensures.found;
+      fault = line_passes s now new line h rest school fell _ (inv.fault
+          ∙ ap (lines_fault s now.orders now.ceilings now.bars) here) c.in_ok-school.ensures.found;
       bars = bars_pass s now new line h rest school fell _ (inv.bars ∙ ap (bars_by s now.bars) here);
       round = keeps_round c.args.round.now now new _ inv.round fell;
       under = subst (λ (r : Round). IsAtMost r.bars r.ceilings) (sym fell) under;
@@ -44,4 +46,6 @@ loop-line-preserved g c =
 pub lower-requires-clause-lower : goal.lower-requires-clause-lower
 lower-requires-clause-lower g c =
     let now = c.loop-line.round in
-    subst (λ (bs : List ℕ). c.line-item.result.to < slice_index bs c.in_ok-school.school) (sym (bar_each_is now.ceilings now.bars c.loop-line.invariant.under.as_many)) c.in_ok-school.ensures.falls
+    subst (λ (bs : List ℕ). c.line-item.result.to < slice_index bs c.in_ok-school.school)
+    (sym (bar_each_is now.ceilings now.bars c.loop-line.invariant.under.as_many))
+    c.in_ok-school.ensures.falls

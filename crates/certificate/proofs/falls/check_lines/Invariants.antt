@@ -8,7 +8,8 @@ invariant-loop-line g l =
     let old = l.fn.round in
     let rest = drop l.line-index l.lines in
     record {
-      fault : lines_fault l.state old.orders old.ceilings old.bars l.lines ≡ lines_fault l.state l.round.orders l.round.ceilings l.round.bars rest;
+      fault : lines_fault l.state old.orders old.ceilings old.bars l.lines
+          ≡ lines_fault l.state l.round.orders l.round.ceilings l.round.bars rest;
       bars : bars_by l.state old.bars l.lines ≡ bars_by l.state l.round.bars rest;
       round : l.round ≡ record old { bars = l.round.bars };
       under : IsAtMost l.round.bars l.round.ceilings;

@@ -9,7 +9,8 @@ returns-then-is_some c =
     let r = c.args.round.now in
     let i = c.loop-school.school in
     let lt : i < length r.ceilings = search rules in
-    let passes = over_by_rank r.state r.orders r.ceilings r.bars i c.first_over.result lt c.first_over.ensures ∙ sym c.is_some.ensures ∙ c.if-is_some.true in
+    let passes = over_by_rank r.state r.orders r.ceilings r.bars i c.first_over.result lt
+    c.first_over.ensures ∙ sym c.is_some.ensures ∙ c.if-is_some.true in
     sym (c.loop-school.invariant ∙ one_at (is_overfilled (boarding r.state r.orders r.ceilings) r.bars) i (length r.ceilings) lt passes)
 
 pub loop-school-preserved : goal.loop-school-preserved
@@ -17,5 +18,6 @@ loop-school-preserved c =
     let r = c.args.round.now in
     let i = c.loop-school.school in
     let lt : i < length r.ceilings = search rules in
-    let fails = over_by_rank r.state r.orders r.ceilings r.bars i c.first_over.result lt c.first_over.ensures ∙ sym c.is_some.ensures ∙ c.if-is_some.false in
+    let fails = over_by_rank r.state r.orders r.ceilings r.bars i c.first_over.result lt
+    c.first_over.ensures ∙ sym c.is_some.ensures ∙ c.if-is_some.false in
     c.loop-school.invariant ∙ none_at (is_overfilled (boarding r.state r.orders r.ceilings) r.bars) i (length r.ceilings) lt fails

@@ -10,4 +10,5 @@ returns-in-Some-2 c =
     let is : Some c.in-Some-2.numbers.items ≡ numbers (parts 32 c.in-Some.after.now) = search rules in
     let same = line_numbers c.args.row c.in-Some.word.now c.in-Some-2.numbers.items _ _ first (some_parts 32 c.in-Some.after.now) is in
     subst (λ x. IfOk c.line_with.result (λ found. found ≡ x)) same
-    (subst (λ n. IfOk c.line_with.result (λ found. found ≡ line_with c.args.row c.in-Some.word.now n)) c.deref.ensures.value c.line_with.ensures)
+    (subst (λ n. IfOk c.line_with.result (λ found. found
+    ≡ line_with c.args.row c.in-Some.word.now n)) c.deref.ensures.value c.line_with.ensures)

@@ -11,6 +11,10 @@ returns c =
     let same : c.in-Some.own ≡ c.args.school = search rules in
     let ranked : 0 < c.wish_at-wish.result.board_rank = search rules in
     let k = c.args.place in
-    let wants = c.is_proposed.ensures ∙ ap (λ (t : State). is_proposed t c.args.round.now.orders c.args.round.now.bars (wish_in t.dossier.wishes k) (mark_in t.marks k)) c.requires.same in
+    let wants = c.is_proposed.ensures
+    ∙ ap (λ (t : State). is_proposed t c.args.round.now.orders c.args.round.now.bars
+    (wish_in t.dossier.wishes k) (mark_in t.marks k)) c.requires.same in
     let s = c.args.state.now in
-    demands_by s c.args.round.now.orders c.args.round.now.bars _ _ _ (mark_in s.marks k) _ _ _ c.wish_at-wish.ensures.wish has same ranked c.if-is_live_in_its_school.false c.is_live_in_its_school.ensures wants
+    demands_by s c.args.round.now.orders c.args.round.now.bars _ _ _
+    (mark_in s.marks k) _ _ _ c.wish_at-wish.ensures.wish has same ranked
+    c.if-is_live_in_its_school.false c.is_live_in_its_school.ensures wants

@@ -9,17 +9,23 @@ use Rattle.certificate.proofs.named.ranks_up_to.Goals as goal
 pub ranks_of-requires : goal.ranks_of-requires
 ranks_of-requires c =
     let s = c.args.state.now in
-    let long : length s.marks ≡ length s.dossier.wishes = ap (λ (ms : List Mark). length ms) (sym c.marks.ensures.marks) ∙ c.marks.ensures.one_each in
+    let long : length s.marks ≡ length s.dossier.wishes =
+    ap (λ (ms : List Mark). length ms) (sym c.marks.ensures.marks) ∙ c.marks.ensures.one_each in
     let r = c.args.round.now in
-    let told = names_told r.state s r.orders r.ceilings r.bars c.args.school c.args.most _ c.requires.same c.requires.bars c.in_ok-names.ensures in
-    All-same (λ (k : ℕ). k < length s.dossier.wishes) _ _ (c.deref.ensures.value ∙ told) (names_are_places s r.orders r.bars c.args.school c.args.most long)
+    let told = names_told r.state s r.orders r.ceilings r.bars c.args.school c.args.most _
+    c.requires.same c.requires.bars c.in_ok-names.ensures in
+    All-same (λ (k : ℕ). k < length s.dossier.wishes) _ _ (c.deref.ensures.value ∙ told)
+    (names_are_places s r.orders r.bars c.args.school c.args.most long)
 
 pub returns : goal.returns
 returns c =
     let s = c.args.state.now in
-    let long : length s.marks ≡ length s.dossier.wishes = ap (λ (ms : List Mark). length ms) (sym c.marks.ensures.marks) ∙ c.marks.ensures.one_each in
+    let long : length s.marks ≡ length s.dossier.wishes =
+    ap (λ (ms : List Mark). length ms) (sym c.marks.ensures.marks) ∙ c.marks.ensures.one_each in
     let r = c.args.round.now in
-    let told = names_told r.state s r.orders r.ceilings r.bars c.args.school c.args.most _ c.requires.same c.requires.bars c.in_ok-names.ensures in
+    let told = names_told r.state s r.orders r.ceilings r.bars c.args.school c.args.most _
+    c.requires.same c.requires.bars c.in_ok-names.ensures in
     subst (λ (xs : List ℕ). IfOk c.ranks_of.result (λ v. v.items ≡ xs))
-    (ap (map (λ (k : ℕ). (wish_in s.dossier.wishes k).board_rank)) (c.deref.ensures.value ∙ told) ∙ ranks_back s r.orders r.bars c.args.school c.args.most long)
+    (ap (map (λ (k : ℕ). (wish_in s.dossier.wishes k).board_rank)) (c.deref.ensures.value ∙ told)
+    ∙ ranks_back s r.orders r.bars c.args.school c.args.most long)
     c.ranks_of.ensures

@@ -9,22 +9,28 @@ pub returns-in_default-2-clause-exact : goal.returns-in_default-2-clause-exact
 returns-in_default-2-clause-exact c =
     let first : parts 10 c.lines.rest.now ≡ c.in-Some.text.now ∷ parts 10 c.in-Some.after.now = search rules in
     let line : None ≡ line_of c.lines.row (parts 32 c.in-Some.text.now) = search rules in
-    rw c.fault_at.ensures (not_line c.lines.reading c.lines.row c.in-Some.text.now c.in-Some.after.now _ _ first line c.lines.invariant.whole)
+    rw c.fault_at.ensures (not_line c.lines.reading c.lines.row c.in-Some.text.now
+    c.in-Some.after.now _ _ first line c.lines.invariant.whole)
 
 pub returns-then-is_end-clause-exact : goal.returns-then-is_end-clause-exact
 returns-then-is_end-clause-exact c =
     let first : parts 10 c.lines.rest.now ≡ c.in-Some.text.now ∷ parts 10 c.in-Some.after.now = search rules in
     let line : Some c.in-Some-2.line ≡ line_of c.lines.row (parts 32 c.in-Some.text.now) = search rules in
     let ends : is_end (Some c.in-Some-2.line) ≡ true = search rules in
-    rw (has_ended c.lines.reading c.lines.row c.in-Some.text.now c.in-Some.after.now _ c.in-Some-2.line _ first line ends c.lines.invariant.whole) c.ended.ensures
+    rw (has_ended c.lines.reading c.lines.row c.in-Some.text.now c.in-Some.after.now _
+    c.in-Some-2.line _ first line ends c.lines.invariant.whole) c.ended.ensures
 
 pub returns-in-Some-misplaced-clause-exact : goal.returns-in-Some-misplaced-clause-exact
 returns-in-Some-misplaced-clause-exact c =
     let first : parts 10 c.lines.rest.now ≡ c.in-Some.text.now ∷ parts 10 c.in-Some.after.now = search rules in
     let line : Some c.in-Some-2.line ≡ line_of c.lines.row (parts 32 c.in-Some.text.now) = search rules in
     let ends : is_end (Some c.in-Some-2.line) ≡ false = search rules in
-    let placed : Some c.in-Some-misplaced.reason ≡ misplaced c.lines.reading.day c.lines.reading.pass (Some c.in-Some-2.line) = search rules in
-    rw c.fault_at-in-Some-misplaced.ensures (is_misplaced c.lines.reading c.lines.row c.in-Some.text.now c.in-Some.after.now _ c.in-Some-2.line c.in-Some-misplaced.reason _ first line ends placed c.lines.invariant.whole)
+    let placed : Some c.in-Some-misplaced.reason ≡ misplaced c.lines.reading.day
+    c.lines.reading.pass (Some c.in-Some-2.line) = search rules in
+    rw c.fault_at-in-Some-misplaced.ensures
+    (is_misplaced c.lines.reading c.lines.row c.in-Some.text.now c.in-Some.after.now _
+    c.in-Some-2.line c.in-Some-misplaced.reason _ first line ends placed
+    c.lines.invariant.whole)
 
 pub lines-preserved : goal.lines-preserved
 lines-preserved c =
@@ -34,7 +40,9 @@ lines-preserved c =
     let placed : None ≡ misplaced c.lines.reading.day c.lines.reading.pass (Some c.in-Some-2.line) = search rules in
     let opens : c.add.new.self ≡ opened c.lines.row c.in-Some-2.line c.lines.reading = search rules in
     record {
-      whole = goes_on c.lines.reading c.add.new.self c.lines.row c.in-Some.text.now c.in-Some.after.now _ c.in-Some-2.line _ first line ends placed opens c.lines.invariant.whole;
+      whole =
+          goes_on c.lines.reading c.add.new.self c.lines.row c.in-Some.text.now c.in-Some.after.now
+          _ c.in-Some-2.line _ first line ends placed opens c.lines.invariant.whole;
       rows = search rules;
     }
 

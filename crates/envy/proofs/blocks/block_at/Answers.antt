@@ -26,13 +26,22 @@ returns c =
     let w = wish_in d.wishes k in
     let p = c.wish_at-programme.result.programme in
     let p_is : p ≡ w.programme = ap (λ (v : Wish). v.programme) c.wish_at-programme.ensures.wish in
-    let lt : w.programme < length d.programmes = omega (arith, c.programme_count.ensures.each k c.requires.wish, c.programme_count.ensures.count) in
+    let lt : w.programme < length d.programmes =
+    omega (
+      arith,
+      c.programme_count.ensures.each k c.requires.wish,
+      c.programme_count.ensures.count,
+    ) in
     let lasts = c.args.lasts.now in
-    let last_is : get_or lasts p None ≡ number_in lasts w.programme = ap (λ j. get_or lasts j None) p_is ∙ sym (unwrap_or-slice_get lasts w.programme None) in
+    let last_is : get_or lasts p None ≡ number_in lasts w.programme =
+    ap (λ j. get_or lasts j None) p_is ∙ sym (unwrap_or-slice_get lasts w.programme None) in
     let envied : c.envied_at-envied.result ≡ last_envied s os w =
     c.envied_at-envied.ensures
-    ∙ ap (λ (order : List ℕ). envied_at order (get_or lasts p None) (get_or c.args.places.now k 0)) (c.order_of-order.ensures ∙ ap (order_of d os) p_is)
+    ∙ ap (λ (order : List ℕ). envied_at order (get_or lasts p None) (get_or c.args.places.now k 0))
+    (c.order_of-order.ensures ∙ ap (order_of d os) p_is)
     ∙ ap (λ (last : Option ℕ). envied_at (order_of d os w.programme) last (get_or c.args.places.now k 0)) last_is
-    ∙ ap (envied_at (order_of d os w.programme) (number_in lasts w.programme)) (place_at d os c.args.places.now k c.requires.places c.requires.wish)
+    ∙ ap (envied_at (order_of d os w.programme) (number_in lasts w.programme))
+    (place_at d os c.args.places.now k c.requires.places c.requires.wish)
     ∙ envied_is s os lasts w (order_distinct d os valid c.requires.orders w.programme) c.call_everyone.ensures c.requires.lasts lt in
-    same_block k c.seats_left.result (seats_left s w.programme) c.envied_at-envied.result (last_envied s os w) (c.seats_left.ensures ∙ ap (seats_left s) p_is) envied
+    same_block k c.seats_left.result (seats_left s w.programme) c.envied_at-envied.result
+    (last_envied s os w) (c.seats_left.ensures ∙ ap (seats_left s) p_is) envied

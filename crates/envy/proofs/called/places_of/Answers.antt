@@ -20,11 +20,14 @@ loop-wish-preserved c =
     let none = wish_in [] 0 in
     let w = get_or c.as_slice-wish-items.result.now i none in
     let group = c.group_of-group in
-    let keys = keys_at c.in_ok-sets.sets.items os group.result c.index.result.now (c.in_ok-sets.ensures ∙ ap (map (λ (o : CallOrder). o.list)) c.as_slice.ensures) (omega (arith, group.ensures.within, c.call_once.ensures.as_many)) c.index.ensures in
+    let keys = keys_at c.in_ok-sets.sets.items os group.result c.index.result.now
+    (c.in_ok-sets.ensures ∙ ap (map (λ (o : CallOrder). o.list)) c.as_slice.ensures)
+    (omega (arith, group.ensures.within, c.call_once.ensures.as_many)) c.index.ensures in
     let value : c.place_in.result ≡ f (get_or d.wishes i none) =
     c.place_in.ensures
     ∙ ap (position_or_len (nat_eq w.candidate)) keys
-    ∙ ap (λ g. position_or_len (nat_eq w.candidate) (unwrap_or (option_map (λ (o : CallOrder). o.list) (slice_get os g)) [])) group.ensures.value
+    ∙ ap (λ g. position_or_len (nat_eq w.candidate) (unwrap_or
+    (option_map (λ (o : CallOrder). o.list) (slice_get os g)) [])) group.ensures.value
     ∙ ap (λ (ws : List Wish). f (get_or ws i none)) wishes_are in
     c.in_ok-push.ensures.items
     ∙ ap (λ (ns : List ℕ). ns ++ c.place_in.result ∷ []) c.loop-wish.invariant

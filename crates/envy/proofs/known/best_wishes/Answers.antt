@@ -5,8 +5,11 @@ use Rattle.envy.proofs.known.best_wishes.Goals as goal
 
 pub loop-place-preserved : goal.loop-place-preserved
 loop-place-preserved c =
-    best_more c.args.state.now (rw c.marks.ensures.marks at c.marks.ensures.one_each) c.loop-place.place (omega (arith, c.loop-place-test.true, c.wish_count-place-end.ensures)) c.wish_at.result c.mark_at.result
-    (get nat_eq c.loop-place.best) (get nat_eq c.note_best.new.best) c.wish_at.ensures.wish c.mark_at.ensures c.loop-place.invariant c.in_ok-note_best.ensures
+    best_more c.args.state.now (rw c.marks.ensures.marks at c.marks.ensures.one_each)
+    c.loop-place.place (omega (arith, c.loop-place-test.true, c.wish_count-place-end.ensures))
+    c.wish_at.result c.mark_at.result
+    (get nat_eq c.loop-place.best) (get nat_eq c.note_best.new.best) c.wish_at.ensures.wish
+    c.mark_at.ensures c.loop-place.invariant c.in_ok-note_best.ensures
 
 pub returns : goal.returns
 returns c =

@@ -21,8 +21,11 @@ loop-place-preserved c =
     let lt : k < length s.dossier.wishes = omega (arith, c.loop-place-test.true, c.wish_count-place-end.ensures) in (
       c.note_last.ensures.as_long ∙ c.loop-place.invariant.0,
       λ orders are.
-          last_more s (rw c.marks.ensures.marks at c.marks.ensures.one_each) k lt orders c.wish_at-wish.result c.mark_at-mark.result (get_or c.args.places.now k 0) c.loop-place.lasts.items c.note_last.new.lasts.items
-          c.wish_at-wish.ensures.wish c.mark_at-mark.ensures (place_at s.dossier orders c.args.places.now k are lt) c.note_last.ensures.as_long
+          last_more s (rw c.marks.ensures.marks at c.marks.ensures.one_each) k lt orders
+          c.wish_at-wish.result c.mark_at-mark.result
+          (get_or c.args.places.now k 0) c.loop-place.lasts.items c.note_last.new.lasts.items
+          c.wish_at-wish.ensures.wish c.mark_at-mark.ensures
+          (place_at s.dossier orders c.args.places.now k are lt) c.note_last.ensures.as_long
           (c.loop-place.invariant.1 orders are) c.note_last.ensures.each,
     )
 

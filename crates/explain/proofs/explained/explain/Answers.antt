@@ -5,4 +5,6 @@ use Rattle.explain.proofs.explained.explain.Goals as goal
 pub returns : goal.returns
 returns g c =
     let course = c.args.campaign.now.course in
-    explains_there c.of_campaign-last.result (pass_of course) c.state.result.now course.present c.args.wish c.explained.result c.of_campaign-last.ensures c.state.ensures c.explained.ensures
+    explains_there c.of_campaign-last.result (pass_of course) c.state.result.now course.present
+    c.args.wish c.explained.result c.of_campaign-last.ensures c.state.ensures
+    c.explained.ensures

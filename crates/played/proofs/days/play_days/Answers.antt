@@ -11,27 +11,33 @@ loop-played-init g c = record { so_far = nothing_played _ _ _ _ c.requires.none;
 
 pub next_day-requires-clause-orders : goal.next_day-requires-clause-orders
 next_day-requires-clause-orders g c =
-    still _ _ _ _ _ _ _ c.loop-played.invariant.so_far (λ (d : DossierRows). AreCallOrders d.groups c.args.orders.now.orders) c.requires.orders
+    still _ _ _ _ _ _ _ c.loop-played.invariant.so_far
+    (λ (d : DossierRows). AreCallOrders d.groups c.args.orders.now.orders) c.requires.orders
 
 pub next_day-requires-clause-lineup : goal.next_day-requires-clause-lineup
 next_day-requires-clause-lineup g c =
-    still _ _ _ _ _ _ _ c.loop-played.invariant.so_far (λ (d : DossierRows). IsLineupOf d c.args.orders.now.orders c.args.lineup.now) c.requires.lineup
+    still _ _ _ _ _ _ _ c.loop-played.invariant.so_far (λ (d : DossierRows).
+    IsLineupOf d c.args.orders.now.orders c.args.lineup.now) c.requires.lineup
 
 pub next_day-requires-clause-terms : goal.next_day-requires-clause-terms
 next_day-requires-clause-terms g c =
-    still _ _ _ _ _ _ _ c.loop-played.invariant.so_far (λ (d : DossierRows). IfSome (option_copied c.args.terms) (λ t. length t.before ≡ length d.wishes)) c.requires.terms
+    still _ _ _ _ _ _ _ c.loop-played.invariant.so_far (λ (d : DossierRows). IfSome
+    (option_copied c.args.terms) (λ t. length t.before ≡ length d.wishes)) c.requires.terms
 
 pub next_day-requires-clause-there : goal.next_day-requires-clause-there
 next_day-requires-clause-there g c = c.loop-played.invariant.there
 
 pub returns-in_err-day-clause-plays : goal.returns-in_err-day-clause-plays
 returns-in_err-day-clause-plays g c =
-    plays_some _ _ _ _ _ _ _ c.loop-played.invariant.so_far c.args.number c.in_err-day.field-0.0 _ _ c.from_residual.result c.from_residual.ensures.1 c.loop-played-test.true
+    plays_some _ _ _ _ _ _ _ c.loop-played.invariant.so_far c.args.number c.in_err-day.field-0.0 _ _
+    c.from_residual.result c.from_residual.ensures.1 c.loop-played-test.true
     c.in_err-day.ensures.ends
 
 pub returns-in_err-keep-clause-plays : goal.returns-in_err-keep-clause-plays
 returns-in_err-keep-clause-plays g c =
-    plays_out _ _ _ _ _ _ _ c.loop-played.invariant.so_far c.args.number c.in_ok-day.day _ _ _ c.from_residual-in_err-keep.result c.from_residual-in_err-keep.ensures.1 c.loop-played-test.true c.in_ok-day.ensures.ends
+    plays_out _ _ _ _ _ _ _ c.loop-played.invariant.so_far c.args.number c.in_ok-day.day _ _ _
+    c.from_residual-in_err-keep.result c.from_residual-in_err-keep.ensures.1
+    c.loop-played-test.true c.in_ok-day.ensures.ends
 
 pub loop-played-preserved : goal.loop-played-preserved
 loop-played-preserved g c = record {

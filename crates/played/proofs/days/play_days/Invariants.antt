@@ -11,6 +11,9 @@ abbrev pub invariant-loop-played : goal.invariant-loop-played
 invariant-loop-played g l =
     Invariant
     (SoFar (record { orders = l.orders.orders; terms = option_copied l.terms; who = l.who }) l.fn.desk
-    (lent (λ p. (goal.Picker-dyn g (p.vtable, p.value)).told p.value) (λ p. (goal.Picker-dyn g (p.vtable, p.value)).choice p.value) l.fn.pickers) l.played l.days.items l.desk
-    (lent (λ p. (goal.Picker-dyn g (p.vtable, p.value)).told p.value) (λ p. (goal.Picker-dyn g (p.vtable, p.value)).choice p.value) l.pickers))
+    (lent (λ p. (goal.Picker-dyn g (p.vtable, p.value)).told p.value)
+    (λ p. (goal.Picker-dyn g (p.vtable, p.value)).choice p.value) l.fn.pickers) l.played
+    l.days.items l.desk
+    (lent (λ p. (goal.Picker-dyn g (p.vtable, p.value)).told p.value)
+    (λ p. (goal.Picker-dyn g (p.vtable, p.value)).choice p.value) l.pickers))
     (AreThere l.pickers)
