@@ -1,41 +1,49 @@
 //! The tests of each slot that needs no test of its own.
-ghost use Rattle.std.specs.Prelude.{◌≡◌, ◌<◌, ◌^◌, length, map, IfOk};
+ghost use Rattle.std.specs.Prelude.{◌≡◌, ◌<◌, ◌^◌, ◌∷◌, [], length, map, nat_eq, IfOk};
 ghost use Rattle.admit_core.specs.declared.slot.Slot.TheVariants as slots;
-ghost use Rattle.admit_core.specs.Faults.{first_in};
-ghost use Rattle.admit_core.specs.Relations.{group_tests, programme_tests, school_tests, ranking_tests, boarding_tests, ceiling_tests, group_ids, programme_ids, school_ids};
+ghost use Rattle.admit_core.specs.Faults.{first_in, repeats};
+ghost use Rattle.admit_core.specs.Relations.{programme_tests, ranking_tests, boarding_tests, ceiling_tests, group_ids, programme_ids, school_ids};
 ghost use Rattle.dossier_check.specs.Outcome.{AnswersFault};
 
 use crate::day_falls::{DayFalls, ItsDay};
 use crate::hashing::hashing_of_ranks;
+use crate::noted::Key;
 use crate::row_ids::RowIds;
-use crate::row_tests::{NamesUnknown, NoTest, Repeats, RepeatsId, TakesRank, Then};
+use crate::row_tests::{NamesUnknown, NoTest, Repeats, RepeatsId, Shared, Then};
 use crate::rules::{
     DayAndSchool, GroupAndCandidate, GroupAndRank, ItsGroup, ItsSchool, OwnId, SchoolAndCandidate,
     SchoolAndRank,
 };
 use crate::scan::{scan, scanned};
-use admit_core::{InFault, Slot, Tables};
+use admit_core::{InFault, Sequence, Slot, Tables};
 use indexmap::IndexSet;
 use keyed_hash::Keyed;
 use std::alloc::Global;
 
-/// Checks the groups, and answers their ids by place.
-pub(crate) fn check_groups(alloc: Global, keyed: Keyed, tables: &Tables) -> Result<RowIds, InFault>
-    requires { length tables.now.groups < 2 ^ 32 }
-    ensures fault { AnswersFault result (first_in slots.Groups group_tests tables.now.groups) }
-    ensures ids { IfOk result (λ ids. ids.keys ≡ group_ids tables.now) }
+/// Checks the ids of a slot whose rows name no others, and answers them by place.
+pub(crate) fn check_ids<R, Q: Key<R, u32> + Drop>(
+    alloc: Global,
+    keyed: Keyed,
+    slot: Slot,
+    rule: Q,
+    rows: &Sequence<R>,
+) -> Result<RowIds, InFault>
+    requires { length rows.now < 2 ^ 32 }
+    ensures fault { AnswersFault result
+        (first_in slot (repeats (λ row r. nat_eq (Q.key row) (Q.key r)) ∷ []) rows.now) }
+    ensures ids { IfOk result (λ ids. ids.keys ≡ map Q.key rows.now) }
 {
-    let rows = tables.groups.as_slice();
+    let rows = rows.as_slice();
     let checks = Then {
         first: RepeatsId {
             alloc,
             keyed,
             ids: RowIds::with_room(alloc, rows.len())?,
-            rule: OwnId,
+            rule,
         },
         rest: NoTest,
     };
-    let checks = scanned(Slot::Groups, checks, rows)?;
+    let checks = scanned(slot, checks, rows)?;
     Ok(checks.first.ids)
 }
 
@@ -73,26 +81,6 @@ pub(crate) fn check_programmes(
     Ok(checks.first.ids)
 }
 
-/// Checks the schools, and answers their ids by place.
-pub(crate) fn check_schools(alloc: Global, keyed: Keyed, tables: &Tables) -> Result<RowIds, InFault>
-    requires { length tables.now.schools < 2 ^ 32 }
-    ensures fault { AnswersFault result (first_in slots.Schools school_tests tables.now.schools) }
-    ensures ids { IfOk result (λ ids. ids.keys ≡ school_ids tables.now) }
-{
-    let rows = tables.schools.as_slice();
-    let checks = Then {
-        first: RepeatsId {
-            alloc,
-            keyed,
-            ids: RowIds::with_room(alloc, rows.len())?,
-            rule: OwnId,
-        },
-        rest: NoTest,
-    };
-    let checks = scanned(Slot::Schools, checks, rows)?;
-    Ok(checks.first.ids)
-}
-
 /// Tests the rankings row by row, and answers the first fault.
 pub(crate) fn find_rank_fault(
     alloc: Global,
@@ -109,6 +97,7 @@ pub(crate) fn find_rank_fault(
         first: Repeats {
             keys: IndexSet::with_hasher(alloc, keyed),
             rule: GroupAndCandidate,
+            shared: Shared::Item,
         },
         rest: Then {
             first: NamesUnknown {
@@ -117,9 +106,10 @@ pub(crate) fn find_rank_fault(
                 rule: ItsGroup,
             },
             rest: Then {
-                first: TakesRank {
+                first: Repeats {
                     keys: IndexSet::with_hasher(alloc, keyed),
                     rule: GroupAndRank,
+                    shared: Shared::Rank,
                 },
                 rest: NoTest,
             },
@@ -148,6 +138,7 @@ pub(crate) fn check_boarding(
         first: Repeats {
             keys: pairs,
             rule: SchoolAndCandidate,
+            shared: Shared::Item,
         },
         rest: Then {
             first: NamesUnknown {
@@ -156,9 +147,10 @@ pub(crate) fn check_boarding(
                 rule: ItsSchool,
             },
             rest: Then {
-                first: TakesRank {
+                first: Repeats {
                     keys: IndexSet::with_hasher(alloc, keyed),
                     rule: SchoolAndRank,
+                    shared: Shared::Rank,
                 },
                 rest: NoTest,
             },
@@ -183,6 +175,7 @@ pub(crate) fn check_ceilings(
         first: Repeats {
             keys: IndexSet::with_hasher(alloc, keyed),
             rule: DayAndSchool,
+            shared: Shared::Item,
         },
         rest: Then {
             first: NamesUnknown {
