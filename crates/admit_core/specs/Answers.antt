@@ -12,7 +12,9 @@ use Rattle.admit_core.specs.State.{State, with_marks, with_mark_at, is_live, is_
 
 -- the mark, the status and the candidate of the wish at a place
 abbrev pub mark_at : State → ℕ → Mark
-mark_at s place = unwrap_or (slice_get s.marks place) (record { status = Waiting; stamp = record { day = 0; pass = 0 } })
+mark_at s place =
+    unwrap_or (slice_get s.marks place)
+    (record { status = Waiting; stamp = record { day = 0; pass = 0 } })
 
 abbrev pub status_at : State → ℕ → Status
 status_at s place = (mark_at s place).status
@@ -34,16 +36,22 @@ fits s a = kind_fits a.kind (status_at s a.target)
 abbrev pub change_at : State → ℕ → Status → Stamp → State
 change_at s place status stamp = with_mark_at s place (changed_to status stamp (mark_at s place))
 
--- the state in which a candidate's live wishes become refused, and that in which all their live and waiting ones become quit
+-- the state in which a candidate's live wishes become refused, and that in which all their live and
+-- waiting ones become quit
 abbrev pub refuse_live : State → ℕ → Stamp → State
-refuse_live s c stamp = with_marks s (λ w m. if is_live m && (w.candidate == c) then changed_to Refused stamp m else m)
+refuse_live s c stamp =
+    with_marks s (λ w m. if is_live m && (w.candidate == c) then changed_to Refused stamp m else m)
 
 abbrev pub quit_all : State → ℕ → Stamp → State
-quit_all s c stamp = with_marks s (λ w m. if (is_live m || is_waiting m) && (w.candidate == c) then changed_to HasQuit stamp m else m)
+quit_all s c stamp =
+    with_marks s (λ w m. if (is_live m || is_waiting m) && (w.candidate == c)
+    then changed_to HasQuit stamp m else m)
 
 -- the state after an answer that fits
 abbrev pub after_kind : AnswerKind → State → ℕ → Stamp → State
-after_kind Accept s place stamp = with_mark_at (refuse_live s (candidate_at s place) stamp) place (changed_to Accepted stamp (mark_at s place))
+after_kind Accept s place stamp =
+    with_mark_at (refuse_live s (candidate_at s place) stamp) place
+    (changed_to Accepted stamp (mark_at s place))
 after_kind Refuse s place stamp = change_at s place Refused stamp
 after_kind Withdraw s place stamp = change_at s place Withdrawn stamp
 after_kind Quit s c stamp = quit_all s c stamp
@@ -60,7 +68,8 @@ after_all s stamp (a ∷ rest) = after_all (after s stamp a) stamp rest
 abbrev pub first_unfit : ℕ → State → Stamp → List Answer → Option (ℕ × Status)
 first_unfit k s stamp [] = None
 first_unfit k s stamp (a ∷ rest) =
-    if fits s a then first_unfit (k + 1) (after s stamp a) stamp rest else Some (k, status_at s a.target)
+    if fits s a then first_unfit (k + 1) (after s stamp a) stamp rest
+    else Some (k, status_at s a.target)
 
 abbrev pub is_own_kind : AnswerKind → State → ℕ → ℕ → Bool
 is_own_kind Accept s c target = candidate_at s target == c

@@ -13,7 +13,9 @@ use Rattle.admit_core.specs.Boarding.{boarding}
 
 -- the demanded ranks of a school are a set, from the least
 abbrev pub RanksRise : Type 0
-RanksRise = (s : State) (orders : List CallOrder) (bars : List ℕ) (h : ℕ) → IsStrictlyIncreasing (demanded_ranks s orders bars h)
+RanksRise =
+    (s : State) (orders : List CallOrder) (bars : List ℕ) (h : ℕ)
+    → IsStrictlyIncreasing (demanded_ranks s orders bars h)
 
 -- each is from 1 to the bar
 abbrev pub RanksStandBelowBars : Type 0
@@ -22,7 +24,8 @@ RanksStandBelowBars =
     → IsTrue (is_among r (demanded_ranks s orders bars h))
     → (1 ≤ r) × (r ≤ slice_index bars h)
 
--- one that is demanded under higher bars, and is at most the lower bar, is demanded under the lower bars
+-- one that is demanded under higher bars, and is at most the lower bar, is demanded under the lower
+-- bars
 abbrev pub RanksStayDemanded : Type 0
 RanksStayDemanded =
     (s : State) (orders : List CallOrder) (lower upper : List ℕ)
@@ -44,7 +47,8 @@ WishesStayOpen =
 -- no more stand ahead of a wish as bars fall
 abbrev pub NoMoreStandAhead : Type 0
 NoMoreStandAhead =
-    (s : State) (orders : List CallOrder) (lower upper : List ℕ) → IsAtMost lower upper → (w : Wish) → ahead s orders lower w ≤ ahead s orders upper w
+    (s : State) (orders : List CallOrder) (lower upper : List ℕ) → IsAtMost lower upper → (w : Wish)
+    → ahead s orders lower w ≤ ahead s orders upper w
 
 -- a proposed wish that stays open stays proposed as bars fall
 abbrev pub WishesStayProposed : Type 0
@@ -63,7 +67,8 @@ RunsEndAtGreatest =
     → IsRun (boarding s orders ceilings) falls
     → IsGreatest (boarding s orders ceilings) (bars_after ceilings falls)
 
--- under the greatest bars a place whose bar is below its ceiling has as many demanded ranks as free beds
+-- under the greatest bars a place whose bar is below its ceiling has as many demanded ranks as free
+-- beds
 abbrev pub LoweredBarsAreFull : Type 0
 LoweredBarsAreFull =
     (sys : FallingSystem)

@@ -1,4 +1,5 @@
--- Wishes that block a state: their candidates would rather have a seat that is vacant, or that another holds with less right.
+-- Wishes that block a state: their candidates would rather have a seat that is vacant, or that
+-- another holds with less right.
 use Rattle.std.specs.Prelude.{ℕ, Bool, true, false, not, ◌&&◌, ◌||◌, List, [], ◌∷◌, drop, Option, Some, None, nat_lt, ◌==◌, filter, is_some}
 use Rattle.std.specs.List.{list_any}
 use Rattle.admit_core.specs.declared.dossier.Wish.{Wish}
@@ -23,7 +24,9 @@ lacks_school (Some h) = false
 
 -- the candidate has a live wish that they prefer
 abbrev pub has_better : State → Wish → Bool
-has_better s w = list_any (λ (v, m). is_live m && (v.candidate == w.candidate) && nat_lt v.preference w.preference) (entries s)
+has_better s w =
+    list_any (λ (v, m). is_live m && (v.candidate == w.candidate)
+    && nat_lt v.preference w.preference) (entries s)
 
 -- those who stand after the candidate in the call order of the wish's programme
 abbrev pub behind : State → List CallOrder → Wish → List ℕ
@@ -42,10 +45,12 @@ last_of (c ∷ (d ∷ rest)) = last_of (d ∷ rest)
 abbrev pub last_envied : State → List CallOrder → Wish → Option ℕ
 last_envied s orders w = last_of (envied s orders w)
 
--- the candidate has nothing that is as good: they rank the wish, are not live in its programme and have no live wish that they prefer
+-- the candidate has nothing that is as good: they rank the wish, are not live in its programme and
+-- have no live wish that they prefer
 abbrev pub wants_more : State → Wish → Mark → Bool
 wants_more s w m =
-    lacks_school w.school && nat_lt 0 w.preference && is_missed m.status && not (holds_seat s w.candidate w.programme) && not (has_better s w)
+    lacks_school w.school && nat_lt 0 w.preference && is_missed m.status
+    && not (holds_seat s w.candidate w.programme) && not (has_better s w)
 
 -- somebody behind the candidate is live in the programme
 abbrev pub has_envy : State → List CallOrder → Wish → Bool
@@ -53,7 +58,8 @@ has_envy s orders w = is_some (last_envied s orders w)
 
 -- such a wish blocks where a seat of its programme is vacant, or somebody behind is live there
 abbrev pub is_blocking : State → List CallOrder → Wish → Mark → Bool
-is_blocking s orders w m = wants_more s w m && (nat_lt 0 (seats_left s w.programme) || has_envy s orders w)
+is_blocking s orders w m =
+    wants_more s w m && (nat_lt 0 (seats_left s w.programme) || has_envy s orders w)
 
 -- the places of the wishes that block
 abbrev pub blocking : State → List CallOrder → List ℕ

@@ -9,7 +9,9 @@ use Rattle.admit_core.specs.Falls.{FallingSystem}
 -- the name of a demanded rank: the least place of a wish that demands it
 abbrev pub name_of : State → List CallOrder → List ℕ → ℕ → ℕ → ℕ
 name_of s orders bars h r =
-    unwrap_or (option_map (λ x. x.0) (find (λ x. demands_bed s orders bars h x.1.0 x.1.1 && (x.1.0.board_rank == r)) (enumerate_from 0 (entries s)))) 0
+    unwrap_or (option_map (λ x. x.0)
+    (find (λ x. demands_bed s orders bars h x.1.0 x.1.1 && (x.1.0.board_rank == r))
+    (enumerate_from 0 (entries s)))) 0
 
 -- the schools' bars under the day's ceilings, of which there is one for each school
 abbrev pub boarding : State → List CallOrder → List ℕ → FallingSystem

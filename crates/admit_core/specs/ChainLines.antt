@@ -38,4 +38,5 @@ check_reason_name PassExtra = codes "PassExtra"
 -- the line of a fault of the grammar, without its line feed
 abbrev pub chain_fault_text : ChainFault → List ℕ
 chain_fault_text fault =
-    codes "not a chain row " ++ decimal fault.row ++ codes " reason " ++ decimal (chain_reason_number fault.reason) ++ codes " " ++ chain_reason_name fault.reason
+    codes "not a chain row " ++ decimal fault.row ++ codes " reason "
+    ++ decimal (chain_reason_number fault.reason) ++ codes " " ++ chain_reason_name fault.reason

@@ -19,7 +19,8 @@ pub record DossierRows : Type 0 where
   pub ceilings : List CeilingChange
   pub answers : List Answer
 
--- of a programme its group's place, its seats and its call limit, and of a school its beds; 0 past the end
+-- of a programme its group's place, its seats and its call limit, and of a school its beds; 0 past
+-- the end
 abbrev pub group_of : DossierRows → ℕ → ℕ
 group_of d p = slice_index (map (λ q. q.group) d.programmes) p
 

@@ -20,12 +20,15 @@ last_bars (pass ∷ next ∷ rest) = last_bars (next ∷ rest)
 
 -- in a state each wish that waits for a programme with seats left is barred
 abbrev pub IsFilled : State → List ℕ → Wish × Mark → Type 0
-IsFilled s bars (w, m) = IsTrue (is_waiting m) → 0 < seats_left s w.programme → IsTrue (is_barred s bars w m)
+IsFilled s bars (w, m) =
+    IsTrue (is_waiting m) → 0 < seats_left s w.programme → IsTrue (is_barred s bars w m)
 
--- after the last pass of a day a programme has seats left only where each waiting wish of it is barred under the last bars
+-- after the last pass of a day a programme has seats left only where each waiting wish of it is
+-- barred under the last bars
 abbrev pub SeatsAreFilled : Type 0
 SeatsAreFilled =
-    (orders : List CallOrder) (ceilings : List ℕ) (day k : ℕ) (opening : State) (passes : List PassEnd) (evening : State)
+    (orders : List CallOrder) (ceilings : List ℕ) (day k : ℕ) (opening : State)
+    (passes : List PassEnd) (evening : State)
     → IsValid opening.dossier
     → AreCallOrders opening.dossier.groups orders
     → Passes orders ceilings day k opening passes evening
@@ -34,7 +37,8 @@ SeatsAreFilled =
 -- an evening is closed: under its own greatest bars and the same ceilings no wish is proposed
 abbrev pub EveningsAreClosed : Type 0
 EveningsAreClosed =
-    (orders : List CallOrder) (ceilings : List ℕ) (day k : ℕ) (opening : State) (passes : List PassEnd) (evening : State)
+    (orders : List CallOrder) (ceilings : List ℕ) (day k : ℕ) (opening : State)
+    (passes : List PassEnd) (evening : State)
     → IsValid opening.dossier
     → AreCallOrders opening.dossier.groups orders
     → Passes orders ceilings day k opening passes evening

@@ -4,8 +4,8 @@ use Rattle.std.specs.List.{list_all, range_with_len}
 use Rattle.std.specs.List.Sorted.{IsStrictlyIncreasing}
 use Rattle.admit_core.specs.declared.records.Fall.{Fall}
 
--- a system of bars: for each place a ceiling and the free beds, and for all bars and a place the demanded ranks, from the
--- least, with a name for each
+-- a system of bars: for each place a ceiling and the free beds, and for all bars and a place the
+-- demanded ranks, from the least, with a name for each
 pub record FallingSystem : Type 0 where
   pub ceilings : List ℕ
   pub free : List ℕ
@@ -21,11 +21,15 @@ pub record IsAtMost (lower upper : List ℕ) : Type 0 where
 pub record IsLawful (sys : FallingSystem) : Type 0 where
   pub one_free_each : length sys.free ≡ length sys.ceilings
   -- the ranks are a set, from the least
-  pub ascending : (bars : List ℕ) (i : ℕ) → IsAtMost bars sys.ceilings → i < length bars → IsStrictlyIncreasing (sys.ranks bars i)
+  pub ascending : (bars : List ℕ) (i : ℕ) → IsAtMost bars sys.ceilings → i < length bars
+      → IsStrictlyIncreasing (sys.ranks bars i)
   -- ranks stand below bars: each is from 1 to the bar
-  pub from_one : (bars : List ℕ) (i r : ℕ) → IsAtMost bars sys.ceilings → i < length bars → Contains (sys.ranks bars i) r → 1 ≤ r
-  pub to_bar : (bars : List ℕ) (i r : ℕ) → IsAtMost bars sys.ceilings → i < length bars → Contains (sys.ranks bars i) r → r ≤ slice_index bars i
-  -- ranks stay demanded: one that is demanded under higher bars, and stands below the lower bar, is demanded under the lower bars
+  pub from_one : (bars : List ℕ) (i r : ℕ) → IsAtMost bars sys.ceilings → i < length bars
+      → Contains (sys.ranks bars i) r → 1 ≤ r
+  pub to_bar : (bars : List ℕ) (i r : ℕ) → IsAtMost bars sys.ceilings → i < length bars
+      → Contains (sys.ranks bars i) r → r ≤ slice_index bars i
+  -- ranks stay demanded: one that is demanded under higher bars, and stands below the lower bar, is
+  -- demanded under the lower bars
   pub stay_demanded :
       (lower upper : List ℕ) (i r : ℕ)
       → IsAtMost lower upper
@@ -47,11 +51,13 @@ pub record IsGreatest (sys : FallingSystem) (bars : List ℕ) : Type 0 where
 
 -- a place is overfilled where more ranks are demanded than beds are free
 abbrev pub is_overfilled : FallingSystem → List ℕ → ℕ → Bool
-is_overfilled sys bars i = nat_lt i (length sys.ceilings) && nat_lt (slice_index sys.free i) (length (sys.ranks bars i))
+is_overfilled sys bars i =
+    nat_lt i (length sys.ceilings) && nat_lt (slice_index sys.free i) (length (sys.ranks bars i))
 
 -- no place is overfilled
 abbrev pub is_settled : FallingSystem → List ℕ → Bool
-is_settled sys bars = list_all (λ i. not (is_overfilled sys bars i)) (range_with_len 0 (length sys.ceilings))
+is_settled sys bars =
+    list_all (λ i. not (is_overfilled sys bars i)) (range_with_len 0 (length sys.ceilings))
 
 -- the ranks of an overfilled place up to the first that has no bed
 abbrev pub first_over : FallingSystem → List ℕ → ℕ → List ℕ
@@ -79,7 +85,8 @@ bars_after bars (f ∷ fs) = bars_after (fallen bars f) fs
 abbrev pub AreFalls : FallingSystem → List ℕ → List Fall → Type 0
 AreFalls sys bars [] = ⊤
 AreFalls sys bars (f ∷ fs) =
-    IsTrue (is_overfilled sys bars f.school) × (f ≡ fall_of sys bars f.school) × AreFalls sys (fallen bars f) fs
+    IsTrue (is_overfilled sys bars f.school) × (f ≡ fall_of sys bars f.school)
+    × AreFalls sys (fallen bars f) fs
 
 -- a run of falls starts at the ceilings, and ends where no place is overfilled
 pub record IsRun (sys : FallingSystem) (falls : List Fall) : Type 0 where
@@ -89,7 +96,8 @@ pub record IsRun (sys : FallingSystem) (falls : List Fall) : Type 0 where
 -- the falls that a list of picked places makes
 abbrev pub falls_by : FallingSystem → List ℕ → List ℕ → List Fall
 falls_by sys bars [] = []
-falls_by sys bars (i ∷ picks) = fall_of sys bars i ∷ falls_by sys (fallen bars (fall_of sys bars i)) picks
+falls_by sys bars (i ∷ picks) =
+    fall_of sys bars i ∷ falls_by sys (fallen bars (fall_of sys bars i)) picks
 
 -- the picks lead a system where their falls are a run
 abbrev pub Leads : FallingSystem → List ℕ → Type 0

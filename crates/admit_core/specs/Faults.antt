@@ -30,7 +30,8 @@ first_reason tests before row = first_of (map (λ test. test before row) tests)
 -- the refusal of a row after the rows before it
 abbrev pub refusal_after : {R : Type 0} → Slot → List (Test R) → List R → R → Option Refusal
 refusal_after slot tests before row =
-    option_map (λ reason. record { slot = slot; row = row_number (length before); reason = reason }) (first_reason tests before row)
+    option_map (λ reason. record { slot = slot; row = row_number (length before); reason = reason })
+    (first_reason tests before row)
 
 -- what f gives of each row with all rows before it
 abbrev pub each_after : {R X : Type 0} → (List R → R → X) → List R → List R → List X

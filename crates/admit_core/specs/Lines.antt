@@ -121,4 +121,7 @@ reason_text reason = reason_name reason ++ kept_text (kept_by reason)
 -- the line of a refusal, without its line feed
 abbrev pub refusal_text : Refusal → List ℕ
 refusal_text r =
-    codes "refused " ++ (slot_name r.slot ++ (codes " row " ++ (decimal r.row ++ (codes " reason " ++ (decimal (reason_number r.reason) ++ (codes " " ++ reason_text r.reason))))))
+    codes "refused " ++ (slot_name r.slot
+    ++ (codes " row " ++ (decimal r.row
+    ++ (codes " reason "
+    ++ (decimal (reason_number r.reason) ++ (codes " " ++ reason_text r.reason))))))

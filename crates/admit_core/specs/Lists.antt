@@ -14,7 +14,8 @@ distinct ns = unique_keys nat_eq ns
 -- a number in its place among ascending numbers, and no second time
 abbrev pub put_in : ℕ → List ℕ → List ℕ
 put_in n [] = n ∷ []
-put_in n (m ∷ ms) = if nat_lt n m then (n ∷ m ∷ ms) else if nat_eq n m then (m ∷ ms) else (m ∷ put_in n ms)
+put_in n (m ∷ ms) =
+    if nat_lt n m then (n ∷ m ∷ ms) else if nat_eq n m then (m ∷ ms) else (m ∷ put_in n ms)
 
 -- the numbers of a list, ascending, each once
 abbrev pub ascending : List ℕ → List ℕ

@@ -72,28 +72,38 @@ same_school (Some h) (Some k) = nat_eq h k
 same_school h k = false
 
 abbrev pub same_wish : WishRow → WishRow → Bool
-same_wish row r = nat_eq row.candidate r.candidate && nat_eq row.programme r.programme && same_school row.school r.school
+same_wish row r =
+    nat_eq row.candidate r.candidate && nat_eq row.programme r.programme
+    && same_school row.school r.school
 
 -- whether the candidate is ranked in the group, and in that of the programme with this id
 abbrev pub is_in_group : Tables → ℕ → ℕ → Bool
-is_in_group t candidate group = list_any (λ r. nat_eq group r.group && nat_eq candidate r.candidate) t.rankings
+is_in_group t candidate group =
+    list_any (λ r. nat_eq group r.group && nat_eq candidate r.candidate) t.rankings
 
 abbrev pub is_ranked : Tables → ℕ → ℕ → Bool
-is_ranked t programme candidate = option_map_or (λ p. is_in_group t candidate p.group) (find (λ p. nat_eq programme p.id) t.programmes) false
+is_ranked t programme candidate =
+    option_map_or (λ p. is_in_group t candidate p.group)
+    (find (λ p. nat_eq programme p.id) t.programmes) false
 
 abbrev pub unranked : Tables → Test WishRow
 unranked t before row = if is_ranked t row.programme row.candidate then None else Some Unranked
 
 -- whether the candidate has a rank in the school
 abbrev pub is_boarded : Tables → ℕ → ℕ → Bool
-is_boarded t school candidate = list_any (λ b. nat_eq school b.school && nat_eq candidate b.candidate) t.boarding
+is_boarded t school candidate =
+    list_any (λ b. nat_eq school b.school && nat_eq candidate b.candidate) t.boarding
 
 abbrev pub no_boarding_rank : Tables → Test WishRow
-no_boarding_rank t before row = if option_map_or (λ h. is_boarded t h row.candidate) row.school true then None else Some NoBoardingRank
+no_boarding_rank t before row =
+    if option_map_or (λ h. is_boarded t h row.candidate) row.school true then None
+    else Some NoBoardingRank
 
 -- one of the two wishes has a preference, and the other has none
 abbrev pub are_mixed : WishRow → WishRow → Bool
-are_mixed row r = not (nat_eq row.preference 0) && nat_eq r.preference 0 || nat_eq row.preference 0 && not (nat_eq r.preference 0)
+are_mixed row r =
+    not (nat_eq row.preference 0) && nat_eq r.preference 0 || nat_eq row.preference 0
+    && not (nat_eq r.preference 0)
 
 -- the first of the candidate's wish rows, with its number
 abbrev pub first_wish_of : List WishRow → ℕ → Option (ℕ × WishRow)
@@ -103,16 +113,20 @@ abbrev pub mixed_with : WishRow → ℕ × WishRow → Option ℕ
 mixed_with row first = if are_mixed row first.1 then Some first.0 else None
 
 abbrev pub preference_mixed : Test WishRow
-preference_mixed before row = option_map PreferenceMixed (option_map_or (mixed_with row) (first_wish_of before row.candidate) None)
+preference_mixed before row =
+    option_map PreferenceMixed
+    (option_map_or (mixed_with row) (first_wish_of before row.candidate) None)
 
 abbrev pub preference_taken : Test WishRow
 preference_taken before row =
     if nat_lt 0 row.preference
-    then option_map PreferenceTaken (first_row (λ r. nat_eq row.candidate r.candidate && nat_eq row.preference r.preference) before)
+    then option_map PreferenceTaken
+    (first_row (λ r. nat_eq row.candidate r.candidate
+    && nat_eq row.preference r.preference) before)
     else None
 
--- wishes: no id and no wish twice, what they name is there, the candidate is ranked, and the preferences of a candidate are all 0,
--- or all positive and different
+-- wishes: no id and no wish twice, what they name is there, the candidate is ranked, and the
+-- preferences of a candidate are all 0, or all positive and different
 abbrev pub wish_tests : Tables → List (Test WishRow)
 wish_tests t =
     repeats (λ row r. nat_eq row.id r.id)
@@ -140,7 +154,9 @@ is_accepted _ = false
 abbrev pub two_accepted : Tables → Test StateRow
 two_accepted t before row =
     if is_accepted row.status
-    then option_map TwoAccepted (first_row (λ r. is_accepted r.status && same_candidate (candidate_with t row.wish) (candidate_with t r.wish)) before)
+    then option_map TwoAccepted
+    (first_row (λ r. is_accepted r.status
+    && same_candidate (candidate_with t row.wish) (candidate_with t r.wish)) before)
     else None
 
 -- statuses: no wish twice, a wish that is there, and no candidate with two accepted ones
@@ -159,7 +175,9 @@ last_row (r ∷ (s ∷ rows)) = last_row (s ∷ rows)
 
 -- the day is less than that of the row before
 abbrev pub day_falls : {R : Type 0} → (R → ℕ) → Test R
-day_falls day before row = if option_map_or (λ last. nat_lt (day row) (day last)) (last_row before) false then Some DayFalls else None
+day_falls day before row =
+    if option_map_or (λ last. nat_lt (day row) (day last)) (last_row before) false
+    then Some DayFalls else None
 
 -- ceilings: no day and school twice, a school that is there, and days that do not fall
 abbrev pub ceiling_tests : Tables → List (Test CeilingRow)

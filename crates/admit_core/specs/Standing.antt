@@ -1,4 +1,5 @@
--- The dossier that valid tables stand for: all rows in file order, with the rankings sorted by rank and places for ids.
+-- The dossier that valid tables stand for: all rows in file order, with the rankings sorted by rank
+-- and places for ids.
 use Rattle.std.specs.Prelude.{ℕ, ◌&&◌, List, Option, Some, None, map, option_map, nat_eq, find, filter, unwrap_or}
 use Rattle.std.specs.List.{position_or_len}
 use Rattle.admit_core.specs.declared.state.Status.{Status}
@@ -29,7 +30,8 @@ abbrev pub place_of : List ℕ → ℕ → ℕ
 place_of ids id = position_or_len (nat_eq id) ids
 
 abbrev pub ranked_row : RankRow → Ranked
-ranked_row r = record { candidate = r.candidate; rank = r.rank; scholar = r.scholar; resident = r.resident }
+ranked_row r =
+    record { candidate = r.candidate; rank = r.rank; scholar = r.scholar; resident = r.resident }
 
 -- the candidates of a group, in file order
 abbrev pub ranked_in : List RankRow → ℕ → List Ranked
@@ -38,10 +40,17 @@ ranked_in rankings group = map ranked_row (filter (λ r. nat_eq group r.group) r
 -- a group with its candidates by rank
 abbrev pub group_of_row : Tables → GroupRow → RankGroup
 group_of_row t g =
-    record { id = g.id; scholar_pct = g.scholar_pct; resident_pct = g.resident_pct; list = sorted_by (λ r. r.rank) (ranked_in t.rankings g.id) }
+    record {
+      id = g.id;
+      scholar_pct = g.scholar_pct;
+      resident_pct = g.resident_pct;
+      list = sorted_by
+          (λ r. r.rank) (ranked_in t.rankings g.id);
+    }
 
 abbrev pub programme_of_row : Tables → ProgrammeRow → Programme
-programme_of_row t p = record { id = p.id; group = place_of (group_ids t) p.group; seats = p.seats; limit = p.limit }
+programme_of_row t p =
+    record { id = p.id; group = place_of (group_ids t) p.group; seats = p.seats; limit = p.limit }
 
 abbrev pub school_of_row : SchoolRow → School
 school_of_row h = record { id = h.id; beds = h.beds; ceiling = h.ceiling }
@@ -50,7 +59,8 @@ school_of_row h = record { id = h.id; beds = h.beds; ceiling = h.ceiling }
 abbrev pub board_rank_of : Tables → ℕ → Option ℕ → ℕ
 board_rank_of t candidate None = 0
 board_rank_of t candidate (Some h) =
-    unwrap_or (option_map (λ b. b.rank) (find (λ b. nat_eq h b.school && nat_eq candidate b.candidate) t.boarding)) 0
+    unwrap_or (option_map (λ b. b.rank)
+    (find (λ b. nat_eq h b.school && nat_eq candidate b.candidate) t.boarding)) 0
 
 abbrev pub wish_of_row : Tables → WishRow → Wish
 wish_of_row t w =
@@ -65,7 +75,8 @@ wish_of_row t w =
 
 -- a wish that no row of the state names waits
 abbrev pub status_of_row : Tables → WishRow → Status
-status_of_row t w = unwrap_or (option_map (λ s. s.status) (find (λ s. nat_eq w.id s.wish) t.state)) Waiting
+status_of_row t w =
+    unwrap_or (option_map (λ s. s.status) (find (λ s. nat_eq w.id s.wish) t.state)) Waiting
 
 abbrev pub target_of : Tables → AnswerKind → ℕ → ℕ
 target_of t Quit target = target
@@ -74,7 +85,8 @@ target_of t Refuse target = place_of (wish_ids t) target
 target_of t Withdraw target = place_of (wish_ids t) target
 
 abbrev pub ceiling_of_row : Tables → CeilingRow → CeilingChange
-ceiling_of_row t c = record { day = c.day; school = place_of (school_ids t) c.school; ceiling = c.ceiling }
+ceiling_of_row t c =
+    record { day = c.day; school = place_of (school_ids t) c.school; ceiling = c.ceiling }
 
 abbrev pub answer_of_row : Tables → AnswerRow → Answer
 answer_of_row t a = record { day = a.day; kind = a.kind; target = target_of t a.kind a.target }

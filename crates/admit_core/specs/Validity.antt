@@ -22,7 +22,8 @@ pub record IsValidRanked (r : Ranked) : Type 0 where
   pub candidate : IsNumber r.candidate
   pub rank : IsNumber r.rank
 
--- a ranking that has a call order: its rates are percentages, its ranks ascend, and each candidate is ranked once
+-- a ranking that has a call order: its rates are percentages, its ranks ascend, and each candidate
+-- is ranked once
 pub record IsRanking (g : RankGroup) : Type 0 where
   pub scholar_pct : g.scholar_pct ≤ 100
   pub resident_pct : g.resident_pct ≤ 100
@@ -60,10 +61,12 @@ pub record IsValidWish (d : DossierRows) (w : Wish) : Type 0 where
   pub board_rank : HasBoardRank w.school w.board_rank
   pub preference : w.preference ≤ 2000000000
 
--- two wishes of one candidate differ in programme or school; their preferences are both 0, or both positive and different
+-- two wishes of one candidate differ in programme or school; their preferences are both 0, or both
+-- positive and different
 pub record IsApart (v w : Wish) : Type 0 where
   pub named : v.candidate ≡ w.candidate → v.programme ≡ w.programme → v.school ≡ w.school → ⊥
-  pub ranks : IsSome v.school → v.school ≡ w.school → (v.board_rank ≡ w.board_rank) ↔ (v.candidate ≡ w.candidate)
+  pub ranks : IsSome v.school → v.school ≡ w.school → (v.board_rank ≡ w.board_rank)
+      ↔ (v.candidate ≡ w.candidate)
   pub both_ranked : v.candidate ≡ w.candidate → (v.preference ≡ 0) ↔ (w.preference ≡ 0)
   pub preferences : v.candidate ≡ w.candidate → v.preference ≡ w.preference → v.preference ≡ 0
 

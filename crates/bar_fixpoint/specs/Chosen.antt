@@ -10,7 +10,7 @@ abbrev pub AreChosen : FallingSystem → (List ℕ → List ℕ → ℕ) → Lis
 AreChosen sys choice told bars [] = ⊤
 AreChosen sys choice told bars (f ∷ fs) =
     (f.school ≡ choice told (all_overfilled sys bars))
-        × AreChosen sys choice (told ++ f.school ∷ []) (fallen bars f) fs
+    × AreChosen sys choice (told ++ f.school ∷ []) (fallen bars f) fs
 
 -- one fall: the place that the picker chose and told of
 pub record PickedFall (sys : FallingSystem) (choice : List ℕ → List ℕ → ℕ) (told bars : List ℕ)

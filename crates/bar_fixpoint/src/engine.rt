@@ -59,7 +59,7 @@ fn fall_once<F: Falling, L: Ledger>(
     requires { IsAtMost (F.bars system.old) (F.system system.old).ceilings }
     ensures fall { IfOk result (λ fall.
         IfSome fall (λ f. PickedFall (F.system system.old) (choice picker.old)
-            (told picker.old) (F.bars system.old) f (told picker.new) (F.bars system.new))) }
+        (told picker.old) (F.bars system.old) f (told picker.new) (F.bars system.new))) }
     ensures settled { IfOk result (λ fall.
         IfNone fall (IsTrue (is_settled (F.system system.old) (F.bars system.old)))) }
     ensures rest { IfOk result (λ fall. IfNone fall

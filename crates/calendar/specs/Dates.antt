@@ -11,7 +11,8 @@ days_in_month year month =
 
 -- whether the calendar has this date
 abbrev pub is_date : ℕ → ℕ → ℕ → Bool
-is_date year month day = nat_le 1 month && nat_le month 12 && nat_le 1 day && nat_le day (days_in_month year month)
+is_date year month day =
+    nat_le 1 month && nat_le month 12 && nat_le 1 day && nat_le day (days_in_month year month)
 
 -- the days from 0001-01-01 to the first of a year
 abbrev pub days_before_year : ℕ → ℕ
@@ -32,12 +33,14 @@ days_before_1970 = 719162
 
 -- the number of days from 1970-01-01 to a date
 unfoldable pub day_number : ℕ → ℕ → ℕ → ℤ
-day_number year month day = pos (days_before_year year + days_before_month year month + (day - 1)) -ℤ pos days_before_1970
+day_number year month day =
+    pos (days_before_year year + days_before_month year month + (day - 1)) -ℤ pos days_before_1970
 
 -- the last of the numbers from k to k + more that has started by a day, where k has
 unfoldable pub last_started : (ℕ → ℕ) → ℕ → ℕ → ℕ → ℕ
 last_started start day zero k = k
-last_started start day (suc more) k = if nat_le (start (k + 1)) day then last_started start day more (k + 1) else k
+last_started start day (suc more) k =
+    if nat_le (start (k + 1)) day then last_started start day more (k + 1) else k
 
 -- the year of a day from 1900-01-01 to 2310-12-31, by its number of days from 0001-01-01
 abbrev pub year_of : ℕ → ℕ
@@ -81,4 +84,5 @@ IsRead number = (first_day ≤ℤ number) × (number ≤ℤ last_read_day)
 -- the number of a date in a year from 1900 to 2299, if the calendar has it
 abbrev pub civil : ℕ → ℕ → ℕ → Option ℤ
 civil year month day =
-    if nat_le 1900 year && nat_le year 2299 && is_date year month day then Some (day_number year month day) else None
+    if nat_le 1900 year && nat_le year 2299 && is_date year month day
+    then Some (day_number year month day) else None

@@ -9,7 +9,9 @@ abbrev pub two_digits : ℕ → List ℕ
 two_digits n = (48 + n / 10) ∷ (48 + n % 10) ∷ []
 
 abbrev pub text_of : ℕ × ℕ × ℕ → List ℕ
-text_of date = two_digits (date.0 / 100) ++ two_digits (date.0 % 100) ++ (45 ∷ two_digits date.1) ++ (45 ∷ two_digits date.2)
+text_of date =
+    two_digits (date.0 / 100) ++ two_digits (date.0 % 100) ++ (45 ∷ two_digits date.1)
+    ++ (45 ∷ two_digits date.2)
 
 -- the text of the date with a number of days from 1970-01-01
 abbrev pub date_text : ℤ → List ℕ

@@ -12,7 +12,8 @@ use Rattle.certificate.specs.Grammar.{read}
 use Rattle.certificate.specs.ProvedDays.{AreProvedDays}
 use Rattle.certificate.specs.Written.{AreNumbered, DayCanBeTold, HasFewPasses, chain_of_days}
 
--- the text of days, whose numbers have 32 bits and whose falls each name a wish, is read as their chain
+-- the text of days, whose numbers have 32 bits and whose falls each name a wish, is read as their
+-- chain
 abbrev pub ReadsBack : Type 0
 ReadsBack =
     (d : DossierRows) (days : List DayRecord)
@@ -22,12 +23,15 @@ ReadsBack =
     → All DayCanBeTold days
     → read (chain_text d days) ≡ Ok (chain_of_days d days)
 
--- the text of days of the rules is read as a chain that proves each of them, and leads to their evening
+-- the text of days of the rules is read as a chain that proves each of them, and leads to their
+-- evening
 abbrev pub OwnChainsAreProved : Type 0
 OwnChainsAreProved =
-    (d : DossierRows) (terms : Option Terms) (orders : List CallOrder) (days : List DayRecord) (evening : State)
+    (d : DossierRows) (terms : Option Terms) (orders : List CallOrder) (days : List DayRecord)
+    (evening : State)
     → IsValid d
     → length days ≤ 366
     → All HasFewPasses days
     → Days terms orders 1 (first_evening d) days evening
-    → (read (chain_text d days) ≡ Ok (chain_of_days d days)) × AreProvedDays terms orders 1 (first_evening d) (chain_of_days d days).days evening
+    → (read (chain_text d days) ≡ Ok (chain_of_days d days))
+    × AreProvedDays terms orders 1 (first_evening d) (chain_of_days d days).days evening

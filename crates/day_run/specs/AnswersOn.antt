@@ -30,7 +30,8 @@ unfit_refusal d day x = refusal_at (slice_index (places_on d day) x.0) x.1
 
 -- a day is refused as unfit only by its first answer that does not fit
 abbrev pub IsUnfitOf : DossierRows → ℕ → Option (ℕ × Status) → DayRefusal → Type 0
-IsUnfitOf d day unfit (refusals.Unfit refusal) = IsSomeAnd unfit (λ x. refusal ≡ unfit_refusal d day x)
+IsUnfitOf d day unfit (refusals.Unfit refusal) =
+    IsSomeAnd unfit (λ x. refusal ≡ unfit_refusal d day x)
 IsUnfitOf d day unfit refusals.OutOfMemory = Unit {0}
 
 -- the answers of a day, from the place of the first one on
@@ -49,4 +50,5 @@ IsApplied old day (Ok x) new =
     (first_unfit 0 old (answers_stamp day) (answers_of old.dossier day) ≡ None)
     × (new ≡ after_all old (answers_stamp day) (answers_of old.dossier day))
 IsApplied old day (Err refusal) new =
-    IsSomeAnd (first_unfit 0 old (answers_stamp day) (answers_of old.dossier day)) (λ x. refusal ≡ refusals.Unfit (unfit_refusal old.dossier day x))
+    IsSomeAnd (first_unfit 0 old (answers_stamp day) (answers_of old.dossier day))
+    (λ x. refusal ≡ refusals.Unfit (unfit_refusal old.dossier day x))

@@ -17,8 +17,9 @@ use Rattle.day_run.specs.LastPasses.{IsLastPass, last_pass}
 use Rattle.day_run.specs.RunDay.{Moment, IsDayDone, KeepsOpening, TellsNoneUnfit}
 use Rattle.day_run.specs.declared.refusal.DayRefusal.{DayRefusal}
 
--- the orders and the terms of a campaign, the days that were run, and whether the last one came about; the present state, that of
--- the evening before, the opening of the last pass, its bars, and the ceilings of its day
+-- the orders and the terms of a campaign, the days that were run, and whether the last one came
+-- about; the present state, that of the evening before, the opening of the last pass, its bars, and
+-- the ceilings of its day
 pub record Progress : Type 0 where
   pub orders : List CallOrder
   pub terms : Option Terms
@@ -51,7 +52,8 @@ abbrev pub own_ceilings : DossierRows → List ℕ
 own_ceilings d = map (λ school. school.ceiling) d.schools
 
 -- no day was run: the bars and the ceilings are the schools' own ceilings
-pub record IsBegun (d : DossierRows) (called : List CallOrder) (given : Option Terms) (p : Progress) : Type 0 where
+pub record IsBegun (d : DossierRows) (called : List CallOrder) (given : Option Terms)
+    (p : Progress) : Type 0 where
   pub orders : p.orders ≡ called
   pub terms : p.terms ≡ given
   pub day : p.day ≡ 0
@@ -72,14 +74,20 @@ pub record Stage : Type 0 where
 abbrev pub moment_of : Stage → Moment
 moment_of stage =
     let p = stage.course in
-    record { desk = record { present = p.present; evening = p.evening; opening = p.opening }; told = stage.told; choice = stage.choice }
+    record {
+      desk = record { present = p.present; evening = p.evening; opening = p.opening };
+      told = stage.told;
+      choice = stage.choice;
+    }
 
 -- the next day came about, under its own ceilings
 pub record RunsDay (before : Stage) (done : DayRecord) (after : Stage) : Type 0 where
-  pub is_done : IsDayDone before.course.terms before.course.orders (ceilings_of before.course.present.dossier (before.course.day + 1))
+  pub is_done : IsDayDone before.course.terms before.course.orders
+      (ceilings_of before.course.present.dossier (before.course.day + 1))
       (before.course.day + 1) (moment_of before) done (moment_of after)
   pub bars : after.course.bars ≡ last_bars done.passes
-  pub ceilings : after.course.ceilings ≡ ceilings_of before.course.present.dossier (before.course.day + 1)
+  pub ceilings : after.course.ceilings
+      ≡ ceilings_of before.course.present.dossier (before.course.day + 1)
   pub counted : after.course.day ≡ before.course.day + 1
   pub has_day : after.course.has_day ≡ true
 
@@ -100,7 +108,9 @@ pub record SameCampaign (old new : Progress) : Type 0 where
 -- how the next day of a campaign ends
 pub record EndsNextDay (before after : Stage) (result : Result DayRecord DayRefusal) : Type 0 where
   pub runs : IfOk result (λ done. RunsDay before done after)
-  pub unfit : IfErr result (IsUnfitOf before.course.present.dossier (before.course.day + 1) (unfit_on before.course.terms (before.course.day + 1) before.course.present))
+  pub unfit : IfErr result
+      (IsUnfitOf before.course.present.dossier (before.course.day + 1)
+      (unfit_on before.course.terms (before.course.day + 1) before.course.present))
   pub stays : OnErr result (StaysAt before.course after.course)
   pub same : SameCampaign before.course after.course
   pub unopened : IfErr result (KeepsOpening before.course.opening after.course.opening)

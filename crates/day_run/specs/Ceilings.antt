@@ -4,4 +4,5 @@ use Rattle.admit_core.specs.declared.dossier.CeilingChange.{CeilingChange}
 
 abbrev pub changed : ℕ → List CeilingChange → List ℕ → List ℕ
 changed day [] ceilings = ceilings
-changed day (c ∷ cs) ceilings = changed day cs (if nat_le c.day day then slice_set ceilings c.school c.ceiling else ceilings)
+changed day (c ∷ cs) ceilings =
+    changed day cs (if nat_le c.day day then slice_set ceilings c.school c.ceiling else ceilings)

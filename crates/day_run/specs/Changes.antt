@@ -10,12 +10,14 @@ use Rattle.admit_core.specs.Lapses.{is_offered}
 
 -- offers lead to offered, and only automatic answers lead elsewhere
 abbrev pub is_answered_change : Status → Status → Bool
-is_answered_change opening closing = not (status_number opening == status_number closing) && not (is_offered closing)
+is_answered_change opening closing =
+    not (status_number opening == status_number closing) && not (is_offered closing)
 
 abbrev pub answered_changes : State → State → List Change
 answered_changes opening closing =
     map (λ x. record { wish = x.0; status = x.1.1.status })
-    (filter (λ x. is_answered_change x.1.0.status x.1.1.status) (enumerate_from 0 (zip opening.marks closing.marks)))
+    (filter (λ x. is_answered_change x.1.0.status x.1.1.status)
+    (enumerate_from 0 (zip opening.marks closing.marks)))
 
 -- the places of all wishes of the candidates of these wishes, ascending
 abbrev pub wishes_beside : DossierRows → List ℕ → List ℕ

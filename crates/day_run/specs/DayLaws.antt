@@ -21,7 +21,8 @@ pub record SameButFalls (one other : PassEnd) : Type 0 where
   pub autos : one.autos ≡ other.autos
   pub freed : one.freed ≡ other.freed
 
--- two days of one number with the same lapses, passes that differ in their falls alone, and the same evening numbers
+-- two days of one number with the same lapses, passes that differ in their falls alone, and the
+-- same evening numbers
 pub record SameDayButFalls (one other : DayRecord) : Type 0 where
   pub number : one.day ≡ other.day
   pub lapsed : one.lapsed ≡ other.lapsed
@@ -29,20 +30,23 @@ pub record SameDayButFalls (one other : DayRecord) : Type 0 where
   pub left : one.left ≡ other.left
   pub free : one.free ≡ other.free
 
--- whichever schools were picked, days of one number from one evening lead to one evening, and differ in their falls alone
+-- whichever schools were picked, days of one number from one evening lead to one evening, and
+-- differ in their falls alone
 abbrev pub OnlyFallsDiffer : Type 0
 OnlyFallsDiffer =
-    (terms : Option Terms) (orders : List CallOrder) (ceilings : List ℕ) (old : State) (one other : DayRecord) (evening night : State)
+    (terms : Option Terms) (orders : List CallOrder) (ceilings : List ℕ) (old : State)
+    (one other : DayRecord) (evening night : State)
     → one.day ≡ other.day
     → IsDay terms orders ceilings old one evening
     → IsDay terms orders ceilings old other night
     → (evening ≡ night) × SameDayButFalls one other
 
--- the days of a campaign depend on the dossier, the terms and the day alone: whichever schools were picked, as many days from one evening lead to one evening,
--- and differ in their falls alone
+-- the days of a campaign depend on the dossier, the terms and the day alone: whichever schools were
+-- picked, as many days from one evening lead to one evening, and differ in their falls alone
 abbrev pub CampaignsAreFixed : Type 0
 CampaignsAreFixed =
-    (terms : Option Terms) (orders others : List CallOrder) (first : ℕ) (old : State) (days twins : List DayRecord) (evening night : State)
+    (terms : Option Terms) (orders others : List CallOrder) (first : ℕ) (old : State)
+    (days twins : List DayRecord) (evening night : State)
     → AreCallOrders old.dossier.groups orders
     → AreCallOrders old.dossier.groups others
     → length days ≡ length twins
@@ -50,11 +54,15 @@ CampaignsAreFixed =
     → Days terms others first old twins night
     → (evening ≡ night) × AllZip SameDayButFalls days twins
 
--- what holds of a day that came about. Each of its passes keeps the laws of passes. In its evening a programme has seats left only where each waiting wish of it
--- is barred under the bars of the last pass, and under the evening's own greatest bars no wish is proposed; and every day of its number from the same evening
--- before is the same but for its falls
-pub record KeepsLaws (terms : Option Terms) (orders : List CallOrder) (ceilings : List ℕ) (old : State) (day : DayRecord) (evening : State) : Type 0 where
+-- what holds of a day that came about. Each of its passes keeps the laws of passes. In its evening
+-- a programme has seats left only where each waiting wish of it is barred under the bars of the
+-- last pass, and under the evening's own greatest bars no wish is proposed; and every day of its
+-- number from the same evening before is the same but for its falls
+pub record KeepsLaws (terms : Option Terms) (orders : List CallOrder) (ceilings : List ℕ)
+    (old : State) (day : DayRecord) (evening : State) : Type 0 where
   pub passes : PassesKeepLaws orders ceilings day.day 1 (morning terms day.day old) day.passes
   pub filled : All (IsFilled evening (last_bars day.passes)) (entries evening)
-  pub closed : (bars : List ℕ) → IsGreatest (boarding evening orders ceilings) bars → proposed evening orders bars ≡ []
-  pub only : (other : DayRecord) (night : State) → other.day ≡ day.day → IsDay terms orders ceilings old other night → (night ≡ evening) × SameDayButFalls other day
+  pub closed : (bars : List ℕ) → IsGreatest (boarding evening orders ceilings) bars
+      → proposed evening orders bars ≡ []
+  pub only : (other : DayRecord) (night : State) → other.day ≡ day.day
+      → IsDay terms orders ceilings old other night → (night ≡ evening) × SameDayButFalls other day

@@ -28,7 +28,8 @@ abbrev pub last_opening : List CallOrder → ℕ → ℕ → State → List Pass
 last_opening orders day k s [] = s
 last_opening orders day k s (pass ∷ []) = s
 last_opening orders day k s (pass ∷ next ∷ rest) =
-    last_opening orders day (k + 1) (closing s orders pass.pass.bars (record { day = day; pass = k })) (next ∷ rest)
+    last_opening orders day (k + 1)
+    (closing s orders pass.pass.bars (record { day = day; pass = k })) (next ∷ rest)
 
 -- all have been answered for: automatic answers change nothing
 abbrev pub IsAnswered : State → Type 0
@@ -46,19 +47,23 @@ open_wishes s = count_by (λ m. is_live m || is_waiting m) s.marks
 abbrev pub stamp_of : ℕ → ℕ → Stamp
 stamp_of day k = record { day = day; pass = k }
 
--- in the passes that begin with the opening s and the number k, each school that fell was chosen from all that were overfilled
-abbrev pub AreChosenPasses : List CallOrder → List ℕ → ℕ → ℕ → State → (List ℕ → List ℕ → ℕ) → List ℕ → List PassEnd → Type 0
+-- in the passes that begin with the opening s and the number k, each school that fell was chosen
+-- from all that were overfilled
+abbrev pub AreChosenPasses : List CallOrder → List ℕ → ℕ → ℕ → State → (List ℕ → List ℕ → ℕ)
+    → List ℕ → List PassEnd → Type 0
 AreChosenPasses orders ceilings day k s choice told [] = ⊤
 AreChosenPasses orders ceilings day k s choice told (pass ∷ rest) =
     AreChosen (boarding s orders ceilings) choice told ceilings pass.pass.falls
-    × AreChosenPasses orders ceilings day (k + 1) (closing s orders pass.pass.bars (stamp_of day k)) choice (told ++ schools_of pass.pass.falls) rest
+    × AreChosenPasses orders ceilings day (k + 1) (closing s orders pass.pass.bars (stamp_of day k))
+    choice (told ++ schools_of pass.pass.falls) rest
 
 -- each of these passes keeps the laws of passes
 abbrev pub PassesKeepLaws : List CallOrder → List ℕ → ℕ → ℕ → State → List PassEnd → Type 0
 PassesKeepLaws orders ceilings day k s [] = ⊤
 PassesKeepLaws orders ceilings day k s (pass ∷ rest) =
     KeepsPassLaws s (offered s orders pass.pass.bars (stamp_of day k)) ceilings pass.pass
-    × PassesKeepLaws orders ceilings day (k + 1) (closing s orders pass.pass.bars (stamp_of day k)) rest
+    × PassesKeepLaws orders ceilings day (k + 1)
+    (closing s orders pass.pass.bars (stamp_of day k)) rest
 
 -- what was told before is a prefix of what is told now
 abbrev pub TellsMore : List ℕ → List ℕ → Type 0

@@ -9,7 +9,8 @@ pub record DeskStates : Type 0 where
   pub evening : State
   pub opening : State
 
--- all three are of one dossier; where that is known, all have been answered for in the present one, or all three are the same
+-- all three are of one dossier; where that is known, all have been answered for in the present one,
+-- or all three are the same
 pub record AreKept (is_answered is_alike : Bool) (s : DeskStates) : Type 0 where
   pub evening : s.evening.dossier ≡ s.present.dossier
   pub opening : s.opening.dossier ≡ s.present.dossier

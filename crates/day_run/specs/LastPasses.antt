@@ -19,8 +19,8 @@ pub record IsOfDossier (last : LastPass) : Type 0 where
   pub ceilings : length last.ceilings ≡ length last.opening.dossier.schools
   pub bars : length last.bars ≡ length last.opening.dossier.schools
 
--- the pass that ended a day: its bars are the greatest of its opening, it left the evening, and its automatic answers
--- freed nothing
+-- the pass that ended a day: its bars are the greatest of its opening, it left the evening, and its
+-- automatic answers freed nothing
 pub record IsLastPass (last : LastPass) (evening : State) : Type 0 where
   pub of_dossier : IsOfDossier last
   pub stamp : Stamp
@@ -29,9 +29,11 @@ pub record IsLastPass (last : LastPass) (evening : State) : Type 0 where
   pub freed_none : IsTrue (frees_nothing (freed_after last.opening last.orders last.bars stamp))
 
 abbrev pub last_pass : State → List CallOrder → List ℕ → List ℕ → LastPass
-last_pass opening orders ceilings bars = record { opening = opening; orders = orders; ceilings = ceilings; bars = bars }
+last_pass opening orders ceilings bars =
+    record { opening = opening; orders = orders; ceilings = ceilings; bars = bars }
 
 -- the last pass of a day that came after the evening old
 abbrev pub last_of : Option Terms → List CallOrder → List ℕ → State → DayRecord → LastPass
 last_of terms orders ceilings old day =
-    last_pass (last_opening orders day.day 1 (morning terms day.day old) day.passes) orders ceilings (last_bars day.passes)
+    last_pass (last_opening orders day.day 1 (morning terms day.day old) day.passes) orders ceilings
+    (last_bars day.passes)

@@ -22,8 +22,8 @@ use day_state::DayState;
 use linked_demand::Lineup;
 use std::alloc::Global;
 
-/// Runs a day on the desk's present state: the answers, then passes until the automatic answers free
-/// nothing. No offer lapses.
+/// Runs a day on the desk's present state: the answers, then passes until the automatic answers
+/// free nothing. No offer lapses.
 pub fn run_day(
     alloc: Global,
     desk: &mut Desk<'_>,
@@ -77,7 +77,8 @@ fn run_alone(
 ) -> Result<DayRecord, DayRefusal>
     requires orders { AreCallOrders desk.old.present.dossier.groups orders.now.orders }
     requires ceilings { length ceilings.now ≡ length desk.old.present.dossier.schools }
-    requires before { ForSome (option_copied terms) (λ t. length t.before ≡ length desk.old.present.dossier.wishes) }
+    requires before { ForSome (option_copied terms)
+        (λ t. length t.before ≡ length desk.old.present.dossier.wishes) }
     requires day { IsDayNumber day }
 
     ensures { EndsDay (option_copied terms.entry) orders.now.orders ceilings.now day
@@ -104,7 +105,8 @@ pub fn run_day_along(
     requires orders { AreCallOrders desk.old.present.dossier.groups orders.now.orders }
     requires lineup { IsLineupOf desk.old.present.dossier orders.now.orders lineup.now }
     requires ceilings { length ceilings.now ≡ length desk.old.present.dossier.schools }
-    requires before { ForSome (option_copied terms) (λ t. length t.before ≡ length desk.old.present.dossier.wishes) }
+    requires before { ForSome (option_copied terms)
+        (λ t. length t.before ≡ length desk.old.present.dossier.wishes) }
     requires day { IsDayNumber day }
 
     ensures { EndsDay (option_copied terms.entry) orders.now.orders ceilings.now day
@@ -148,8 +150,8 @@ fn keep_evening<'d>(evening: &mut DayState<'d>, present: &DayState<'d>, is_alike
 
 /// Makes the lapse, the answers and the passes of a day. A refusal may come in their midst.
 ///
-/// It is told whether all have been answered for in the evening before, and whether the opening is that
-/// evening. It lists the wishes of those whom the lapse and the answers may have changed.
+/// It is told whether all have been answered for in the evening before, and whether the opening is
+/// that evening. It lists the wishes of those whom the lapse and the answers may have changed.
 fn play<'d>(
     alloc: Global,
     opening: &mut DayState<'d>,
@@ -168,16 +170,27 @@ fn play<'d>(
     requires orders { AreCallOrders state.old.dossier.groups orders.now.orders }
     requires lineup { IsLineupOf state.old.dossier orders.now.orders lineup.now }
     requires ceilings { length ceilings.now ≡ length state.old.dossier.schools }
-    requires before { ForSome (option_copied terms) (λ t. length t.before ≡ length state.old.dossier.wishes) }
+    requires before { ForSome (option_copied terms)
+        (λ t. length t.before ≡ length state.old.dossier.wishes) }
     requires day { IsDayNumber day }
     requires answered { is_answered ≡ true → IsAnswered state.old }
     requires alike { is_alike ≡ true → opening.old ≡ state.old }
 
-    ensures done { IfOk result (λ done. IsDayDone (option_copied terms.entry) orders.now.orders ceilings.now day
-        (record { desk = record { present = state.old; evening = state.old; opening = opening.old }; told = told picker.old; choice = choice picker.old })
+    ensures done { IfOk result (λ done. IsDayDone (option_copied terms.entry) orders.now.orders
+        ceilings.now day
+        (record {
+          desk = record { present = state.old; evening = state.old; opening = opening.old };
+          told = told picker.old;
+          choice = choice picker.old;
+        })
         done
-        (record { desk = record { present = state.new; evening = state.old; opening = opening.new }; told = told picker.new; choice = choice picker.new })) }
-    ensures unfit { IfErr result (IsUnfitOf state.old.dossier day (unfit_on (option_copied terms.entry) day state.old)) }
+        (record {
+          desk = record { present = state.new; evening = state.old; opening = opening.new };
+          told = told picker.new;
+          choice = choice picker.new;
+        })) }
+    ensures unfit { IfErr result
+        (IsUnfitOf state.old.dossier day (unfit_on (option_copied terms.entry) day state.old)) }
     ensures unopened { IfErr result (KeepsOpening opening.old opening.new) }
     ensures untold { IfErr result (TellsNoneUnfit (told picker.old) (told picker.new)) }
     ensures answered { IfOk result (λ _. IsAnswered state.new) }

@@ -8,12 +8,12 @@ use day_state::DayState;
 use std::alloc::Global;
 use std::marker::Model;
 
-/// The present state of a dossier's wishes, the state in which its last day began, and the opening of
-/// the last pass.
+/// The present state of a dossier's wishes, the state in which its last day began, and the opening
+/// of the last pass.
 ///
-/// It also knows whether all have been answered for in the present state, as after each day: the next
-/// day then asks fewer, whose wishes are listed in `beside`. And it knows whether all three states are
-/// the same, as before the first day: then none has to be copied.
+/// It also knows whether all have been answered for in the present state, as after each day: the
+/// next day then asks fewer, whose wishes are listed in `beside`. And it knows whether all three
+/// states are the same, as before the first day: then none has to be copied.
 pub struct Desk<'d> {
     pub(crate) present: DayState<'d>,
     pub(crate) evening: DayState<'d>,
@@ -44,7 +44,8 @@ impl<'d> Model for Desk<'d> {
 
     ghost view = { λ s. record { present = s.present; evening = s.evening; opening = s.opening } };
 
-    ghost invariant = { λ s. AreKept s.is_answered s.is_alike (record { present = s.present; evening = s.evening; opening = s.opening }) };
+    ghost invariant = { λ s. AreKept s.is_answered s.is_alike
+        (record { present = s.present; evening = s.evening; opening = s.opening }) };
 }
 
 impl<'d> Desk<'d> {

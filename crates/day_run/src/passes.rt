@@ -24,7 +24,8 @@ use std::alloc::Global;
 /// Makes passes from the present state on, up to the first whose automatic answers free nothing.
 ///
 /// Where `is_answered`, all have been answered for but those who have a wish in `beside`: the first
-/// pass then asks them and those with an offer, and no others. Each later pass asks those with an offer.
+/// pass then asks them and those with an offer, and no others. Each later pass asks those with an
+/// offer.
 ///
 /// A pass that is not the last refuses a live wish, and none comes back to life: so there are at
 /// most as many passes as wishes, and one more.
@@ -49,13 +50,17 @@ pub(crate) fn make_passes<'d>(
     requires answered { is_answered ≡ true → IsAnsweredBut beside.old.items state.old }
     requires alike { is_alike ≡ true → beside.old.items ≡ [] → opening.old ≡ state.old }
 
-    ensures passes { IfOk result (λ ends. Passes orders.now.orders ceilings.now day 1 state.old ends.items state.new) }
-    ensures opening { IfOk result (λ ends. opening.new ≡ last_opening orders.now.orders day 1 state.old ends.items) }
+    ensures passes { IfOk result (λ ends. Passes orders.now.orders ceilings.now day 1 state.old
+        ends.items state.new) }
+    ensures opening { IfOk result (λ ends. opening.new ≡ last_opening orders.now.orders day 1
+        state.old ends.items) }
     ensures few { IfOk result (λ ends. length ends.items ≤ length state.old.dossier.wishes + 1) }
     ensures answered { IfOk result (λ _. IsAnswered state.new) }
 
-    ensures told { IfOk result (λ ends. told picker.new ≡ told picker.old ++ schools_of_passes ends.items) }
-    ensures chosen { IfOk result (λ ends. AreChosenPasses orders.now.orders ceilings.now day 1 state.old (choice picker.old) (told picker.old) ends.items) }
+    ensures told { IfOk result (λ ends. told picker.new ≡ told picker.old
+        ++ schools_of_passes ends.items) }
+    ensures chosen { IfOk result (λ ends. AreChosenPasses orders.now.orders ceilings.now day 1
+        state.old (choice picker.old) (told picker.old) ends.items) }
     ensures early { OnErr result (TellsMore (told picker.old) (told picker.new)) }
     ensures choice { choice picker.new ≡ choice picker.old }
 
@@ -101,8 +106,8 @@ pub(crate) fn make_passes<'d>(
     }
 }
 
-/// Opens the first pass of a day with the present state. The opening is this state already where it was
-/// the evening before, and nothing has changed since.
+/// Opens the first pass of a day with the present state. The opening is this state already where it
+/// was the evening before, and nothing has changed since.
 fn open_first<'d>(opening: &mut DayState<'d>, state: &DayState<'d>, is_alike: bool, changed: &[u32])
     requires same { opening.old.dossier ≡ state.now.dossier }
     requires alike { is_alike ≡ true → changed.now ≡ [] → opening.old ≡ state.now }
@@ -113,8 +118,9 @@ fn open_first<'d>(opening: &mut DayState<'d>, state: &DayState<'d>, is_alike: bo
     }
 }
 
-/// Leads the opening of a pass to its closing, with which the next pass opens. Where all but those who
-/// were asked had been answered for, it takes the steps that the pass took: few wishes are looked at.
+/// Leads the opening of a pass to its closing, with which the next pass opens. Where all but those
+/// who were asked had been answered for, it takes the steps that the pass took: few wishes are
+/// looked at.
 fn follow<'d>(
     opening: &mut DayState<'d>,
     closing: &DayState<'d>,
@@ -147,8 +153,8 @@ fn frees_nothing(freed: Freed) -> bool
     freed.seats == 0 && freed.beds == 0
 }
 
-/// Makes a pass, and the automatic answers that follow it; its offers are added to `beside`, which then
-/// has the wishes of all whom it asks, where all others have been answered for.
+/// Makes a pass, and the automatic answers that follow it; its offers are added to `beside`, which
+/// then has the wishes of all whom it asks, where all others have been answered for.
 fn make_pass(
     alloc: Global,
     opening: &DayState<'_>,
@@ -168,15 +174,21 @@ fn make_pass(
     requires beside { AreWishesOf state.old.dossier beside.old.items }
     requires answered { is_answered ≡ true → IsAnsweredBut beside.old.items state.old }
 
-    ensures end { IfOk result (λ end. IsPassEnd state.old orders.now.orders ceilings.now stamp end) }
-    ensures state { IfOk result (λ end. state.new ≡ closing state.old orders.now.orders end.pass.bars stamp) }
-    ensures fewer { IfOk result (λ end. IsTrue (not (frees_nothing end.freed)) → open_wishes state.new < open_wishes state.old) }
+    ensures end { IfOk result (λ end. IsPassEnd state.old orders.now.orders
+        ceilings.now stamp end) }
+    ensures state { IfOk result (λ end. state.new ≡ closing state.old orders.now.orders
+        end.pass.bars stamp) }
+    ensures fewer { IfOk result (λ end. IsTrue (not (frees_nothing end.freed)) → open_wishes
+        state.new < open_wishes state.old) }
     ensures marks { IfOk result (λ _. length state.new.marks ≡ length state.new.dossier.wishes) }
     ensures answered { IfOk result (λ _. IsAnswered state.new) }
     ensures asked { IfOk result (λ end. beside.new.items ≡ beside.old.items ++ end.pass.offers) }
 
-    ensures told { IfOk result (λ end. told picker.new ≡ told picker.old ++ schools_of end.pass.falls) }
-    ensures chosen { IfOk result (λ end. AreChosen (boarding state.old orders.now.orders ceilings.now) (choice picker.old) (told picker.old) ceilings.now end.pass.falls) }
+    ensures told { IfOk result (λ end. told picker.new ≡ told picker.old ++ schools_of
+        end.pass.falls) }
+    ensures chosen { IfOk result
+        (λ end. AreChosen (boarding state.old orders.now.orders ceilings.now) (choice picker.old)
+        (told picker.old) ceilings.now end.pass.falls) }
     ensures early { OnErr result (TellsMore (told picker.old) (told picker.new)) }
     ensures choice { choice picker.new ≡ choice picker.old }
 

@@ -13,7 +13,8 @@ use Rattle.day_state.specs.Kept.{mark_in, wish_in}
 -- the state after the marks at these places have become what f gives, one after another
 abbrev pub change_along : (Wish → Mark → Mark) → List ℕ → State → State
 change_along f [] s = s
-change_along f (k ∷ ks) s = change_along f ks (with_mark_at s k (f (wish_in s.dossier.wishes k) (mark_in s.marks k)))
+change_along f (k ∷ ks) s =
+    change_along f ks (with_mark_at s k (f (wish_in s.dossier.wishes k) (mark_in s.marks k)))
 
 -- the state in which the marks of a candidate's wishes are what f gives
 abbrev pub change_own : (Wish → Mark → Mark) → ℕ → State → State
@@ -23,4 +24,5 @@ change_own f c s = with_marks s (λ w m. if w.candidate == c then f w m else m)
 abbrev pub changed_by : OwnChange → Stamp → Wish → Mark → Mark
 changed_by RefuseLive stamp w m = if is_live m then changed_to Refused stamp m else m
 changed_by QuitOpen stamp w m = if is_live m || is_waiting m then changed_to Quit stamp m else m
-changed_by (TakeBest best) stamp w m = changed_to (auto_status m.status (w.preference == best) (nat_lt best w.preference)) stamp m
+changed_by (TakeBest best) stamp w m =
+    changed_to (auto_status m.status (w.preference == best) (nat_lt best w.preference)) stamp m

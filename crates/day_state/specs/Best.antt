@@ -13,7 +13,9 @@ better (Some n) (Some m) = Some (min n m)
 
 -- the preference number of the wish at a place, where it is live and ranked
 abbrev pub live_preference : List Wish → List Mark → ℕ → Option ℕ
-live_preference ws ms k = if is_live (mark_in ms k) && nat_lt 0 (wish_in ws k).preference then Some (wish_in ws k).preference else None
+live_preference ws ms k =
+    if is_live (mark_in ms k) && nat_lt 0 (wish_in ws k).preference
+    then Some (wish_in ws k).preference else None
 
 -- the best of those at some places
 abbrev pub best_among : List Wish → List Mark → List ℕ → Option ℕ

@@ -31,7 +31,8 @@ number_in ns k = unwrap_or (slice_get ns k) None
 
 -- the first wish that is together with the one at a place
 abbrev pub bundle_of : Sites → List Wish → ℕ → Option ℕ
-bundle_of sites ws k = find (λ j. together sites (wish_in ws k) (wish_in ws j)) (range_with_len 0 (length ws))
+bundle_of sites ws k =
+    find (λ j. together sites (wish_in ws k) (wish_in ws j)) (range_with_len 0 (length ws))
 
 -- of each wish the first one of its bundle, by which the bundle is known
 abbrev pub bundles_of : Sites → List Wish → List (Option ℕ)
@@ -39,7 +40,8 @@ bundles_of sites ws = map (bundle_of sites ws) (range_with_len 0 (length ws))
 
 -- each bundle begins at a place
 abbrev pub AreWithin : List (Option ℕ) → Type 0
-AreWithin bundles = (k : ℕ) → k < length bundles → ForSome (number_in bundles k) (λ b. b < length bundles)
+AreWithin bundles =
+    (k : ℕ) → k < length bundles → ForSome (number_in bundles k) (λ b. b < length bundles)
 
 -- the wish at k is in the bundle that begins at b, and is not its first
 abbrev pub is_later : List (Option ℕ) → ℕ → ℕ → Bool
@@ -96,20 +98,25 @@ count_at ns k = count_of (number_at ns k)
 
 -- how many live wishes a bundle has
 abbrev pub live_in_bundle : List Mark → List (Option ℕ) → ℕ → ℕ
-live_in_bundle ms numbers b = length (filter (λ k. is_live (mark_in ms k) && is_same (Some b) (number_in numbers k)) (range_with_len 0 (length ms)))
+live_in_bundle ms numbers b =
+    length (filter (λ k. is_live (mark_in ms k) && is_same (Some b) (number_in numbers k))
+    (range_with_len 0 (length ms)))
 
 -- each bundle of two wishes or more has its count
 pub record AreLiveCounts (ms : List Mark) (bundles : List (Option ℕ)) (live : List ℕ) : Type 0 where
   pub as_long : length live ≡ rank_of bundles (length bundles)
-  pub each : (b : ℕ) → b < length bundles → is_shared bundles b ≡ true → slice_index live (rank_of bundles b) ≡ live_in_bundle ms bundles b
+  pub each : (b : ℕ) → b < length bundles → is_shared bundles b ≡ true
+      → slice_index live (rank_of bundles b) ≡ live_in_bundle ms bundles b
 
 -- the bundles of a state's wishes, with their counts
-pub record IsBundled (sites : Sites) (s : State) (numbers : List Number) (live : List ℕ) : Type 0 where
+pub record IsBundled (sites : Sites) (s : State) (numbers : List Number)
+    (live : List ℕ) : Type 0 where
   pub numbered : numbers ≡ all_numbers sites s.dossier.wishes
   pub counts : AreLiveCounts s.marks (bundles_of sites s.dossier.wishes) live
 
 -- all that is kept beside the marks: the numbers of candidates by site, and the bundles
-pub record KeepsCounts (s : State) (seats beds : List ℕ) (of_programmes : List Number) (in_programmes : List ℕ) (of_schools : List Number) (in_schools : List ℕ) : Type 0 where
+pub record KeepsCounts (s : State) (seats beds : List ℕ) (of_programmes : List Number)
+    (in_programmes : List ℕ) (of_schools : List Number) (in_schools : List ℕ) : Type 0 where
   pub kept : IsKept s seats beds
   pub programmes : IsBundled Programmes s of_programmes in_programmes
   pub schools : IsBundled Schools s of_schools in_schools
@@ -120,10 +127,12 @@ has_live live NoSite lives = false
 has_live live Alone lives = lives
 has_live live (Shared n) lives = nat_lt 0 (slice_index live n)
 
--- the first wish of a bundle to which the wish at a place belongs, where `found` is that of the candidate who came last to its site
+-- the first wish of a bundle to which the wish at a place belongs, where `found` is that of the
+-- candidate who came last to its site
 abbrev pub joined : List Wish → Option ℕ → ℕ → ℕ
 joined ws None place = place
-joined ws (Some found) place = if (wish_in ws found).candidate == (wish_in ws place).candidate then found else place
+joined ws (Some found) place =
+    if (wish_in ws found).candidate == (wish_in ws place).candidate then found else place
 
 abbrev pub bundle_there : List Wish → List (Option ℕ) → Option ℕ → ℕ → Option ℕ
 bundle_there ws last None place = None

@@ -16,14 +16,19 @@ waiting_mark = record { status = Waiting; stamp = record { day = 0; pass = 0 } }
 
 -- two marks are the same
 abbrev pub is_same_mark : Mark → Mark → Bool
-is_same_mark m n = (status_number m.status == status_number n.status) && ((m.stamp.day == n.stamp.day) && (m.stamp.pass == n.stamp.pass))
+is_same_mark m n =
+    (status_number m.status == status_number n.status)
+    && ((m.stamp.day == n.stamp.day) && (m.stamp.pass == n.stamp.pass))
 
 -- the mark and the wish at a place
 abbrev pub mark_in : List Mark → ℕ → Mark
-mark_in ms k = unwrap_or (slice_get ms k) (record { status = Waiting; stamp = record { day = 0; pass = 0 } })
+mark_in ms k =
+    unwrap_or (slice_get ms k) (record { status = Waiting; stamp = record { day = 0; pass = 0 } })
 
 abbrev pub wish_in : List Wish → ℕ → Wish
-wish_in ws k = unwrap_or (slice_get ws k) (record { id = 0; candidate = 0; programme = 0; school = None; board_rank = 0; preference = 0 })
+wish_in ws k =
+    unwrap_or (slice_get ws k)
+    (record { id = 0; candidate = 0; programme = 0; school = None; board_rank = 0; preference = 0 })
 
 -- the candidate of the wish at a place, or 0 where none is there
 abbrev pub candidate_in : List Wish → ℕ → ℕ
@@ -44,10 +49,14 @@ holds_bed_in s c (Some h) = holds_bed s c h
 
 -- the candidate of the wish at a place is live in the programme, or in the school, of that wish
 abbrev pub has_seat_there : State → ℕ → Bool
-has_seat_there s place = holds_seat s (wish_in s.dossier.wishes place).candidate (wish_in s.dossier.wishes place).programme
+has_seat_there s place =
+    holds_seat s (wish_in s.dossier.wishes place).candidate
+    (wish_in s.dossier.wishes place).programme
 
 abbrev pub has_bed_there : State → ℕ → Bool
-has_bed_there s place = holds_bed_in s (wish_in s.dossier.wishes place).candidate (wish_in s.dossier.wishes place).school
+has_bed_there s place =
+    holds_bed_in s (wish_in s.dossier.wishes place).candidate
+    (wish_in s.dossier.wishes place).school
 
 -- the state of a dossier with these marks
 abbrev pub state_of : DossierRows → List Mark → State
@@ -66,14 +75,16 @@ recount_some counts None had has = counts
 recount_some counts (Some k) had has = recount counts k had has
 
 -- each count is the number of the candidates who hold there
-pub record AreCounts (holds : ℕ → ℕ → Bool) (candidates : List ℕ) (n : ℕ) (counts : List ℕ) : Type 0 where
+pub record AreCounts (holds : ℕ → ℕ → Bool) (candidates : List ℕ) (n : ℕ)
+    (counts : List ℕ) : Type 0 where
   pub as_long : length counts ≡ n
   pub each : (k : ℕ) → k < n → slice_index counts k ≡ length (filter (λ c. holds c k) candidates)
 
 -- the counts of a state by programme and by school
 pub record IsKept (s : State) (seats beds : List ℕ) : Type 0 where
   pub marks : length s.marks ≡ length s.dossier.wishes
-  pub by_programme : AreCounts (holds_seat s) (candidates_of s.dossier) (length s.dossier.programmes) seats
+  pub by_programme : AreCounts (holds_seat s) (candidates_of s.dossier)
+      (length s.dossier.programmes) seats
   pub by_school : AreCounts (holds_bed s) (candidates_of s.dossier) (length s.dossier.schools) beds
 
 -- the places of all wishes by candidate, those of one candidate ascending
@@ -81,7 +92,8 @@ pub record IsIndex (ws : List Wish) (order : List ℕ) : Type 0 where
   pub as_long : length order ≡ length ws
   pub within : All (λ k. k < length ws) order
   pub rises : IsNonDecreasingBy (candidate_in ws) order
-  pub own : (c : ℕ) → filter (λ k. candidate_in ws k == c) order ≡ filter (λ k. candidate_in ws k == c) (range_with_len 0 (length ws))
+  pub own : (c : ℕ) → filter (λ k. candidate_in ws k == c) order
+      ≡ filter (λ k. candidate_in ws k == c) (range_with_len 0 (length ws))
 
 -- where in the order the wishes of a candidate stand
 pub record IsSpan (ws : List Wish) (order : List ℕ) (c : ℕ) (span : Span) : Type 0 where

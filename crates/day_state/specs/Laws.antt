@@ -26,19 +26,27 @@ pub record SameEnd (s : State) (stamp : Stamp) (one other : List Answer) : Type 
 
 -- after a list of answers, the wishes of each candidate are those after their own answers alone
 abbrev pub AnswersStayApart : Type 0
-AnswersStayApart = (s : State) (stamp : Stamp) (answers : List Answer) → IsMarked s → AreOwn s stamp answers (after_all s stamp answers)
+AnswersStayApart =
+    (s : State) (stamp : Stamp) (answers : List Answer) → IsMarked s
+    → AreOwn s stamp answers (after_all s stamp answers)
 
 -- a list of answers fits exactly where the own answers of each candidate fit
 abbrev pub FitsApart : Type 0
-FitsApart = (s : State) (stamp : Stamp) (answers : List Answer) → IsMarked s → (first_unfit 0 s stamp answers ≡ None) ↔ OwnFit s stamp answers
+FitsApart =
+    (s : State) (stamp : Stamp) (answers : List Answer) → IsMarked s
+    → (first_unfit 0 s stamp answers ≡ None) ↔ OwnFit s stamp answers
 
 -- nothing but the order of each candidate's own answers counts
 abbrev pub OrderIsFree : Type 0
-OrderIsFree = (s : State) (stamp : Stamp) (one other : List Answer) → IsMarked s → ((c : ℕ) → own s c one ≡ own s c other) → SameEnd s stamp one other
+OrderIsFree =
+    (s : State) (stamp : Stamp) (one other : List Answer) → IsMarked s
+    → ((c : ℕ) → own s c one ≡ own s c other) → SameEnd s stamp one other
 
 -- two answers of different candidates may be exchanged
 abbrev pub MayExchange : Type 0
 MayExchange =
-    (s : State) (stamp : Stamp) (front : List Answer) (a b : Answer) (rest : List Answer) → IsMarked s
-    → ((c : ℕ) → is_own_kind a.kind s c a.target ≡ true → is_own_kind b.kind s c b.target ≡ true → ⊥)
+    (s : State) (stamp : Stamp) (front : List Answer) (a b : Answer) (rest : List Answer)
+    → IsMarked s
+    → ((c : ℕ) → is_own_kind a.kind s c a.target ≡ true
+    → is_own_kind b.kind s c b.target ≡ true → ⊥)
     → SameEnd s stamp (front ++ a ∷ b ∷ rest) (front ++ b ∷ a ∷ rest)

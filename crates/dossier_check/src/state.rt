@@ -40,7 +40,8 @@ impl<'a> TwoAccepted<'a> {
     /// The candidate whose wish a row accepts.
     fn accepting_candidate(&self, row: &StateRow) -> Option<u32>
         ensures { self.now.wishes.now.keys ≡ wish_ids self.now.tables.now →
-            result ≡ (if is_accepted row.now.status then candidate_with self.now.tables.now row.now.wish else None) }
+            result ≡ (if is_accepted row.now.status then candidate_with self.now.tables.now
+            row.now.wish else None) }
     {
         if !matches!(row.status, Status::Accepted) {
             return None;
@@ -58,7 +59,8 @@ impl<'a> RowTest<StateRow> for TwoAccepted<'a> {
 
     ghost test = { λ c. two_accepted c.tables.now };
 
-    ghost has_seen = { λ c before. (c.wishes.now.keys ≡ wish_ids c.tables.now) × AreFirstRows (is_accepted_of c.tables.now) (get nat_eq c.rows) before };
+    ghost has_seen = { λ c before. (c.wishes.now.keys ≡ wish_ids c.tables.now)
+        × AreFirstRows (is_accepted_of c.tables.now) (get nat_eq c.rows) before };
 
     fn stands(&mut self, row: &StateRow, number: u64) -> Result<Option<Reason>, OutOfMemory> {
         let Some(candidate) = self.accepting_candidate(row) else {

@@ -41,12 +41,15 @@ text_at fields position = unwrap_or (field_at fields (position - 1)) []
 
 -- the number that a text of 1 to 10 digits writes
 abbrev pub number_of : List ℕ → Option ℕ
-number_of text = if nat_lt 0 (length text) && nat_le (length text) 10 && list_all is_ascii_digit text then Some (digits_value 10 text) else None
+number_of text =
+    if nat_lt 0 (length text) && nat_le (length text) 10 && list_all is_ascii_digit text
+    then Some (digits_value 10 text) else None
 
 -- a number within limits
 abbrev pub within : Limits → ℕ → Option ℕ → Result ℕ Reason
 within limits position None = Err (NotNumber position)
-within limits position (Some n) = if nat_le limits.least n && nat_le n limits.most then Ok n else Err (OutOfRange position)
+within limits position (Some n) =
+    if nat_le limits.least n && nat_le n limits.most then Ok n else Err (OutOfRange position)
 
 -- a number column
 unfoldable pub number : Limits → List (List ℕ) → ℕ → Result ℕ Reason
@@ -54,7 +57,8 @@ number limits fields position = within limits position (number_of (text_at field
 
 -- a number column that only a longer header has: 0 where the row has no such field
 unfoldable pub added_number : Limits → List (List ℕ) → ℕ → Result ℕ Reason
-added_number limits fields position = if nat_lt (length fields) position then Ok 0 else number limits fields position
+added_number limits fields position =
+    if nat_lt (length fields) position then Ok 0 else number limits fields position
 
 -- a number column that may be empty
 abbrev pub optional_from : Limits → ℕ → List ℕ → Result (Option ℕ) Reason
@@ -70,7 +74,8 @@ since_of date = record { year = date.0; month = date.1; day = date.2 }
 -- a date column that may be empty, as it is where the row has no such field
 abbrev pub optional_date_from : ℕ → List ℕ → Result (Option Since) Reason
 optional_date_from position [] = Ok None
-optional_date_from position text = ok_or (date_in text) (NotDate position) >>= λ number. Ok (Some (since_of (date_of number)))
+optional_date_from position text =
+    ok_or (date_in text) (NotDate position) >>= λ number. Ok (Some (since_of (date_of number)))
 
 unfoldable pub optional_date : List (List ℕ) → ℕ → Result (Option Since) Reason
 optional_date fields position = optional_date_from position (text_at fields position)
@@ -82,11 +87,14 @@ IsSince since = IsSome (civil since.year since.month since.day)
 -- the value that stands beside a word in a table
 abbrev pub choice : {A : Type 0} → List (List ℕ × A) → List ℕ → Option A
 choice [] text = None
-choice (entry ∷ others) text = if pointwise nat_eq text entry.0 then Some entry.1 else choice others text
+choice (entry ∷ others) text =
+    if pointwise nat_eq text entry.0 then Some entry.1 else choice others text
 
 -- a flag column
 unfoldable pub flag : List (List ℕ) → ℕ → Result Bool Reason
-flag fields position = ok_or (choice ((codes "0", false) ∷ (codes "1", true) ∷ []) (text_at fields position)) (NotFlag position)
+flag fields position =
+    ok_or (choice ((codes "0", false) ∷ (codes "1", true) ∷ []) (text_at fields position))
+    (NotFlag position)
 
 -- a word column
 unfoldable pub word : {A : Type 0} → List (List ℕ × A) → List (List ℕ) → ℕ → Result A Reason

@@ -18,8 +18,10 @@ onto_first letter (name ∷ names) = (letter ∷ name) ∷ names
 -- the names that commas part in a text
 abbrev pub names_in : List ℕ → List (List ℕ)
 names_in [] = [] ∷ []
-names_in (letter ∷ text) = if letter == comma then [] ∷ names_in text else onto_first letter (names_in text)
+names_in (letter ∷ text) =
+    if letter == comma then [] ∷ names_in text else onto_first letter (names_in text)
 
 -- the layout of a slot whose headers have these texts
-abbrev pub layout_of : {A : Type 0} → Slot → List (List ℕ) → (List (List ℕ) → Result A Reason) → Layout A
+abbrev pub layout_of : {A : Type 0} → Slot → List (List ℕ)
+    → (List (List ℕ) → Result A Reason) → Layout A
 layout_of slot texts row = record { slot = slot; headers = map names_in texts; row = row }

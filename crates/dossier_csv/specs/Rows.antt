@@ -40,7 +40,8 @@ programme_row fields = do
 
 abbrev pub programmes : Layout ProgrammeRow
 programmes =
-    layout_of slots.Programmes (codes "programme,group,seats" ∷ codes "programme,group,seats,limit" ∷ [])
+    layout_of slots.Programmes
+    (codes "programme,group,seats" ∷ codes "programme,group,seats,limit" ∷ [])
     programme_row
 
 unfoldable pub school_row : List (List ℕ) → Result SchoolRow Reason
@@ -60,7 +61,14 @@ rank_row fields = do
   rank ← number ids fields 3
   scholar ← flag fields 4
   resident ← flag fields 5
-  Ok (record { group = group; candidate = candidate; rank = rank; scholar = scholar; resident = resident })
+  Ok
+      (record {
+        group = group;
+        candidate = candidate;
+        rank = rank;
+        scholar = scholar;
+        resident = resident;
+      })
 
 abbrev pub rankings : Layout RankRow
 rankings = layout_of slots.Rankings (codes "group,candidate,rank,scholar,resident" ∷ []) rank_row
@@ -82,14 +90,24 @@ wish_row fields = do
   programme ← number ids fields 3
   school ← optional_number ids fields 4
   preference ← number amounts fields 5
-  Ok (record { id = id; candidate = candidate; programme = programme; school = school; preference = preference })
+  Ok
+      (record {
+        id = id;
+        candidate = candidate;
+        programme = programme;
+        school = school;
+        preference = preference;
+      })
 
 abbrev pub wishes : Layout WishRow
 wishes = layout_of slots.Wishes (codes "wish,candidate,programme,school,preference" ∷ []) wish_row
 
 -- the statuses, each beside the word that it is printed by
 abbrev pub statuses : List (List ℕ × Status)
-statuses = words status_word (status.Waiting ∷ status.Offered ∷ status.Accepted ∷ status.Refused ∷ status.Withdrawn ∷ status.Quit ∷ status.AutoRefused ∷ status.AutoWithdrawn ∷ status.Lapsed ∷ [])
+statuses =
+    words status_word (status.Waiting ∷ status.Offered ∷ status.Accepted ∷ status.Refused
+    ∷ status.Withdrawn ∷ status.Quit ∷ status.AutoRefused ∷ status.AutoWithdrawn
+    ∷ status.Lapsed ∷ [])
 
 unfoldable pub state_row : List (List ℕ) → Result StateRow Reason
 state_row fields = do

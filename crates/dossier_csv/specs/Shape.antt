@@ -24,16 +24,19 @@ at_row slot number (Ok row) = Ok row
 at_row slot number (Err reason) = Err (record { slot = slot; row = number; reason = reason })
 
 -- a row in front of others, or the first refusal of all these
-abbrev pub with_row : {A : Type 0} → Result A Refusal → Result (List A) Refusal → Result (List A) Refusal
+abbrev pub with_row : {A : Type 0} → Result A Refusal → Result (List A) Refusal
+    → Result (List A) Refusal
 with_row (Err refusal) others = Err refusal
 with_row (Ok row) (Err refusal) = Err refusal
 with_row (Ok row) (Ok rows) = Ok (row ∷ rows)
 
 -- the rows of these records, the first of which has this number
-unfoldable pub rows_from : {A : Type 0} → Layout A → ℕ → ℕ → List (List (List ℕ)) → Result (List A) Refusal
+unfoldable pub rows_from : {A : Type 0} → Layout A → ℕ → ℕ → List (List (List ℕ))
+    → Result (List A) Refusal
 rows_from layout width number [] = Ok []
 rows_from layout width number (fields ∷ others) =
-    with_row (at_row layout.slot number (row_of layout width number fields)) (rows_from layout width (number + 1) others)
+    with_row (at_row layout.slot number (row_of layout width number fields))
+    (rows_from layout width (number + 1) others)
 
 -- whether two lists of texts are the same
 abbrev pub same_texts : List (List ℕ) → List (List ℕ) → Bool

@@ -11,7 +11,8 @@ use Rattle.admit_core.specs.Validity.{IsRanking}
 -- of two candidates alike in both flags the one of better rank is called first
 abbrev pub CallsEachKindByRank : RankGroup → CallOrder → Type 0
 CallsEachKindByRank g order =
-    (r s : Ranked) (i j : ℕ) → Contains g.list r → Contains g.list s → r.scholar ≡ s.scholar → r.resident ≡ s.resident
+    (r s : Ranked) (i j : ℕ) → Contains g.list r → Contains g.list s → r.scholar ≡ s.scholar
+    → r.resident ≡ s.resident
     → slice_get order.list i ≡ Some r.candidate → slice_get order.list j ≡ Some s.candidate
     → r.rank < s.rank → i < j
 
@@ -33,8 +34,8 @@ others_than c g = map unranked (filter (λ r. not (nat_eq c r.candidate)) g.list
 abbrev pub place_in : List ℕ → ℕ → ℕ
 place_in list c = position_or_len (nat_eq c) list
 
--- two rankings alike but for one candidate, who has a better rank in the second or the same one, and has all flags there that
--- they have in the first
+-- two rankings alike but for one candidate, who has a better rank in the second or the same one,
+-- and has all flags there that they have in the first
 pub record IsBetterFor (g better : RankGroup) (r now : Ranked) : Type 0 where
   pub scholar_pct : better.scholar_pct ≡ g.scholar_pct
   pub resident_pct : better.resident_pct ≡ g.resident_pct
@@ -42,14 +43,17 @@ pub record IsBetterFor (g better : RankGroup) (r now : Ranked) : Type 0 where
   pub ranked : Contains g.list r
   pub ranked_now : Contains better.list now
   pub same : now.candidate ≡ r.candidate
-  pub rank : place_in (ranked_candidates better) r.candidate ≤ place_in (ranked_candidates g) r.candidate
+  pub rank : place_in (ranked_candidates better) r.candidate
+      ≤ place_in (ranked_candidates g) r.candidate
   pub scholar : IsTrue r.scholar → IsTrue now.scholar
   pub resident : IsTrue r.resident → IsTrue now.resident
 
--- a candidate's position in the better call order is no later, and the calls before it are as they were
+-- a candidate's position in the better call order is no later, and the calls before it are as they
+-- were
 pub record IsCalledNoLater (c : ℕ) (order better : CallOrder) : Type 0 where
   pub no_later : place_in better.list c ≤ place_in order.list c
-  pub same_before : take (place_in better.list c) better.list ≡ take (place_in better.list c) order.list
+  pub same_before : take (place_in better.list c) better.list
+      ≡ take (place_in better.list c) order.list
 
 -- to be better never means to be called later
 abbrev pub BetterIsNeverLater : Type 0

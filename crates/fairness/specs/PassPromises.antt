@@ -13,23 +13,30 @@ use Rattle.admit_core.specs.State.{State, free_beds, has_school}
 use Rattle.admit_core.specs.Validity.{IsValid}
 use Rattle.round.specs.PassLaws.{new_bed_holders, new_seat_holders}
 
--- where an open wish is not proposed, whoever becomes live in its programme comes before its candidate in the call order
+-- where an open wish is not proposed, whoever becomes live in its programme comes before its
+-- candidate in the call order
 abbrev pub NobodyIsPassedOver : Type 0
 NobodyIsPassedOver =
-    (s : State) (orders : List CallOrder) (bars : List ℕ) (stamp : Stamp) (w : Wish) (m : Mark) (c : ℕ)
+    (s : State) (orders : List CallOrder) (bars : List ℕ) (stamp : Stamp) (w : Wish)
+    (m : Mark) (c : ℕ)
     → IsTrue (is_open s bars w m) → is_proposed s orders bars w m ≡ false
     → IsTrue (is_among c (new_seat_holders s (offered s orders bars stamp) w.programme))
     → IsTrue (is_among c (before s orders w))
 
--- exactly the free beds of the school are newly taken, each by a candidate of better rank there than that of the wish
+-- exactly the free beds of the school are newly taken, each by a candidate of better rank there
+-- than that of the wish
 pub record GoToBetterRanks (s new : State) (h : ℕ) (w : Wish) : Type 0 where
   pub all_taken : length (new_bed_holders s new h) ≡ free_beds s h
-  pub better : (c : ℕ) (v : Wish) → IsTrue (is_among c (new_bed_holders s new h)) → Contains s.dossier.wishes v → v.candidate ≡ c → IsTrue (has_school v h) → v.board_rank < w.board_rank
+  pub better : (c : ℕ) (v : Wish) → IsTrue (is_among c (new_bed_holders s new h))
+      → Contains s.dossier.wishes v → v.candidate ≡ c → IsTrue (has_school v h)
+      → v.board_rank < w.board_rank
 
 -- so it is where a wish is barred though the bar is below its ceiling
 abbrev pub NoBedGoesToWorseRank : Type 0
 NoBedGoesToWorseRank =
-    (s : State) (orders : List CallOrder) (ceilings bars : List ℕ) (stamp : Stamp) (w : Wish) (m : Mark) (h : ℕ)
+    (s : State) (orders : List CallOrder) (ceilings bars : List ℕ) (stamp : Stamp) (w : Wish)
+    (m : Mark) (h : ℕ)
     → IsValid s.dossier → IsGreatest (boarding s orders ceilings) bars
-    → IsTrue (has_school w h) → IsTrue (is_barred s bars w m) → slice_index bars h < slice_index ceilings h
+    → IsTrue (has_school w h) → IsTrue (is_barred s bars w m)
+    → slice_index bars h < slice_index ceilings h
     → GoToBetterRanks s (offered s orders bars stamp) h w

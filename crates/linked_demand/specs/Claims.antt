@@ -7,7 +7,8 @@ use Rattle.day_state.specs.Kept.{candidate_in}
 use Rattle.day_state.specs.declared.spans.Span.{Span}
 use Rattle.linked_demand.specs.Links.{claim_of}
 
--- in a list that does not fall, the span begins at the first number that is not below this one, and ends at the first that is above
+-- in a list that does not fall, the span begins at the first number that is not below this one, and
+-- ends at the first that is above
 pub record IsSpanOf (xs : List ℕ) (c : ℕ) (span : Span) : Type 0 where
   pub begins : span.from ≤ length xs
   pub ends : span.to ≤ length xs
@@ -32,10 +33,12 @@ pub record AreWishesFor (d : DossierRows) (p : ℕ) (wishes : List ℕ) : Type 0
 -- a list for each programme; from one on they are the wishes for it
 pub record AreWishesFrom (d : DossierRows) (n : ℕ) (rows : List (Vec ℕ Global)) : Type 0 where
   pub one_each : length rows ≡ length d.programmes
-  pub each : (p : ℕ) (row : Vec ℕ Global) → n ≤ p → slice_get rows p ≡ Some row → AreWishesFor d p row.items
+  pub each : (p : ℕ) (row : Vec ℕ Global) → n ≤ p → slice_get rows p ≡ Some row
+      → AreWishesFor d p row.items
 
 -- and beside each of them that of their candidates
-pub record AreCandidatesFrom (d : DossierRows) (n : ℕ) (rows candidates : List (Vec ℕ Global)) : Type 0 where
+pub record AreCandidatesFrom (d : DossierRows) (n : ℕ)
+    (rows candidates : List (Vec ℕ Global)) : Type 0 where
   pub one_each : length candidates ≡ length d.programmes
   pub each : (p : ℕ) (row own : Vec ℕ Global) → n ≤ p
       → slice_get rows p ≡ Some row → slice_get candidates p ≡ Some own

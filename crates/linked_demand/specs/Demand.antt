@@ -20,12 +20,14 @@ is_proposed_at l i =
 abbrev pub firsts : (ℕ → Bool) → ℕ → List RowWish → List Demand
 firsts p last [] = []
 firsts p last (x ∷ xs) =
-    if nat_lt last x.rank && p x.wish then (record { rank = x.rank; wish = x.wish } ∷ firsts p x.rank xs) else firsts p last xs
+    if nat_lt last x.rank && p x.wish
+    then (record { rank = x.rank; wish = x.wish } ∷ firsts p x.rank xs) else firsts p last xs
 
 -- the ranks above a last one of those in a row who pass, each once
 abbrev pub counted : (ℕ → Bool) → ℕ → List RowWish → List ℕ
 counted p last [] = []
-counted p last (x ∷ xs) = if nat_lt last x.rank && p x.wish then (x.rank ∷ counted p x.rank xs) else counted p last xs
+counted p last (x ∷ xs) =
+    if nat_lt last x.rank && p x.wish then (x.rank ∷ counted p x.rank xs) else counted p last xs
 
 -- the demanded rank of a row that is the first to have no bed, where so many are free
 abbrev pub row_over : LinksRow → List RowWish → ℕ → Option ℕ
@@ -36,10 +38,12 @@ abbrev pub over_at : State → List CallOrder → List ℕ → ℕ → Option �
 over_at s orders bars h = slice_get (demanded_ranks s orders bars h) (free_beds s h)
 
 -- the answers of the schools that pass a test are those of their rows, and the others stay
-pub record IsAsked (l : LinksRow) (rows : List (Vec RowWish Global)) (free : List ℕ) (test : ℕ → Bool)
+pub record IsAsked (l : LinksRow) (rows : List (Vec RowWish Global)) (free : List ℕ)
+    (test : ℕ → Bool)
     (old new : List (Option ℕ)) : Type 0 where
   pub as_long : length new ≡ length old
   pub each :
       (h : ℕ) (row : Vec RowWish Global)
       → slice_get rows h ≡ Some row
-      → slice_index_or new h None ≡ (if test h then row_over l row.items (slice_index free h) else slice_index_or old h None)
+      → slice_index_or new h None ≡ (if test h then row_over l row.items (slice_index free h)
+      else slice_index_or old h None)

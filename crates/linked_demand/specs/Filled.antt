@@ -19,9 +19,12 @@ is_in_row s opens h k = wants_bed s opens k && is_school (wish_in s.dossier.wish
 
 -- the row of a school, in order by place
 abbrev pub row_by_place : State → List CallOrder → List Bool → ℕ → List RowWish
-row_by_place s orders opens h = map (row_item s orders) (filter (is_in_row s opens h) (range_with_len 0 (length s.dossier.wishes)))
+row_by_place s orders opens h =
+    map (row_item s orders)
+    (filter (is_in_row s opens h) (range_with_len 0 (length s.dossier.wishes)))
 
 -- one row for each school, in order by place
 abbrev pub AreFilled : State → List CallOrder → List Bool → List (Vec RowWish Global) → Type 0
-AreFilled s orders opens rows = AreRowsOf (row_item s orders) (is_in_row s opens) (length s.dossier.schools)
+AreFilled s orders opens rows =
+    AreRowsOf (row_item s orders) (is_in_row s opens) (length s.dossier.schools)
     (range_with_len 0 (length s.dossier.wishes)) rows

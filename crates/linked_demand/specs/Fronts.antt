@@ -23,10 +23,12 @@ front_of lines reached p = take (slice_index reached p) (slice_index_or lines p 
 -- it is open, and in a claim that is reached in one of the first so many lines
 abbrev pub reached_open : List Bool → List (List (List ℕ)) → List ℕ → ℕ → ℕ → Bool
 reached_open opens lines reached n k =
-    list_any (λ p. list_any (is_among k) (front_of lines reached p)) (range_with_len 0 n) && slice_index_or opens k false
+    list_any (λ p. list_any (is_among k) (front_of lines reached p)) (range_with_len 0 n)
+    && slice_index_or opens k false
 
 -- in each line no more claims are reached than there are, and they are wishes below a number
 pub record AreFronts (n : ℕ) (lines : List (List (List ℕ))) (reached : List ℕ) : Type 0 where
   pub one_each : length reached ≡ length lines
-  pub within : (p : ℕ) → p < length lines → slice_index reached p ≤ length (slice_index_or lines p [])
+  pub within : (p : ℕ) → p < length lines
+      → slice_index reached p ≤ length (slice_index_or lines p [])
   pub below : (p : ℕ) → p < length lines → AreBelow n (slice_index_or lines p [])

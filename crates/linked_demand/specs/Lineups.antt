@@ -21,7 +21,8 @@ IsReachedIn s orders opens reached l =
     IsReached s orders opens reached l.claims.items l.places.items (all_sure s l.early.items)
 
 -- and the wishes that may need no seat are listed
-pub record AreKept (s : State) (orders : List CallOrder) (opens : List Bool) (reached : List ℕ) (l : Lineup) : Type 0 where
+pub record AreKept (s : State) (orders : List CallOrder) (opens : List Bool) (reached : List ℕ)
+    (l : Lineup) : Type 0 where
   pub reach : IsReachedIn s orders opens reached l
   pub early_each : length l.early.items ≡ length s.dossier.wishes
   pub maybe_sure_are : l.maybe_sure.items ≡ maybe_sure_of s.dossier l.early.items

@@ -39,19 +39,23 @@ pub record WaitsAt (s : State) (i : ℕ) (w : Wish) (m : Mark) : Type 0 where
 
 -- every wish that is open waits
 abbrev pub AllOpenWait : State → List Bool → Type 0
-AllOpenWait s opens = (k : ℕ) → slice_index_or opens k false ≡ true → (w : Wish) × (m : Mark) × WaitsAt s k w m
+AllOpenWait s opens =
+    (k : ℕ) → slice_index_or opens k false ≡ true → (w : Wish) × (m : Mark) × WaitsAt s k w m
 
 -- an open wish that is a claim by itself is not live in its programme
 abbrev pub NeedsSeatAlone : State → List Bool → List ℕ → Type 0
-NeedsSeatAlone s opens claim = (k : ℕ) → claim ≡ k ∷ [] → slice_index_or opens k false ≡ true → has_seat_there s k ≡ false
+NeedsSeatAlone s opens claim =
+    (k : ℕ) → claim ≡ k ∷ [] → slice_index_or opens k false ≡ true → has_seat_there s k ≡ false
 
 pub record IsLinked (s : State) (orders : List CallOrder) (opens : List Bool) (lines : List LineRow)
     (claims : List (List (List ℕ))) (places : List ℕ) (sure : List Bool) : Type 0 where
   pub marks_each : length s.marks ≡ length s.dossier.wishes
   pub opens_each : length opens ≡ length s.dossier.wishes
   pub places_each : length places ≡ length s.dossier.wishes
-  pub programmes_are : (i : ℕ) (w : Wish) → slice_get s.dossier.wishes i ≡ Some w → w.programme < length s.dossier.programmes
-  pub lines_are : lines ≡ map (seat_row s orders opens) (range_with_len 0 (length s.dossier.programmes))
+  pub programmes_are : (i : ℕ) (w : Wish) → slice_get s.dossier.wishes i ≡ Some w
+      → w.programme < length s.dossier.programmes
+  pub lines_are : lines
+      ≡ map (seat_row s orders opens) (range_with_len 0 (length s.dossier.programmes))
   pub claims_are : claims ≡ map (λ p. map (claim_of s.dossier p) (line_of s.dossier orders p))
       (range_with_len 0 (length s.dossier.programmes))
   pub places_are : (i : ℕ) (w : Wish) → slice_get s.dossier.wishes i ≡ Some w

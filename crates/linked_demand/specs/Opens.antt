@@ -1,4 +1,5 @@
--- Which wishes are open, as a list of flags, and what the rules say by it. A fall closes one wish after another; between two of them no bars belong to the flags.
+-- Which wishes are open, as a list of flags, and what the rules say by it. A fall closes one wish
+-- after another; between two of them no bars belong to the flags.
 use Rattle.std.specs.Prelude.{ℕ, Bool, not, ◌&&◌, ◌||◌, List, length, map, nat_lt, ◌==◌, filter, zip, count_by, slice_index_or, false}
 use Rattle.std.specs.List.{list_any, range_with_len}
 use Rattle.admit_core.specs.declared.dossier.Wish.{Wish}
@@ -30,7 +31,8 @@ wants_by s opens p c = list_any (is_flagged_in p c) (flagged s opens) && not (ho
 abbrev pub wanting_at : State → List Bool → ℕ → Bool
 wanting_at s opens k = slice_index_or opens k false && not (has_seat_there s k)
 
--- the candidate of the wish at a place is live in its programme, or is called by its limit, by a flag
+-- the candidate of the wish at a place is live in its programme, or is called by its limit, by a
+-- flag
 abbrev pub sure_at : State → List Bool → ℕ → Bool
 sure_at s early k = has_seat_there s k || slice_index_or early k false
 
@@ -45,7 +47,8 @@ ahead_by s orders opens w = count_by (wants_by s opens w.programme) (before s or
 -- a wish that is open by its flag is proposed
 abbrev pub is_proposed_by : State → List CallOrder → List Bool → Wish → Mark → Bool → Bool
 is_proposed_by s orders opens w m flag =
-    (is_waiting m && flag) && (needs_no_seat s orders w || nat_lt (ahead_by s orders opens w) (seats_left s w.programme))
+    (is_waiting m && flag)
+    && (needs_no_seat s orders w || nat_lt (ahead_by s orders opens w) (seats_left s w.programme))
 
 -- a candidate has a wish in a programme
 abbrev pub applies_in : DossierRows → ℕ → ℕ → Bool
@@ -57,7 +60,8 @@ line_of d orders p = filter (applies_in d p) (order_of d orders p)
 
 -- of them those who want a seat are set, and the seats that are left are the quota
 abbrev pub seat_row : State → List CallOrder → List Bool → ℕ → LineRow
-seat_row s orders opens p = record { flags = map (wants_by s opens p) (line_of s.dossier orders p); quota = seats_left s p }
+seat_row s orders opens p =
+    record { flags = map (wants_by s opens p) (line_of s.dossier orders p); quota = seats_left s p }
 
 -- a wish with the school whose candidate has no bed there ranks behind a number
 abbrev pub is_past : State → ℕ → ℕ → Wish → Bool

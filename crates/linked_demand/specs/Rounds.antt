@@ -20,21 +20,27 @@ pub record Round : Type 0 where
   pub ceilings : List ℕ
   pub bars : List ℕ
 
-pub record IsRound (links : LinksRow) (bars free : List ℕ) (rows : List (Vec RowWish Global)) : Type 0 where
+pub record IsRound (links : LinksRow) (bars free : List ℕ)
+    (rows : List (Vec RowWish Global)) : Type 0 where
   pub marks_each : length links.state.marks ≡ length links.state.dossier.wishes
   pub bars_each : length bars ≡ length links.state.dossier.schools
-  pub free_are : free ≡ map (free_beds links.state) (range_with_len 0 (length links.state.dossier.schools))
+  pub free_are : free ≡ map (free_beds links.state)
+      (range_with_len 0 (length links.state.dossier.schools))
   pub rows_each : length rows ≡ length bars
   pub opens_are : links.opens ≡ opens_of links.state bars
-  pub rows_are : (h : ℕ) (row : Vec RowWish Global) → slice_get rows h ≡ Some row → IsRow links.state bars h row.items
+  pub rows_are : (h : ℕ) (row : Vec RowWish Global) → slice_get rows h ≡ Some row
+      → IsRow links.state bars h row.items
   pub items_are : AllItems links.state links.orders rows
 
 -- what holds of the parts of a round: with the answers of the schools, and a mark each
-pub record IsRoundUnder (links : LinksRow) (ceilings bars free : List ℕ) (rows : List (Vec RowWish Global))
+pub record IsRoundUnder (links : LinksRow) (ceilings bars free : List ℕ)
+    (rows : List (Vec RowWish Global))
     (overs : List (Option ℕ)) (marked : List Bool) : Type 0 where
   pub round : IsRound links bars free rows
   pub ceilings_each : length ceilings ≡ length links.state.dossier.schools
-  pub overs_are : overs ≡ map (over_at links.state links.orders bars) (range_with_len 0 (length links.state.dossier.schools))
+  pub overs_are : overs
+      ≡ map (over_at links.state links.orders bars)
+      (range_with_len 0 (length links.state.dossier.schools))
   pub marked_each : length marked ≡ length links.state.dossier.schools
 
 -- one bar for each ceiling
@@ -46,4 +52,5 @@ length-bar_each ceilings bars = length-map-range_with_len (slice_index bars) 0 (
 
 -- the wish at a place is proposed at the bars of a round
 abbrev pub is_proposed_in : Round → ℕ → Bool
-is_proposed_in r k = is_proposed r.state r.orders r.bars (wish_in r.state.dossier.wishes k) (mark_in r.state.marks k)
+is_proposed_in r k =
+    is_proposed r.state r.orders r.bars (wish_in r.state.dossier.wishes k) (mark_in r.state.marks k)

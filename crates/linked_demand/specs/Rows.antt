@@ -48,12 +48,16 @@ pub record WaitsFor (s : State) (h : ℕ) (x : RowWish) (w : Wish) (m : Mark) : 
   pub no_bed : not (holds_bed s w.candidate h) ≡ true
   pub rank : x.rank ≡ w.board_rank
 
--- the row of a school: those who wait for it and rank at most at the bar, by rank, and those of one rank by place
+-- the row of a school: those who wait for it and rank at most at the bar, by rank, and those of one
+-- rank by place
 pub record IsRow (s : State) (bars : List ℕ) (h : ℕ) (row : List RowWish) : Type 0 where
-  pub rises : (j k : ℕ) (x y : RowWish) → j ≤ k → slice_get row j ≡ Some x → slice_get row k ≡ Some y → x.rank ≤ y.rank
-  pub in_order : (j k : ℕ) (x y : RowWish) → j < k → slice_get row j ≡ Some x → slice_get row k ≡ Some y
+  pub rises : (j k : ℕ) (x y : RowWish) → j ≤ k → slice_get row j ≡ Some x
+      → slice_get row k ≡ Some y → x.rank ≤ y.rank
+  pub in_order : (j k : ℕ) (x y : RowWish) → j < k → slice_get row j ≡ Some x
+      → slice_get row k ≡ Some y
       → x.rank ≡ y.rank → x.wish < y.wish
-  pub each : (k : ℕ) (x : RowWish) → slice_get row k ≡ Some x → (w : Wish) × (m : Mark) × WaitsFor s h x w m
+  pub each : (k : ℕ) (x : RowWish) → slice_get row k ≡ Some x → (w : Wish) × (m : Mark)
+      × WaitsFor s h x w m
   pub below : (k : ℕ) (x : RowWish) → slice_get row k ≡ Some x → x.rank ≤ slice_index bars h
   pub all : (x : RowWish) (w : Wish) (m : Mark) → WaitsFor s h x w m → x.rank ≤ slice_index bars h
       → (k : ℕ) × (y : RowWish) × (slice_get row k ≡ Some y) × (y.rank ≡ x.rank) × (y.wish ≡ x.wish)
@@ -64,7 +68,8 @@ closed [] opens = opens
 closed (x ∷ xs) opens = slice_set (closed xs opens) x.wish false
 
 -- the row keeps its wishes of at most a rank, and the others are closed
-pub record CutsAt (to : ℕ) (row : List RowWish) (opens : List Bool) (kept : List RowWish) (after : List Bool) : Type 0 where
+pub record CutsAt (to : ℕ) (row : List RowWish) (opens : List Bool) (kept : List RowWish)
+    (after : List Bool) : Type 0 where
   pub end : ℕ
   pub within : end ≤ length row
   pub kept_is : kept ≡ take end row
@@ -74,7 +79,9 @@ pub record CutsAt (to : ℕ) (row : List RowWish) (opens : List Bool) (kept : Li
 
 -- each wish of the row waits
 abbrev pub AllWait : State → List RowWish → Type 0
-AllWait s row = (k : ℕ) (x : RowWish) → slice_get row k ≡ Some x → (w : Wish) × (m : Mark) × WaitsAt s x.wish w m
+AllWait s row =
+    (k : ℕ) (x : RowWish) → slice_get row k ≡ Some x → (w : Wish) × (m : Mark)
+    × WaitsAt s x.wish w m
 
 -- an item of a wish that waits and is open
 pub record IsOpenItem (l : LinksRow) (x : RowWish) : Type 0 where
@@ -103,4 +110,5 @@ pub record IsFront (upto : ℕ) (row front : List RowWish) : Type 0 where
 -- one row for each school
 pub record AreRows (s : State) (bars : List ℕ) (rows : List (Vec RowWish Global)) : Type 0 where
   pub one_each : length rows ≡ length s.dossier.schools
-  pub each : (h : ℕ) (row : Vec RowWish Global) → slice_get rows h ≡ Some row → IsRow s bars h row.items
+  pub each : (h : ℕ) (row : Vec RowWish Global) → slice_get rows h ≡ Some row
+      → IsRow s bars h row.items

@@ -42,21 +42,27 @@ maybe_sure_of d early = filter (may_be_sure d early) (range_with_len 0 (length d
 -- some places of a list hold a value, and the others what they held
 pub record PutAt (X : Type 0) (d : X) (ks : List ℕ) (x : X) (old new : List X) : Type 0 where
   pub as_long : length new ≡ length old
-  pub each : (k : ℕ) → k < length old → slice_index_or new k d ≡ (if is_among k ks then x else slice_index_or old k d)
+  pub each : (k : ℕ) → k < length old
+      → slice_index_or new k d ≡ (if is_among k ks then x else slice_index_or old k d)
 
 -- the wish's candidate is called by the limit of its programme, whatever seats are left
 abbrev pub is_early : DossierRows → List CallOrder → Wish → Bool
 is_early d orders w = nat_le
-    (length (before_first (nat_eq w.candidate) (order_of d orders w.programme)) + 1) (limit_of d w.programme)
+    (length (before_first (nat_eq w.candidate) (order_of d orders w.programme)) + 1)
+    (limit_of d w.programme)
 
--- the wishes of the programmes and candidates that are done have their place, and whether they are called by the limit
-pub record AreSeated (d : DossierRows) (orders : List CallOrder) (is_done : ℕ → ℕ → Bool) (places : List ℕ)
+-- the wishes of the programmes and candidates that are done have their place, and whether they are
+-- called by the limit
+pub record AreSeated (d : DossierRows) (orders : List CallOrder) (is_done : ℕ → ℕ → Bool)
+    (places : List ℕ)
     (early : List Bool) : Type 0 where
   pub places_each : length places ≡ length d.wishes
   pub early_each : length early ≡ length d.wishes
-  pub place : (i : ℕ) (w : Wish) → slice_get d.wishes i ≡ Some w → is_done w.programme w.candidate ≡ true
+  pub place : (i : ℕ) (w : Wish) → slice_get d.wishes i ≡ Some w
+      → is_done w.programme w.candidate ≡ true
       → IsSeatPlace d orders w (slice_index places i)
-  pub called : (i : ℕ) (w : Wish) → slice_get d.wishes i ≡ Some w → is_done w.programme w.candidate ≡ true
+  pub called : (i : ℕ) (w : Wish) → slice_get d.wishes i ≡ Some w
+      → is_done w.programme w.candidate ≡ true
       → slice_index_or early i false ≡ is_early d orders w
 
 -- the programmes below one are done
@@ -67,12 +73,17 @@ is_below n p c = nat_lt p n
 abbrev pub is_passed : ℕ → List ℕ → ℕ → ℕ → Bool
 is_passed n front p c = nat_lt p n || (nat_eq p n && is_among c front)
 
--- for each programme the claims of those who wish for it, in call order; and where each wish stands in them
+-- for each programme the claims of those who wish for it, in call order; and where each wish stands
+-- in them
 pub record IsLineup (d : DossierRows) (orders : List CallOrder) (claims : List (List (List ℕ)))
     (places : List ℕ) (early : List Bool) : Type 0 where
-  pub programmes_are : (i : ℕ) (w : Wish) → slice_get d.wishes i ≡ Some w → w.programme < length d.programmes
-  pub claims_are : claims ≡ map (λ p. map (claim_of d p) (line_of d orders p)) (range_with_len 0 (length d.programmes))
+  pub programmes_are : (i : ℕ) (w : Wish) → slice_get d.wishes i ≡ Some w
+      → w.programme < length d.programmes
+  pub claims_are : claims
+      ≡ map (λ p. map (claim_of d p) (line_of d orders p)) (range_with_len 0 (length d.programmes))
   pub places_each : length places ≡ length d.wishes
-  pub places_are : (i : ℕ) (w : Wish) → slice_get d.wishes i ≡ Some w → IsSeatPlace d orders w (slice_index places i)
+  pub places_are : (i : ℕ) (w : Wish) → slice_get d.wishes i ≡ Some w
+      → IsSeatPlace d orders w (slice_index places i)
   pub early_each : length early ≡ length d.wishes
-  pub early_are : (i : ℕ) (w : Wish) → slice_get d.wishes i ≡ Some w → slice_index_or early i false ≡ is_early d orders w
+  pub early_are : (i : ℕ) (w : Wish) → slice_get d.wishes i ≡ Some w → slice_index_or early i false
+      ≡ is_early d orders w

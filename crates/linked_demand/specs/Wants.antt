@@ -17,11 +17,13 @@ AreBelow n claims = (j : ℕ) → j < length claims → All (λ k. k < n) (slice
 
 -- of the claims each that is one open wish is not live in its programme
 abbrev pub AllNeedSeatAlone : State → List Bool → List (List ℕ) → Type 0
-AllNeedSeatAlone s opens claims = (j : ℕ) → j < length claims → NeedsSeatAlone s opens (slice_index_or claims j [])
+AllNeedSeatAlone s opens claims =
+    (j : ℕ) → j < length claims → NeedsSeatAlone s opens (slice_index_or claims j [])
 
 -- the lines of all programmes
 abbrev pub seat_rows : State → List CallOrder → List Bool → List LineRow
-seat_rows s orders opens = map (seat_row s orders opens) (range_with_len 0 (length s.dossier.programmes))
+seat_rows s orders opens =
+    map (seat_row s orders opens) (range_with_len 0 (length s.dossier.programmes))
 
 -- how many places of a line are reached
 abbrev pub reach_in : LineRow → ℕ

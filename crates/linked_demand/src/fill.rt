@@ -16,7 +16,8 @@ use demand::sort_by_rank;
 use std::alloc::Global;
 use vacancies::beds_left;
 
-/// How many boarders of each school are open: room is made by it, so no clause speaks of the numbers.
+/// How many boarders of each school are open: room is made by it, so no clause speaks of the
+/// numbers.
 fn counts_by_school(
     alloc: Global,
     links: &SeatLinks<'_, '_>,

@@ -15,9 +15,12 @@ pub record AreNew (pickers : Lent) : Type 0 where
   pub last : (told places : List ℕ) → pickers.choice Last told places ≡ last_of places
   pub turn : (told places : List ℕ) → pickers.choice Turn told places ≡ turn_of told places
 
--- a run with these words and new pickers, over a shelf and a sink as they stand before it and after it
-pub record IsNewRun (words : List (List ℕ)) (shelf shelf' : OnShelf) (sink sink' : AtSink) (exit : Exit) : Type 0 where
+-- a run with these words and new pickers, over a shelf and a sink as they stand before it and after
+-- it
+pub record IsNewRun (words : List (List ℕ)) (shelf shelf' : OnShelf) (sink sink' : AtSink)
+    (exit : Exit) : Type 0 where
   pub pickers : Lent
   pub pickers' : Lent
   pub are_new : AreNew pickers
-  pub is_run : IsRun words (record { shelf = shelf; sink = sink; pickers = pickers }) (record { shelf = shelf'; sink = sink'; pickers = pickers' }) exit
+  pub is_run : IsRun words (record { shelf = shelf; sink = sink; pickers = pickers })
+      (record { shelf = shelf'; sink = sink'; pickers = pickers' }) exit

@@ -31,28 +31,40 @@ IsOfWords (stops.NoSuch name) = ⊥
 -- with bad words no slot is touched; otherwise the slots of the mode are taken
 abbrev pub TakesAsked : {A : Type 0} → Option Request → OnShelf → OnShelf → Result A Stop → Type 0
 TakesAsked None before after result = IsErrAnd result IsOfWords × (after ≡ before)
-TakesAsked (Some request) before after result = TakesSlots (slots_of request.mode) before after result
+TakesAsked (Some request) before after result =
+    TakesSlots (slots_of request.mode) before after result
 
 -- what the words ask for is taken in
-pub record TakesAll (words : List (List ℕ)) (before after : OnShelf) (result : Result (Request × Input) Stop) : Type 0 where
+pub record TakesAll (words : List (List ℕ)) (before after : OnShelf)
+    (result : Result (Request × Input) Stop) : Type 0 where
   pub asked : IfOk result (λ x. request_of words ≡ Some x.0)
   pub known : IfOk result (λ x. IsRequest x.0)
   pub input : IfOk result (λ x. IsInputFor x.0 before x.1)
-  pub stop : IfErr result (λ stop. (slots : Slot → List ℕ) → Tells before.left slots → Stopped stop (accepted words slots))
+  pub stop : IfErr result (λ stop. (slots : Slot → List ℕ) → Tells before.left slots
+      → Stopped stop (accepted words slots))
   pub slots : TakesAsked (request_of words) before after result
 
--- the exit and the text of a run, before anything is written, with the shelf and the pickers before it and after it
-pub record Replies {E : Type 0} (words : List (List ℕ)) (shelf shelf' : OnShelf) (before after : Lent) (result : Result Reply E) : Type 0 where
-  pub outcome : IfOk result (λ reply. (slots : Slot → List ℕ) → Tells shelf.left slots → IsTrue (is_answer reply.exit) → IsOutcome words slots before after reply.exit reply.text.items)
-  pub kinds : IfOk result (λ reply. IsTrue (is_answer reply.exit) ⊎ ((reply.exit ≡ ReadFault) × NamesFault (request_of words) shelf shelf' reply.text.items))
+-- the exit and the text of a run, before anything is written, with the shelf and the pickers before
+-- it and after it
+pub record Replies {E : Type 0} (words : List (List ℕ)) (shelf shelf' : OnShelf)
+    (before after : Lent) (result : Result Reply E) : Type 0 where
+  pub outcome : IfOk result (λ reply. (slots : Slot → List ℕ) → Tells shelf.left slots
+      → IsTrue (is_answer reply.exit)
+      → IsOutcome words slots before after reply.exit reply.text.items)
+  pub kinds : IfOk result (λ reply. IsTrue (is_answer reply.exit)
+      ⊎ ((reply.exit ≡ ReadFault) × NamesFault (request_of words) shelf shelf' reply.text.items))
   pub untold : IfOk result (λ reply. IsTrue (asks_nobody reply.exit) → Untold before after)
   pub bad_words : IfOk result (λ reply. reply.exit ≡ BadWords → IsNone (request_of words))
   pub only_bad : IsNone (request_of words) → IfOk result (λ reply. reply.exit ≡ BadWords)
   pub untouched : IsNone (request_of words) → shelf' ≡ shelf
-  pub ends : (slots : Slot → List ℕ) → Tells shelf.left slots → IfOk result (λ reply. reply.exit ≡ Done → (slot : Slot) → Contains (slots_read (request_of words)) slot → shelf'.left slot ≡ Some [])
+  pub ends : (slots : Slot → List ℕ) → Tells shelf.left slots
+      → IfOk result (λ reply. reply.exit ≡ Done → (slot : Slot)
+      → Contains (slots_read (request_of words)) slot → shelf'.left slot ≡ Some [])
   pub others : KeepsOthers (slots_read (request_of words)) shelf shelf'
   pub counts : NoneFell shelf.faults shelf'.faults
   pub back : AreBack before after
   pub idle : AsksNobody (request_of words) → Untold before after
-  pub complete : (slots : Slot → List ℕ) → Tells shelf.left slots → IsOkAnd (accepted words slots) CanBeDone
-      → ((slot : Slot) → ¬ Rose (shelf.faults slot) (shelf'.faults slot)) → IfOk result (λ reply. reply.exit ≡ Done)
+  pub complete : (slots : Slot → List ℕ) → Tells shelf.left slots
+      → IsOkAnd (accepted words slots) CanBeDone
+      → ((slot : Slot) → ¬ Rose (shelf.faults slot) (shelf'.faults slot))
+      → IfOk result (λ reply. reply.exit ≡ Done)

@@ -26,7 +26,8 @@ abbrev pub Ends : Result Job Stop → Lent → Lent → Exit → List ℕ → Ty
 Ends (Ok job) = IsEnding job
 Ends (Err stop) = IsStop stop
 
--- the exit and the text of a run with these words over slots of these bytes, with pickers that stand so before it and after it
+-- the exit and the text of a run with these words over slots of these bytes, with pickers that
+-- stand so before it and after it
 unfoldable pub IsOutcome : List (List ℕ) → (Slot → List ℕ) → Lent → Lent → Exit → List ℕ → Type 0
 IsOutcome words slots = Ends (accepted words slots)
 
@@ -40,8 +41,10 @@ abbrev pub AsksNobody : Option Request → Type 0
 AsksNobody None = ⊤
 AsksNobody (Some request) = IsIdle request
 
--- the line of a slot that is read and could not be: its count rose, and those read before it have their sizes and shapes
-pub record NamesFault (request : Option Request) (before after : OnShelf) (line : List ℕ) : Type 0 where
+-- the line of a slot that is read and could not be: its count rose, and those read before it have
+-- their sizes and shapes
+pub record NamesFault (request : Option Request) (before after : OnShelf)
+    (line : List ℕ) : Type 0 where
   pub good_words : IsSome request
   pub slot : Slot
   pub fault : IsFaultAt (slots_read request) before after slot

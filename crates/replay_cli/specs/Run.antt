@@ -31,20 +31,24 @@ pub record Around : Type 0 where
 
 -- a text was written whole, or a prefix of it
 abbrev pub Writes : Around → Around → (List ℕ → Type 0) → Type 0
-Writes before after IsText = (text : List ℕ) × IsText text × Appends before.sink.held after.sink.held text
+Writes before after IsText =
+    (text : List ℕ) × IsText text × Appends before.sink.held after.sink.held text
 
 abbrev pub WritesPart : Around → Around → (List ℕ → Type 0) → Type 0
-WritesPart before after IsText = (text : List ℕ) × IsText text × AppendsPrefix before.sink.held after.sink.held text
+WritesPart before after IsText =
+    (text : List ℕ) × IsText text × AppendsPrefix before.sink.held after.sink.held text
 
 -- the line of a read fault; no picker was asked
-pub record IsFaultLine (words : List (List ℕ)) (before after : Around) (line : List ℕ) : Type 0 where
+pub record IsFaultLine (words : List (List ℕ)) (before after : Around)
+    (line : List ℕ) : Type 0 where
   pub names : NamesFault (request_of words) before.shelf after.shelf line
   pub untold : Untold before.pickers after.pickers
 
 -- what is written where nothing is cut off: the outcome's text, or the line of a read fault
 abbrev pub IsWhole : List (List ℕ) → (Slot → List ℕ) → Around → Around → List ℕ → Type 0
 IsWhole words slots before after text =
-    ((exit : Exit) × IsOutcome words slots before.pickers after.pickers exit text) ⊎ IsFaultLine words before after text
+    ((exit : Exit) × IsOutcome words slots before.pickers after.pickers exit text)
+    ⊎ IsFaultLine words before after text
 
 -- no call of the shelf or the sink failed
 pub record NoneFails (before after : Around) : Type 0 where
@@ -52,16 +56,23 @@ pub record NoneFails (before after : Around) : Type 0 where
   pub writes : ¬ Rose before.sink.faults after.sink.faults
 
 -- what holds of a run where the shelf tells these bytes
-pub record Answers (words : List (List ℕ)) (slots : Slot → List ℕ) (before after : Around) (exit : Exit) : Type 0 where
+pub record Answers (words : List (List ℕ)) (slots : Slot → List ℕ) (before after : Around)
+    (exit : Exit) : Type 0 where
   -- the exit and the text are the outcome of the words and these bytes
-  pub outcome : IsTrue (is_answer exit) → Writes before after (IsOutcome words slots before.pickers after.pickers exit)
+  pub outcome : IsTrue (is_answer exit)
+      → Writes before after (IsOutcome words slots before.pickers after.pickers exit)
   -- the slots that are read are read to their end
-  pub ends : exit ≡ Done → (slot : Slot) → Contains (slots_read (request_of words)) slot → after.shelf.left slot ≡ Some []
-  -- a run that is cut off has written a prefix of its text; where memory runs out it may be that nobody knows of which
+  pub ends : exit ≡ Done → (slot : Slot) → Contains (slots_read (request_of words)) slot
+      → after.shelf.left slot ≡ Some []
+  -- a run that is cut off has written a prefix of its text; where memory runs out it may be that
+  -- nobody knows of which
   pub cut_off : exit ≡ WriteFault → WritesPart before after (IsWhole words slots before after)
-  pub no_memory : exit ≡ NoMemory → Appends before.sink.held after.sink.held [] ⊎ WritesPart before after (IsWhole words slots before after)
-  -- where the job is accepted, each answer fits, a chain that is handed in proves its days, and no call fails, the run is done, or memory ran out
-  pub complete : IsOkAnd (accepted words slots) CanBeDone → NoneFails before after → (exit ≡ Done) ⊎ (exit ≡ NoMemory)
+  pub no_memory : exit ≡ NoMemory → Appends before.sink.held after.sink.held []
+      ⊎ WritesPart before after (IsWhole words slots before after)
+  -- where the job is accepted, each answer fits, a chain that is handed in proves its days, and no
+  -- call fails, the run is done, or memory ran out
+  pub complete : IsOkAnd (accepted words slots) CanBeDone → NoneFails before after → (exit ≡ Done)
+      ⊎ (exit ≡ NoMemory)
 
 -- with bad words no slot is touched
 pub record IsRefusal (before after : Around) (exit : Exit) : Type 0 where
@@ -80,7 +91,8 @@ pub record NoCountFell (before after : Around) : Type 0 where
 
 -- a run with these words, from what stood around it before to what stands after it
 pub record IsRun (words : List (List ℕ)) (before after : Around) (exit : Exit) : Type 0 where
-  pub answers : (slots : Slot → List ℕ) → Tells before.shelf.left slots → Answers words slots before after exit
+  pub answers : (slots : Slot → List ℕ) → Tells before.shelf.left slots
+      → Answers words slots before after exit
   pub others : KeepsOthers (slots_read (request_of words)) before.shelf after.shelf
   pub bad_words : exit ≡ BadWords → IsNone (request_of words)
   pub words_first : IsNone (request_of words) → IsRefusal before after exit

@@ -28,18 +28,21 @@ pub record IsPassOf (d : DossierRows) (end : PassEnd) : Type 0 where
 -- a school's bar falls, shown by the wishes
 abbrev pub fall_line : DossierRows → Fall → List ℕ
 fall_line d fall =
-    line (codes "fall" ∷ decimal (school_id d fall.school) ∷ decimal fall.from ∷ decimal fall.to ∷ map (λ w. decimal (wish_id d w)) fall.wishes)
+    line (codes "fall" ∷ decimal (school_id d fall.school) ∷ decimal fall.from ∷ decimal fall.to
+    ∷ map (λ w. decimal (wish_id d w)) fall.wishes)
 
 abbrev pub offer_line : DossierRows → ℕ → List ℕ
 offer_line d place = line (codes "offer" ∷ decimal (wish_id d place) ∷ [])
 
 abbrev pub auto_line : DossierRows → Change → List ℕ
-auto_line d change = line (codes "auto" ∷ decimal (wish_id d change.wish) ∷ status_word change.status ∷ [])
+auto_line d change =
+    line (codes "auto" ∷ decimal (wish_id d change.wish) ∷ status_word change.status ∷ [])
 
 abbrev pub freed_line : Freed → List ℕ
 freed_line freed = line (codes "freed" ∷ decimal freed.seats ∷ decimal freed.beds ∷ [])
 
--- a pass with its number: the falls, the bars at its end, the offers, the automatic answers, and what these freed
+-- a pass with its number: the falls, the bars at its end, the offers, the automatic answers, and
+-- what these freed
 abbrev pub pass_text : DossierRows → ℕ × PassEnd → List ℕ
 pass_text d (number, end) =
     line (codes "pass" ∷ decimal number ∷ [])
@@ -56,7 +59,8 @@ passes_text d passes = flat_map (pass_text d) (enumerate_from 1 passes)
 -- the seats and the beds that are left in the evening
 abbrev pub evening_text : DossierRows → DayRecord → List ℕ
 evening_text d day =
-    numbers_text (λ p. p.id) (codes "left") d.programmes day.left ++ numbers_text (λ h. h.id) (codes "free") d.schools day.free
+    numbers_text (λ p. p.id) (codes "left") d.programmes day.left
+    ++ numbers_text (λ h. h.id) (codes "free") d.schools day.free
 
 abbrev pub day_line : DayRecord → List ℕ
 day_line day = line (codes "day" ∷ decimal day.day ∷ [])
@@ -72,7 +76,8 @@ date_on start day = start +ℤ day -ℤ pos 1
 abbrev pub last_date : ℤ → ℕ → ℤ → ℤ
 last_date start term day = date_on start day +ℤ pos term
 
--- the lapsed wish is one of the dossier, and the dates of its offer and of its deadline can be written
+-- the lapsed wish is one of the dossier, and the dates of its offer and of its deadline can be
+-- written
 pub record IsLapseOf (d : DossierRows) (start : ℤ) (term : ℕ) (lapse : Lapse) : Type 0 where
   pub wish : lapse.wish < length d.wishes
   pub offered : IsCivil (date_on start lapse.offered)
@@ -81,9 +86,11 @@ pub record IsLapseOf (d : DossierRows) (start : ℤ) (term : ℕ) (lapse : Lapse
 -- an offer ends with its deadline
 abbrev pub lapse_line : DossierRows → ℤ → ℕ → Lapse → List ℕ
 lapse_line d start term lapse =
-    line (codes "lapse" ∷ decimal (wish_id d lapse.wish) ∷ date_text (last_date start term lapse.offered) ∷ [])
+    line (codes "lapse" ∷ decimal (wish_id d lapse.wish)
+    ∷ date_text (last_date start term lapse.offered) ∷ [])
 
 -- the same day with its lapses
 abbrev pub dated_day_text : DossierRows → DayRecord → ℤ → ℕ → List ℕ
 dated_day_text d day start term =
-    day_line day ++ flat_map (lapse_line d start term) day.lapsed ++ passes_text d day.passes ++ evening_text d day
+    day_line day ++ flat_map (lapse_line d start term) day.lapsed ++ passes_text d day.passes
+    ++ evening_text d day

@@ -28,15 +28,19 @@ cause_words (Full beds) = codes "full" ∷ decimal beds ∷ []
 -- the position and the call limit, where the programme has one
 abbrev pub limit_words : ℕ → ℕ → List (List ℕ)
 limit_words position limit =
-    if limit == 0 then [] else (codes "position" ∷ decimal position ∷ codes "limit" ∷ decimal limit ∷ [])
+    if limit == 0 then []
+    else (codes "position" ∷ decimal position ∷ codes "limit" ∷ decimal limit ∷ [])
 
 abbrev pub explanation_words : DossierRows → Explanation → List (List ℕ)
 explanation_words d (Gone status stamp) = codes "gone" ∷ status_word status ∷ stamp_words stamp
 explanation_words d (Live status stamp) = codes "live" ∷ status_word status ∷ stamp_words stamp
 explanation_words d (Barred school rank bar cause) =
-    codes "barred" ∷ codes "school" ∷ decimal (school_id d school) ∷ codes "rank" ∷ decimal rank ∷ codes "bar" ∷ decimal bar ∷ cause_words cause
+    codes "barred" ∷ codes "school" ∷ decimal (school_id d school) ∷ codes "rank" ∷ decimal rank
+    ∷ codes "bar" ∷ decimal bar ∷ cause_words cause
 explanation_words d (NoSeat ahead left position limit) =
-    codes "noseat" ∷ codes "ahead" ∷ decimal ahead ∷ codes "left" ∷ decimal left ∷ limit_words position limit
+    codes "noseat" ∷ codes "ahead" ∷ decimal ahead ∷ codes "left" ∷ decimal left
+    ∷ limit_words position limit
 
 abbrev pub explain_text : DossierRows → ℕ → Explanation → List ℕ
-explain_text d wish explanation = line (codes "wish" ∷ decimal (wish_id d wish) ∷ explanation_words d explanation)
+explain_text d wish explanation =
+    line (codes "wish" ∷ decimal (wish_id d wish) ∷ explanation_words d explanation)

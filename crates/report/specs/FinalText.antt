@@ -18,7 +18,8 @@ status_row s (place, wish) = row (decimal wish.id ∷ status_word (status_at s p
 
 abbrev pub final_text : State → List ℕ
 final_text s =
-    line (codes "final" ∷ []) ++ row (codes "wish" ∷ codes "status" ∷ []) ++ flat_map (status_row s) (enumerate_from 0 s.dossier.wishes)
+    line (codes "final" ∷ []) ++ row (codes "wish" ∷ codes "status" ∷ [])
+    ++ flat_map (status_row s) (enumerate_from 0 s.dossier.wishes)
 
 -- the day of the offer of the wish at a place
 abbrev pub offer_day_at : State → List ℤ → ℕ → ℤ
@@ -27,7 +28,8 @@ offer_day_at s before place = offer_day (slice_index_or before place (pos 0)) (m
 -- since when an offer stands; empty for any other wish
 abbrev pub since_word : State → ℤ → List ℤ → ℕ → List ℕ
 since_word s start before place =
-    if is_offered (status_at s place) then date_text (date_on start (offer_day_at s before place)) else []
+    if is_offered (status_at s place) then date_text (date_on start (offer_day_at s before place))
+    else []
 
 abbrev pub dated_row : State → ℤ → List ℤ → ℕ × Wish → List ℕ
 dated_row s start before (place, wish) =
@@ -40,7 +42,8 @@ final_dated_text s start before =
 
 -- the date of the offer of the wish at a place can be written, where it is offered
 abbrev pub HasDate : State → ℤ → List ℤ → ℕ → Type 0
-HasDate s start before place = is_offered (status_at s place) ≡ true → IsCivil (date_on start (offer_day_at s before place))
+HasDate s start before place =
+    is_offered (status_at s place) ≡ true → IsCivil (date_on start (offer_day_at s before place))
 
 -- each offer's date can be written
 pub record HasDates (s : State) (start : ℤ) (before : List ℤ) : Type 0 where

@@ -13,4 +13,5 @@ school_id d place = slice_index (map (λ h. h.id) d.schools) place
 
 -- a line for each item with its number: a word, the id and the number
 abbrev pub numbers_text : {X : Type 0} → (X → ℕ) → List ℕ → List X → List ℕ → List ℕ
-numbers_text id word items numbers = flat_map (λ x. line (word ∷ decimal (id x.0) ∷ decimal x.1 ∷ [])) (zip items numbers)
+numbers_text id word items numbers =
+    flat_map (λ x. line (word ∷ decimal (id x.0) ∷ decimal x.1 ∷ [])) (zip items numbers)

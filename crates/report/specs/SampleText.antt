@@ -20,7 +20,8 @@ offers_in end = length end.pass.offers
 abbrev pub day_summary : DayRecord → List ℕ
 day_summary day =
     line (codes "day" ∷ decimal day.day ∷ codes "passes" ∷ decimal (length day.passes)
-    ∷ codes "falls" ∷ decimal (sum_by falls_in day.passes) ∷ codes "offers" ∷ decimal (sum_by offers_in day.passes) ∷ [])
+    ∷ codes "falls" ∷ decimal (sum_by falls_in day.passes) ∷ codes "offers"
+    ∷ decimal (sum_by offers_in day.passes) ∷ [])
 
 -- a status that is neither live nor waiting
 abbrev pub is_gone_status : Status → Bool
@@ -39,9 +40,11 @@ wishes_with kind s = count_by kind (marks_until s (length s.dossier.wishes))
 
 abbrev pub state_summary : State → List ℕ
 state_summary s =
-    line (codes "live" ∷ decimal (wishes_with is_live s) ∷ codes "waiting" ∷ decimal (wishes_with is_waiting s)
+    line (codes "live" ∷ decimal (wishes_with is_live s) ∷ codes "waiting"
+    ∷ decimal (wishes_with is_waiting s)
     ∷ codes "gone" ∷ decimal (wishes_with is_gone s) ∷ [])
 
 abbrev pub sample_text : ℕ → ℕ → List DayRecord → State → List ℕ
 sample_text number wishes days s =
-    line (codes "sample" ∷ decimal number ∷ codes "wishes" ∷ decimal wishes ∷ []) ++ flat_map day_summary days ++ state_summary s
+    line (codes "sample" ∷ decimal number ∷ codes "wishes" ∷ decimal wishes ∷ [])
+    ++ flat_map day_summary days ++ state_summary s

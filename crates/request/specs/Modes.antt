@@ -1,4 +1,5 @@
--- The tables by mode: its word, the slots that it reads, whether it runs days and picks after them, and what it names.
+-- The tables by mode: its word, the slots that it reads, whether it runs days and picks after them,
+-- and what it names.
 use Rattle.std.specs.Prelude.{ℕ, ◌≤◌, Bool, true, false, List, [], ◌∷◌, ◌++◌, Option, Some, None, IfSome, codes, option_map, ⊤}
 use Rattle.std.specs.Fmt.{decimal}
 use Rattle.std.specs.Option.{option_and_then}
@@ -38,8 +39,8 @@ abbrev pub nine_slots : List Slot
 nine_slots =
     Groups ∷ Programmes ∷ Schools ∷ Rankings ∷ Boarding ∷ Wishes ∷ State ∷ Ceilings ∷ Answers ∷ []
 
--- the slots that a mode reads, in this order: the nine, but for those who need less, and then the chain where it is
--- checked; a sample is made, and reads none
+-- the slots that a mode reads, in this order: the nine, but for those who need less, and then the
+-- chain where it is checked; a sample is made, and reads none
 abbrev pub slots_of : Mode → List Slot
 slots_of Order = Groups ∷ Rankings ∷ []
 slots_of (Sample number) = []
@@ -59,8 +60,8 @@ runs_days Check = false
 runs_days Market = false
 runs_days _ = true
 
--- the day whose picker the ending is lent, where so many days are asked for; most modes ask nobody once their days are
--- over. A market runs no day, and is solved with the picker of day 1
+-- the day whose picker the ending is lent, where so many days are asked for; most modes ask nobody
+-- once their days are over. A market runs no day, and is solved with the picker of day 1
 abbrev pub picks_after : Mode → ℕ → Option ℕ
 picks_after (Beds school) days = Some days
 picks_after Market days = Some 1

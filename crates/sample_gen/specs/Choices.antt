@@ -15,7 +15,8 @@ programmes_of n = 1 + n / 500
 abbrev pub school_of : ℕ → ℕ
 school_of programme = 1 + (programme - 1) / 2
 
--- the programme that a candidate chooses at a place: those of their choices follow one another, and after the last comes the first
+-- the programme that a candidate chooses at a place: those of their choices follow one another, and
+-- after the last comes the first
 abbrev pub chosen : ℕ → ℕ → ℕ → ℕ
 chosen programmes candidate place = 1 + (candidate + place) % programmes
 
@@ -30,7 +31,8 @@ choice_at programmes candidate place =
 
 -- a candidate's choices: three, and no more than there are programmes
 abbrev pub own_choices : ℕ → ℕ → List Choice
-own_choices programmes candidate = map (choice_at programmes candidate) (range_with_len 0 (min programmes 3))
+own_choices programmes candidate =
+    map (choice_at programmes candidate) (range_with_len 0 (min programmes 3))
 
 -- the choices of n candidates
 abbrev pub choices_of : ℕ → List Choice
@@ -43,7 +45,8 @@ is_boarder x = nat_eq (x.candidate % 2) 0
 -- no earlier choice of the candidate has the school
 abbrev pub is_first_at_school : ℕ → Choice → Bool
 is_first_at_school programmes x =
-    list_all (λ place. not (nat_eq (school_of (chosen programmes x.candidate place)) x.school)) (range_with_len 0 x.place)
+    list_all (λ place. not (nat_eq (school_of (chosen programmes x.candidate place)) x.school))
+    (range_with_len 0 x.place)
 
 -- a choice in a sample of at most 1,000,000 candidates
 pub record IsSmall (x : Choice) : Type 0 where

@@ -21,7 +21,8 @@ programme_row id = record { id = id; group = id; seats = 200; limit = 0 }
 abbrev pub school_row : ℕ → SchoolRow
 school_row id = record { id = id; beds = 40; ceiling = 1073741824 }
 
--- a candidate's rank in a list: the candidate's number times an odd number of the list's own, in the ring of 2 ^ 30 numbers
+-- a candidate's rank in a list: the candidate's number times an odd number of the list's own, in
+-- the ring of 2 ^ 30 numbers
 abbrev pub rank_in : ℕ → ℕ → ℕ
 rank_in multiplier candidate = 1 + (candidate * multiplier) % 1073741824
 
@@ -37,15 +38,23 @@ rank_row x =
     }
 
 abbrev pub board_row : Choice → BoardRow
-board_row x = record { school = x.school; candidate = x.candidate; rank = rank_in (2000001 + 2 * x.school) x.candidate }
+board_row x =
+    record {
+      school = x.school;
+      candidate = x.candidate;
+      rank = rank_in
+          (2000001 + 2 * x.school) x.candidate;
+    }
 
 -- a boarder has one rank in a school, at their first choice there
 abbrev pub has_board_row : ℕ → Choice → Bool
 has_board_row programmes x = is_boarder x && is_first_at_school programmes x
 
--- every fourth candidate has automatic answers: the wish with the school before the one without, and the earlier choice first
+-- every fourth candidate has automatic answers: the wish with the school before the one without,
+-- and the earlier choice first
 abbrev pub preference_of : Choice → Bool → ℕ
-preference_of x boards = if nat_eq (x.candidate % 4) 0 then 2 * x.place + (if boards then 1 else 2) else 0
+preference_of x boards =
+    if nat_eq (x.candidate % 4) 0 then 2 * x.place + (if boards then 1 else 2) else 0
 
 abbrev pub wish_row : Choice → Option ℕ → WishRow
 wish_row x school =

@@ -16,16 +16,20 @@ TakesAll (Some left) after bytes = (bytes ≡ left) × (after ≡ Some [])
 
 -- bytes were taken from the front, at most so many
 abbrev pub TakesAtMost : ℕ → Option (List ℕ) → Option (List ℕ) → Type 0
-TakesAtMost most before after = (taken : List ℕ) × (length taken ≤ most) × Consumes before after taken
+TakesAtMost most before after =
+    (taken : List ℕ) × (length taken ≤ most) × Consumes before after taken
 
 -- bytes were taken from the front, more than so many
 abbrev pub TakesMoreThan : ℕ → Option (List ℕ) → Option (List ℕ) → Type 0
-TakesMoreThan limit before after = (taken : List ℕ) × (limit < length taken) × Consumes before after taken
+TakesMoreThan limit before after =
+    (taken : List ℕ) × (limit < length taken) × Consumes before after taken
 
 -- a read counted the bytes that it gave at `Ok(n)`, and none at `Err`
 abbrev pub CountsTaken : {E : Type 0} → Result ℕ E → ℕ → ℕ → Type 0
-CountsTaken result before now = MatchResult result (λ count. Counted count before now) (λ _. now ≡ before)
+CountsTaken result before now =
+    MatchResult result (λ count. Counted count before now) (λ _. now ≡ before)
 
 -- a prefix of the bytes was appended
 abbrev pub AppendsPrefix : Option (List ℕ) → Option (List ℕ) → List ℕ → Type 0
-AppendsPrefix before after bytes = (count : ℕ) × (count ≤ length bytes) × Appends before after (take count bytes)
+AppendsPrefix before after bytes =
+    (count : ℕ) × (count ≤ length bytes) × Appends before after (take count bytes)

@@ -12,7 +12,8 @@ left_of shelf slot = Some ((at shelf.stocks slot).left)
 abbrev pub taken_of : PlainShelf → Slot → ℕ
 taken_of shelf slot = (at shelf.stocks slot).taken
 
--- the same of a shelf with failing calls, its counts of faults, the calls that are to fail, and how many calls were made
+-- the same of a shelf with failing calls, its counts of faults, the calls that are to fail, and how
+-- many calls were made
 abbrev pub mem_left : MemShelf → Slot → Option (List ℕ)
 mem_left shelf = left_of shelf.plain
 

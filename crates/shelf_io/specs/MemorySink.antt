@@ -7,7 +7,8 @@ use Rattle.shelf_io.specs.declared.memory_sink.PlainSink.{PlainSink}
 abbrev pub plain_held : PlainSink → List ℕ
 plain_held sink = sink.bytes.items
 
--- the same of a sink with failing calls, its room, its count of faults, the calls that are to fail, and how many calls were made
+-- the same of a sink with failing calls, its room, its count of faults, the calls that are to fail,
+-- and how many calls were made
 abbrev pub sink_held : MemSink → List ℕ
 sink_held sink = sink.bytes.items
 

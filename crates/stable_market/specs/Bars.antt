@@ -15,9 +15,12 @@ best_within m bars x = find (is_within m bars x) (list_of m x)
 
 -- the positions of the candidates for whom a programme is the best within reach
 abbrev pub demanded : MarketRows → List ℕ → ℕ → List ℕ
-demanded m bars p = filter (λ r. is_at p (best_within m bars (candidate_at m p r))) (range_with_len 1 (length (order_of m p)))
+demanded m bars p =
+    filter (λ r. is_at p (best_within m bars (candidate_at m p r)))
+    (range_with_len 1 (length (order_of m p)))
 
--- a programme's ceiling is the number of its candidates, and its seats are free; a rank has its candidate's name
+-- a programme's ceiling is the number of its candidates, and its seats are free; a rank has its
+-- candidate's name
 abbrev pub market_system : MarketRows → FallingSystem
 market_system m =
     record {

@@ -12,7 +12,8 @@ pub record AreLasts (m : MarketRows) (places : List (Option ℕ)) (lasts : List 
   pub each :
       (p k : ℕ)
       → p < length m.orders
-      → nat_lt k (slice_index lasts p) ≡ list_any (λ y. nat_lt k (position_of m p y)) (holders places p)
+      → nat_lt k (slice_index lasts p)
+      ≡ list_any (λ y. nat_lt k (position_of m p y)) (holders places p)
 
 -- what is noted of one more candidate: their position, where it is past the one that was noted
 abbrev pub noted : MarketRows → ℕ → List ℕ → Option ℕ → List ℕ
@@ -21,9 +22,13 @@ noted m x lasts (Some p) = slice_set lasts p (max (slice_index lasts p) (positio
 
 -- the least candidate who blocks with some programme
 abbrev pub first_blocking : MarketRows → List (Option ℕ) → Option ℕ
-first_blocking m places = find (λ x. is_some (block_of m places x)) (range_with_len 0 (length m.lists))
+first_blocking m places =
+    find (λ x. is_some (block_of m places x)) (range_with_len 0 (length m.lists))
 
--- none where the matching is stable; else the least candidate who blocks, and the best programme that blocks with them
+-- none where the matching is stable; else the least candidate who blocks, and the best programme
+-- that blocks with them
 abbrev pub IsFirstBlock : MarketRows → List (Option ℕ) → Option MarketBlock → Type 0
 IsFirstBlock m places None = IsStable m places
-IsFirstBlock m places (Some b) = (first_blocking m places ≡ Some b.candidate) × (block_of m places b.candidate ≡ Some b.programme)
+IsFirstBlock m places (Some b) =
+    (first_blocking m places ≡ Some b.candidate)
+    × (block_of m places b.candidate ≡ Some b.programme)

@@ -1,4 +1,5 @@
--- The market of a dossier: those who rank their wishes, and the programmes that they wish for without boarding.
+-- The market of a dossier: those who rank their wishes, and the programmes that they wish for
+-- without boarding.
 use Rattle.std.specs.Prelude.{ℕ, Bool, not, ◌&&◌, ◌++◌, List, [], ◌∷◌, length, map, filter, fold, nat_eq, nat_lt, is_some, slice_index_or, if◌then◌else◌}
 use Rattle.std.specs.List.{position_or_len, range_with_len}
 use Rattle.admit_core.specs.DossierRows.{DossierRows}
@@ -37,13 +38,16 @@ lists_in ws = map (λ c. by_preference (own ws c)) (named ws)
 -- a call order by the numbers of its candidates, without those who don't list the programme
 abbrev pub called_in : List Wish → ℕ → List ℕ → List ℕ
 called_in ws p order =
-    filter (λ x. is_among p (slice_index_or (lists_in ws) x [])) (map (λ c. position_or_len (nat_eq c) (named ws)) order)
+    filter (λ x. is_among p (slice_index_or (lists_in ws) x []))
+    (map (λ c. position_or_len (nat_eq c) (named ws)) order)
 
 abbrev pub market_of : DossierRows → List CallOrder → MarketRows
 market_of d orders =
     record {
       lists = lists_in (counted d);
-      orders = map (λ p. called_in (counted d) p (order_of d orders p)) (range_with_len 0 (length d.programmes));
+      orders =
+          map (λ p. called_in (counted d) p (order_of d orders p))
+          (range_with_len 0 (length d.programmes));
       seats = map (λ q. q.seats) d.programmes;
     }
 

@@ -4,9 +4,11 @@ use Rattle.stable_market.specs.declared.fault.MarketFault.{MarketFault}
 use Rattle.stable_market.specs.declared.fault.MarketFault.TheVariants.{BadCount, BadList, BadOrder, OutOfMemory}
 use Rattle.stable_market.specs.Markets.{MarketRows, first_bad_list, first_bad_order}
 
--- the fault of rows: the first that stands of the counts, the lists and the orders; want of memory says nothing
+-- the fault of rows: the first that stands of the counts, the lists and the orders; want of memory
+-- says nothing
 abbrev pub IsFaultOf : MarketRows → MarketFault → Type 0
 IsFaultOf m BadCount = length m.seats ≢ length m.orders
 IsFaultOf m (BadList x) = (length m.seats ≡ length m.orders) × (first_bad_list m ≡ Some x)
-IsFaultOf m (BadOrder p) = (length m.seats ≡ length m.orders) × (first_bad_list m ≡ None) × (first_bad_order m ≡ Some p)
+IsFaultOf m (BadOrder p) =
+    (length m.seats ≡ length m.orders) × (first_bad_list m ≡ None) × (first_bad_order m ≡ Some p)
 IsFaultOf m OutOfMemory = ⊤

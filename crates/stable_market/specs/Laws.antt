@@ -13,12 +13,14 @@ MarketsAreLawful = (m : MarketRows) → IsMarket m → IsLawful (market_system m
 
 -- the greatest bars give a stable matching
 abbrev pub GreatestBarsAreStable : Type 0
-GreatestBarsAreStable = (m : MarketRows) (bars : List ℕ) → IsMarket m → IsGreatest (market_system m) bars
+GreatestBarsAreStable =
+    (m : MarketRows) (bars : List ℕ) → IsMarket m → IsGreatest (market_system m) bars
     → IsStable m (matched_under m bars)
 
 -- and no stable matching is better for anyone
 abbrev pub GreatestBarsAreBest : Type 0
-GreatestBarsAreBest = (m : MarketRows) (bars : List ℕ) → IsMarket m → IsGreatest (market_system m) bars
+GreatestBarsAreBest =
+    (m : MarketRows) (bars : List ℕ) → IsMarket m → IsGreatest (market_system m) bars
     → IsBestForAll m (matched_under m bars)
 
 -- whichever programme falls first, each candidate has the same place
@@ -28,9 +30,11 @@ TheSameWhicheverFallsFirst =
     → IsMarket m
     → IsRun (market_system m) falls
     → IsRun (market_system m) others
-    → matched_under m (bars_after (market_system m).ceilings falls) ≡ matched_under m (bars_after (market_system m).ceilings others)
+    → matched_under m (bars_after (market_system m).ceilings falls)
+    ≡ matched_under m (bars_after (market_system m).ceilings others)
 
--- who has a place under the greatest bars has one in every stable matching, and each programme has as many
+-- who has a place under the greatest bars has one in every stable matching, and each programme has
+-- as many
 abbrev pub GreatestBarsPlaceTheSame : Type 0
 GreatestBarsPlaceTheSame =
     (m : MarketRows) (bars : List ℕ)
@@ -40,11 +44,14 @@ GreatestBarsPlaceTheSame =
 
 -- every market has a stable matching that is best for all
 abbrev pub ThereIsABest : Type 0
-ThereIsABest = (m : MarketRows) → IsMarket m → (places : List (Option ℕ)) × IsStable m places × IsBestForAll m places
+ThereIsABest =
+    (m : MarketRows) → IsMarket m → (places : List (Option ℕ)) × IsStable m places
+    × IsBestForAll m places
 
 -- the same candidates have a place in all stable matchings, and each programme as many
 abbrev pub TheSameHavePlaces : Type 0
-TheSameHavePlaces = (m : MarketRows) (one other : List (Option ℕ)) → IsMarket m → IsStable m one → IsStable m other
+TheSameHavePlaces =
+    (m : MarketRows) (one other : List (Option ℕ)) → IsMarket m → IsStable m one → IsStable m other
     → HaveSamePlaced m one other
 
 -- and no two are best for all

@@ -16,7 +16,8 @@ naming lists p k = filter (λ x. is_among p (slice_index_or lists x [])) (range_
 -- rows with the first k lists that have each number below a count
 pub record AreListers (lists : List (List ℕ)) (n k : ℕ) (rows : List (Vec ℕ Global)) : Type 0 where
   pub one_each : length rows ≡ n
-  pub each : (p : ℕ) (row : Vec ℕ Global) → slice_get rows p ≡ Some row → row.items ≡ naming lists p k
+  pub each : (p : ℕ) (row : Vec ℕ Global) → slice_get rows p ≡ Some row
+      → row.items ≡ naming lists p k
 
 -- an item of each row is put at its end, where its number passes a test
 pub record ArePutIn (here : ℕ → Bool) (item : ℕ → ℕ) (old new : List (Vec ℕ Global)) : Type 0 where
@@ -24,12 +25,16 @@ pub record ArePutIn (here : ℕ → Bool) (item : ℕ → ℕ) (old new : List (
   pub each :
       (p : ℕ) (row : Vec ℕ Global)
       → slice_get new p ≡ Some row
-      → (before : Vec ℕ Global) × (slice_get old p ≡ Some before) × (row.items ≡ before.items ++ (if here p then item p ∷ [] else []))
+      → (before : Vec ℕ Global) × (slice_get old p ≡ Some before)
+      × (row.items ≡ before.items ++ (if here p then item p ∷ [] else []))
 
 -- an order of numbers below a count has these candidates, each once, and nobody else
 abbrev pub has_all_of : ℕ → List ℕ → List ℕ → Bool
-has_all_of n listers order = is_list_below n order && (length order == length listers) && list_all (λ x. is_among x order) listers
+has_all_of n listers order =
+    is_list_below n order && (length order == length listers)
+    && list_all (λ x. is_among x order) listers
 
 -- the rows of lists, orders and seats as they are handed over
 abbrev pub rows_of : List (Vec ℕ Global) → List (Vec ℕ Global) → List ℕ → MarketRows
-rows_of lists orders seats = record { lists = map (λ v. v.items) lists; orders = map (λ v. v.items) orders; seats = seats }
+rows_of lists orders seats =
+    record { lists = map (λ v. v.items) lists; orders = map (λ v. v.items) orders; seats = seats }

@@ -3,7 +3,8 @@ use Rattle.std.specs.Prelude.{◌≡◌, ℕ, ◌+◌, ◌-◌, ◌≤◌, ◌<�
 use Rattle.std.specs.List.{list_all, before_first, range_with_len}
 use Rattle.admit_core.specs.Lists.{is_among, distinct}
 
--- the list of each candidate, best first; for each programme the order of its candidates, first first, and its seats
+-- the list of each candidate, best first; for each programme the order of its candidates, first
+-- first, and its seats
 pub record MarketRows : Type 0 where
   pub lists : List (List ℕ)
   pub orders : List (List ℕ)
@@ -39,7 +40,8 @@ is_list m x = is_list_below (length m.orders) (list_of m x)
 -- an order has each candidate whose list names the programme, once, and nobody else
 abbrev pub is_order : MarketRows → ℕ → Bool
 is_order m p =
-    is_distinct (order_of m p) && list_all (lists_it m p) (order_of m p) && list_all (λ x. is_among x (order_of m p)) (listers m p)
+    is_distinct (order_of m p) && list_all (lists_it m p) (order_of m p)
+    && list_all (λ x. is_among x (order_of m p)) (listers m p)
 
 -- the candidates whose lists are no lists, and the programmes whose orders are no orders
 abbrev pub first_bad_list : MarketRows → Option ℕ

@@ -17,7 +17,8 @@ is_at p (Some q) = nat_eq p q
 abbrev pub holders : List (Option ℕ) → ℕ → List ℕ
 holders places p = filter (λ x. is_at p (place_of places x)) (range_with_len 0 (length places))
 
--- each candidate has a place in a programme of their list, or none, and no programme has more than its seats
+-- each candidate has a place in a programme of their list, or none, and no programme has more than
+-- its seats
 pub record IsMatching (m : MarketRows) (places : List (Option ℕ)) : Type 0 where
   pub one_place_each : length places ≡ length m.lists
   pub listed : (x p : ℕ) → place_of places x ≡ Some p → IsTrue (lists_it m p x)
@@ -49,4 +50,5 @@ pub record IsStable (m : MarketRows) (places : List (Option ℕ)) : Type 0 where
 -- in no stable matching does a candidate get a programme that they prefer
 abbrev pub IsBestForAll : MarketRows → List (Option ℕ) → Type 0
 IsBestForAll m places =
-    (others : List (Option ℕ)) → IsStable m others → (x p : ℕ) → place_of others x ≡ Some p → prefers m places x p ≡ false
+    (others : List (Option ℕ)) → IsStable m others → (x p : ℕ) → place_of others x ≡ Some p
+    → prefers m places x p ≡ false

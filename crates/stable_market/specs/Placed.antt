@@ -13,4 +13,5 @@ pub record HaveSamePlaced (m : MarketRows) (one other : List (Option ℕ)) : Typ
 
 -- who has a place in a matching has one in every stable one, and each programme as many
 abbrev pub ArePlacedInAll : MarketRows → List (Option ℕ) → Type 0
-ArePlacedInAll m places = (others : List (Option ℕ)) → IsStable m others → HaveSamePlaced m places others
+ArePlacedInAll m places =
+    (others : List (Option ℕ)) → IsStable m others → HaveSamePlaced m places others

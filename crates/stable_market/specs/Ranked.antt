@@ -12,7 +12,8 @@ pub record ArePositions (m : MarketRows) (k : ℕ) (rows : List (Vec ℕ Global)
       → slice_get rows x ≡ Some row
       → row.items ≡ map (λ p. position_of m p x) (naming m.orders x k)
 
--- for each candidate the programmes whose orders have them, ascending, and in line with these their positions
+-- for each candidate the programmes whose orders have them, ascending, and in line with these their
+-- positions
 pub record AreRanked (m : MarketRows) (programmes positions : List (Vec ℕ Global)) : Type 0 where
   pub listed : AreListers m.orders (length m.lists) (length m.orders) programmes
   pub placed : ArePositions m (length m.orders) positions

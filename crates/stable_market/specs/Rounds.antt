@@ -25,7 +25,8 @@ pub record AreCounts (n : ℕ) (places : List (Option ℕ)) (counts : List ℕ) 
   pub each : (p : ℕ) → p < n → slice_index counts p ≡ length (holders places p)
 
 -- what a round keeps of a market
-pub record IsRound (m : MarketRows) (bars stands : List ℕ) (places : List (Option ℕ)) (f : Fill) : Type 0 where
+pub record IsRound (m : MarketRows) (bars stands : List ℕ) (places : List (Option ℕ))
+    (f : Fill) : Type 0 where
   pub valid : IsMarket m
   pub seated : AreSeated m bars stands places
   pub seats : f.seats ≡ m.seats
@@ -34,5 +35,6 @@ pub record IsRound (m : MarketRows) (bars stands : List ℕ) (places : List (Opt
 pub round_is_lawful : (m : MarketRows) → IsMarket m → IsLawful (market_system m)
 round_is_lawful m is = market_is_lawful m is
 
-pub bar_each : (m : MarketRows) (bars : List ℕ) → length bars ≡ length m.orders → length bars ≡ length (map length m.orders)
+pub bar_each : (m : MarketRows) (bars : List ℕ) → length bars ≡ length m.orders
+    → length bars ≡ length (map length m.orders)
 bar_each m bars each = each ∙ sym (length-map m.orders length)

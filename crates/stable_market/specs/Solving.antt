@@ -5,8 +5,10 @@ use Rattle.admit_core.specs.Falls.{FallingSystem, bars_after, IsRun, Leads}
 use Rattle.bar_law.specs.Runs.{schools_of}
 use Rattle.bar_fixpoint.specs.Chosen.{AreChosen}
 
--- a run of falls led to these bars: the picker chose each place that fell, and told of it; these picks lead the system
-pub record IsLedTo (sys : FallingSystem) (choice : List ℕ → List ℕ → ℕ) (told told_after bars : List ℕ) : Type 0 where
+-- a run of falls led to these bars: the picker chose each place that fell, and told of it; these
+-- picks lead the system
+pub record IsLedTo (sys : FallingSystem) (choice : List ℕ → List ℕ → ℕ)
+    (told told_after bars : List ℕ) : Type 0 where
   pub falls : List Fall
   pub is_run : IsRun sys falls
   pub leads : Leads sys (schools_of falls)

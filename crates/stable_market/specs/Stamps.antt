@@ -12,4 +12,5 @@ AreUpTo stamp stamps = (q : ℕ) → q < length stamps → slice_index stamps q 
 
 -- the numbers that bear this stamp are those of a list
 abbrev pub BearStamp : ℕ → List ℕ → List ℕ → Type 0
-BearStamp stamp ns stamps = (q : ℕ) → q < length stamps → nat_eq (slice_index stamps q) stamp ≡ is_among q ns
+BearStamp stamp ns stamps =
+    (q : ℕ) → q < length stamps → nat_eq (slice_index stamps q) stamp ≡ is_among q ns

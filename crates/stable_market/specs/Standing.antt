@@ -20,7 +20,8 @@ pub record AreStands (m : MarketRows) (bars stands : List ℕ) : Type 0 where
   pub each : (x : ℕ) → x < length m.lists → IsStand m bars x (slice_index stands x)
 
 -- bars that stand on positions, with the stand and the place of each candidate
-pub record AreSeated (m : MarketRows) (bars stands : List ℕ) (places : List (Option ℕ)) : Type 0 where
+pub record AreSeated (m : MarketRows) (bars stands : List ℕ)
+    (places : List (Option ℕ)) : Type 0 where
   pub one_bar_each : length bars ≡ length m.orders
   pub under : (p : ℕ) → slice_index bars p ≤ length (order_of m p)
   pub stood : AreStands m bars stands

@@ -12,7 +12,8 @@ programme_id d place = slice_index (map (λ p. p.id) d.programmes) place
 
 -- a programme's bar
 abbrev pub cut_line : List ℕ → ℕ × Programme → List ℕ
-cut_line bars (place, programme) = line (codes "cut" ∷ decimal programme.id ∷ decimal (slice_index bars place) ∷ [])
+cut_line bars (place, programme) =
+    line (codes "cut" ∷ decimal programme.id ∷ decimal (slice_index bars place) ∷ [])
 
 -- a candidate's place
 abbrev pub place_word : DossierRows → Option ℕ → List ℕ
@@ -22,7 +23,8 @@ place_word d (Some programme) = decimal (programme_id d programme)
 abbrev pub match_line : DossierRows → ℕ × Option ℕ → List ℕ
 match_line d (candidate, place) = line (codes "match" ∷ decimal candidate ∷ place_word d place ∷ [])
 
--- the number of candidates, the bars of all programmes in file order, and the place of each candidate
+-- the number of candidates, the bars of all programmes in file order, and the place of each
+-- candidate
 abbrev pub market_text : DossierRows → List ℕ → List ℕ → List (Option ℕ) → List ℕ
 market_text d candidates bars places =
     line (codes "market" ∷ decimal (length candidates) ∷ [])

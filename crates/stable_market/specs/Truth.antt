@@ -3,8 +3,8 @@ use Rattle.std.specs.Prelude.{◌≡◌, ◌≢◌, ℕ, false, List, Option, So
 use Rattle.stable_market.specs.Markets.{MarketRows, IsMarket, list_of, lists_it, position_of}
 use Rattle.stable_market.specs.Matchings.{place_of, prefers, IsStable, IsBestForAll}
 
--- two markets that differ at most in the list of one candidate: the others list the same, the seats are the same, and
--- each programme ranks alike those who list it in both
+-- two markets that differ at most in the list of one candidate: the others list the same, the seats
+-- are the same, and each programme ranks alike those who list it in both
 pub record DifferAtMostIn (x : ℕ) (m other : MarketRows) : Type 0 where
   pub candidates : length m.lists ≡ length other.lists
   pub programmes : length m.orders ≡ length other.orders
@@ -16,10 +16,11 @@ pub record DifferAtMostIn (x : ℕ) (m other : MarketRows) : Type 0 where
       → IsTrue (lists_it m p z)
       → IsTrue (lists_it other p y)
       → IsTrue (lists_it other p z)
-      → nat_lt (position_of m p y) (position_of m p z) ≡ nat_lt (position_of other p y) (position_of other p z)
+      → nat_lt (position_of m p y) (position_of m p z)
+      ≡ nat_lt (position_of other p y) (position_of other p z)
 
--- whatever list a candidate hands in, no stable matching of that market gives them a programme that they prefer to
--- their place in the best stable matching by the true list
+-- whatever list a candidate hands in, no stable matching of that market gives them a programme that
+-- they prefer to their place in the best stable matching by the true list
 abbrev pub TruthPays : Type 0
 TruthPays =
     (m other : MarketRows) (x q : ℕ) (best found : List (Option ℕ))

@@ -9,8 +9,8 @@ pub enum MarketFault {
     BadCount,
     /// A list names a programme out of range, or one twice. This is the least such candidate.
     BadList { candidate: u32 },
-    /// An order misses a candidate whose list names the programme, or has another, or one twice. This
-    /// is the least such programme.
+    /// An order misses a candidate whose list names the programme, or has another, or one twice.
+    /// This is the least such programme.
     BadOrder { programme: u32 },
     /// There was no memory.
     OutOfMemory,

@@ -34,7 +34,8 @@ impl Model for Filling {
 
     ghost view = { λ f. record { seats = f.seats.items; counts = f.counts.items } };
 
-    ghost invariant = { λ f. AreListed (record { seats = f.seats.items; counts = f.counts.items }) f.overfilled.items (vec_capacity f.overfilled) };
+    ghost invariant = { λ f. AreListed (record { seats = f.seats.items; counts = f.counts.items })
+        f.overfilled.items (vec_capacity f.overfilled) };
 }
 
 impl Filling {
@@ -85,7 +86,8 @@ impl Filling {
     pub fn put(&mut self, programme: u32, count: u32)
         requires counts { programme < length self.old.counts }
         requires seats { programme < length self.old.seats }
-        ensures { self.new ≡ record self.old { counts = slice_set self.old.counts programme count } }
+        ensures { self.new ≡ record self.old
+            { counts = slice_set self.old.counts programme count } }
     {
         let seats = self.seats[programme as usize];
         let was_over = self.counts[programme as usize] > seats;
@@ -106,7 +108,8 @@ impl Filling {
 fn first_not_below(numbers: &[u32], number: u32) -> usize
     requires { IsNonDecreasing numbers.now }
     ensures within { result ≤ length numbers.now }
-    ensures point { IsPartitionPoint (λ n. nat_lt n number ≡ true) (λ n. nat_lt n number ≡ false) numbers.now result }
+    ensures point { IsPartitionPoint (λ n. nat_lt n number ≡ true) (λ n. nat_lt n number ≡ false)
+        numbers.now result }
 {
     numbers.partition_point(|other| *other < number)
 }

@@ -11,8 +11,9 @@ pub fn worked_markets()
     ensures refused { RefusedRows }
 {}
 
-/// The greatest bars give a stable matching, the best one for every candidate, and the same whichever
-/// programme falls first; who has a place in it has one in every stable matching. The call does nothing.
+/// The greatest bars give a stable matching, the best one for every candidate, and the same
+/// whichever programme falls first; who has a place in it has one in every stable matching. The
+/// call does nothing.
 pub fn laws_of_markets()
     ensures lawful { MarketsAreLawful }
     ensures stable { GreatestBarsAreStable }

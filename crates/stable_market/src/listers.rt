@@ -39,7 +39,8 @@ pub fn empty_rows(alloc: Global, count: u32) -> Result<Vec<Vec<u32>>, OutOfMemor
 /// Puts an item at the end of the rows whose numbers stand in a list.
 fn put_in_rows(rows: &mut Vec<Vec<u32>>, list: &[u32], item: u32) -> Result<(), OutOfMemory>
     requires { IsTrue (is_list_below (length rows.old.items) list.now) }
-    ensures { OnOk result (ArePutIn (λ p. is_among p list.now) (λ p. item) rows.old.items rows.new.items) }
+    ensures { OnOk result (ArePutIn (λ p. is_among p list.now) (λ p. item) rows.old.items
+        rows.new.items) }
 {
     for number in list {
         rows[*number as usize].push(item)?;

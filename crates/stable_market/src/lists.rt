@@ -13,7 +13,8 @@ pub fn first_bad_list(
     count: u32,
 ) -> Result<Option<u32>, OutOfMemory>
     requires { length lists.now ≤ 16000000 }
-    ensures { IfOk result (λ bad. bad ≡ position (λ list. not (is_list_below count list)) lists.now) }
+    ensures { IfOk result (λ bad. bad ≡ position
+        (λ list. not (is_list_below count list)) lists.now) }
 {
     let mut stamps = vec![in alloc; 0; count as usize]?;
     let mut stamp = 0;

@@ -25,14 +25,19 @@ impl Model for Market {
 
     ghost Value = { MarketRows };
 
-    ghost view = { λ m. record { lists = m.lists.items; orders = m.orders.items; seats = m.seats.items } };
+    ghost view = { λ m. record {
+      lists = m.lists.items;
+      orders = m.orders.items;
+      seats = m.seats.items;
+    } };
 
-    ghost invariant = { λ m. IsSmallMarket (record { lists = m.lists.items; orders = m.orders.items; seats = m.seats.items }) };
+    ghost invariant = { λ m. IsSmallMarket
+        (record { lists = m.lists.items; orders = m.orders.items; seats = m.seats.items }) };
 }
 
 impl Market {
-    /// A market of the candidates' lists and the programmes' orders and seats. On a refusal they are
-    /// dropped. It costs their length.
+    /// A market of the candidates' lists and the programmes' orders and seats. On a refusal they
+    /// are dropped. It costs their length.
     pub fn new(
         alloc: Global,
         lists: Vec<Vec<u32>>,
@@ -41,7 +46,8 @@ impl Market {
     ) -> Result<Market, MarketFault>
         requires candidates { length lists.items ≤ 16000000 }
         requires programmes { length orders.items ≤ 16000000 }
-        ensures rows { IfOk result (λ market. market ≡ rows_of lists.items orders.items seats.items) }
+        ensures rows { IfOk result
+            (λ market. market ≡ rows_of lists.items orders.items seats.items) }
         ensures stands { IfOk result (λ market. IsMarket market) }
         ensures fault { IfErr result (IsFaultOf (rows_of lists.items orders.items seats.items)) }
     {

@@ -62,7 +62,8 @@ fn called(
 ) -> Result<Sequence<u32>, OutOfMemory>
     requires few { length names.now.keys ≤ 16000000 }
     requires rises { IsStrictlyIncreasing listers.now }
-    ensures { IfOk result (λ v. v ≡ filter (λ x. is_among x listers.now) (map (λ c. position_or_len (nat_eq c) names.now.keys) order.now)) }
+    ensures { IfOk result (λ v. v ≡ filter (λ x. is_among x listers.now)
+        (map (λ c. position_or_len (nat_eq c) names.now.keys) order.now)) }
 {
     if listers.is_empty() {
         return Ok(Sequence::new(alloc));

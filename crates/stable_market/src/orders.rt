@@ -19,7 +19,8 @@ pub fn first_bad_order(
     requires candidates { length lists.now ≤ 16000000 }
     requires programmes { length orders.now ≤ 16000000 }
     requires lists { AreLists (length orders.now) lists.now }
-    ensures { IfOk result (λ bad. bad ≡ first_bad_order (record { lists = lists.now; orders = orders.now; seats = [] })) }
+    ensures { IfOk result (λ bad. bad ≡ first_bad_order
+        (record { lists = lists.now; orders = orders.now; seats = [] })) }
 {
     let rows = listers_of(alloc, lists, orders.len() as u32)?;
     let mut room = vec![in alloc; 0; lists.len()]?;

@@ -51,7 +51,9 @@ pub fn named(alloc: Global, wishes: &[Wish]) -> Result<IndexSet<u32, Keyed>, Out
 /// Adds a wish to one of several rows.
 fn add(rows: &mut Vec<Vec<Wish>>, place: usize, wish: Wish) -> Result<(), OutOfMemory>
     requires { place < length rows.old.items }
-    ensures added { OnOk result (map (λ r. r.items) rows.new.items ≡ slice_set (map (λ r. r.items) rows.old.items) place (slice_index_or (map (λ r. r.items) rows.old.items) place [] ++ wish ∷ [])) }
+    ensures added { OnOk result (map (λ r. r.items) rows.new.items ≡ slice_set
+        (map (λ r. r.items) rows.old.items) place
+        (slice_index_or (map (λ r. r.items) rows.old.items) place [] ++ wish ∷ [])) }
     ensures as_many { OnOk result (length rows.new.items ≡ length rows.old.items) }
 {
     rows[place].push(wish)?;
@@ -76,7 +78,9 @@ fn lay(
     wish: Wish,
 ) -> Result<(), OutOfMemory>
     requires { length rows.old.items ≡ length names.now.keys }
-    ensures laid { (before : List Wish) → map (λ r. r.items) rows.old.items ≡ map (own before) names.now.keys → OnOk result (map (λ r. r.items) rows.new.items ≡ map (own (before ++ wish ∷ [])) names.now.keys) }
+    ensures laid { (before : List Wish) → map (λ r. r.items) rows.old.items
+        ≡ map (own before) names.now.keys → OnOk result (map (λ r. r.items) rows.new.items
+        ≡ map (own (before ++ wish ∷ [])) names.now.keys) }
     ensures as_many { OnOk result (length rows.new.items ≡ length rows.old.items) }
 {
     let _ = names.len();
@@ -93,7 +97,8 @@ fn rows_of(
     wishes: &[Wish],
     names: &IndexSet<u32, Keyed>,
 ) -> Result<Vec<Vec<Wish>>, OutOfMemory>
-    ensures { IfOk result (λ rows. map (λ r. r.items) rows.items ≡ map (own wishes.now) names.now.keys) }
+    ensures { IfOk result (λ rows. map (λ r. r.items) rows.items ≡ map (own wishes.now)
+        names.now.keys) }
 {
     let mut rows = empty_rows(alloc, names)?;
     for wish in wishes {
@@ -137,7 +142,8 @@ pub fn lists_of(
     wishes: &[Wish],
     names: &IndexSet<u32, Keyed>,
 ) -> Result<Vec<Sequence<u32>>, OutOfMemory>
-    ensures { IfOk result (λ lists. lists.items ≡ map (λ c. by_preference (own wishes.now c)) names.now.keys) }
+    ensures { IfOk result (λ lists. lists.items ≡ map (λ c. by_preference (own wishes.now c))
+        names.now.keys) }
 {
     let rows = rows_of(alloc, wishes, names)?;
     lists_from(alloc, rows.as_slice())

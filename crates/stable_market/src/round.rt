@@ -14,15 +14,16 @@ use bar_law::Falling;
 use std::alloc::Global;
 use std::sync::ledger::Ledger;
 
-/// A market and its present bars, which stand on positions in the programmes' orders. It keeps where
-/// in their list each candidate stands, and which programmes have more candidates than seats: a fall
-/// costs the positions that the bar passes and the entries that candidates move on by.
+/// A market and its present bars, which stand on positions in the programmes' orders. It keeps
+/// where in their list each candidate stands, and which programmes have more candidates than seats:
+/// a fall costs the positions that the bar passes and the entries that candidates move on by.
 #[derive(Drop)]
 pub struct MarketRound<'a> {
     market: Ranked<'a>,
     bars: Vec<u32>,
     seating: Seating,
-    ghost round: { IsRound market bars.items seating.stands.items seating.places.items seating.filling },
+    ghost round: { IsRound market bars.items seating.stands.items seating.places.items
+        seating.filling },
 }
 
 /// The candidates at the first positions of an order who have a place in its programme.
@@ -54,9 +55,12 @@ impl<'a> MarketRound<'a> {
     /// The system of a market, with its bars at the ceilings. It costs the length of the market's
     /// lists and orders.
     pub fn build(alloc: Global, market: &'a Market) -> Result<MarketRound<'a>, OutOfMemory>
-        ensures system { IfOk result (λ r. ⟦<MarketRound<'a> as Falling>⟧.system r ≡ market_system market.now) }
-        ensures bars { IfOk result (λ r. ⟦<MarketRound<'a> as Falling>⟧.bars r ≡ (market_system market.now).ceilings) }
-        ensures offers { IfOk result (λ r. ⟦<MarketRound<'a> as Falling>⟧.offers r ≡ offered market.now) }
+        ensures system { IfOk result (λ r. ⟦<MarketRound<'a> as Falling>⟧.system r
+            ≡ market_system market.now) }
+        ensures bars { IfOk result (λ r. ⟦<MarketRound<'a> as Falling>⟧.bars r
+            ≡ (market_system market.now).ceilings) }
+        ensures offers { IfOk result (λ r. ⟦<MarketRound<'a> as Falling>⟧.offers r
+            ≡ offered market.now) }
     {
         let bars = ceilings(alloc, market)?;
         let market = Ranked::build(alloc, market)?;
@@ -71,7 +75,8 @@ impl<'a> MarketRound<'a> {
     /// The present bars, one for each programme, and the place of each candidate under them.
     pub(crate) fn into_parts(self) -> (Vec<u32>, Vec<Option<u32>>)
         ensures bars { result.0.items ≡ ⟦<MarketRound<'a> as Falling>⟧.bars self.entry }
-        ensures places { map place_code result.1.items ≡ ⟦<MarketRound<'a> as Falling>⟧.offers self.entry (⟦<MarketRound<'a> as Falling>⟧.bars self.entry) }
+        ensures places { map place_code result.1.items ≡ ⟦<MarketRound<'a> as Falling>⟧.offers
+            self.entry (⟦<MarketRound<'a> as Falling>⟧.bars self.entry) }
     {
         let MarketRound { bars, seating, .. } = self;
         let Seating { places, .. } = seating;
@@ -107,8 +112,10 @@ fn first_over(market: &Market, bar: u32, seating: &Seating, programme: u32) -> O
     requires seats { length seating.now.filling.seats ≡ length market.now.orders }
     requires counts { length seating.now.filling.counts ≡ length market.now.orders }
     requires places { length seating.now.places.items ≡ length market.now.lists }
-    requires count { slice_index seating.now.filling.counts programme ≡ length (held_to market.now seating.now.places.items programme bar) }
-    ensures { result ≡ slice_get (held_to market.now seating.now.places.items programme bar) (slice_index seating.now.filling.seats programme) }
+    requires count { slice_index seating.now.filling.counts programme
+        ≡ length (held_to market.now seating.now.places.items programme bar) }
+    ensures { result ≡ slice_get (held_to market.now seating.now.places.items programme bar)
+        (slice_index seating.now.filling.seats programme) }
 {
     let seats = seating.filling.seats(programme);
     let mut left = seating.filling.count(programme);

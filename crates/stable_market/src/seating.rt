@@ -42,7 +42,8 @@ pub fn seated_under(
 ) -> Result<Seating, OutOfMemory>
     requires bars { length bars.now ≡ length market.now.orders }
     requires under { (p : ℕ) → slice_index bars.now p ≤ length (order_of market.now p) }
-    ensures { IfOk result (λ s. IsRound market.now bars.now s.stands.items s.places.items s.filling) }
+    ensures { IfOk result (λ s. IsRound market.now bars.now s.stands.items
+        s.places.items s.filling) }
 {
     market.market().stands();
     let stands = stands_under(alloc, market, bars)?;
@@ -64,8 +65,10 @@ fn put_place(seating: &mut Seating, candidate: u32, had: u32, place: Option<u32>
     requires had_within { had < length seating.old.filling.counts }
     requires within { (p : ℕ) → place ≡ Some p → p < length seating.old.filling.counts }
     requires seats { length seating.old.filling.seats ≡ length seating.old.filling.counts }
-    requires counts { AreCounts (length seating.old.filling.counts) seating.old.places.items seating.old.filling.counts }
-    ensures counts { AreCounts (length seating.old.filling.counts) seating.new.places.items seating.new.filling.counts }
+    requires counts { AreCounts (length seating.old.filling.counts) seating.old.places.items
+        seating.old.filling.counts }
+    ensures counts { AreCounts (length seating.old.filling.counts) seating.new.places.items
+        seating.new.filling.counts }
     ensures places { seating.new.places.items ≡ slice_set seating.old.places.items candidate place }
     ensures stands { seating.new.stands.items ≡ seating.old.stands.items }
     ensures seats { seating.new.filling.seats ≡ seating.old.filling.seats }
@@ -98,14 +101,21 @@ fn move_on(market: &Ranked<'_>, bars: &[u32], seating: &mut Seating, candidate: 
     requires places { length seating.old.places.items ≡ length market.now.lists }
     requires had { place_of seating.old.places.items candidate ≡ Some had }
     requires had_within { had < length market.now.orders }
-    requires on_list { slice_index seating.old.stands.items candidate < length (list_of market.now candidate) }
-    requires beyond { AreBeyond market.now bars.now candidate (slice_index seating.old.stands.items candidate + 1) }
+    requires on_list { slice_index seating.old.stands.items candidate
+        < length (list_of market.now candidate) }
+    requires beyond { AreBeyond market.now bars.now candidate
+        (slice_index seating.old.stands.items candidate + 1) }
     requires seats { length seating.old.filling.seats ≡ length market.now.orders }
-    requires counts { AreCounts (length market.now.orders) seating.old.places.items seating.old.filling.counts }
-    ensures counts { AreCounts (length market.now.orders) seating.new.places.items seating.new.filling.counts }
-    ensures stand { IsStand market.now bars.now candidate (slice_index seating.new.stands.items candidate) }
-    ensures stands { seating.new.stands.items ≡ slice_set seating.old.stands.items candidate (slice_index seating.new.stands.items candidate) }
-    ensures places { seating.new.places.items ≡ slice_set seating.old.places.items candidate (best_within market.now bars.now candidate) }
+    requires counts { AreCounts (length market.now.orders) seating.old.places.items
+        seating.old.filling.counts }
+    ensures counts { AreCounts (length market.now.orders) seating.new.places.items
+        seating.new.filling.counts }
+    ensures stand { IsStand market.now bars.now candidate
+        (slice_index seating.new.stands.items candidate) }
+    ensures stands { seating.new.stands.items ≡ slice_set seating.old.stands.items candidate
+        (slice_index seating.new.stands.items candidate) }
+    ensures places { seating.new.places.items ≡ slice_set seating.old.places.items candidate
+        (best_within market.now bars.now candidate) }
     ensures seats { seating.new.filling.seats ≡ seating.old.filling.seats }
 {
     market.market().stands();
@@ -120,9 +130,12 @@ fn move_on(market: &Ranked<'_>, bars: &[u32], seating: &mut Seating, candidate: 
 fn step_down(market: &Ranked<'_>, bars: &mut Vec<u32>, seating: &mut Seating, programme: u32)
     requires programme { programme < length market.now.orders }
     requires above { 0 < slice_index bars.old.items programme }
-    requires round { IsRound market.now bars.old.items seating.old.stands.items seating.old.places.items seating.old.filling }
-    ensures round { IsRound market.now bars.new.items seating.new.stands.items seating.new.places.items seating.new.filling }
-    ensures bars { bars.new.items ≡ slice_set bars.old.items programme (slice_index bars.old.items programme - 1) }
+    requires round { IsRound market.now bars.old.items seating.old.stands.items
+        seating.old.places.items seating.old.filling }
+    ensures round { IsRound market.now bars.new.items seating.new.stands.items
+        seating.new.places.items seating.new.filling }
+    ensures bars { bars.new.items ≡ slice_set bars.old.items programme
+        (slice_index bars.old.items programme - 1) }
 {
     let bar = bars[programme as usize] - 1;
     let candidate = market.market().order(programme)[bar as usize];
@@ -144,8 +157,10 @@ pub fn lower_to<L: Ledger>(
 )
     requires programme { programme < length market.now.orders }
     requires lower { to ≤ slice_index bars.old.items programme }
-    requires round { IsRound market.now bars.old.items seating.old.stands.items seating.old.places.items seating.old.filling }
-    ensures round { IsRound market.now bars.new.items seating.new.stands.items seating.new.places.items seating.new.filling }
+    requires round { IsRound market.now bars.old.items seating.old.stands.items
+        seating.old.places.items seating.old.filling }
+    ensures round { IsRound market.now bars.new.items seating.new.stands.items
+        seating.new.places.items seating.new.filling }
     ensures bars { bars.new.items ≡ slice_set bars.old.items programme to }
 {
     let from = bars[programme as usize];

@@ -38,11 +38,15 @@ pub fn solve<L: Ledger>(
     ensures best { IfOk result (λ solved. IsBestForAll market.now solved.places.items) }
     ensures placed { IfOk result (λ solved. ArePlacedInAll market.now solved.places.items) }
 
-    ensures greatest { IfOk result (λ solved. IsGreatest (market_system market.now) solved.bars.items) }
-    ensures places { IfOk result (λ solved. solved.places.items ≡ matched_under market.now solved.bars.items) }
+    ensures greatest { IfOk result (λ solved. IsGreatest (market_system market.now)
+        solved.bars.items) }
+    ensures places { IfOk result (λ solved. solved.places.items ≡ matched_under market.now
+        solved.bars.items) }
 
-    ensures led { IfOk result (λ solved. IsLedTo (market_system market.now) (choice picker.old) (told picker.old) (told picker.new) solved.bars.items) }
-    ensures early { OnErr result (TellsOfFalls (market_system market.now) (choice picker.old) (told picker.old) (told picker.new)) }
+    ensures led { IfOk result (λ solved. IsLedTo (market_system market.now) (choice picker.old)
+        (told picker.old) (told picker.new) solved.bars.items) }
+    ensures early { OnErr result (TellsOfFalls (market_system market.now) (choice picker.old)
+        (told picker.old) (told picker.new)) }
     ensures choice { choice picker.new ≡ choice picker.old }
 {
     market.stands();

@@ -12,7 +12,8 @@ use std::alloc::{AllocError, Global};
 /// Adds a line for each programme with its bar.
 fn push_cuts(text: &mut String, programmes: &[Programme], bars: &[u32]) -> Result<(), AllocError>
     requires { length bars.now ≡ length programmes.now }
-    ensures { OnOk result (string_bytes text.new ≡ string_bytes text.old ++ flat_map (cut_line bars.now) (enumerate_from 0 programmes.now)) }
+    ensures { OnOk result (string_bytes text.new ≡ string_bytes text.old ++ flat_map
+        (cut_line bars.now) (enumerate_from 0 programmes.now)) }
 {
     for (place, programme) in programmes.iter().enumerate() {
         let id = programme.id;
@@ -38,7 +39,8 @@ fn push_match(
     place: Option<u32>,
 ) -> Result<(), AllocError>
     requires { ForSome place (λ p. p < length dossier.now.programmes) }
-    ensures { OnOk result (string_bytes text.new ≡ string_bytes text.old ++ match_line dossier.now (candidate, place)) }
+    ensures { OnOk result (string_bytes text.new ≡ string_bytes text.old ++ match_line dossier.now
+        (candidate, place)) }
 {
     match place {
         Some(programme) => {
@@ -58,7 +60,8 @@ fn push_matches(
     places: &[Option<u32>],
 ) -> Result<(), AllocError>
     requires { All (λ place. ForSome place (λ p. p < length dossier.now.programmes)) places.now }
-    ensures { OnOk result (string_bytes text.new ≡ string_bytes text.old ++ flat_map (match_line dossier.now) (zip candidates.now places.now)) }
+    ensures { OnOk result (string_bytes text.new ≡ string_bytes text.old ++ flat_map
+        (match_line dossier.now) (zip candidates.now places.now)) }
 {
     for (candidate, place) in candidates.iter().zip(places) {
         push_match(text, dossier, *candidate, *place)?;
@@ -75,8 +78,10 @@ pub fn market_text(
     solved: &Solved,
 ) -> Result<Vec<u8>, OutOfMemory>
     requires bars { length solved.now.bars.items ≡ length dossier.now.programmes }
-    requires places { All (λ place. ForSome place (λ p. p < length dossier.now.programmes)) solved.now.places.items }
-    ensures { IfOk result (λ text. text.items ≡ market_text dossier.now named.now.candidates.items solved.now.bars.items solved.now.places.items) }
+    requires places { All (λ place. ForSome place (λ p. p < length dossier.now.programmes))
+        solved.now.places.items }
+    ensures { IfOk result (λ text. text.items ≡ market_text dossier.now named.now.candidates.items
+        solved.now.bars.items solved.now.places.items) }
 {
     let candidates = named.candidates.as_slice();
     let count = candidates.len();
