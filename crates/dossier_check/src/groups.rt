@@ -137,6 +137,18 @@ fn rank_group(row: &GroupRow, mut list: Vec<Ranked>) -> Result<RankGroup, OutOfM
     })
 }
 
+/// Adds a group with its candidates, who are given in file order, sorted by rank.
+fn push_group(
+    done: &mut Vec<RankGroup>,
+    row: &GroupRow,
+    list: Vec<Ranked>,
+) -> Result<(), OutOfMemory>
+    ensures { OnOk result (done.new.items ≡ done.old.items ++ built row.now list.items ∷ []) }
+{
+    done.push(rank_group(row, list)?)?;
+    Ok(())
+}
+
 /// The groups with their candidates, who are given in file order, sorted by rank.
 pub(crate) fn rank_groups(
     alloc: Global,
@@ -150,7 +162,7 @@ pub(crate) fn rank_groups(
     let rows = tables.groups.as_slice();
     let mut done = Vec::with_capacity(alloc, rows.len())?;
     for (row, list) in rows.iter().zip(lists) {
-        done.push(rank_group(row, list)?)?;
+        push_group(&mut done, row, list)?;
     }
     Ok(done)
 }

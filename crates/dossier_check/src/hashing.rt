@@ -1,27 +1,25 @@
 //! How the rows' keys are hashed.
 
-use admit_core::{
-    BoardRow, CeilingRow, GroupRow, ProgrammeRow, RankRow, SchoolRow, StateRow, Tables, WishRow,
+use crate::noted::Key;
+use crate::rules::{
+    DayAndSchool, GroupAndCandidate, GroupAndRank, ItsWish, OwnId, SchoolAndCandidate,
+    SchoolAndRank, WhoWishes,
 };
+use admit_core::{RankRow, Tables, WishRow};
 use keyed_hash::{KeyMaker, Keyed};
 
-fn mix_ranks(key: &mut KeyMaker, rows: &[RankRow]) {
+/// Mixes a number of each row in.
+fn mix_ids<R, Q: Key<R, u32>>(key: &mut KeyMaker, rule: &Q, rows: &[R]) {
     for row in rows {
-        key.mix(row.group, row.candidate);
-        key.mix(row.rank, 0);
+        key.mix(rule.key_of(row), 0);
     }
 }
 
-fn mix_boarding(key: &mut KeyMaker, rows: &[BoardRow]) {
+/// Mixes two numbers of each row in.
+fn mix_pairs<R, Q: Key<R, (u32, u32)>>(key: &mut KeyMaker, rule: &Q, rows: &[R]) {
     for row in rows {
-        key.mix(row.school, row.candidate);
-        key.mix(row.rank, 0);
-    }
-}
-
-fn mix_wishes(key: &mut KeyMaker, rows: &[WishRow]) {
-    for row in rows {
-        key.mix(row.id, row.candidate);
+        let (one, other) = rule.key_of(row);
+        key.mix(one, other);
     }
 }
 
@@ -35,53 +33,25 @@ pub(crate) fn hashing_of_wishes(rows: &[WishRow]) -> Keyed {
     key.done()
 }
 
-fn mix_ceilings(key: &mut KeyMaker, rows: &[CeilingRow]) {
-    for row in rows {
-        key.mix(row.day, row.school);
-    }
-}
-
 /// Hashing by a key of the rankings.
 pub(crate) fn hashing_of_ranks(rows: &[RankRow]) -> Keyed {
     let mut key = KeyMaker::new();
-    mix_ranks(&mut key, rows);
+    mix_pairs(&mut key, &GroupAndCandidate, rows);
+    mix_pairs(&mut key, &GroupAndRank, rows);
     key.done()
-}
-
-fn mix_groups(key: &mut KeyMaker, rows: &[GroupRow]) {
-    for row in rows {
-        key.mix(row.id, 0);
-    }
-}
-
-fn mix_programmes(key: &mut KeyMaker, rows: &[ProgrammeRow]) {
-    for row in rows {
-        key.mix(row.id, 0);
-    }
-}
-
-fn mix_schools(key: &mut KeyMaker, rows: &[SchoolRow]) {
-    for row in rows {
-        key.mix(row.id, 0);
-    }
-}
-
-fn mix_state(key: &mut KeyMaker, rows: &[StateRow]) {
-    for row in rows {
-        key.mix(row.wish, 0);
-    }
 }
 
 /// Hashing by a key of all numbers that rows are mostly found by. Rankings and what wishes are of
 /// are put in order, and hashed by keys of their own only where that shows a fault.
 pub(crate) fn hashing_of(tables: &Tables) -> Keyed {
     let mut key = KeyMaker::new();
-    mix_groups(&mut key, tables.groups.as_slice());
-    mix_programmes(&mut key, tables.programmes.as_slice());
-    mix_schools(&mut key, tables.schools.as_slice());
-    mix_boarding(&mut key, tables.boarding.as_slice());
-    mix_wishes(&mut key, tables.wishes.as_slice());
-    mix_state(&mut key, tables.state.as_slice());
-    mix_ceilings(&mut key, tables.ceilings.as_slice());
+    mix_ids(&mut key, &OwnId, tables.groups.as_slice());
+    mix_ids(&mut key, &OwnId, tables.programmes.as_slice());
+    mix_ids(&mut key, &OwnId, tables.schools.as_slice());
+    mix_pairs(&mut key, &SchoolAndCandidate, tables.boarding.as_slice());
+    mix_pairs(&mut key, &SchoolAndRank, tables.boarding.as_slice());
+    mix_pairs(&mut key, &WhoWishes, tables.wishes.as_slice());
+    mix_ids(&mut key, &ItsWish, tables.state.as_slice());
+    mix_pairs(&mut key, &DayAndSchool, tables.ceilings.as_slice());
     key.done()
 }

@@ -65,7 +65,7 @@ pub(crate) fn row_of<R: Copy>(ids: &RowIds, rows: &[R], id: u32) -> Option<R>
 }
 
 /// What is kept of a candidate's first wish: the row's number, and the preference.
-#[derive(Clone, Copy, Debug, PartialEq, Eq)]
+#[derive(Clone, Copy)]
 pub(crate) struct FirstWish {
     pub(crate) row: u64,
     pub(crate) preference: u32,

@@ -18,13 +18,15 @@ use crate::index::Index;
 use crate::items::{Keys, answers_of, ceilings_of, programmes_of, schools_of, wishes_of};
 use crate::ranks::{Dealt, check_ranks};
 use crate::row_ids::RowIds;
-use crate::slots::{check_boarding, check_ceilings, check_groups, check_programmes, check_schools};
+use crate::rules::OwnId;
+use crate::slots::{check_boarding, check_ceilings, check_ids, check_programmes};
 use crate::state::check_state;
 use crate::statuses::statuses_of;
 use crate::who_is_ranked::WhoIsRanked;
 use crate::wishes::check_wishes;
 use admit_core::{
-    Answer, CeilingChange, Dossier, InFault, OutOfMemory, RankGroup, Sequence, Status, Tables, Wish,
+    Answer, CeilingChange, Dossier, InFault, OutOfMemory, RankGroup, Sequence, Slot, Status,
+    Tables, Wish,
 };
 use indexmap::IndexSet;
 use keyed_hash::Keyed;
@@ -121,9 +123,9 @@ fn check_named(alloc: Global, keyed: Keyed, tables: &Tables) -> Result<Named, In
         named.programmes.keys ≡ programme_ids tables.now) }
     ensures schools { IfOk result (λ named. named.schools.keys ≡ school_ids tables.now) }
 {
-    let groups = check_groups(alloc, keyed, tables)?;
+    let groups = check_ids(alloc, keyed, Slot::Groups, OwnId, &tables.groups)?;
     let programmes = check_programmes(alloc, keyed, tables, &groups)?;
-    let schools = check_schools(alloc, keyed, tables)?;
+    let schools = check_ids(alloc, keyed, Slot::Schools, OwnId, &tables.schools)?;
     Ok(Named {
         groups,
         programmes,

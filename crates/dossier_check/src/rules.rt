@@ -104,6 +104,18 @@ impl Key<WishRow, (u32, u32, Option<u32>)> for WhatIsWished {
     }
 }
 
+/// A wish and its candidate.
+#[derive(Drop)]
+pub(crate) struct WhoWishes;
+
+impl Key<WishRow, (u32, u32)> for WhoWishes {
+    ghost key = { λ r. (r.id, r.candidate) };
+
+    fn key_of(&self, row: &WishRow) -> (u32, u32) {
+        (row.id, row.candidate)
+    }
+}
+
 /// The wish of a status.
 #[derive(Drop)]
 pub(crate) struct ItsWish;

@@ -1,12 +1,13 @@
 //! The tests of each slot that needs no test of its own.
-ghost use Rattle.std.specs.Prelude.{◌≡◌, ◌<◌, ◌^◌, length, map, IfOk};
+ghost use Rattle.std.specs.Prelude.{◌≡◌, ◌<◌, ◌^◌, ◌∷◌, [], length, map, nat_eq, IfOk};
 ghost use Rattle.admit_core.specs.declared.slot.Slot.TheVariants as slots;
-ghost use Rattle.admit_core.specs.Faults.{first_in};
-ghost use Rattle.admit_core.specs.Relations.{group_tests, programme_tests, school_tests, ranking_tests, boarding_tests, ceiling_tests, group_ids, programme_ids, school_ids};
+ghost use Rattle.admit_core.specs.Faults.{first_in, repeats};
+ghost use Rattle.admit_core.specs.Relations.{programme_tests, ranking_tests, boarding_tests, ceiling_tests, group_ids, programme_ids, school_ids};
 ghost use Rattle.dossier_check.specs.Outcome.{AnswersFault};
 
 use crate::day_falls::{DayFalls, ItsDay};
 use crate::hashing::hashing_of_ranks;
+use crate::noted::Key;
 use crate::row_ids::RowIds;
 use crate::row_tests::{NamesUnknown, NoTest, Repeats, RepeatsId, TakesRank, Then};
 use crate::rules::{
@@ -14,28 +15,35 @@ use crate::rules::{
     SchoolAndRank,
 };
 use crate::scan::{scan, scanned};
-use admit_core::{InFault, Slot, Tables};
+use admit_core::{InFault, Sequence, Slot, Tables};
 use indexmap::IndexSet;
 use keyed_hash::Keyed;
 use std::alloc::Global;
 
-/// Checks the groups, and answers their ids by place.
-pub(crate) fn check_groups(alloc: Global, keyed: Keyed, tables: &Tables) -> Result<RowIds, InFault>
-    requires { length tables.now.groups < 2 ^ 32 }
-    ensures fault { AnswersFault result (first_in slots.Groups group_tests tables.now.groups) }
-    ensures ids { IfOk result (λ ids. ids.keys ≡ group_ids tables.now) }
+/// Checks the ids of a slot whose rows name no others, and answers them by place.
+pub(crate) fn check_ids<R, Q: Key<R, u32> + Drop>(
+    alloc: Global,
+    keyed: Keyed,
+    slot: Slot,
+    rule: Q,
+    rows: &Sequence<R>,
+) -> Result<RowIds, InFault>
+    requires { length rows.now < 2 ^ 32 }
+    ensures fault { AnswersFault result
+        (first_in slot (repeats (λ row r. nat_eq (Q.key row) (Q.key r)) ∷ []) rows.now) }
+    ensures ids { IfOk result (λ ids. ids.keys ≡ map Q.key rows.now) }
 {
-    let rows = tables.groups.as_slice();
+    let rows = rows.as_slice();
     let checks = Then {
         first: RepeatsId {
             alloc,
             keyed,
             ids: RowIds::with_room(alloc, rows.len())?,
-            rule: OwnId,
+            rule,
         },
         rest: NoTest,
     };
-    let checks = scanned(Slot::Groups, checks, rows)?;
+    let checks = scanned(slot, checks, rows)?;
     Ok(checks.first.ids)
 }
 
@@ -70,26 +78,6 @@ pub(crate) fn check_programmes(
         },
     };
     let checks = scanned(Slot::Programmes, checks, rows)?;
-    Ok(checks.first.ids)
-}
-
-/// Checks the schools, and answers their ids by place.
-pub(crate) fn check_schools(alloc: Global, keyed: Keyed, tables: &Tables) -> Result<RowIds, InFault>
-    requires { length tables.now.schools < 2 ^ 32 }
-    ensures fault { AnswersFault result (first_in slots.Schools school_tests tables.now.schools) }
-    ensures ids { IfOk result (λ ids. ids.keys ≡ school_ids tables.now) }
-{
-    let rows = tables.schools.as_slice();
-    let checks = Then {
-        first: RepeatsId {
-            alloc,
-            keyed,
-            ids: RowIds::with_room(alloc, rows.len())?,
-            rule: OwnId,
-        },
-        rest: NoTest,
-    };
-    let checks = scanned(Slot::Schools, checks, rows)?;
     Ok(checks.first.ids)
 }
 

@@ -6,9 +6,10 @@ ghost use Rattle.admit_core.specs.Faults.{first_in};
 ghost use Rattle.admit_core.specs.Relations.{wish_tests, programme_ids, school_ids, wish_ids};
 ghost use Rattle.dossier_check.specs.Dealt.{SaysWhoIsRanked};
 ghost use Rattle.dossier_check.specs.Outcome.{AnswersFault};
-ghost use Rattle.dossier_check.specs.Seen.{boarded_pairs, AreFirstWishes};
+ghost use Rattle.dossier_check.specs.Pairs.{pair_eq};
+ghost use Rattle.dossier_check.specs.Seen.{boarded_pairs, has_preference, AreFirstRows, AreFirstWishes, IsLastCandidate};
 
-use crate::apart::shown_apart;
+use crate::apart::{Apart, shown_apart};
 use crate::hashing::hashing_of_wishes;
 use crate::noted::{FirstWish, note_first, row_of};
 use crate::row_ids::RowIds;
@@ -226,6 +227,24 @@ impl WishKeys {
     }
 }
 
+/// The tests of wishes, in their order.
+type WishTests<'a> = Then<
+    RepeatsId<OwnId>,
+    Then<
+        Unless<Repeats<(u32, u32, Option<u32>), WhatIsWished>>,
+        Then<
+            NamesUnknown<'a, ItsProgramme>,
+            Then<NamesUnknown<'a, ItsSchool>, Then<Unranked<'a>, RankedTests<'a>>>,
+        >,
+    >,
+>;
+
+/// The tests of those who are ranked.
+type RankedTests<'a> = Then<NoBoardingRank<'a>, PreferenceTests>;
+
+/// The tests of preferences.
+type PreferenceTests = Then<PreferenceMixed, Then<Unless<PreferenceTaken>, NoTest>>;
+
 /// No ids, with room for those of the wishes, and for each group where its next candidate is looked
 /// for.
 fn wish_rooms(
@@ -237,6 +256,67 @@ fn wish_rooms(
 {
     let near = vec![in alloc; 0; groups]?;
     Ok((RowIds::with_room(alloc, wishes)?, near))
+}
+
+/// The hashing of what wishes are of and of the preferences, which has a key of its own where order
+/// does not show that both are apart.
+fn hashing_by(keyed: Keyed, apart: Apart, rows: &[WishRow]) -> Keyed {
+    if apart.wishes && apart.preferences {
+        return keyed;
+    }
+    hashing_of_wishes(rows)
+}
+
+/// The tests of preferences, before the first row.
+fn preference_tests(alloc: Global, keyed: Keyed, by_wish: Keyed, apart: Apart) -> PreferenceTests
+    ensures firsts { AreFirstWishes (get nat_eq result.first.firsts) [] }
+    ensures last { IsLastCandidate (get nat_eq result.first.firsts) result.first.last }
+    ensures known { result.rest.first.is_known ≡ apart.preferences }
+    ensures rows { AreFirstRows has_preference (get pair_eq result.rest.first.test.rows) [] }
+{
+    Then {
+        first: PreferenceMixed {
+            firsts: IndexMap::with_hasher(alloc, keyed),
+            last: None,
+        },
+        rest: Then {
+            first: Unless {
+                is_known: apart.preferences,
+                test: PreferenceTaken {
+                    rows: IndexMap::with_hasher(alloc, by_wish),
+                },
+            },
+            rest: NoTest,
+        },
+    }
+}
+
+/// What the tests of preferences keep of the candidates.
+fn firsts_in(tests: PreferenceTests) -> IndexMap<u32, FirstWish, Keyed>
+    ensures { result ≡ tests.first.firsts }
+{
+    let Then { first, rest: _ } = tests;
+    first.into_firsts()
+}
+
+/// What the tests of wishes keep.
+fn keys_in(tests: WishTests<'_>) -> WishKeys
+    ensures ids { result.ids ≡ tests.entry.first.ids }
+    ensures firsts { result.firsts ≡ tests.entry.rest.rest.rest.rest.rest.rest.first.firsts }
+{
+    let Then { first: own, rest } = tests;
+    let Then { first: _, rest } = rest;
+    let Then { first: _, rest } = rest;
+    let Then { first: _, rest } = rest;
+    let Then { first: _, rest } = rest;
+    let Then {
+        first: _,
+        rest: preferences,
+    } = rest;
+    WishKeys {
+        ids: own.ids,
+        firsts: firsts_in(preferences),
+    }
 }
 
 /// Checks the wishes.
@@ -261,27 +341,8 @@ pub(crate) fn check_wishes<'a>(
 {
     let rows = tables.wishes.as_slice();
     let apart = shown_apart(alloc, rows)?;
-    let by_wish = if apart.wishes && apart.preferences {
-        keyed
-    } else {
-        hashing_of_wishes(rows)
-    };
+    let by_wish = hashing_by(keyed, apart, rows);
     let (own_ids, near) = wish_rooms(alloc, rows.len(), ranked.candidates.len())?;
-    let preferences = Then {
-        first: PreferenceMixed {
-            firsts: IndexMap::with_hasher(alloc, keyed),
-            last: None,
-        },
-        rest: Then {
-            first: Unless {
-                is_known: apart.preferences,
-                test: PreferenceTaken {
-                    rows: IndexMap::with_hasher(alloc, by_wish),
-                },
-            },
-            rest: NoTest,
-        },
-    };
     let ranks = Then {
         first: Unranked {
             tables,
@@ -291,7 +352,7 @@ pub(crate) fn check_wishes<'a>(
         },
         rest: Then {
             first: NoBoardingRank { tables, boarded },
-            rest: preferences,
+            rest: preference_tests(alloc, keyed, by_wish, apart),
         },
     };
     let names = Then {
@@ -327,30 +388,5 @@ pub(crate) fn check_wishes<'a>(
             rest: names,
         },
     };
-    let checks = scanned(Slot::Wishes, checks, rows)?;
-    let Then {
-        first: own,
-        rest: Then {
-            first: _,
-            rest: names,
-        },
-    } = checks;
-    let Then {
-        first: _,
-        rest: Then {
-            first: _,
-            rest: ranks,
-        },
-    } = names;
-    let Then {
-        first: _,
-        rest: Then {
-            first: _,
-            rest: preferences,
-        },
-    } = ranks;
-    Ok(WishKeys {
-        ids: own.ids,
-        firsts: preferences.first.into_firsts(),
-    })
+    Ok(keys_in(scanned(Slot::Wishes, checks, rows)?))
 }

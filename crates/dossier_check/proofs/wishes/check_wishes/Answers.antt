@@ -10,8 +10,8 @@ use Rattle.dossier_check.proofs.Faultless.{differ, differ_when}
 use Rattle.dossier_check.proofs.WishTests.{tests_unless, same_fault}
 use Rattle.dossier_check.proofs.wishes.check_wishes.Goals as goal
 
-pub returns-in_err-checks-clause-fault : goal.returns-in_err-checks-clause-fault
-returns-in_err-checks-clause-fault c =
+pub returns-in_err-scanned-clause-fault : goal.returns-in_err-scanned-clause-fault
+returns-in_err-scanned-clause-fault c =
     let t = c.args.tables.now in
     let apart : Bool = c.in_ok-apart.apart.wishes in
     let distinct : Bool = c.in_ok-apart.apart.preferences in
@@ -20,7 +20,7 @@ returns-in_err-checks-clause-fault c =
     λ e. differ_when has_preference _ PreferenceTaken t.wishes (rw (← c.as_slice-rows.ensures) (c.in_ok-apart.ensures.preferences e)) in
     let found : AnswersFault c.scanned.result (first_in slots.Wishes (tests_unless apart distinct t) t.wishes) =
     subst (λ rows. AnswersFault c.scanned.result (first_in slots.Wishes (tests_unless apart distinct t) rows)) c.as_slice-rows.ensures
-    (rw (← c.requires.programmes, ← c.requires.schools) c.scanned.ensures.fault) in
+    (rw (← c.requires.programmes, ← c.requires.schools, ← c.preference_tests.ensures.known) c.scanned.ensures.fault) in
     let h : AnswersFault c.scanned.result (first_in slots.Wishes (wish_tests t) t.wishes) =
     subst (AnswersFault c.scanned.result) (same_fault t apart distinct once other) found in
     search (rules, h)
@@ -35,5 +35,5 @@ returns-clause-fault c =
     λ e. differ_when has_preference _ PreferenceTaken t.wishes (rw (← c.as_slice-rows.ensures) (c.in_ok-apart.ensures.preferences e)) in
     let none : first_in slots.Wishes (tests_unless apart distinct t) t.wishes ≡ None =
     subst (λ rows. first_in slots.Wishes (tests_unless apart distinct t) rows ≡ None) c.as_slice-rows.ensures
-    (rw (← c.requires.programmes, ← c.requires.schools) c.in_ok-checks.ensures.fault) in
+    (rw (← c.requires.programmes, ← c.requires.schools, ← c.preference_tests.ensures.known) c.in_ok-scanned.ensures.fault) in
     sym (same_fault t apart distinct once other) ∙ none
