@@ -2,8 +2,9 @@
 ghost use Rattle.std.specs.Prelude.{◌≡◌, ℕ, List, [], ◌∷◌, ◌++◌, Option, option_map, length, IfOk, map, true};
 ghost use Rattle.std.specs.Option.{option_map_or};
 ghost use Rattle.admit_core.specs.declared.refusal.Reason.TheVariants as reasons;
-ghost use Rattle.admit_core.specs.Faults.{Test, row_number, first_reason, repeats, takes_rank, names_unknown};
+ghost use Rattle.admit_core.specs.Faults.{Test, row_number, first_reason, repeats, names_unknown};
 ghost use Rattle.admit_core.specs.Lists.{is_among};
+ghost use Rattle.dossier_check.specs.Shared.{reason_of};
 
 use crate::noted::{Key, note};
 use crate::row_ids::RowIds;
@@ -85,16 +86,38 @@ impl<R, T: RowTest<R>> RowTest<R> for Unless<T> {
     }
 }
 
+/// What rows of the same key share: what they are of, or a rank.
+#[derive(Clone, Copy)]
+pub(crate) enum Shared {
+    Item,
+    Rank,
+}
+
+/// Why a row is refused that shares this with an earlier row, which has the number.
+fn reason_of(shared: Shared, first: u64) -> Reason
+    ensures { result ≡ reason_of shared first }
+{
+    match shared {
+        Shared::Item => Reason::Repeat(first),
+        Shared::Rank => Reason::RankTaken(first),
+    }
+}
+
 /// An earlier row has the same key.
 pub(crate) struct Repeats<K: Eq + Hash, Q> {
     pub(crate) keys: IndexSet<K, Keyed>,
     pub(crate) rule: Q,
+    pub(crate) shared: Shared,
 }
 
 // Not derived: so it is dropped in one step where it is held, and not by each list of the set.
 impl<K: Eq + Hash + Drop, Q: Drop> Drop for Repeats<K, Q> {
     fn drop(self) {
-        let Repeats { keys: _, rule: _ } = self;
+        let Repeats {
+            keys: _,
+            rule: _,
+            shared: _,
+        } = self;
     }
 }
 
@@ -103,19 +126,25 @@ impl<K: Eq + Hash, Q: Drop> Repeats<K, Q> {
     pub(crate) fn into_keys(self) -> IndexSet<K, Keyed>
         ensures { result.keys ≡ self.keys.keys }
     {
-        let Repeats { keys, rule: _ } = self;
+        let Repeats {
+            keys,
+            rule: _,
+            shared: _,
+        } = self;
         keys
     }
 }
 
 impl<R, K: Hash + Eq + Copy + Drop, Q: Key<R, K>> RowTest<R> for Repeats<K, Q> {
-    ghost test = { λ c. repeats (λ row r. K.eq (Q.key row) (Q.key r)) };
+    ghost use Rattle.admit_core.specs.Faults.{first_row};
+
+    ghost test = { λ c before row. option_map (reason_of c.shared) (first_row (λ r. K.eq (Q.key row) (Q.key r)) before) };
 
     ghost has_seen = { λ c before. c.keys.keys ≡ map Q.key before };
 
     fn stands(&mut self, row: &R, _number: u64) -> Result<Option<Reason>, OutOfMemory> {
         match note(&mut self.keys, &self.rule, row)? {
-            Some(first) => Ok(Some(Reason::Repeat(first))),
+            Some(first) => Ok(Some(reason_of(self.shared, first))),
             None => Ok(None),
         }
     }
@@ -140,32 +169,6 @@ impl<R, Q: Key<R, u32>> RowTest<R> for RepeatsId<Q> {
     fn stands(&mut self, row: &R, _number: u64) -> Result<Option<Reason>, OutOfMemory> {
         match self.ids.note(self.alloc, self.keyed, &self.rule, row)? {
             Some(first) => Ok(Some(Reason::Repeat(first))),
-            None => Ok(None),
-        }
-    }
-}
-
-/// An earlier row has the same rank in the same list: the key.
-pub(crate) struct TakesRank<K: Eq + Hash, Q> {
-    pub(crate) keys: IndexSet<K, Keyed>,
-    pub(crate) rule: Q,
-}
-
-// Not derived, as above.
-impl<K: Eq + Hash + Drop, Q: Drop> Drop for TakesRank<K, Q> {
-    fn drop(self) {
-        let TakesRank { keys: _, rule: _ } = self;
-    }
-}
-
-impl<R, K: Hash + Eq + Copy + Drop, Q: Key<R, K>> RowTest<R> for TakesRank<K, Q> {
-    ghost test = { λ c. takes_rank (λ row r. K.eq (Q.key row) (Q.key r)) };
-
-    ghost has_seen = { λ c before. c.keys.keys ≡ map Q.key before };
-
-    fn stands(&mut self, row: &R, _number: u64) -> Result<Option<Reason>, OutOfMemory> {
-        match note(&mut self.keys, &self.rule, row)? {
-            Some(first) => Ok(Some(Reason::RankTaken(first))),
             None => Ok(None),
         }
     }

@@ -9,7 +9,7 @@ use crate::day_falls::{DayFalls, ItsDay};
 use crate::hashing::hashing_of_ranks;
 use crate::noted::Key;
 use crate::row_ids::RowIds;
-use crate::row_tests::{NamesUnknown, NoTest, Repeats, RepeatsId, TakesRank, Then};
+use crate::row_tests::{NamesUnknown, NoTest, Repeats, RepeatsId, Shared, Then};
 use crate::rules::{
     DayAndSchool, GroupAndCandidate, GroupAndRank, ItsGroup, ItsSchool, OwnId, SchoolAndCandidate,
     SchoolAndRank,
@@ -97,6 +97,7 @@ pub(crate) fn find_rank_fault(
         first: Repeats {
             keys: IndexSet::with_hasher(alloc, keyed),
             rule: GroupAndCandidate,
+            shared: Shared::Item,
         },
         rest: Then {
             first: NamesUnknown {
@@ -105,9 +106,10 @@ pub(crate) fn find_rank_fault(
                 rule: ItsGroup,
             },
             rest: Then {
-                first: TakesRank {
+                first: Repeats {
                     keys: IndexSet::with_hasher(alloc, keyed),
                     rule: GroupAndRank,
+                    shared: Shared::Rank,
                 },
                 rest: NoTest,
             },
@@ -136,6 +138,7 @@ pub(crate) fn check_boarding(
         first: Repeats {
             keys: pairs,
             rule: SchoolAndCandidate,
+            shared: Shared::Item,
         },
         rest: Then {
             first: NamesUnknown {
@@ -144,9 +147,10 @@ pub(crate) fn check_boarding(
                 rule: ItsSchool,
             },
             rest: Then {
-                first: TakesRank {
+                first: Repeats {
                     keys: IndexSet::with_hasher(alloc, keyed),
                     rule: SchoolAndRank,
+                    shared: Shared::Rank,
                 },
                 rest: NoTest,
             },
@@ -171,6 +175,7 @@ pub(crate) fn check_ceilings(
         first: Repeats {
             keys: IndexSet::with_hasher(alloc, keyed),
             rule: DayAndSchool,
+            shared: Shared::Item,
         },
         rest: Then {
             first: NamesUnknown {

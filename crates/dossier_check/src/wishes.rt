@@ -13,7 +13,7 @@ use crate::apart::{Apart, shown_apart};
 use crate::hashing::hashing_of_wishes;
 use crate::noted::{FirstWish, note_first, row_of};
 use crate::row_ids::RowIds;
-use crate::row_tests::{NamesUnknown, NoTest, Repeats, RepeatsId, RowTest, Then, Unless};
+use crate::row_tests::{NamesUnknown, NoTest, Repeats, RepeatsId, RowTest, Shared, Then, Unless};
 use crate::rules::{ItsProgramme, ItsSchool, OwnId, WhatIsWished};
 use crate::scan::scanned;
 use crate::who_is_ranked::WhoIsRanked;
@@ -383,6 +383,7 @@ pub(crate) fn check_wishes<'a>(
                 test: Repeats {
                     keys: IndexSet::with_hasher(alloc, by_wish),
                     rule: WhatIsWished,
+                    shared: Shared::Item,
                 },
             },
             rest: names,
