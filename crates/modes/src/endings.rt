@@ -64,7 +64,7 @@ fn replayed(
         led.entry.orders.orders led.entry.days.items led.entry.desk.present)
         reply.exit reply.text.items) }
 {
-    let Led { orders, days, desk } = led;
+    let (orders, days, desk) = led.into_parts();
     let evening = desk.into_now();
     let called = orders.orders.as_slice();
     let text = replay_text(
@@ -115,11 +115,7 @@ fn tested(
         input.now.dossier input.now.chain (option_copied dated.entry) led.entry.orders.orders
         reply.exit reply.text.items) }
 {
-    let Led {
-        orders,
-        days: _,
-        desk,
-    } = led;
+    let (orders, _, desk) = led.into_parts();
     let first = desk.into_now();
     checked(alloc, input, dated, &orders, &first)
 }
@@ -147,11 +143,7 @@ fn envied(alloc: Global, led: Led<'_>) -> Result<Reply, OutOfMemory>
         (blocked_text led.entry.desk.present led.entry.orders.orders)
         reply.exit reply.text.items) }
 {
-    let Led {
-        orders,
-        days: _,
-        desk,
-    } = led;
+    let (orders, _, desk) = led.into_parts();
     let state = desk.into_now();
     Ok(done(blocked_text(alloc, &state, &orders)?))
 }
@@ -168,11 +160,7 @@ fn sampled(
         led.entry.days.items led.entry.desk.present)
         reply.exit reply.text.items) }
 {
-    let Led {
-        orders: _,
-        days,
-        desk,
-    } = led;
+    let (_, days, desk) = led.into_parts();
     let state = desk.into_now();
     let wishes = dossier.wishes.len() as u32;
     let text = sample_text(alloc, number, wishes, days.as_slice(), &state)?;

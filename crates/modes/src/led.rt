@@ -5,14 +5,24 @@ use admit_core::{CallOrders, DayRecord};
 use day_run::Desk;
 
 /// All days that were asked for, by which call orders they were run, and the desk after them.
-#[derive(Drop)]
 pub(crate) struct Led<'d> {
     pub orders: CallOrders,
     pub days: Vec<DayRecord>,
     pub desk: Desk<'d>,
 }
 
-impl Led<'_> {
+// Not derived: so it is dropped in one step where it is held, and not by each list.
+impl<'d> Drop for Led<'d> {
+    fn drop(self) {
+        let Led {
+            orders: _,
+            days: _,
+            desk: _,
+        } = self;
+    }
+}
+
+impl<'d> Led<'d> {
     /// The call orders alone.
     pub fn into_orders(self) -> CallOrders
         ensures { result ≡ self.entry.orders }
@@ -35,5 +45,15 @@ impl Led<'_> {
             desk: _,
         } = self;
         days
+    }
+
+    /// All three.
+    pub fn into_parts(self) -> (CallOrders, Vec<DayRecord>, Desk<'d>)
+        ensures orders { result.0.orders ≡ self.entry.orders.orders }
+        ensures days { result.1.items ≡ self.entry.days.items }
+        ensures desk { result.2 ≡ self.entry.desk }
+    {
+        let Led { orders, days, desk } = self;
+        (orders, days, desk)
     }
 }

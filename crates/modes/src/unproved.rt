@@ -4,7 +4,7 @@ use admit_core::{CheckReason, OutOfMemory, Refusal};
 use day_run::DayRefusal;
 
 /// Why the days of a chain are not all proved.
-#[derive(Clone, Copy, Debug, PartialEq, Eq)]
+#[derive(Clone, Copy)]
 pub(crate) enum Unproved {
     /// An answer of a day does not fit.
     Unfit(Refusal),
