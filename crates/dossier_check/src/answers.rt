@@ -51,7 +51,8 @@ impl<'a> RowTest<AnswerRow> for TargetUnknown<'a> {
 
     ghost test = { λ c. names_unknown 3 (λ row. is_target c.tables.now row.kind row.target) };
 
-    ghost has_seen = { λ c before. (c.wishes.now.keys ≡ wish_ids c.tables.now) × AreFirstWishes (get nat_eq c.candidates.now) c.tables.now.wishes };
+    ghost has_seen = { λ c before. (c.wishes.now.keys ≡ wish_ids c.tables.now)
+        × AreFirstWishes (get nat_eq c.candidates.now) c.tables.now.wishes };
 
     fn stands(&mut self, row: &AnswerRow, _number: u64) -> Result<Option<Reason>, OutOfMemory> {
         if self.knows(row) {
@@ -70,7 +71,8 @@ pub(crate) fn check_answers<'a>(
     requires wishes { wishes.now.keys ≡ wish_ids tables.now }
     requires candidates { AreFirstWishes (get nat_eq candidates.now) tables.now.wishes }
     requires small { length tables.now.answers < 2 ^ 32 }
-    ensures { AnswersFault result (first_in slots.Answers (answer_tests tables.now) tables.now.answers) }
+    ensures { AnswersFault result
+        (first_in slots.Answers (answer_tests tables.now) tables.now.answers) }
 {
     let mut checks = Then {
         first: TargetUnknown {

@@ -78,7 +78,8 @@ pub(crate) fn note_first<K: Hash + Eq + Copy + Drop, V: Copy + Drop>(
     value: V,
 ) -> Result<Option<V>, OutOfMemory>
     ensures first { IfOk result (λ first. first ≡ get K.eq firsts.old key) }
-    ensures kept { IfOk result (λ first. IsSome first → (k : K) → get K.eq firsts.new k ≡ get K.eq firsts.old k) }
+    ensures kept { IfOk result (λ first.
+        IsSome first → (k : K) → get K.eq firsts.new k ≡ get K.eq firsts.old k) }
     ensures noted { IfOk result (λ first. first ≡ None → (k : K) →
         get K.eq firsts.new k ≡ (if K.eq key k then Some value else get K.eq firsts.old k)) }
 {

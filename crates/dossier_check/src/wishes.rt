@@ -337,7 +337,8 @@ pub(crate) fn check_wishes<'a>(
     ensures fault { AnswersFault result
         (first_in slots.Wishes (wish_tests tables.now) tables.now.wishes) }
     ensures ids { IfOk result (λ keys. keys.ids.keys ≡ wish_ids tables.now) }
-    ensures firsts { IfOk result (λ keys. AreFirstWishes (get nat_eq keys.firsts) tables.now.wishes) }
+    ensures firsts { IfOk result (λ keys.
+        AreFirstWishes (get nat_eq keys.firsts) tables.now.wishes) }
 {
     let rows = tables.wishes.as_slice();
     let apart = shown_apart(alloc, rows)?;
