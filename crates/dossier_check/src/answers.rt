@@ -71,8 +71,8 @@ pub(crate) fn check_answers<'a>(
     requires wishes { wishes.now.keys ≡ wish_ids tables.now }
     requires candidates { AreFirstWishes (get nat_eq candidates.now) tables.now.wishes }
     requires small { length tables.now.answers < 2 ^ 32 }
-    ensures { AnswersFault result (first_in slots.Answers (answer_tests tables.now)
-        tables.now.answers) }
+    ensures { AnswersFault result
+        (first_in slots.Answers (answer_tests tables.now) tables.now.answers) }
 {
     let mut checks = Then {
         first: TargetUnknown {

@@ -24,8 +24,8 @@ pub(crate) fn add(
     item: Ranked,
 ) -> Result<(), OutOfMemory>
     requires { place < length lists.old.items }
-    ensures added { OnOk result (map (λ l. l.items) lists.new.items ≡ slice_set
-        (map (λ l. l.items) lists.old.items) place
+    ensures added { OnOk result (map (λ l. l.items) lists.new.items
+        ≡ slice_set (map (λ l. l.items) lists.old.items) place
         (slice_index_or (map (λ l. l.items) lists.old.items) place [] ++ item ∷ [])) }
     ensures len { OnOk result (length lists.new.items ≡ length lists.old.items) }
 {
@@ -62,8 +62,8 @@ fn empty_lists(
     rooms: &[usize],
 ) -> Result<Vec<Vec<Ranked>>, OutOfMemory>
     requires { length rooms.now ≡ length groups.now.keys }
-    ensures { IfOk result (λ lists. map (λ l. l.items) lists.items ≡ map (ranked_in [])
-        groups.now.keys) }
+    ensures { IfOk result (λ lists.
+        map (λ l. l.items) lists.items ≡ map (ranked_in []) groups.now.keys) }
 {
     let mut lists = Vec::with_capacity(alloc, groups.len())?;
     for room in rooms {
@@ -79,8 +79,8 @@ fn roomy_lists(
     rankings: &[RankRow],
     groups: &RowIds,
 ) -> Result<Vec<Vec<Ranked>>, OutOfMemory>
-    ensures { IfOk result (λ lists. map (λ l. l.items) lists.items ≡ map (ranked_in [])
-        groups.now.keys) }
+    ensures { IfOk result (λ lists.
+        map (λ l. l.items) lists.items ≡ map (ranked_in []) groups.now.keys) }
 {
     let rooms = rooms_of(alloc, rankings, groups)?;
     empty_lists(alloc, groups, rooms.as_slice())
@@ -93,8 +93,9 @@ pub(crate) fn lay_row(
     row: &RankRow,
 ) -> Result<(), OutOfMemory>
     requires { length lists.old.items ≡ length groups.now.keys }
-    ensures laid { (rows : List RankRow) → map (λ l. l.items) lists.old.items
-        ≡ map (ranked_in rows) groups.now.keys → OnOk result (map (λ l. l.items) lists.new.items
+    ensures laid { (rows : List RankRow) →
+        map (λ l. l.items) lists.old.items ≡ map (ranked_in rows) groups.now.keys →
+        OnOk result (map (λ l. l.items) lists.new.items
         ≡ map (ranked_in (rows ++ row.now ∷ [])) groups.now.keys) }
     ensures len { OnOk result (length lists.new.items ≡ length lists.old.items) }
 {
@@ -121,8 +122,8 @@ pub(crate) fn ranked_lists(
     rankings: &[RankRow],
     groups: &RowIds,
 ) -> Result<Vec<Vec<Ranked>>, OutOfMemory>
-    ensures { IfOk result (λ lists. map (λ l. l.items) lists.items ≡ map (ranked_in rankings.now)
-        groups.now.keys) }
+    ensures { IfOk result (λ lists.
+        map (λ l. l.items) lists.items ≡ map (ranked_in rankings.now) groups.now.keys) }
 {
     let mut lists = roomy_lists(alloc, rankings, groups)?;
     for row in rankings {

@@ -85,8 +85,8 @@ pub(crate) fn programmes_of(
     keys: &Keys,
 ) -> Result<Vec<Programme>, OutOfMemory>
     requires { AreKeysOf tables.now keys.now }
-    ensures { IfOk result (λ programmes. programmes.items ≡ map (programme_of_row tables.now)
-        tables.now.programmes) }
+    ensures { IfOk result (λ programmes.
+        programmes.items ≡ map (programme_of_row tables.now) tables.now.programmes) }
 {
     let rows = tables.programmes.as_slice();
     let mut programmes = Vec::with_capacity(alloc, rows.len())?;
@@ -134,8 +134,8 @@ pub(crate) fn wishes_of(
     keys: &Keys,
 ) -> Result<Vec<Wish>, OutOfMemory>
     requires { AreKeysOf tables.now keys.now }
-    ensures { IfOk result (λ wishes. wishes.items ≡ map (wish_of_row tables.now)
-        tables.now.wishes) }
+    ensures { IfOk result (λ wishes.
+        wishes.items ≡ map (wish_of_row tables.now) tables.now.wishes) }
 {
     let rows = tables.wishes.as_slice();
     let mut wishes = Vec::with_capacity(alloc, rows.len())?;
@@ -167,8 +167,8 @@ pub(crate) fn ceilings_of(
     keys: &Keys,
 ) -> Result<Vec<CeilingChange>, OutOfMemory>
     requires { AreKeysOf tables.now keys.now }
-    ensures { IfOk result (λ ceilings. ceilings.items ≡ map (ceiling_of_row tables.now)
-        tables.now.ceilings) }
+    ensures { IfOk result (λ ceilings.
+        ceilings.items ≡ map (ceiling_of_row tables.now) tables.now.ceilings) }
 {
     let rows = tables.ceilings.as_slice();
     let mut ceilings = Vec::with_capacity(alloc, rows.len())?;
@@ -202,8 +202,8 @@ pub(crate) fn answers_of(
     keys: &Keys,
 ) -> Result<Vec<Answer>, OutOfMemory>
     requires { AreKeysOf tables.now keys.now }
-    ensures { IfOk result (λ answers. answers.items ≡ map (answer_of_row tables.now)
-        tables.now.answers) }
+    ensures { IfOk result (λ answers.
+        answers.items ≡ map (answer_of_row tables.now) tables.now.answers) }
 {
     let rows = tables.answers.as_slice();
     let mut answers = Vec::with_capacity(alloc, rows.len())?;

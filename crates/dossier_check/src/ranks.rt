@@ -149,8 +149,8 @@ fn shows_no_fault(tables: &Tables, groups: &RowIds, dealt: &Dealt) -> bool
 pub(crate) fn check_ranks(alloc: Global, tables: &Tables, groups: &RowIds) -> Result<Dealt, InFault>
     requires groups { groups.now.keys ≡ group_ids tables.now }
     requires small { length tables.now.rankings < 2 ^ 32 }
-    ensures fault { AnswersFault result (first_in slots.Rankings (ranking_tests tables.now)
-        tables.now.rankings) }
+    ensures fault { AnswersFault result
+        (first_in slots.Rankings (ranking_tests tables.now) tables.now.rankings) }
     ensures dealt { IfOk result (AreDealt tables.now) }
 {
     let dealt = deal(alloc, tables, groups)?;

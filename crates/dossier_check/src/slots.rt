@@ -89,8 +89,8 @@ pub(crate) fn find_rank_fault(
 ) -> Result<(), InFault>
     requires groups { groups.now.keys ≡ group_ids tables.now }
     requires small { length tables.now.rankings < 2 ^ 32 }
-    ensures { AnswersFault result (first_in slots.Rankings (ranking_tests tables.now)
-        tables.now.rankings) }
+    ensures { AnswersFault result
+        (first_in slots.Rankings (ranking_tests tables.now) tables.now.rankings) }
 {
     let rows = tables.rankings.as_slice();
     let keyed = hashing_of_ranks(rows);
@@ -170,8 +170,8 @@ pub(crate) fn check_ceilings(
 ) -> Result<(), InFault>
     requires schools { schools.now.keys ≡ school_ids tables.now }
     requires small { length tables.now.ceilings < 2 ^ 32 }
-    ensures { AnswersFault result (first_in slots.Ceilings (ceiling_tests tables.now)
-        tables.now.ceilings) }
+    ensures { AnswersFault result
+        (first_in slots.Ceilings (ceiling_tests tables.now) tables.now.ceilings) }
 {
     let mut checks = Then {
         first: Repeats {

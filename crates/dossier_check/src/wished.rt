@@ -22,8 +22,8 @@ fn all_wished(alloc: Global, rows: &[WishRow]) -> Result<Vec<(u32, u32, u32)>, O
 
 /// Whether order shows that no two rows are of the same wish.
 pub(crate) fn wishes_apart(alloc: Global, rows: &[WishRow]) -> Result<bool, OutOfMemory>
-    ensures { IfOk result (λ apart. apart ≡ true → AllPairs
-        (λ r row. same_wish row r ≡ false) rows.now) }
+    ensures { IfOk result (λ apart.
+        apart ≡ true → AllPairs (λ r row. same_wish row r ≡ false) rows.now) }
 {
     let mut keys = all_wished(alloc, rows)?;
     keys.sort_unstable();

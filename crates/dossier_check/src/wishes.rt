@@ -38,8 +38,7 @@ impl<'a> RowTest<WishRow> for Unranked<'a> {
 
     ghost test = { λ c. unranked c.tables.now };
 
-    ghost has_seen = { λ c before. (c.programmes.now.keys ≡ programme_ids c.tables.now)
-        × SaysWhoIsRanked c.tables.now c.ranked };
+    ghost has_seen = { λ c before. (c.programmes.now.keys ≡ programme_ids c.tables.now) × SaysWhoIsRanked c.tables.now c.ranked };
 
     fn stands(&mut self, row: &WishRow, _number: u64) -> Result<Option<Reason>, OutOfMemory> {
         let programmes = self.tables.programmes.as_slice();
@@ -156,8 +155,7 @@ impl RowTest<WishRow> for PreferenceMixed {
 
     ghost test = { λ c. preference_mixed };
 
-    ghost has_seen = { λ c before. AreFirstWishes (get nat_eq c.firsts) before
-        × IsLastCandidate (get nat_eq c.firsts) c.last };
+    ghost has_seen = { λ c before. AreFirstWishes (get nat_eq c.firsts) before × IsLastCandidate (get nat_eq c.firsts) c.last };
 
     fn stands(&mut self, row: &WishRow, number: u64) -> Result<Option<Reason>, OutOfMemory> {
         let own = FirstWish {
@@ -339,8 +337,8 @@ pub(crate) fn check_wishes<'a>(
     ensures fault { AnswersFault result
         (first_in slots.Wishes (wish_tests tables.now) tables.now.wishes) }
     ensures ids { IfOk result (λ keys. keys.ids.keys ≡ wish_ids tables.now) }
-    ensures firsts { IfOk result (λ keys. AreFirstWishes (get nat_eq keys.firsts)
-        tables.now.wishes) }
+    ensures firsts { IfOk result (λ keys.
+        AreFirstWishes (get nat_eq keys.firsts) tables.now.wishes) }
 {
     let rows = tables.wishes.as_slice();
     let apart = shown_apart(alloc, rows)?;
