@@ -36,10 +36,12 @@ HasItsGroup groups row = is_among row.group groups ≡ true
 -- each group has its candidates, at its place
 pub record AreDealt (t : Tables) (dealt : Dealt) : Type 0 where
   pub rankings : dealt.rankings.items ≡ map (group_of_row t) t.groups
-  pub candidates : map (λ l. l.items) dealt.candidates.items ≡ map (candidates_in t.rankings) (group_ids t)
+  pub candidates : map (λ l. l.items) dealt.candidates.items
+      ≡ map (candidates_in t.rankings) (group_ids t)
 
 -- no one is ranked in another group than these
 pub record SaysWhoIsRanked (t : Tables) (ranked : WhoIsRanked) : Type 0 where
   pub groups : ranked.groups.now.keys ≡ group_ids t
-  pub candidates : map (λ l. l.items) ranked.candidates.now ≡ map (candidates_in t.rankings) (group_ids t)
+  pub candidates : map (λ l. l.items) ranked.candidates.now
+      ≡ map (candidates_in t.rankings) (group_ids t)
   pub known : All (HasItsGroup (group_ids t)) t.rankings

@@ -7,7 +7,8 @@ use Rattle.dossier_check.specs.declared.apart.Run.{Run}
 -- whether a wish has a preference that another one of the candidate has
 abbrev pub same_preference : WishRow → WishRow → Bool
 same_preference row r =
-    nat_eq row.candidate r.candidate && nat_lt 0 row.preference && nat_eq row.preference r.preference
+    nat_eq row.candidate r.candidate && nat_lt 0 row.preference
+    && nat_eq row.preference r.preference
 
 -- whether of two wishes one must not be
 abbrev pub clashes : WishRow → WishRow → Bool
@@ -17,7 +18,8 @@ clashes row r = same_wish row r || same_preference row r
 abbrev pub run_with : Run → ℕ → ℕ → Option Run
 run_with run candidate place =
     if nat_eq candidate run.candidate then Some run
-    else if nat_lt run.candidate candidate then Some (record { candidate = candidate; from = place })
+    else if nat_lt run.candidate candidate
+    then Some (record { candidate = candidate; from = place })
     else None
 
 -- no two rows before a place clash, and those of the last candidate are those of the run

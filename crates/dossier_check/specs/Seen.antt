@@ -13,7 +13,8 @@ use Rattle.dossier_check.specs.declared.wishes.LastCandidate.{LastCandidate}
 abbrev pub boarded_pairs : Tables → List (ℕ × ℕ)
 boarded_pairs t = map (λ b. (b.school, b.candidate)) t.boarding
 
--- `found` gives for each key the number of the first row that has it; `has k` says whether a row has k
+-- `found` gives for each key the number of the first row that has it; `has k` says whether a row
+-- has k
 abbrev pub AreFirstRows : {R K : Type 0} → (K → R → Bool) → (K → Option ℕ) → List R → Type 0
 AreFirstRows {R} {K} has found before = (k : K) → found k ≡ first_row (has k) before
 
@@ -23,7 +24,8 @@ has_preference k r = nat_lt 0 r.preference && (nat_eq k.0 r.candidate && nat_eq 
 
 -- whether a status is an accepted one of this candidate
 abbrev pub is_accepted_of : Tables → ℕ → StateRow → Bool
-is_accepted_of t candidate r = is_accepted r.status && same_candidate (Some candidate) (candidate_with t r.wish)
+is_accepted_of t candidate r =
+    is_accepted r.status && same_candidate (Some candidate) (candidate_with t r.wish)
 
 -- what is kept of a candidate's first wish
 abbrev pub noted_wish : ℕ × WishRow → FirstWish
@@ -31,7 +33,8 @@ noted_wish first = record { row = first.0; preference = first.1.preference }
 
 -- `found` gives for each candidate their first wish
 abbrev pub AreFirstWishes : (ℕ → Option FirstWish) → List WishRow → Type 0
-AreFirstWishes found before = (candidate : ℕ) → found candidate ≡ option_map noted_wish (first_wish_of before candidate)
+AreFirstWishes found before =
+    (candidate : ℕ) → found candidate ≡ option_map noted_wish (first_wish_of before candidate)
 
 -- what is kept of the last row's candidate is their first wish
 abbrev pub IsLastCandidate : (ℕ → Option FirstWish) → Option LastCandidate → Type 0

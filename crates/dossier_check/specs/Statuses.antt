@@ -7,4 +7,5 @@ use Rattle.admit_core.specs.declared.tables.WishRow.{WishRow}
 
 -- the status of a wish by these rows; one that none of them names waits
 abbrev pub status_in : List StateRow → WishRow → Status
-status_in rows w = unwrap_or (option_map (λ s. s.status) (find (λ s. nat_eq w.id s.wish) rows)) Waiting
+status_in rows w =
+    unwrap_or (option_map (λ s. s.status) (find (λ s. nat_eq w.id s.wish) rows)) Waiting

@@ -18,7 +18,8 @@ impl Model for Index {
 
     ghost view = { λ x. record { wishes = x.wishes.keys; schools = x.schools.keys } };
 
-    ghost invariant = { λ x. IsSmall (record { wishes = x.wishes.keys; schools = x.schools.keys }) };
+    ghost invariant = { λ x. IsSmall
+        (record { wishes = x.wishes.keys; schools = x.schools.keys }) };
 }
 
 /// The place of the wish with this id; none where no wish has it.

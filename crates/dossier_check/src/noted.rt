@@ -17,7 +17,8 @@ pub(crate) trait Key<R, K> {
         ensures { result ≡ key row.now };
 }
 
-/// Notes the key of the next row, and answers the number of the row of the same key where there is one.
+/// Notes the key of the next row, and answers the number of the row of the same key where there is
+/// one.
 pub(crate) fn note<R, K: Hash + Eq + Copy + Drop, Q: Key<R, K>>(
     keys: &mut IndexSet<K, Keyed>,
     rule: &Q,
@@ -38,7 +39,8 @@ pub(crate) fn note<R, K: Hash + Eq + Copy + Drop, Q: Key<R, K>>(
 
 /// The row at the place of the first one that passes a test.
 fn row_at<R: Copy>(rows: &[R], place: Option<usize>) -> Option<R>
-    ensures { (passes : R → Bool) → place ≡ position passes rows.now → result ≡ find passes rows.now }
+    ensures { (passes : R → Bool) → place ≡ position passes rows.now → result
+        ≡ find passes rows.now }
 {
     match place {
         Some(place) => rows.get(place).copied(),
@@ -52,14 +54,16 @@ pub(crate) fn row_with<R: Copy, K: Hash + Eq + Copy + Drop>(
     rows: &[R],
     key: K,
 ) -> Option<R>
-    ensures { (own : R → K) → keys.now.keys ≡ map own rows.now → result ≡ find (λ r. K.eq key (own r)) rows.now }
+    ensures { (own : R → K) → keys.now.keys ≡ map own rows.now → result
+        ≡ find (λ r. K.eq key (own r)) rows.now }
 {
     row_at(rows, keys.get_index_of(&key))
 }
 
 /// The row of an id, where the ids are those of the rows by place.
 pub(crate) fn row_of<R: Copy>(ids: &RowIds, rows: &[R], id: u32) -> Option<R>
-    ensures { (own : R → ℕ) → ids.now.keys ≡ map own rows.now → result ≡ find (λ r. nat_eq id (own r)) rows.now }
+    ensures { (own : R → ℕ) → ids.now.keys ≡ map own rows.now → result
+        ≡ find (λ r. nat_eq id (own r)) rows.now }
 {
     row_at(rows, ids.get_index_of(id))
 }

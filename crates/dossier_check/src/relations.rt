@@ -32,7 +32,8 @@ use indexmap::IndexSet;
 use keyed_hash::Keyed;
 use std::alloc::Global;
 
-/// The dossier that tables stand for, the places of its ids, and since when each wish has its status.
+/// The dossier that tables stand for, the places of its ids, and since when each wish has its
+/// status.
 #[derive(Drop)]
 pub struct Checked {
     pub dossier: Dossier,
@@ -275,8 +276,8 @@ fn make_dossier(
 }
 
 /// Checks the relations between the rows of tables: their first fault by slot, row and reason, or
-/// the dossier that they stand for, with all rows in file order and the rankings by rank, its index and
-/// the dates of its statuses.
+/// the dossier that they stand for, with all rows in file order and the rankings by rank, its index
+/// and the dates of its statuses.
 pub fn check(alloc: Global, tables: &Tables) -> Result<Checked, InFault>
     requires { AreTables tables.now }
     ensures fault { AnswersFault result (first_fault tables.now) }

@@ -25,7 +25,8 @@ pub(crate) trait RowTest<R> {
     fn stands(&mut self, row: &R, number: u64) -> Result<Option<Reason>, OutOfMemory>
         ensures reason { (before : List R) → has_seen self.old before →
             IfOk result (λ reason. reason ≡ test self.old before row.now) }
-        ensures seen { (before : List R) → has_seen self.old before → number ≡ row_number (length before) →
+        ensures seen { (before : List R) → has_seen self.old before → number
+            ≡ row_number (length before) →
             IfOk result (λ reason. reason ≡ None → has_seen self.new (before ++ row.now ∷ [])) }
         ensures same_test { test self.new ≡ test self.old };
 }
@@ -138,7 +139,8 @@ impl<K: Eq + Hash, Q: Drop> Repeats<K, Q> {
 impl<R, K: Hash + Eq + Copy + Drop, Q: Key<R, K>> RowTest<R> for Repeats<K, Q> {
     ghost use Rattle.admit_core.specs.Faults.{first_row};
 
-    ghost test = { λ c before row. option_map (reason_of c.shared) (first_row (λ r. K.eq (Q.key row) (Q.key r)) before) };
+    ghost test = { λ c before row. option_map (reason_of c.shared)
+        (first_row (λ r. K.eq (Q.key row) (Q.key r)) before) };
 
     ghost has_seen = { λ c before. c.keys.keys ≡ map Q.key before };
 
@@ -191,7 +193,8 @@ pub(crate) struct NamesUnknown<'a, Q> {
 }
 
 impl<'a, R, Q: Names<R>> RowTest<R> for NamesUnknown<'a, Q> {
-    ghost test = { λ c. names_unknown c.field (λ row. option_map_or (λ id. is_among id c.ids.now.keys) (Q.named row) true) };
+    ghost test = { λ c. names_unknown c.field
+        (λ row. option_map_or (λ id. is_among id c.ids.now.keys) (Q.named row) true) };
 
     ghost has_seen = { λ c before. Unit {0} };
 

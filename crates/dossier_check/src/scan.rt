@@ -17,7 +17,8 @@ pub(crate) trait RowChecks<R> {
     fn next(&mut self, row: &R, number: u64) -> Result<Option<Reason>, OutOfMemory>
         ensures reason { (before : List R) → has_seen self.old before →
             IfOk result (λ reason. reason ≡ first_reason (tests self.old) before row.now) }
-        ensures seen { (before : List R) → has_seen self.old before → number ≡ row_number (length before) →
+        ensures seen { (before : List R) → has_seen self.old before → number
+            ≡ row_number (length before) →
             IfOk result (λ reason. reason ≡ None → has_seen self.new (before ++ row.now ∷ [])) }
         ensures same_tests { tests self.new ≡ tests self.old };
 }

@@ -40,7 +40,8 @@ impl<'a> TwoAccepted<'a> {
     /// The candidate whose wish a row accepts.
     fn accepting_candidate(&self, row: &StateRow) -> Option<u32>
         ensures { self.now.wishes.now.keys ≡ wish_ids self.now.tables.now →
-            result ≡ (if is_accepted row.now.status then candidate_with self.now.tables.now row.now.wish else None) }
+            result ≡ (if is_accepted row.now.status then candidate_with self.now.tables.now
+            row.now.wish else None) }
     {
         if !matches!(row.status, Status::Accepted) {
             return None;

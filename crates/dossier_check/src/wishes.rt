@@ -38,7 +38,8 @@ impl<'a> RowTest<WishRow> for Unranked<'a> {
 
     ghost test = { λ c. unranked c.tables.now };
 
-    ghost has_seen = { λ c before. (c.programmes.now.keys ≡ programme_ids c.tables.now) × SaysWhoIsRanked c.tables.now c.ranked };
+    ghost has_seen = { λ c before. (c.programmes.now.keys ≡ programme_ids c.tables.now)
+        × SaysWhoIsRanked c.tables.now c.ranked };
 
     fn stands(&mut self, row: &WishRow, _number: u64) -> Result<Option<Reason>, OutOfMemory> {
         let programmes = self.tables.programmes.as_slice();
@@ -155,7 +156,8 @@ impl RowTest<WishRow> for PreferenceMixed {
 
     ghost test = { λ c. preference_mixed };
 
-    ghost has_seen = { λ c before. AreFirstWishes (get nat_eq c.firsts) before × IsLastCandidate (get nat_eq c.firsts) c.last };
+    ghost has_seen = { λ c before. AreFirstWishes (get nat_eq c.firsts) before
+        × IsLastCandidate (get nat_eq c.firsts) c.last };
 
     fn stands(&mut self, row: &WishRow, number: u64) -> Result<Option<Reason>, OutOfMemory> {
         let own = FirstWish {

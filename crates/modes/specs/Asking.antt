@@ -11,7 +11,8 @@ use Rattle.modes.specs.Beds.{PicksForFigures}
 use Rattle.modes.specs.Jobs.{Seen, picker_after}
 use Rattle.modes.specs.Market.{PicksForMarket}
 
--- a picker: what it has told, and what it answers, by what it has told and the places it is asked with
+-- a picker: what it has told, and what it answers, by what it has told and the places it is asked
+-- with
 pub record Asked : Type 0 where
   pub told : List ℕ
   pub choice : List ℕ → List ℕ → ℕ
@@ -22,8 +23,10 @@ asked lent name = record { told = lent.told name; choice = lent.choice name }
 -- what the picker that each mode asks tells in the ending; most modes ask nobody
 abbrev pub ArePicks : Mode → Seen → Played → DeskStates → Asked → List ℕ → Type 0
 ArePicks (Beds school) seen played desk before picks =
-    PicksForFigures seen.dossier seen.index played.orders played.days desk school before.choice before.told picks
-ArePicks Market seen played desk before picks = PicksForMarket seen.dossier played.orders before.choice before.told picks
+    PicksForFigures seen.dossier seen.index played.orders played.days desk school before.choice
+    before.told picks
+ArePicks Market seen played desk before picks =
+    PicksForMarket seen.dossier played.orders before.choice before.told picks
 ArePicks _ seen played desk before picks = picks ≡ []
 
 -- these are the picks that a picker told of
@@ -33,19 +36,23 @@ TellsPicks Picks before after = (picks : List ℕ) × Picks picks × (after ≡ 
 -- what the picker that is lent tells, where one is
 abbrev pub TellsLent : Option PickerName → (Asked → List ℕ → Type 0) → Lent → Lent → Type 0
 TellsLent None Picks before after = ⊤
-TellsLent (Some name) Picks before after = TellsPicks (Picks (asked before name)) (before.told name) (after.told name)
+TellsLent (Some name) Picks before after =
+    TellsPicks (Picks (asked before name)) (before.told name) (after.told name)
 
 -- what is told after the days: nothing where they were cut short
 abbrev pub TellsAfter : Result DeskStates Refusal → Seen → Played → Lent → Lent → Type 0
-TellsAfter (Ok desk) seen played = TellsLent (picker_after seen.request) (ArePicks seen.request.mode seen played desk)
+TellsAfter (Ok desk) seen played =
+    TellsLent (picker_after seen.request) (ArePicks seen.request.mode seen played desk)
 TellsAfter (Err refusal) seen played = Untold
 
 -- no picker but the one that is lent is asked
 abbrev pub AsksNoOther : Option PickerName → Lent → Lent → Type 0
 AsksNoOther None before after = Untold before after
-AsksNoOther (Some name) before after = (other : PickerName) → is_named other name ≡ false → after.told other ≡ before.told other
+AsksNoOther (Some name) before after =
+    (other : PickerName) → is_named other name ≡ false → after.told other ≡ before.told other
 
--- the picker of the name was lent, where one is given: it is back in its place, and the others were not asked
+-- the picker of the name was lent, where one is given: it is back in its place, and the others were
+-- not asked
 pub record IsLent (name : Option PickerName) (before after : Lent) : Type 0 where
   pub back : AreBack before after
   pub others : AsksNoOther name before after

@@ -35,13 +35,15 @@ use Rattle.modes.specs.declared.exit.Exit.TheVariants.{Done, Refused, NotProved}
 abbrev pub why_not : Option Terms → List CallOrder → ℕ → State → DayChain → Option Unproved
 why_not terms orders d old chain =
     option_or (option_map (λ x. Unfit (unfit_refusal old.dossier d x)) (unfit_on terms d old))
-    (option_map (λ x. Rejected x.0 x.1) (day_fault orders (ceilings_of old.dossier d) d (morning terms d old) chain))
+    (option_map (λ x. Rejected x.0 x.1)
+    (day_fault orders (ceilings_of old.dossier d) d (morning terms d old) chain))
 
 -- why days from day d on are not all proved: by the first of them that is not
 abbrev pub why_none : Option Terms → List CallOrder → ℕ → State → List DayChain → Option Unproved
 why_none terms orders d old [] = None
 why_none terms orders d old (chain ∷ chains) =
-    option_or (why_not terms orders d old chain) (why_none terms orders (d + 1) (evening_by terms orders d old chain) chains)
+    option_or (why_not terms orders d old chain)
+    (why_none terms orders (d + 1) (evening_by terms orders d old chain) chains)
 
 -- the exit and the text of a run
 abbrev pub IsReply : Exit → List ℕ → Exit → List ℕ → Type 0
@@ -49,12 +51,14 @@ IsReply its_exit its_text exit text = (exit ≡ its_exit) × (text ≡ its_text)
 
 -- the text where so many days are proved
 abbrev pub proved_text : ℕ → State → Option DatedTerms → List ℕ
-proved_text number evening dated = line (codes "proved" ∷ decimal number ∷ []) ++ final_lines evening dated
+proved_text number evening dated =
+    line (codes "proved" ∷ decimal number ∷ []) ++ final_lines evening dated
 
 -- one line says why the days are not all proved
 abbrev pub IsUnproved : DossierRows → Unproved → Exit → List ℕ → Type 0
 IsUnproved d (Unfit refusal) exit text = IsReply Refused (refusal_line refusal) exit text
-IsUnproved d (Rejected row reason) exit text = IsReply NotProved (verdict_text d row reason) exit text
+IsUnproved d (Rejected row reason) exit text =
+    IsReply NotProved (verdict_text d row reason) exit text
 IsUnproved d OutOfMemory exit text = ⊥
 
 -- a run is done with its whole text where nothing stands against it
@@ -62,15 +66,19 @@ abbrev pub EndsProof : DossierRows → Option Unproved → List ℕ → Exit →
 EndsProof d None whole exit text = IsReply Done whole exit text
 EndsProof d (Some why) whole exit text = IsUnproved d why exit text
 
--- a text that is no chain has one line; else the days of the chain are tested, from the first evening on
-abbrev pub EndsCheck : DossierRows → Option DatedTerms → List CallOrder → Result Chain ChainFault → Exit → List ℕ → Type 0
+-- a text that is no chain has one line; else the days of the chain are tested, from the first
+-- evening on
+abbrev pub EndsCheck : DossierRows → Option DatedTerms → List CallOrder → Result Chain ChainFault
+    → Exit → List ℕ → Type 0
 EndsCheck d dated orders (Err fault) = IsReply NotProved (chain_fault_text fault ++ 10 ∷ [])
 EndsCheck d dated orders (Ok chain) =
     EndsProof d (why_none (terms_in dated) orders 1 (first_evening d) chain.days)
-    (proved_text (length chain.days) (evening_after (terms_in dated) orders 1 (first_evening d) chain.days) dated)
+    (proved_text (length chain.days)
+    (evening_after (terms_in dated) orders 1 (first_evening d) chain.days) dated)
 
 -- how a run ends whose chain slot has these bytes
-abbrev pub IsChecked : DossierRows → List ℕ → Option DatedTerms → List CallOrder → Exit → List ℕ → Type 0
+abbrev pub IsChecked : DossierRows → List ℕ → Option DatedTerms → List CallOrder → Exit
+    → List ℕ → Type 0
 IsChecked d bytes dated orders = EndsCheck d dated orders (read bytes)
 
 -- a chain that is handed in proves its days
@@ -78,13 +86,15 @@ abbrev pub HasProof : Job → Type 0
 HasProof job =
     (orders : List CallOrder)
     → AreCallOrders (dossier job).groups orders
-    → (chain : Chain) × (evening : State) × (read job.chain ≡ Ok chain) × AreProvedDays (terms_of job) orders 1 (first_evening (dossier job)) chain.days evening
+    → (chain : Chain) × (evening : State) × (read job.chain ≡ Ok chain)
+    × AreProvedDays (terms_of job) orders 1 (first_evening (dossier job)) chain.days evening
 
 abbrev pub HandsInProof : Mode → Job → Type 0
 HandsInProof Check job = HasProof job
 HandsInProof _ job = Unit {0}
 
--- nothing that is handed in keeps a job from being done: each answer fits, and the chain proves its days
+-- nothing that is handed in keeps a job from being done: each answer fits, and the chain proves its
+-- days
 pub record CanBeDone (job : Job) : Type 0 where
   pub fits : FitsAnswers job
   pub proves : HandsInProof job.request.mode job

@@ -46,14 +46,18 @@ IsDoneSaying IsText exit text = (exit ≡ Done) × IsText text
 -- how each mode ends once all its days have led to a desk
 abbrev pub IsEndOf : Mode → Seen → Played → DeskStates → Exit → List ℕ → Type 0
 IsEndOf Order seen played desk = IsDoneWith (orders_text seen.dossier.groups played.orders)
-IsEndOf Replay seen played desk = IsDoneWith (replay_text seen.dossier seen.dated played.orders played.days desk.present)
+IsEndOf Replay seen played desk =
+    IsDoneWith (replay_text seen.dossier seen.dated played.orders played.days desk.present)
 IsEndOf Chain seen played desk = IsDoneWith (chain_text seen.dossier played.days)
 IsEndOf Check seen played desk = IsChecked seen.dossier seen.chain seen.dated played.orders
-IsEndOf (Explain wish) seen played desk = IsDoneSaying (IsExplained seen.dossier seen.index played.orders played.days desk wish)
+IsEndOf (Explain wish) seen played desk =
+    IsDoneSaying (IsExplained seen.dossier seen.index played.orders played.days desk wish)
 IsEndOf Envy seen played desk = IsDoneWith (blocked_text desk.present played.orders)
-IsEndOf (Beds school) seen played desk = IsDoneSaying (TellsFigures seen.dossier seen.index played.orders played.days desk school)
+IsEndOf (Beds school) seen played desk =
+    IsDoneSaying (TellsFigures seen.dossier seen.index played.orders played.days desk school)
 IsEndOf Market seen played desk = IsDoneSaying (TellsMarket seen.dossier played.orders)
-IsEndOf (Sample number) seen played desk = IsDoneWith (sample_text number (length seen.dossier.wishes) played.days desk.present)
+IsEndOf (Sample number) seen played desk =
+    IsDoneWith (sample_text number (length seen.dossier.wishes) played.days desk.present)
 
 -- what a mode writes before the refusal of an answer that does not fit
 abbrev pub lines_before : Mode → Seen → Played → List ℕ
@@ -67,20 +71,24 @@ IsRefusedWith refusal before exit text = (exit ≡ Refused) × (text ≡ before 
 -- how a run ends after its days
 abbrev pub EndsWith : Result DeskStates Refusal → Seen → Played → Exit → List ℕ → Type 0
 EndsWith (Ok desk) seen played = IsEndOf seen.request.mode seen played desk
-EndsWith (Err refusal) seen played = IsRefusedWith refusal (lines_before seen.request.mode seen played)
+EndsWith (Err refusal) seen played =
+    IsRefusedWith refusal (lines_before seen.request.mode seen played)
 
 -- the days of a job, as many as are asked for, with these pickers
 abbrev pub AreDaysOf : Job → Lent → Played → Lent → Type 0
 AreDaysOf job = IsPlayed (dossier job) (terms_of job) (days_of job.request) job.request.picker
 
--- what an ending rests on: the request is one that was read, its terms and what it names are those of the dossier, and
--- the days are those that it asks for, with pickers that stood somehow before and after them
+-- what an ending rests on: the request is one that was read, its terms and what it names are those
+-- of the dossier, and the days are those that it asks for, with pickers that stood somehow before
+-- and after them
 pub record CanEnd (seen : Seen) (played : Played) : Type 0 where
   pub request : IsRequest seen.request
   pub dated : IfSome seen.dated (AreDatedFor seen.dossier)
   pub named : NamesIn seen.request.mode seen.index
   pub index : seen.index ≡ ids_in seen.dossier
-  pub plays : (before : Lent) × (after : Lent) × IsPlayed seen.dossier (terms_in seen.dated) (days_of seen.request) seen.request.picker before played after
+  pub plays : (before : Lent) × (after : Lent)
+      × IsPlayed seen.dossier (terms_in seen.dated) (days_of seen.request) seen.request.picker
+      before played after
 
 -- what all modes may use once the days have led to a desk
 pub record CanBeEnded (seen : Seen) (played : Played) (desk : DeskStates) : Type 0 where
@@ -96,19 +104,26 @@ pub record CanBeEnded (seen : Seen) (played : Played) (desk : DeskStates) : Type
   pub idle : days_of seen.request ≡ 0 → desk.present ≡ first_evening seen.dossier
 
 -- how a mode ends that is lent a picker, which is there again afterwards
-pub record EndsLent {E : Type 0} (seen : Seen) (played : Played) (desk : DeskStates) (before after : Asked) (result : Result Reply E) : Type 0 where
-  pub ends : IfOk result (λ reply. IsEndOf seen.request.mode seen played desk reply.exit reply.text.items)
-  pub picks : IfOk result (λ reply. TellsPicks (ArePicks seen.request.mode seen played desk before) before.told after.told)
+pub record EndsLent {E : Type 0} (seen : Seen) (played : Played) (desk : DeskStates)
+    (before after : Asked) (result : Result Reply E) : Type 0 where
+  pub ends : IfOk result
+      (λ reply. IsEndOf seen.request.mode seen played desk reply.exit reply.text.items)
+  pub picks : IfOk result
+      (λ reply. TellsPicks (ArePicks seen.request.mode seen played desk before)
+      before.told after.told)
   pub told : TellsMore before.told after.told
   pub choice : after.choice ≡ before.choice
 
--- how a run ends after its days, with the pickers as they stand between the days and the ending, and afterwards
-pub record EndsAfter {E : Type 0} (end : Result DeskStates Refusal) (seen : Seen) (played : Played) (between after : Lent) (result : Result Reply E) : Type 0 where
+-- how a run ends after its days, with the pickers as they stand between the days and the ending,
+-- and afterwards
+pub record EndsAfter {E : Type 0} (end : Result DeskStates Refusal) (seen : Seen) (played : Played)
+    (between after : Lent) (result : Result Reply E) : Type 0 where
   pub ends : IfOk result (λ reply. EndsWith end seen played reply.exit reply.text.items)
   pub tells : IfOk result (λ reply. TellsAfter end seen played between after)
   pub lends : IsLent (picker_after seen.request) between after
 
--- a job's days were played with these pickers, and the run ends by its mode, with the pickers as they stand between the two
+-- a job's days were played with these pickers, and the run ends by its mode, with the pickers as
+-- they stand between the two
 pub record IsEnding (job : Job) (before after : Lent) (exit : Exit) (text : List ℕ) : Type 0 where
   pub played : Played
   pub between : Lent

@@ -10,8 +10,10 @@ use Rattle.explain.specs.Sayings.{Explains}
 use Rattle.played.specs.LastDays.{IsLastOf, pass_on}
 use Rattle.report.specs.ExplainText.{explain_text}
 
--- the line of the wish of this id: its one explanation in the evening of the last day, after that day's last pass
-pub record IsExplained (d : DossierRows) (ids : Ids) (orders : List CallOrder) (days : List DayRecord) (desk : DeskStates) (wish : ℕ) (text : List ℕ) : Type 0 where
+-- the line of the wish of this id: its one explanation in the evening of the last day, after that
+-- day's last pass
+pub record IsExplained (d : DossierRows) (ids : Ids) (orders : List CallOrder)
+    (days : List DayRecord) (desk : DeskStates) (wish : ℕ) (text : List ℕ) : Type 0 where
   pub place : ℕ
   pub is_place : position (nat_eq wish) ids.wishes ≡ Some place
   pub day : DayRecord

@@ -56,17 +56,33 @@ pub record Seen : Type 0 where
   pub dated : Option DatedTerms
 
 abbrev pub seen_by : Request → Input → Option DatedTerms → Seen
-seen_by request input dated = record { request = request; dossier = input.dossier; index = input.index; chain = input.chain; dated = dated }
+seen_by request input dated =
+    record {
+      request = request;
+      dossier = input.dossier;
+      index = input.index;
+      chain = input.chain;
+      dated = dated;
+    }
 
 abbrev pub seen_of : Job → Seen
-seen_of job = record { request = job.request; dossier = dossier job; index = ids_of job.tables; chain = job.chain; dated = dated_of job }
+seen_of job =
+    record {
+      request = job.request;
+      dossier = dossier job;
+      index = ids_of job.tables;
+      chain = job.chain;
+      dated = dated_of job;
+    }
 
 -- the first days of a job's campaign, and the evening of the last of them
-pub record AreDays (job : Job) (orders : List CallOrder) (days : List DayRecord) (evening : State) : Type 0 where
+pub record AreDays (job : Job) (orders : List CallOrder) (days : List DayRecord)
+    (evening : State) : Type 0 where
   pub called : AreCallOrders (dossier job).groups orders
   pub run : Days (terms_of job) orders 1 (first_evening (dossier job)) days evening
 
--- each answer fits on each day that is run: after days of the job no answer of the next day is unfit
+-- each answer fits on each day that is run: after days of the job no answer of the next day is
+-- unfit
 abbrev pub FitsAnswers : Job → Type 0
 FitsAnswers job =
     (orders : List CallOrder) (days : List DayRecord) (evening : State)

@@ -1,4 +1,5 @@
--- The mode `market`: the dossier's market, and its stable matching that is best for every candidate.
+-- The mode `market`: the dossier's market, and its stable matching that is best for every
+-- candidate.
 use Rattle.std.specs.Prelude.{◌≡◌, ℕ, ◌++◌, List, Option}
 use Rattle.admit_core.specs.DossierRows.{DossierRows}
 use Rattle.admit_core.specs.Falls.{IsGreatest}
@@ -9,8 +10,8 @@ use Rattle.stable_market.specs.Matchings.{IsBestForAll, IsStable}
 use Rattle.stable_market.specs.Solving.{IsLedTo}
 use Rattle.stable_market.specs.Text.{market_text}
 
--- the text tells the greatest bars of the dossier's market, and a stable matching in which each candidate has the best
--- programme that they have in any
+-- the text tells the greatest bars of the dossier's market, and a stable matching in which each
+-- candidate has the best programme that they have in any
 pub record TellsMarket (d : DossierRows) (orders : List CallOrder) (text : List ℕ) : Type 0 where
   pub bars : List ℕ
   pub places : List (Option ℕ)
@@ -20,6 +21,7 @@ pub record TellsMarket (d : DossierRows) (orders : List CallOrder) (text : List 
   pub is_text : text ≡ market_text d (candidates_of d) bars places
 
 -- a picker told of the programmes whose bars fell to the greatest, each of which it chose
-pub record PicksForMarket (d : DossierRows) (orders : List CallOrder) (choice : List ℕ → List ℕ → ℕ) (told picks : List ℕ) : Type 0 where
+pub record PicksForMarket (d : DossierRows) (orders : List CallOrder) (choice : List ℕ → List ℕ → ℕ)
+    (told picks : List ℕ) : Type 0 where
   pub bars : List ℕ
   pub led : IsLedTo (market_system (market_of d orders)) choice told (told ++ picks) bars

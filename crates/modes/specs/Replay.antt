@@ -23,11 +23,13 @@ final_lines s (Some dated) = final_dated_text s dated.start dated.terms.before
 abbrev pub days_text : DossierRows → Option DatedTerms → List CallOrder → List DayRecord → List ℕ
 days_text d dated orders days = orders_text d.groups orders ++ flat_map (day_lines d dated) days
 
-abbrev pub replay_text : DossierRows → Option DatedTerms → List CallOrder → List DayRecord → State → List ℕ
+abbrev pub replay_text : DossierRows → Option DatedTerms → List CallOrder → List DayRecord
+    → State → List ℕ
 replay_text d dated orders days evening = days_text d dated orders days ++ final_lines evening dated
 
 -- the places of a day are those of the dossier, and the dates of its lapses can be written
-pub record CanBeWritten (d : DossierRows) (dated : Option DatedTerms) (day : DayRecord) : Type 0 where
+pub record CanBeWritten (d : DossierRows) (dated : Option DatedTerms)
+    (day : DayRecord) : Type 0 where
   pub passes : All (IsPassOf d) day.passes
   pub lapses : IfSome dated (λ x. All (IsLapseOf d x.start x.terms.term) day.lapsed)
 

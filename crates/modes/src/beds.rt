@@ -45,7 +45,8 @@ fn figures_text(
 
     ensures text { IfOk result (λ text. (figures : Figures)
         × IsTextOf dossier.now opening.now orders.now.orders ceilings.now place figures text.items
-        × TellsOfFigures opening.now orders.now.orders ceilings.now place figures.need (choice picker.old) (told picker.old) (told picker.new)) }
+        × TellsOfFigures opening.now orders.now.orders ceilings.now place figures.need
+        (choice picker.old) (told picker.old) (told picker.new)) }
     ensures early { TellsMore (told picker.old) (told picker.new) }
     ensures choice { choice picker.new ≡ choice picker.old }
 {
@@ -76,7 +77,8 @@ pub(crate) fn school_text(
     ensures only { IfOk result (λ text. IsOnlyText
         input.now.dossier input.now.index orders.now.orders days.now desk.now school text.items) }
     ensures picks { IfOk result (λ text. TellsPicks
-        (PicksForFigures input.now.dossier input.now.index orders.now.orders days.now desk.now school (choice picker.old) (told picker.old))
+        (PicksForFigures input.now.dossier input.now.index orders.now.orders days.now desk.now
+        school (choice picker.old) (told picker.old))
         (told picker.old) (told picker.new)) }
     ensures early { TellsMore (told picker.old) (told picker.new) }
     ensures choice { choice picker.new ≡ choice picker.old }

@@ -44,7 +44,8 @@ fn check_morning<'d>(
 
     ensures found { TellsWhy result (option_map (λ x. whys.Rejected x.0 x.1)
         (day_fault orders.now.orders ceilings.now day state.old chain.now)) }
-    ensures valid { OnOk result (IsDayChain orders.now.orders ceilings.now day state.old chain.now state.new) }
+    ensures valid { OnOk result (IsDayChain orders.now.orders ceilings.now day state.old
+        chain.now state.new) }
     ensures school { IfErr result (KeepsIn (length state.old.dossier.schools)) }
 {
     match check_day(alloc, index, orders, state, ceilings, day, chain)? {
@@ -68,11 +69,14 @@ fn check_next(
 ) -> Result<(), Unproved>
     requires index { index.now ≡ ids_in state.old.dossier }
     requires orders { AreCallOrders state.old.dossier.groups orders.now.orders }
-    requires terms { IfSome (option_copied terms) (λ t. length t.before ≡ length state.old.dossier.wishes) }
+    requires terms { IfSome (option_copied terms)
+        (λ t. length t.before ≡ length state.old.dossier.wishes) }
     requires passes { length chain.now.passes < 2 ^ 32 }
 
-    ensures found { TellsWhy result (why_not (option_copied terms.entry) orders.now.orders day state.old chain.now) }
-    ensures evening { OnOk result (state.new ≡ evening_by (option_copied terms.entry) orders.now.orders day state.old chain.now) }
+    ensures found { TellsWhy result (why_not (option_copied terms.entry) orders.now.orders day
+        state.old chain.now) }
+    ensures evening { OnOk result (state.new ≡ evening_by (option_copied terms.entry)
+        orders.now.orders day state.old chain.now) }
     ensures dossier { OnOk result (state.new.dossier ≡ state.old.dossier) }
     ensures stamps { OnOk result (KeepsStamps day state.old state.new) }
     ensures school { IfErr result (KeepsIn (length state.old.dossier.schools)) }
@@ -93,14 +97,18 @@ fn check_days(
 ) -> Result<(), Unproved>
     requires index { index.now ≡ ids_in state.old.dossier }
     requires orders { AreCallOrders state.old.dossier.groups orders.now.orders }
-    requires terms { IfSome (option_copied terms) (λ t. length t.before ≡ length state.old.dossier.wishes) }
+    requires terms { IfSome (option_copied terms)
+        (λ t. length t.before ≡ length state.old.dossier.wishes) }
     requires days { length days.now ≤ 366 }
     requires passes { All (λ day. length day.passes < 2 ^ 32) days.now }
 
-    ensures found { TellsWhy result (why_none (option_copied terms.entry) orders.now.orders 1 state.old days.now) }
-    ensures evening { OnOk result (state.new ≡ evening_after (option_copied terms.entry) orders.now.orders 1 state.old days.now) }
+    ensures found { TellsWhy result (why_none (option_copied terms.entry) orders.now.orders 1
+        state.old days.now) }
+    ensures evening { OnOk result (state.new ≡ evening_after (option_copied terms.entry)
+        orders.now.orders 1 state.old days.now) }
     ensures dossier { OnOk result (state.new.dossier ≡ state.old.dossier) }
-    ensures stamps { OnOk result (All (IsStampedBy 366) state.old.marks → All (IsStampedBy 366) state.new.marks) }
+    ensures stamps { OnOk result (All (IsStampedBy 366) state.old.marks → All (IsStampedBy 366)
+        state.new.marks) }
     ensures school { IfErr result (KeepsIn (length state.old.dossier.schools)) }
 {
     for (place, chain) in days.iter().enumerate() {
@@ -117,7 +125,8 @@ fn proved_text(
     dated: Option<&DatedTerms>,
 ) -> Result<Vec<u8>, OutOfMemory>
     requires { CanBeDated (option_copied dated) evening.now }
-    ensures { IfOk result (λ text. text.items ≡ proved_text number evening.now (option_copied dated.entry)) }
+    ensures { IfOk result (λ text. text.items ≡ proved_text number evening.now
+        (option_copied dated.entry)) }
 {
     let mut text = String::new(alloc);
     writeln!(text, "proved {number}")?;
@@ -164,9 +173,11 @@ fn check_chain(
     requires passes { All (λ day. length day.passes < 2 ^ 32) days.now }
 
     ensures { IfOk result (λ reply. EndsProof input.now.dossier
-        (why_none (terms_in (option_copied dated.entry)) orders.now.orders 1 (first_evening input.now.dossier) days.now)
+        (why_none (terms_in (option_copied dated.entry)) orders.now.orders 1
+        (first_evening input.now.dossier) days.now)
         (proved_text (length days.now)
-        (evening_after (terms_in (option_copied dated.entry)) orders.now.orders 1 (first_evening input.now.dossier) days.now)
+        (evening_after (terms_in (option_copied dated.entry)) orders.now.orders 1
+        (first_evening input.now.dossier) days.now)
         (option_copied dated.entry))
         reply.exit reply.text.items) }
 {
@@ -184,8 +195,8 @@ fn check_chain(
     }
 }
 
-/// Reads the chain that is handed in, tests its days from the first evening on, and replies. No picker
-/// is asked.
+/// Reads the chain that is handed in, tests its days from the first evening on, and replies. No
+/// picker is asked.
 pub(crate) fn checked(
     alloc: Global,
     input: &Input,

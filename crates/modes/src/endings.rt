@@ -198,7 +198,8 @@ fn ended(
 
 /// A run that ends with an answer that does not fit, after these lines.
 fn refused(alloc: Global, before: Vec<u8>, refusal: Refusal) -> Result<Reply, OutOfMemory>
-    ensures { IfOk result (λ reply. IsRefusedWith refusal before.items reply.exit reply.text.items) }
+    ensures { IfOk result (λ reply. IsRefusedWith refusal before.items reply.exit
+        reply.text.items) }
 {
     let mut text = before;
     text.extend_from_slice(&refusal_text(alloc, refusal)?)?;
@@ -283,8 +284,16 @@ fn ended_lent(
     ensures there { IsSome place.new }
     ensures ends { EndsLent
         (seen_by request.now input.now (option_copied dated.entry)) (led_by led.now) led.now.desk
-        (record { told = told_in (λ p. told p) place.old; choice = choice_in (λ p. choice p) place.old })
-        (record { told = told_in (λ p. told p) place.new; choice = choice_in (λ p. choice p) place.new }) result }
+        (record {
+          told = told_in (λ p. told p) place.old;
+          choice = choice_in
+              (λ p. choice p) place.old;
+        })
+        (record {
+          told = told_in (λ p. told p) place.new;
+          choice = choice_in (λ p. choice p)
+              place.new;
+        }) result }
 {
     let Some(mut picker) = place.take() else {
         unreachable!()
@@ -309,7 +318,8 @@ fn ended_by(
     ensures there { AreThere pickers.new }
     ensures ends { EndsAfter (Ok led.entry.desk)
         (seen_by request.now input.now (option_copied dated.entry)) (led_by led.entry)
-        (standing (λ p. told p) (λ p. choice p) pickers.old) (standing (λ p. told p) (λ p. choice p) pickers.new) result }
+        (standing (λ p. told p) (λ p. choice p) pickers.old)
+        (standing (λ p. told p) (λ p. choice p) pickers.new) result }
 {
     match picker_after(request) {
         None => ended(alloc, request, input, dated, led),
@@ -342,8 +352,13 @@ pub fn ending(
     ensures there { AreThere pickers.new }
     ensures ends { EndsAfter played.entry.end
         (seen_by request.now input.now (option_copied dated.entry))
-        (record { orders = played.entry.orders.orders; days = played.entry.days.items; end = played.entry.end })
-        (standing (λ p. told p) (λ p. choice p) pickers.old) (standing (λ p. told p) (λ p. choice p) pickers.new) result }
+        (record {
+          orders = played.entry.orders.orders;
+          days = played.entry.days.items;
+          end = played.entry.end;
+        })
+        (standing (λ p. told p) (λ p. choice p) pickers.old)
+        (standing (λ p. told p) (λ p. choice p) pickers.new) result }
 {
     let Played { orders, days, end } = played;
     match end {

@@ -70,7 +70,8 @@ pub(crate) fn days_text(
     days: &[DayRecord],
 ) -> Result<Vec<u8>, OutOfMemory>
     requires { All (CanBeWritten dossier.now (option_copied dated)) days.now }
-    ensures { IfOk result (λ text. text.items ≡ days_text dossier.now (option_copied dated.entry) orders.now days.now) }
+    ensures { IfOk result (λ text. text.items ≡ days_text dossier.now (option_copied dated.entry)
+        orders.now days.now) }
 {
     let mut text = String::new(alloc);
     push_days(&mut text, dossier, dated, orders, days)?;
@@ -88,7 +89,8 @@ pub(crate) fn replay_text(
 ) -> Result<Vec<u8>, OutOfMemory>
     requires days { All (CanBeWritten dossier.now (option_copied dated)) days.now }
     requires offers { CanBeDated (option_copied dated) evening.now }
-    ensures { IfOk result (λ text. text.items ≡ replay_text dossier.now (option_copied dated.entry) orders.now days.now evening.now) }
+    ensures { IfOk result (λ text. text.items ≡ replay_text dossier.now (option_copied dated.entry)
+        orders.now days.now evening.now) }
 {
     let mut text = String::new(alloc);
     push_days(&mut text, dossier, dated, orders, days)?;
