@@ -16,7 +16,8 @@ IsMarked s = length s.marks ≡ length s.dossier.wishes
 -- two states of one dossier in which a candidate's own wishes have the same marks
 pub record SameOwnMarks (c : ℕ) (s t : State) : Type 0 where
   pub dossier : t.dossier ≡ s.dossier
-  pub each : (place : ℕ) → place < length s.dossier.wishes → candidate_at s place ≡ c → mark_at s place ≡ mark_at t place
+  pub each : (place : ℕ) → place < length s.dossier.wishes → candidate_at s place ≡ c
+      → mark_at s place ≡ mark_at t place
 
 -- what becomes of a candidate's wishes depends on their own wishes alone
 abbrev pub OwnWishesDecide : Type 0
@@ -32,12 +33,14 @@ MayBeExchanged =
 
 -- the automatic answers of all do to each candidate's wishes what their own alone does
 abbrev pub AllIsEachAlone : Type 0
-AllIsEachAlone = (c : ℕ) (s : State) (stamp : Stamp) → IsMarked s → SameOwnMarks c (auto_one s c stamp) (auto_all s stamp)
+AllIsEachAlone = (c : ℕ) (s : State) (stamp : Stamp) → IsMarked s
+    → SameOwnMarks c (auto_one s c stamp) (auto_all s stamp)
 
 -- who has been answered for is not answered for again
 abbrev pub OnceIsEnough : Type 0
 OnceIsEnough =
-    (s : State) (stamp again : Stamp) → IsMarked s → auto_all (auto_all s stamp) again ≡ auto_all s stamp
+    (s : State) (stamp again : Stamp) → IsMarked s
+    → auto_all (auto_all s stamp) again ≡ auto_all s stamp
 
 -- two states in which whoever has none of the wishes at these places has the same marks
 abbrev pub SameOthers : List ℕ → State → State → Type 0

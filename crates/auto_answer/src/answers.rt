@@ -59,7 +59,8 @@ pub fn auto_some(state: &mut DayState<'_>, places: &[u32], stamp: Stamp) -> Free
 /// Whether no later wish is of the same candidate, so that each candidate is answered for once.
 fn is_last_wish(state: &DayState<'_>, place: u32) -> bool
     requires { place < length state.now.dossier.wishes }
-    ensures { result ≡ not (is_among (candidate_of state.now.dossier place) (drop (place + 1) (wishers state.now.dossier))) }
+    ensures { result ≡ not (is_among (candidate_of state.now.dossier place)
+        (drop (place + 1) (wishers state.now.dossier))) }
 {
     state.own_wishes_beside(place).last().copied() == Some(place)
 }

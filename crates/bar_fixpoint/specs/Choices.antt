@@ -11,4 +11,5 @@ last_of places = slice_index places (length places - 1)
 
 -- the least place greater than the last one told; the first where none was told or none is greater
 abbrev pub turn_of : List ℕ → List ℕ → ℕ
-turn_of told places = if length told == 0 then first_of places else unwrap_or (find (nat_lt (last_of told)) places) (first_of places)
+turn_of told places = if length told == 0 then first_of places
+    else unwrap_or (find (nat_lt (last_of told)) places) (first_of places)

@@ -9,10 +9,12 @@ use Rattle.bar_law.specs.Runs.{schools_of}
 abbrev pub AreChosen : FallingSystem → (List ℕ → List ℕ → ℕ) → List ℕ → List ℕ → List Fall → Type 0
 AreChosen sys choice told bars [] = ⊤
 AreChosen sys choice told bars (f ∷ fs) =
-    (f.school ≡ choice told (all_overfilled sys bars)) × AreChosen sys choice (told ++ f.school ∷ []) (fallen bars f) fs
+    (f.school ≡ choice told (all_overfilled sys bars))
+    × AreChosen sys choice (told ++ f.school ∷ []) (fallen bars f) fs
 
 -- one fall: the place that the picker chose and told of
-pub record PickedFall (sys : FallingSystem) (choice : List ℕ → List ℕ → ℕ) (told bars : List ℕ) (f : Fall) (told_after after : List ℕ) : Type 0 where
+pub record PickedFall (sys : FallingSystem) (choice : List ℕ → List ℕ → ℕ) (told bars : List ℕ)
+    (f : Fall) (told_after after : List ℕ) : Type 0 where
   pub overfilled : IsTrue (is_overfilled sys bars f.school)
   pub is_fall : f ≡ fall_of sys bars f.school
   pub bars_fell : after ≡ fallen bars f
@@ -20,18 +22,23 @@ pub record PickedFall (sys : FallingSystem) (choice : List ℕ → List ℕ → 
   pub told_of : told_after ≡ told ++ f.school ∷ []
 
 -- a picker told of the overfilled place that it chose
-pub record TellsOne (sys : FallingSystem) (choice : List ℕ → List ℕ → ℕ) (bars told told_after : List ℕ) : Type 0 where
+pub record TellsOne (sys : FallingSystem) (choice : List ℕ → List ℕ → ℕ)
+    (bars told told_after : List ℕ) : Type 0 where
   pub place : ℕ
   pub overfilled : IsTrue (is_overfilled sys bars place)
   pub chosen : place ≡ choice told (all_overfilled sys bars)
   pub told_of : told_after ≡ told ++ place ∷ []
 
 -- a picker told of one place more, or of none
-abbrev pub TellsAtMostOne : FallingSystem → (List ℕ → List ℕ → ℕ) → List ℕ → List ℕ → List ℕ → Type 0
-TellsAtMostOne sys choice bars told told_after = (told_after ≡ told) ⊎ TellsOne sys choice bars told told_after
+abbrev pub TellsAtMostOne : FallingSystem → (List ℕ → List ℕ → ℕ)
+    → List ℕ → List ℕ → List ℕ → Type 0
+TellsAtMostOne sys choice bars told told_after =
+    (told_after ≡ told) ⊎ TellsOne sys choice bars told told_after
 
--- falls from the ceilings led to these bars, and the picker told of each, and perhaps of one that was yet to fall
-pub record EndsEarly (sys : FallingSystem) (choice : List ℕ → List ℕ → ℕ) (told told_after after : List ℕ) : Type 0 where
+-- falls from the ceilings led to these bars, and the picker told of each, and perhaps of one
+-- that was yet to fall
+pub record EndsEarly (sys : FallingSystem) (choice : List ℕ → List ℕ → ℕ)
+    (told told_after after : List ℕ) : Type 0 where
   pub falls : List Fall
   pub are_falls : AreFalls sys sys.ceilings falls
   pub chosen : AreChosen sys choice told sys.ceilings falls
@@ -40,4 +47,5 @@ pub record EndsEarly (sys : FallingSystem) (choice : List ℕ → List ℕ → �
 
 -- what a picker told where falls from the ceilings ended early, over whatever bars
 abbrev pub TellsOfFalls : FallingSystem → (List ℕ → List ℕ → ℕ) → List ℕ → List ℕ → Type 0
-TellsOfFalls sys choice told told_after = (bars : List ℕ) × EndsEarly sys choice told told_after bars
+TellsOfFalls sys choice told told_after =
+    (bars : List ℕ) × EndsEarly sys choice told told_after bars

@@ -24,14 +24,19 @@ pub fn greatest<F: Falling, L: Ledger>(
 
     ensures greatest { OnOk result (IsGreatest (F.system system.old) (F.bars system.new)) }
     ensures run { IfOk result (λ falls. IsRun (F.system system.old) falls.items) }
-    ensures bars { IfOk result (λ falls. F.bars system.new ≡ bars_after (F.system system.old).ceilings falls.items) }
-    ensures few { IfOk result (λ falls. length falls.items + sum (F.bars system.new) ≤ sum (F.system system.old).ceilings) }
+    ensures bars { IfOk result (λ falls.
+        F.bars system.new ≡ bars_after (F.system system.old).ceilings falls.items) }
+    ensures few { IfOk result (λ falls. length falls.items + sum (F.bars system.new)
+        ≤ sum (F.system system.old).ceilings) }
 
-    ensures told { IfOk result (λ falls. told picker.new ≡ told picker.old ++ schools_of falls.items) }
-    ensures chosen { IfOk result (λ falls. AreChosen (F.system system.old) (choice picker.old) (told picker.old) (F.system system.old).ceilings falls.items) }
+    ensures told { IfOk result (λ falls.
+        told picker.new ≡ told picker.old ++ schools_of falls.items) }
+    ensures chosen { IfOk result (λ falls. AreChosen (F.system system.old) (choice picker.old)
+        (told picker.old) (F.system system.old).ceilings falls.items) }
 
     ensures above { OnErr result (AreAboveAllThatFit (F.system system.old) (F.bars system.new)) }
-    ensures early { OnErr result (EndsEarly (F.system system.old) (choice picker.old) (told picker.old) (told picker.new) (F.bars system.new)) }
+    ensures early { OnErr result (EndsEarly (F.system system.old) (choice picker.old)
+        (told picker.old) (told picker.new) (F.bars system.new)) }
 
     ensures same { F.system system.new ≡ F.system system.old }
     ensures offers { F.offers system.new ≡ F.offers system.old }
@@ -52,11 +57,16 @@ fn fall_once<F: Falling, L: Ledger>(
     steps: &mut Steps<L>,
 ) -> Result<Option<Fall>, OutOfMemory>
     requires { IsAtMost (F.bars system.old) (F.system system.old).ceilings }
-    ensures fall { IfOk result (λ fall. IfSome fall (λ f. PickedFall (F.system system.old) (choice picker.old) (told picker.old) (F.bars system.old) f (told picker.new) (F.bars system.new))) }
-    ensures settled { IfOk result (λ fall. IfNone fall (IsTrue (is_settled (F.system system.old) (F.bars system.old)))) }
-    ensures rest { IfOk result (λ fall. IfNone fall ((F.bars system.new ≡ F.bars system.old) × (told picker.new ≡ told picker.old))) }
+    ensures fall { IfOk result (λ fall.
+        IfSome fall (λ f. PickedFall (F.system system.old) (choice picker.old)
+        (told picker.old) (F.bars system.old) f (told picker.new) (F.bars system.new))) }
+    ensures settled { IfOk result (λ fall.
+        IfNone fall (IsTrue (is_settled (F.system system.old) (F.bars system.old)))) }
+    ensures rest { IfOk result (λ fall. IfNone fall
+        ((F.bars system.new ≡ F.bars system.old) × (told picker.new ≡ told picker.old))) }
     ensures err { OnErr result (F.bars system.new ≡ F.bars system.old) }
-    ensures told { OnErr result (TellsAtMostOne (F.system system.old) (choice picker.old) (F.bars system.old) (told picker.old) (told picker.new)) }
+    ensures told { OnErr result (TellsAtMostOne (F.system system.old) (choice picker.old)
+        (F.bars system.old) (told picker.old) (told picker.new)) }
     ensures same { F.system system.new ≡ F.system system.old }
     ensures offers { F.offers system.new ≡ F.offers system.old }
     ensures choice { choice picker.new ≡ choice picker.old }

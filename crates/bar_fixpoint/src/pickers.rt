@@ -16,7 +16,8 @@ impl FirstPicker {
     /// One that has told nothing.
     pub fn new(alloc: Global) -> FirstPicker
         ensures told { ⟦<FirstPicker as Picker>⟧.told result ≡ [] }
-        ensures choice { ⟦<FirstPicker as Picker>⟧.choice result ≡ (λ told places. first_of places) }
+        ensures choice { ⟦<FirstPicker as Picker>⟧.choice result
+            ≡ (λ told places. first_of places) }
     {
         FirstPicker {
             told: Vec::new(alloc),

@@ -21,7 +21,8 @@ impl TiredPicker {
     pub fn new(alloc: Global, at: u64) -> TiredPicker
         requires { 1 ≤ at }
         ensures told { ⟦<TiredPicker as Picker>⟧.told result ≡ [] }
-        ensures choice { ⟦<TiredPicker as Picker>⟧.choice result ≡ (λ told places. first_of places) }
+        ensures choice { ⟦<TiredPicker as Picker>⟧.choice result
+            ≡ (λ told places. first_of places) }
         ensures picks { result.picks ≡ 0 }
         ensures at { result.at ≡ at }
     {
@@ -42,11 +43,15 @@ impl Picker for TiredPicker {
         requires { 0 < length places.now }
         ensures member { IfOk result (Contains places.now) }
         ensures chosen { IfOk result (λ i. i ≡ first_of places.now) }
-        ensures told { IfOk result (λ i. ⟦<TiredPicker as Picker>⟧.told self.new ≡ ⟦<TiredPicker as Picker>⟧.told self.old ++ i ∷ []) }
-        ensures err { OnErr result (⟦<TiredPicker as Picker>⟧.told self.new ≡ ⟦<TiredPicker as Picker>⟧.told self.old) }
-        ensures same { ⟦<TiredPicker as Picker>⟧.choice self.new ≡ ⟦<TiredPicker as Picker>⟧.choice self.old }
+        ensures told { IfOk result (λ i. ⟦<TiredPicker as Picker>⟧.told self.new
+            ≡ ⟦<TiredPicker as Picker>⟧.told self.old ++ i ∷ []) }
+        ensures err { OnErr result
+            (⟦<TiredPicker as Picker>⟧.told self.new ≡ ⟦<TiredPicker as Picker>⟧.told self.old) }
+        ensures same { ⟦<TiredPicker as Picker>⟧.choice self.new
+            ≡ ⟦<TiredPicker as Picker>⟧.choice self.old }
         ensures tired { self.old.picks + 1 ≡ self.old.at → IsErr result }
-        ensures rested { OnErr result ((self.old.picks + 1 ≡ self.old.at) ⊎ (vec_capacity self.old.told ≤ vec_len self.old.told)) }
+        ensures rested { OnErr result ((self.old.picks + 1 ≡ self.old.at)
+            ⊎ (vec_capacity self.old.told ≤ vec_len self.old.told)) }
         ensures picks { self.new.picks ≡ min (self.old.picks + 1) (2 ^ 64 - 1) }
         ensures at { self.new.at ≡ self.old.at }
     {

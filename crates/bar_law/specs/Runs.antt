@@ -13,7 +13,8 @@ AreAboveAllThatFit sys bars = (others : List ℕ) → Fits sys others → IsAtMo
 
 -- every run of falls ends at the greatest bars
 abbrev pub EveryRunEndsAtTheGreatest : Type 0
-EveryRunEndsAtTheGreatest = (sys : FallingSystem) (falls : List Fall) → IsLawful sys → IsRun sys falls → IsGreatest sys (bars_after sys.ceilings falls)
+EveryRunEndsAtTheGreatest = (sys : FallingSystem) (falls : List Fall) → IsLawful sys
+    → IsRun sys falls → IsGreatest sys (bars_after sys.ceilings falls)
 
 -- also where falls end early, no bar is below one of bars that fit
 abbrev pub FallsStayAboveAllThatFit : Type 0
@@ -25,7 +26,8 @@ FallsStayAboveAllThatFit =
 
 -- at most one vector of bars is the greatest
 abbrev pub TheGreatestIsUnique : Type 0
-TheGreatestIsUnique = (sys : FallingSystem) (one other : List ℕ) → IsGreatest sys one → IsGreatest sys other → one ≡ other
+TheGreatestIsUnique = (sys : FallingSystem) (one other : List ℕ) → IsGreatest sys one
+    → IsGreatest sys other → one ≡ other
 
 -- the schools of a run are picks that lead the system, and they fix its falls
 abbrev pub PicksFixTheFalls : Type 0

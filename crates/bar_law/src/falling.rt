@@ -36,7 +36,8 @@ pub trait Falling {
     /// All overfilled places, from the least. A system that keeps count of them answers in less
     /// than this scan, which asks every place.
     fn overfilled(&self, alloc: Global) -> Result<Vec<u32>, OutOfMemory>
-        ensures { IfOk result (λ places. places.items ≡ all_overfilled (system self.now) (bars self.now)) }
+        ensures { IfOk result (λ places.
+            places.items ≡ all_overfilled (system self.now) (bars self.now)) }
     {
         let mut places = Vec::new(alloc);
         for i in 0..self.count() {

@@ -11,4 +11,5 @@ pub record AreCalled (d : DossierRows) (orders : List CallOrder) : Type 0 where
   pub as_many : length orders ≡ length d.groups
   pub each :
       (k : ℕ) → k < length d.wishes
-      → is_among (wish_in d.wishes k).candidate (order_of d orders (wish_in d.wishes k).programme) ≡ true
+      → is_among (wish_in d.wishes k).candidate (order_of d orders (wish_in d.wishes k).programme)
+      ≡ true

@@ -10,7 +10,8 @@ use Rattle.admit_core.specs.Boarding.{name_of}
 
 -- each demanded rank with its name, from the least rank
 abbrev pub demands_of : State → List CallOrder → List ℕ → ℕ → List Demand
-demands_of s orders bars h = map (λ r. record { rank = r; wish = name_of s orders bars h r }) (demanded_ranks s orders bars h)
+demands_of s orders bars h = map (λ r. record { rank = r; wish = name_of s orders bars h r })
+    (demanded_ranks s orders bars h)
 
 -- the wish at a place demands a bed of the school, where it is proposed
 abbrev pub needs_bed : State → ℕ → ℕ → Bool

@@ -7,4 +7,5 @@ use Rattle.admit_core.specs.Proposals.{is_open}
 -- the wish at a place is an open one in a programme
 abbrev pub is_open_at : State → List ℕ → ℕ → ℕ → Bool
 is_open_at s bars p k =
-    is_open s bars (wish_in s.dossier.wishes k) (mark_in s.marks k) && ((wish_in s.dossier.wishes k).programme == p)
+    is_open s bars (wish_in s.dossier.wishes k) (mark_in s.marks k)
+    && ((wish_in s.dossier.wishes k).programme == p)

@@ -54,7 +54,8 @@ fn demands_by_place(
     school: u32,
 ) -> Result<Vec<Demand>, OutOfMemory>
     requires { All (λ k. k < length state.now.dossier.wishes) places.now }
-    ensures { IfOk result (λ v. v.items ≡ map (demand_in state.now.dossier.wishes) (filter (needs_bed state.now school) places.now)) }
+    ensures { IfOk result (λ v. v.items ≡ map (demand_in state.now.dossier.wishes)
+        (filter (needs_bed state.now school) places.now)) }
 {
     let mut demands = Vec::new(alloc);
     for place in places {
@@ -81,7 +82,9 @@ pub fn demands_of(
     school: u32,
 ) -> Result<Vec<Demand>, OutOfMemory>
     requires { All (λ k. k < length state.now.dossier.wishes) places.now }
-    ensures { IfOk result (λ v. (orders : List CallOrder) (bars : List ℕ) → places.now ≡ proposed state.now orders bars → v.items ≡ demands_of state.now orders bars school) }
+    ensures { IfOk result (λ v. (orders : List CallOrder) (bars : List ℕ)
+        → places.now ≡ proposed state.now orders bars
+        → v.items ≡ demands_of state.now orders bars school) }
 {
     let _ = state.marks(); // one for each wish
     let mut demands = demands_by_place(alloc, state, places, school)?;

@@ -33,7 +33,8 @@ pub fn mark_at(state: &DayState<'_>, place: u32) -> Mark
 fn is_behind_bar(state: &DayState<'_>, bars: &[u32], place: u32) -> bool
     requires place { place < length state.now.dossier.wishes }
     requires bars { length bars.now ≡ length state.now.dossier.schools }
-    ensures { result ≡ is_behind_bar state.now bars.now (wish_in state.now.dossier.wishes place) (wish_in state.now.dossier.wishes place).school }
+    ensures { result ≡ is_behind_bar state.now bars.now (wish_in state.now.dossier.wishes place)
+        (wish_in state.now.dossier.wishes place).school }
 {
     let wish = wish_at(state, place);
     match wish.school {
@@ -48,7 +49,8 @@ fn is_behind_bar(state: &DayState<'_>, bars: &[u32], place: u32) -> bool
 pub fn is_open(state: &DayState<'_>, bars: &[u32], place: u32) -> bool
     requires place { place < length state.now.dossier.wishes }
     requires bars { length bars.now ≡ length state.now.dossier.schools }
-    ensures { result ≡ is_open state.now bars.now (wish_in state.now.dossier.wishes place) (mark_in state.now.marks place) }
+    ensures { result ≡ is_open state.now bars.now (wish_in state.now.dossier.wishes place)
+        (mark_in state.now.marks place) }
 {
     mark_at(state, place).is_waiting() && !is_behind_bar(state, bars, place)
 }

@@ -38,9 +38,12 @@ impl<'a, 'd> PlainRound<'a, 'd> {
     ) -> Result<PlainRound<'a, 'd>, OutOfMemory>
         requires orders { AreCallOrders state.now.dossier.groups orders.now.orders }
         requires ceilings { length ceilings.now ≡ length state.now.dossier.schools }
-        ensures system { IfOk result (λ round. ⟦<PlainRound<'a, 'd> as Falling>⟧.system round ≡ boarding state.now orders.now.orders ceilings.now) }
-        ensures bars { IfOk result (λ round. ⟦<PlainRound<'a, 'd> as Falling>⟧.bars round ≡ ceilings.now) }
-        ensures offers { IfOk result (λ round. ⟦<PlainRound<'a, 'd> as Falling>⟧.offers round ≡ proposed state.now orders.now.orders) }
+        ensures system { IfOk result (λ round. ⟦<PlainRound<'a, 'd> as Falling>⟧.system round
+            ≡ boarding state.now orders.now.orders ceilings.now) }
+        ensures bars { IfOk result (λ round.
+            ⟦<PlainRound<'a, 'd> as Falling>⟧.bars round ≡ ceilings.now) }
+        ensures offers { IfOk result (λ round. ⟦<PlainRound<'a, 'd> as Falling>⟧.offers round
+            ≡ proposed state.now orders.now.orders) }
     {
         call_everyone(state, orders);
         let bars = ceilings.to_vec(alloc)?;
@@ -55,8 +58,10 @@ impl<'a, 'd> PlainRound<'a, 'd> {
 
     /// The places of the wishes that are proposed under the present bars, ascending.
     fn proposed(&self, alloc: Global) -> Result<Vec<u32>, OutOfMemory>
-        ensures places { IfOk result (λ v. v.items ≡ proposed self.now.state.now self.now.orders.now.orders self.now.bars.items) }
-        ensures within { IfOk result (λ v. All (λ k. k < length self.now.state.now.dossier.wishes) v.items) }
+        ensures places { IfOk result (λ v. v.items
+            ≡ proposed self.now.state.now self.now.orders.now.orders self.now.bars.items) }
+        ensures within { IfOk result (λ v.
+            All (λ k. k < length self.now.state.now.dossier.wishes) v.items) }
     {
         let _ = self.state.marks(); // one for each wish
         let places = proposed_places(alloc, self.state, self.orders, &self.bars)?;
@@ -71,10 +76,13 @@ impl<'a, 'd> PlainRound<'a, 'd> {
         places: &[u32],
         school: u32,
     ) -> Result<Option<u32>, OutOfMemory>
-        requires places { places.now ≡ proposed self.now.state.now self.now.orders.now.orders self.now.bars.items }
+        requires places { places.now
+            ≡ proposed self.now.state.now self.now.orders.now.orders self.now.bars.items }
         requires within { All (λ k. k < length self.now.state.now.dossier.wishes) places.now }
         requires school { school < length self.now.ceilings.items }
-        ensures { IfOk result (λ over. over ≡ rank_over (boarding self.now.state.now self.now.orders.now.orders self.now.ceilings.items) self.now.bars.items school) }
+        ensures { IfOk result (λ over.
+            over ≡ rank_over (boarding self.now.state.now self.now.orders.now.orders
+            self.now.ceilings.items) self.now.bars.items school) }
     {
         let demands = demands_of(alloc, self.state, places, school)?;
         Ok(rank_at(&demands, beds_left(self.state, school)))
@@ -140,7 +148,8 @@ fn rank_at(demands: &[Demand], place: u32) -> Option<u32>
 
 /// The wishes of the demands whose rank is at most another.
 pub fn names_up_to(alloc: Global, demands: &[Demand], upto: u32) -> Result<Vec<u32>, OutOfMemory>
-    ensures { IfOk result (λ v. v.items ≡ map (λ x. x.wish) (filter (λ x. nat_le x.rank upto) demands.now)) }
+    ensures { IfOk result (λ v.
+        v.items ≡ map (λ x. x.wish) (filter (λ x. nat_le x.rank upto) demands.now)) }
 {
     let names = demands
         .iter()

@@ -22,7 +22,8 @@ fn flag_open(state: &DayState<'_>, bars: &[u32], programme: u32, own: &[u32], fl
     requires own { All (λ k. k < length state.now.dossier.wishes) own.now }
     requires bars { length bars.now ≡ length state.now.dossier.schools }
     requires flags { length flags.old.items ≡ length state.now.dossier.wishes }
-    ensures { SetsAlso (λ k. is_among k own.now && is_open_at state.now bars.now programme k) flags.old.items flags.new.items }
+    ensures { SetsAlso (λ k. is_among k own.now && is_open_at state.now bars.now programme k)
+        flags.old.items flags.new.items }
 {
     for place in own {
         if is_open_at(state, bars, programme, *place) {
@@ -44,7 +45,8 @@ fn visit(
     requires bars { length bars.now ≡ length state.now.dossier.schools }
     requires flags { length flags.old.items ≡ length state.now.dossier.wishes }
     ensures wants { result ≡ wants_seat state.now bars.now programme candidate }
-    ensures flags { SetsAlso (is_served_at state.now bars.now programme candidate is_called) flags.old.items flags.new.items }
+    ensures flags { SetsAlso (is_served_at state.now bars.now programme candidate is_called)
+        flags.old.items flags.new.items }
 {
     let _ = state.marks(); // one for each wish
     let own = state.own_wishes(candidate);
@@ -77,7 +79,8 @@ fn flag_proposed(
     requires orders { AreCalled state.now.dossier orders.now.orders }
     requires bars { length bars.now ≡ length state.now.dossier.schools }
     requires flags { length flags.old.items ≡ length state.now.dossier.wishes }
-    ensures { SetsAlso (is_proposed_at state.now orders.now.orders bars.now programme) flags.old.items flags.new.items }
+    ensures { SetsAlso (is_proposed_at state.now orders.now.orders bars.now programme)
+        flags.old.items flags.new.items }
 {
     let order = order_of(state, orders, programme);
     let limit = limit_of(state, programme);
@@ -93,7 +96,8 @@ fn flag_proposed(
 
 /// One flag for each wish, none of them set.
 fn no_flags(alloc: Global, state: &DayState<'_>) -> Result<Vec<bool>, OutOfMemory>
-    ensures flags { IfOk result (λ flags. flags.items ≡ replicate (length state.now.dossier.wishes) false) }
+    ensures flags { IfOk result (λ flags.
+        flags.items ≡ replicate (length state.now.dossier.wishes) false) }
     ensures few { length state.now.dossier.wishes < 2 ^ 32 }
 {
     let dossier = state.dossier();
@@ -103,7 +107,8 @@ fn no_flags(alloc: Global, state: &DayState<'_>) -> Result<Vec<bool>, OutOfMemor
 /// The number of programmes. Each wish is for one of them.
 pub fn programme_count(state: &DayState<'_>) -> u32
     ensures count { result ≡ length state.now.dossier.programmes }
-    ensures each { (k : ℕ) → k < length state.now.dossier.wishes → (wish_in state.now.dossier.wishes k).programme < result }
+    ensures each { (k : ℕ) → k < length state.now.dossier.wishes
+        → (wish_in state.now.dossier.wishes k).programme < result }
 {
     let dossier = state.dossier();
     dossier.programmes.len() as u32
@@ -118,7 +123,8 @@ fn proposed_flags(
 ) -> Result<Vec<bool>, OutOfMemory>
     requires orders { AreCalled state.now.dossier orders.now.orders }
     requires bars { length bars.now ≡ length state.now.dossier.schools }
-    ensures flags { IfOk result (λ flags. flags.items ≡ proposed_flags state.now orders.now.orders bars.now) }
+    ensures flags { IfOk result (λ flags.
+        flags.items ≡ proposed_flags state.now orders.now.orders bars.now) }
     ensures few { IfOk result (λ flags. length flags.items < 2 ^ 32) }
 {
     let _ = state.marks(); // one for each wish
@@ -133,7 +139,8 @@ fn proposed_flags(
 /// The places that are flagged, ascending.
 fn flagged(alloc: Global, flags: &[bool]) -> Result<Vec<u32>, OutOfMemory>
     requires { length flags.now < 2 ^ 32 }
-    ensures { IfOk result (λ v. v.items ≡ map (λ x. x.0) (filter (λ x. x.1) (enumerate_from 0 flags.now))) }
+    ensures { IfOk result (λ v.
+        v.items ≡ map (λ x. x.0) (filter (λ x. x.1) (enumerate_from 0 flags.now))) }
 {
     let places = flags
         .iter()

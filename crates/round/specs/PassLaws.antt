@@ -1,4 +1,5 @@
--- What holds of every pass: how many candidates become live, where bars are lowered, and how many falls there are.
+-- What holds of every pass: how many candidates become live, where bars are lowered, and how many
+-- falls there are.
 use Rattle.std.specs.Prelude.{◌≡◌, ℕ, ◌<◌, ◌≤◌, not, ◌&&◌, List, length, filter, count_by, max, is_some, slice_index}
 use Rattle.admit_core.specs.declared.ranking.CallOrder.{CallOrder}
 use Rattle.admit_core.specs.declared.records.Fall.{Fall}
@@ -19,24 +20,30 @@ new_seat_holders old new p = filter (λ c. not (holds_seat old c p)) (seat_holde
 abbrev pub new_bed_holders : State → State → ℕ → List ℕ
 new_bed_holders old new h = filter (λ c. not (holds_bed old c h)) (bed_holders new h)
 
--- no programme takes in more candidates than it has seats left, or than its call limit where that is greater
+-- no programme takes in more candidates than it has seats left, or than its call limit where that
+-- is greater
 abbrev pub FitsSeats : State → State → Type 0
-FitsSeats old new = (p : ℕ) → length (new_seat_holders old new p) ≤ max (seats_left old p) (limit_of old.dossier p)
+FitsSeats old new = (p : ℕ)
+    → length (new_seat_holders old new p) ≤ max (seats_left old p) (limit_of old.dossier p)
 
 -- no school takes in more candidates than it has free beds
 abbrev pub FitsBeds : State → State → Type 0
-FitsBeds old new = (h : ℕ) → h < length old.dossier.schools → length (new_bed_holders old new h) ≤ free_beds old h
+FitsBeds old new = (h : ℕ) → h < length old.dossier.schools
+    → length (new_bed_holders old new h) ≤ free_beds old h
 
--- where a bar is below its ceiling, the school takes in exactly as many candidates as it has free beds
+-- where a bar is below its ceiling, the school takes in exactly as many candidates as it has free
+-- beds
 abbrev pub LowersForBeds : State → State → List ℕ → List ℕ → Type 0
-LowersForBeds old new ceilings bars = (h : ℕ) → slice_index bars h < slice_index ceilings h → length (new_bed_holders old new h) ≡ free_beds old h
+LowersForBeds old new ceilings bars = (h : ℕ) → slice_index bars h < slice_index ceilings h
+    → length (new_bed_holders old new h) ≡ free_beds old h
 
 -- how many wishes with a school wait
 abbrev pub waiting_boarders : State → ℕ
 waiting_boarders s = count_by (λ (w, m). is_waiting m && is_some w.school) (entries s)
 
--- what a pass keeps: no programme takes in more than its seats or its call limit, and no school more than its beds;
--- a bar is below its ceiling only where exactly the free beds were taken; and bars fall at most as often as wishes with a school wait
+-- what a pass keeps: no programme takes in more than its seats or its call limit, and no school
+-- more than its beds; a bar is below its ceiling only where exactly the free beds were taken; and
+-- bars fall at most as often as wishes with a school wait
 pub record KeepsPassLaws (old new : State) (ceilings : List ℕ) (pass : PassRecord) : Type 0 where
   pub seats : FitsSeats old new
   pub beds : FitsBeds old new
@@ -54,7 +61,8 @@ OffersFitSeats =
 abbrev pub OffersFitBeds : Type 0
 OffersFitBeds =
     (s : State) (orders : List CallOrder) (ceilings bars : List ℕ) (stamp : Stamp)
-    → IsValid s.dossier → length ceilings ≡ length s.dossier.schools → Fits (boarding s orders ceilings) bars
+    → IsValid s.dossier → length ceilings ≡ length s.dossier.schools
+    → Fits (boarding s orders ceilings) bars
     → FitsBeds s (offered s orders bars stamp)
 
 -- the greatest bars are lowered for beds alone

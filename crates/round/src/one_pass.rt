@@ -35,10 +35,14 @@ pub fn pass(
     requires ceilings { length ceilings.now ≡ length state.old.dossier.schools }
 
     ensures pass { IfOk result (λ found. IsPass state.old orders.now.orders ceilings.now found) }
-    ensures state { IfOk result (λ found. state.new ≡ offered state.old orders.now.orders found.bars stamp) }
+    ensures state { IfOk result (λ found.
+        state.new ≡ offered state.old orders.now.orders found.bars stamp) }
 
-    ensures told { IfOk result (λ found. told picker.new ≡ told picker.old ++ schools_of found.falls) }
-    ensures chosen { IfOk result (λ found. AreChosen (boarding state.old orders.now.orders ceilings.now) (choice picker.old) (told picker.old) ceilings.now found.falls) }
+    ensures told { IfOk result (λ found.
+        told picker.new ≡ told picker.old ++ schools_of found.falls) }
+    ensures chosen { IfOk result (λ found.
+        AreChosen (boarding state.old orders.now.orders ceilings.now) (choice picker.old)
+        (told picker.old) ceilings.now found.falls) }
     ensures choice { choice picker.new ≡ choice picker.old }
 
     // Seats, call limits and beds suffice, bars are lowered for beds alone, and falls are few.
@@ -46,7 +50,8 @@ pub fn pass(
 
     // Memory ran out: nothing was offered, but the picker may have told of schools by then.
     ensures refused { OnErr result (state.new ≡ state.old) }
-    ensures early { OnErr result (TellsOfFalls (boarding state.old orders.now.orders ceilings.now) (choice picker.old) (told picker.old) (told picker.new)) }
+    ensures early { OnErr result (TellsOfFalls (boarding state.old orders.now.orders ceilings.now)
+        (choice picker.old) (told picker.old) (told picker.new)) }
 {
     let dossier = state.dossier();
     let _ = &dossier.wishes; // learns that the dossier is valid
@@ -82,9 +87,13 @@ fn find<L: Ledger>(
 
     ensures pass { IfOk result (λ found. IsPass state.now orders.now.orders ceilings.now found) }
 
-    ensures told { IfOk result (λ found. told picker.new ≡ told picker.old ++ schools_of found.falls) }
-    ensures chosen { IfOk result (λ found. AreChosen (boarding state.now orders.now.orders ceilings.now) (choice picker.old) (told picker.old) ceilings.now found.falls) }
-    ensures early { OnErr result (TellsOfFalls (boarding state.now orders.now.orders ceilings.now) (choice picker.old) (told picker.old) (told picker.new)) }
+    ensures told { IfOk result (λ found.
+        told picker.new ≡ told picker.old ++ schools_of found.falls) }
+    ensures chosen { IfOk result (λ found.
+        AreChosen (boarding state.now orders.now.orders ceilings.now) (choice picker.old)
+        (told picker.old) ceilings.now found.falls) }
+    ensures early { OnErr result (TellsOfFalls (boarding state.now orders.now.orders ceilings.now)
+        (choice picker.old) (told picker.old) (told picker.new)) }
     ensures choice { choice picker.new ≡ choice picker.old }
 {
     let mut steps: Steps<L> = Steps::new(blank);

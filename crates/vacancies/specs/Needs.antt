@@ -9,4 +9,5 @@ programme_of d place = slice_index (map (λ w. w.programme) d.wishes) place
 
 -- a wish needs a seat where its candidate is not live in its programme
 abbrev pub needs_seat : State → ℕ → Bool
-needs_seat s place = not (holds_seat s (candidate_of s.dossier place) (programme_of s.dossier place))
+needs_seat s place =
+    not (holds_seat s (candidate_of s.dossier place) (programme_of s.dossier place))
