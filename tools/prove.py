@@ -128,26 +128,14 @@ def prove(crates, width):
     return failed
 
 
-def without(words, *flags):
-    """The words without these flags and their values."""
-    for flag in flags:
-        at = words.index(flag)
-        words = [*words[:at], *words[at + 2:]]
-    return words
-
-
 def build_program(crate, width):
-    """Proves a program, compiles what was proved, and links it; what was said stands in its out/."""
-    program, checked = f"out/{crate.name}", f"{crate.folder}/out/checked"
+    """Proves a program, compiles it in the same step, and links it; what was said stands in its out/."""
+    program = f"out/{crate.name}"
     toolchain = ["--toolchain", f"{rtlib.KIT}/toolchain"]
     os.makedirs(f"{crate.folder}/out", exist_ok=True)
-    shutil.rmtree(checked, ignore_errors=True)
     with open(f"{crate.folder}/{program}.log", "w") as crate.out:
-        words = crate.words(["--jobs", str(width)], keeps=False)
-        if crate.prove(["check", *words, "-o", checked]):
-            return False
-        words = [*without(words, "--logic-built", "--jobs"), "--crate-checked", checked, *toolchain]
-        if crate.call(rtlib.RATTLE, "build", *words, "--backend", "llvm", "-o", f"{program}.o"):
+        words = [*crate.words(["--jobs", str(width)], keeps=False), *toolchain]
+        if crate.prove(["build", *words, "--backend", "llvm", "-o", f"{program}.o"]):
             return False
         libraries = [f"{rtlib.KIT}/c/{it}.a" for it in ("libos_c", "liblibc_c")]
         linked = ["--target", TARGET, *toolchain, "-o", program, f"{program}.o", *libraries]
