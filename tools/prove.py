@@ -1,9 +1,9 @@
 #!/usr/bin/env python3
-"""prove.py CRATE: proves the libraries that a program stands on, and then proves and builds the program, all
-as the gate does: each crate from nothing, over the statements alone of those below it. As many are proved
-side by side as there are processors and memory for, and a line is printed as each is. They go in the order of
-their ways up to the program: the first of those that run may use all processors, the second half of them, the
-others one, and each gives way to those before it. A check that several processors share takes more of
+"""prove.py CRATE: proves the libraries that a program stands on, and then proves and builds the program, all as
+the gate does but for one search: each crate from nothing, over the statements alone of those below it. As many
+are proved side by side as there are processors and memory for, and a line is printed as each is. They go in the
+order of their ways up to the program: the first of those that run may use all processors, the second half of
+them, the others one, and each gives way to those before it. A check that several processors share takes more of
 their time, so no more of them share it than the longest way needs. What is built and unchanged is kept."""
 import contextlib
 import functools
@@ -144,8 +144,7 @@ def build_program(crate, width):
 
 def without_search(verb, says=rtlib.help_of):
     """What rattle says of a command, but for the flag by which rt has it look for contracts that no call can
-    meet. The gate looks for them; here each call is proved to meet the contract of what it calls, and the search
-    is a tenth of a check."""
+    meet. The gate looks for them; here each call is proved to meet the contract of what it calls."""
     return says(verb).replace("--empty-contracts", "")
 
 
