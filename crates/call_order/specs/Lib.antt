@@ -1,2 +1,1 @@
-pub mod Favoured
 pub mod QueuedCalls

@@ -6,8 +6,6 @@
 
 mod group;
 mod queued;
-mod scan;
 
 pub use group::{call_order, call_orders};
 pub use queued::call_order_queued;
-pub use scan::call_order_scanned;

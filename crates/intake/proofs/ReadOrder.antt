@@ -6,7 +6,7 @@ use Rattle.admit_core.specs.declared.refusal.InFault.{InFault}
 use Rattle.admit_core.specs.declared.refusal.InFault.TheVariants as faults
 use Rattle.admit_core.specs.declared.slot.Slot.{Slot}
 use Rattle.admit_core.specs.Ranges.{AreTables}
-use Rattle.shelf_io.specs.Faults.{NoneFell}
+use Rattle.slot_io.specs.Faults.{NoneFell}
 use Rattle.dossier_csv.specs.Shape.{Refuses}
 use Rattle.intake.specs.Reading.{files_in, no_files, sized, with_slot, with_slots}
 use Rattle.intake.specs.Shelves.{FaultsAt, HasCause, IsFaultAt, OnShelf, TakesSlots, Tells, TouchesOnly}

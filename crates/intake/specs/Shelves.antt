@@ -1,8 +1,8 @@
 -- What taking in slots does to a shelf.
 use Rattle.std.specs.Prelude.{◌≡◌, ℕ, ◌+◌, ◌<◌, ◌≤◌, List, [], Contains, length, take, Option, Some, Result, IfErr, IsOk, OnOk, slice_index_or, ⊤}
 use Rattle.admit_core.specs.declared.slot.Slot.{Slot}
-use Rattle.shelf_io.specs.Bytes.{OthersKept}
-use Rattle.shelf_io.specs.Faults.{NoneFell, Rose}
+use Rattle.slot_io.specs.Bytes.{OthersKept}
+use Rattle.slot_io.specs.Faults.{NoneFell, Rose}
 use Rattle.intake.specs.Reading.{files_in}
 use Rattle.intake.specs.declared.stop.Stop.{Stop}
 use Rattle.intake.specs.declared.stop.Stop.TheVariants as stops

@@ -15,7 +15,7 @@ use dossier_csv::{
     read_schools, read_state, read_wishes,
 };
 use sample_gen::sample;
-use shelf_io::{Shelf, SlotRefusal, read_slot};
+use slot_io::{Shelf, SlotRefusal, read_slot};
 use std::alloc::Global;
 
 /// What slots hold: the rows of nine, and the bytes of the chain.

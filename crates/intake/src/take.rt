@@ -18,7 +18,7 @@ use crate::input::Input;
 use crate::stop::Stop;
 use dossier_check::{Index, check, school_place, wish_place};
 use request::{Mode, Name, Request, named_by, sample_of, slots_of};
-use shelf_io::Shelf;
+use slot_io::Shelf;
 use std::alloc::Global;
 
 /// The files that a mode is about: those of a sample, or of the slots that it reads.

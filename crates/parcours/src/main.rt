@@ -14,7 +14,7 @@ mod words;
 use crate::start::run_new;
 use crate::words::words_of;
 use modes::{Exit, exit_number};
-use shelf_io::{DirShelf, StdSink};
+use slot_io::{DirShelf, StdSink};
 use std::alloc::AllocError;
 use std::env;
 use std::process::ExitCode;

@@ -9,7 +9,7 @@ use bar_fixpoint::{FirstPicker, LastPicker, TurnPicker};
 use modes::Exit;
 use played::Pickers;
 use replay_cli::run;
-use shelf_io::{Shelf, Sink};
+use slot_io::{Shelf, Sink};
 use std::alloc::{AllocError, Global};
 
 /// Runs the program with these pickers, which are new, each in its place.

@@ -23,7 +23,7 @@ use Rattle.played.specs.Lent.{AreBack, Lent, Untold}
 use Rattle.request.specs.Modes.{slots_of}
 use Rattle.request.specs.Request.{request_of}
 use Rattle.request.specs.declared.request.Request.{Request}
-use Rattle.shelf_io.specs.Faults.{NoneFell, Rose}
+use Rattle.slot_io.specs.Faults.{NoneFell, Rose}
 use Rattle.replay_cli.specs.Answering.{Replies, TakesAll, TakesAsked}
 use Rattle.replay_cli.specs.Outcome.{AsksNobody, Ends, IsOutcome, NamesFault, slots_read}
 use Rattle.replay_cli.specs.Run.{KeepsOthers}

@@ -9,8 +9,8 @@ use Rattle.modes.specs.Exits.{is_answer}
 use Rattle.modes.specs.declared.exit.Exit.{Exit}
 use Rattle.modes.specs.declared.exit.Exit.TheVariants as exits
 use Rattle.modes.specs.declared.reply.Reply.{Reply}
-use Rattle.shelf_io.specs.Bytes.{AppendsPrefix}
-use Rattle.shelf_io.specs.Faults.{Rose}
+use Rattle.slot_io.specs.Bytes.{AppendsPrefix}
+use Rattle.slot_io.specs.Faults.{Rose}
 use Rattle.replay_cli.specs.Answering.{Replies}
 use Rattle.replay_cli.specs.Run.{Around, AtSink, IsRun, IsWhole}
 

@@ -11,8 +11,8 @@ use Rattle.modes.specs.declared.exit.Exit.TheVariants.{BadWords, Done, NoMemory,
 use Rattle.played.specs.Lent.{AreBack, Lent, Untold}
 use Rattle.request.specs.Request.{request_of}
 use Rattle.request.specs.declared.request.Request.{Request}
-use Rattle.shelf_io.specs.Bytes.{AppendsPrefix}
-use Rattle.shelf_io.specs.Faults.{NoneFell, Rose}
+use Rattle.slot_io.specs.Bytes.{AppendsPrefix}
+use Rattle.slot_io.specs.Faults.{NoneFell, Rose}
 use Rattle.replay_cli.specs.Outcome.{AsksNobody, IsOutcome, NamesFault, slots_read}
 
 -- the bytes that a sink holds, where it tells them, and how often its writes have failed

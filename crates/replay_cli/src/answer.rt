@@ -14,7 +14,7 @@ use intake::{Input, Stop, dated_terms, take_in};
 use modes::{Reply, days_of, deadlines_of, ending, stopped, terms_in};
 use played::{Pickers, play};
 use request::{Request, read_request};
-use shelf_io::Shelf;
+use slot_io::Shelf;
 use std::alloc::Global;
 
 /// Reads the words, and takes in what they ask for.

@@ -7,7 +7,7 @@ ghost use Rattle.replay_cli.specs.Run.{IsRun, at_sink};
 use crate::answer::answer;
 use modes::Exit;
 use played::Pickers;
-use shelf_io::{IoRefusal, Shelf, Sink, write_all};
+use slot_io::{IoRefusal, Shelf, Sink, write_all};
 use std::alloc::Global;
 
 /// Runs the program: reads the words and the slots, runs the days that are asked for, each with its

@@ -1,8 +1,5 @@
-pub mod Bytes
-pub mod Devices
-pub mod Faults
 pub mod MemoryShelf
 pub mod MemorySink
-pub mod Refusals
+pub mod Plans
 pub mod Rooms
 pub mod Stocks

@@ -1,12 +1,12 @@
 //! Shelves in memory.
 ghost use Rattle.std.specs.Prelude.{◌≡◌, ◌+◌, ◌-◌, ◌^◌, ◌↔◌, ◌∷◌, ◌++◌, ◌≤◌, ◌<◌, ◌⊎◌, [], Some, IfSome, OnOk, OnErr, IsErrOf, drop, take, length, min};
-ghost use Rattle.admit_core.specs.Slots.{at, with_at};
-ghost use Rattle.shelf_io.specs.Faults.{IsToFail, raised_by};
+ghost use Rattle.admit_core.specs.Slots.{at};
+ghost use Rattle.shelf_io.specs.Plans.{IsToFail};
+ghost use Rattle.slot_io.specs.Faults.{raised_by};
 
 use crate::plan::Plan;
-use crate::refusal::IoRefusal;
-use crate::shelf::Shelf;
 use admit_core::{OutOfMemory, PerSlot, Slot};
+use slot_io::{IoRefusal, Shelf, raise};
 use std::alloc::Global;
 use std::marker::Model;
 
@@ -60,7 +60,7 @@ pub struct PlainShelf {
 
 impl PlainShelf {
     ghost use Rattle.admit_core.specs.declared.slot.Slot.{Slot};
-    ghost use Rattle.shelf_io.specs.Bytes.{OthersKept};
+    ghost use Rattle.slot_io.specs.Bytes.{OthersKept};
     ghost use Rattle.shelf_io.specs.MemoryShelf.{left_of, taken_of};
 
     /// A shelf with nothing in its slots.
@@ -92,7 +92,7 @@ impl PlainShelf {
 impl Shelf for PlainShelf {
     ghost use Rattle.std.specs.Io.{ReadsAtMost};
     ghost use Rattle.std.specs.Io.KnownBytes.{ReadConsumes};
-    ghost use Rattle.shelf_io.specs.Bytes.{CountsTaken, OthersKept};
+    ghost use Rattle.slot_io.specs.Bytes.{CountsTaken, OthersKept};
     ghost use Rattle.shelf_io.specs.MemoryShelf.{left_of, taken_of};
 
     ghost left = { left_of };
@@ -118,15 +118,6 @@ impl Shelf for PlainShelf {
     }
 }
 
-/// Adds to a slot's counter, which stops at its last value.
-pub(crate) fn raise(counts: &mut PerSlot<u64>, slot: Slot, more: u64)
-    ensures raised { counts.new ≡ with_at counts.old slot (raised_by more (at counts.old slot)) }
-    ensures not_less { at counts.old slot ≤ raised_by more (at counts.old slot) }
-{
-    let count = counts.get_mut(slot);
-    *count = count.saturating_add(more);
-}
-
 /// A shelf in memory, some of whose calls fail.
 #[derive(Drop)]
 pub struct MemShelf {
@@ -137,7 +128,7 @@ pub struct MemShelf {
 
 impl MemShelf {
     ghost use Rattle.admit_core.specs.declared.slot.Slot.{Slot};
-    ghost use Rattle.shelf_io.specs.Bytes.{OthersKept};
+    ghost use Rattle.slot_io.specs.Bytes.{OthersKept};
     ghost use Rattle.shelf_io.specs.MemoryShelf.{mem_calls, mem_failing, mem_faults, mem_left, mem_taken};
 
     /// A shelf with nothing in its slots.
@@ -184,9 +175,9 @@ impl MemShelf {
 impl Shelf for MemShelf {
     ghost use Rattle.std.specs.Io.{ReadsAtMost};
     ghost use Rattle.std.specs.Io.KnownBytes.{ReadConsumes};
-    ghost use Rattle.shelf_io.specs.Bytes.{CountsTaken, OthersKept};
-    ghost use Rattle.shelf_io.specs.Faults.{NoneFell, Rose};
-    ghost use Rattle.shelf_io.specs.Refusals.{faults_after};
+    ghost use Rattle.slot_io.specs.Bytes.{CountsTaken, OthersKept};
+    ghost use Rattle.slot_io.specs.Faults.{NoneFell, Rose};
+    ghost use Rattle.slot_io.specs.Refusals.{faults_after};
     ghost use Rattle.shelf_io.specs.MemoryShelf.{mem_calls, mem_failing, mem_faults, mem_left, mem_taken};
 
     ghost left = { mem_left };

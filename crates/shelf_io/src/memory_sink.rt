@@ -1,12 +1,11 @@
 //! Sinks in memory.
 ghost use Rattle.std.specs.Prelude.{◌≡◌, ◌+◌, ◌-◌, ◌^◌, ◌↔◌, ◌∷◌, ◌++◌, ◌≤◌, ◌<◌, ◌⊎◌, [], Some, IfOk, OnOk, OnErr, IsErrOf, length, min};
-ghost use Rattle.shelf_io.specs.Faults.{IsToFail};
+ghost use Rattle.shelf_io.specs.Plans.{IsToFail};
 ghost use Rattle.shelf_io.specs.Rooms.{fitting};
 
 use crate::plan::Plan;
-use crate::refusal::IoRefusal;
-use crate::sink::Sink;
 use admit_core::OutOfMemory;
+use slot_io::{IoRefusal, Sink};
 use std::alloc::Global;
 
 /// A sink in memory that never fails.
@@ -129,9 +128,9 @@ impl MemSink {
 impl Sink for MemSink {
     ghost use Rattle.std.specs.Io.{WritesAtMost};
     ghost use Rattle.std.specs.Io.KnownBytes.{WriteAppends};
-    ghost use Rattle.shelf_io.specs.Refusals.{faults_after};
+    ghost use Rattle.slot_io.specs.Refusals.{faults_after};
     ghost use Rattle.shelf_io.specs.MemorySink.{sink_calls, sink_failing, sink_faults, sink_held, sink_room};
-    ghost use Rattle.shelf_io.specs.Faults.{Rose};
+    ghost use Rattle.slot_io.specs.Faults.{Rose};
 
     ghost held = { λ sink. Some (sink_held sink) };
 

@@ -5,7 +5,8 @@ ghost use Rattle.admit_core.specs.Validity.{IsRanking};
 use crate::tables::ranked;
 use crate::texts::push_word;
 use admit_core::{Bound, CallOrder, Dossier, InFault, OutOfMemory, RankGroup};
-use call_order::{call_order, call_order_scanned};
+use call_order::call_order;
+use scanned_order::call_order_scanned;
 use std::alloc::Global;
 use std::fmt::Write;
 

@@ -3,8 +3,8 @@ ghost use Rattle.std.specs.Prelude.{◌≡◌, ℕ, ◌+◌, ◌<◌, ◌≤◌,
 ghost use Rattle.std.specs.Io.{ReadsAtMost};
 ghost use Rattle.std.specs.Io.KnownBytes.{ReadConsumes};
 ghost use Rattle.admit_core.specs.declared.slot.Slot.{Slot};
-ghost use Rattle.shelf_io.specs.Bytes.{CountsTaken, OthersKept, TakesAll, TakesAtMost, TakesMoreThan};
-ghost use Rattle.shelf_io.specs.Faults.{Counted, NoneFell, Rose, raised_by};
+ghost use Rattle.slot_io.specs.Bytes.{CountsTaken, OthersKept, TakesAll, TakesAtMost, TakesMoreThan};
+ghost use Rattle.slot_io.specs.Faults.{Counted, NoneFell, Rose, raised_by};
 
 use crate::refusal::{IoRefusal, SlotRefusal};
 use admit_core::Slot;

@@ -3,7 +3,7 @@
 use Rattle.std.specs.Prelude.{◌≡◌, ◌≢◌, ℕ, ◌<◌, ◌≤◌, List, [], length, take, Option, None, Some, Result, MatchResult, ⊤}
 use Rattle.std.specs.Io.KnownBytes.{Appends, Consumes}
 use Rattle.admit_core.specs.declared.slot.Slot.{Slot}
-use Rattle.shelf_io.specs.Faults.{Counted}
+use Rattle.slot_io.specs.Faults.{Counted}
 
 -- the slots other than this one have what they had
 abbrev pub OthersKept : {T : Type 0} → Slot → (Slot → T) → (Slot → T) → Type 0

@@ -1,10 +1,10 @@
 //! The files of the current folder, and standard output.
 ghost use Rattle.std.specs.Prelude.{◌≡◌, ℕ, List, None};
 ghost use Rattle.std.specs.Io.{ReadsAtMost};
-ghost use Rattle.shelf_io.specs.Devices.{file_name};
-ghost use Rattle.shelf_io.specs.Refusals.{read_answer, write_answer};
+ghost use Rattle.slot_io.specs.Devices.{file_name};
+ghost use Rattle.slot_io.specs.Refusals.{read_answer, write_answer};
 
-use crate::memory_shelf::raise;
+use crate::counts::raise;
 use crate::refusal::IoRefusal;
 use crate::shelf::Shelf;
 use crate::sink::Sink;
@@ -26,7 +26,7 @@ pub struct DirShelf<R: Files + Drop> {
 
 impl<R: Files + Drop> DirShelf<R> {
     ghost use Rattle.admit_core.specs.declared.slot.Slot.{Slot};
-    ghost use Rattle.shelf_io.specs.Devices.{dir_faults, dir_taken};
+    ghost use Rattle.slot_io.specs.Devices.{dir_faults, dir_taken};
 
     /// A shelf whose files are opened at their first read.
     pub fn new(rt: R) -> DirShelf<R>
@@ -97,7 +97,7 @@ fn read_file<R: Files>(
 }
 
 impl<R: Files + Drop> Shelf for DirShelf<R> {
-    ghost use Rattle.shelf_io.specs.Devices.{dir_faults, dir_taken};
+    ghost use Rattle.slot_io.specs.Devices.{dir_faults, dir_taken};
 
     ghost left = { λ _ _. None };
 
@@ -124,7 +124,7 @@ pub struct StdSink<R: Print + Drop> {
 }
 
 impl<R: Print + Drop> StdSink<R> {
-    ghost use Rattle.shelf_io.specs.Devices.{std_faults};
+    ghost use Rattle.slot_io.specs.Devices.{std_faults};
 
     /// The standard output of this runtime, with no failure counted.
     pub fn new(rt: R) -> StdSink<R>
@@ -135,7 +135,7 @@ impl<R: Print + Drop> StdSink<R> {
 }
 
 impl<R: Print + Drop> Sink for StdSink<R> {
-    ghost use Rattle.shelf_io.specs.Devices.{std_faults};
+    ghost use Rattle.slot_io.specs.Devices.{std_faults};
 
     ghost held = { λ _. None };
 

@@ -2,8 +2,8 @@
 ghost use Rattle.std.specs.Prelude.{◌≡◌, ℕ, ◌<◌, ◌≤◌, List, [], Option, length, IfOk, OnOk, OnErr, IsErrOf};
 ghost use Rattle.std.specs.Io.{WritesAtMost};
 ghost use Rattle.std.specs.Io.KnownBytes.{Appends, WriteAppends};
-ghost use Rattle.shelf_io.specs.Bytes.{AppendsPrefix};
-ghost use Rattle.shelf_io.specs.Faults.{Rose};
+ghost use Rattle.slot_io.specs.Bytes.{AppendsPrefix};
+ghost use Rattle.slot_io.specs.Faults.{Rose};
 
 use crate::refusal::IoRefusal;
 

@@ -3,8 +3,8 @@ use Rattle.std.specs.Prelude.{ℕ, List, codes}
 use Rattle.admit_core.specs.Slots.{at}
 use Rattle.admit_core.specs.declared.slot.Slot.{Slot}
 use Rattle.admit_core.specs.declared.slot.Slot.TheVariants.{Groups, Programmes, Schools, Rankings, Boarding, Wishes, State, Ceilings, Answers, Chain}
-use Rattle.shelf_io.specs.declared.devices.DirShelf.{DirShelf}
-use Rattle.shelf_io.specs.declared.devices.StdSink.{StdSink}
+use Rattle.slot_io.specs.declared.devices.DirShelf.{DirShelf}
+use Rattle.slot_io.specs.declared.devices.StdSink.{StdSink}
 
 -- how often the reads of a slot's file failed, and how many of its bytes were taken
 abbrev pub dir_faults : {R F G : Type 0} → DirShelf R F G → Slot → ℕ

@@ -1,7 +1,7 @@
 use Rattle.std.proofs.Common.{length}
 use Rattle.admit_core.specs.CallOrder.{remaining}
 use Rattle.admit_core.proofs.Calls.{CallsSoFar}
-use Rattle.call_order.proofs.scan.call_order_scanned.Given as goal
+use Rattle.scanned_order.proofs.scan.call_order_scanned.Given as goal
 
 abbrev pub invariant-loop-candidate : goal.invariant-loop-candidate
 invariant-loop-candidate l = CallsSoFar l.group l.list.items l.trace.items

@@ -1,10 +1,10 @@
 -- What a device answers, and what its refusal leads to.
 use Rattle.std.specs.Prelude.{ℕ, ◌==◌, Result, Ok, Err, if◌then◌else◌}
-use Rattle.shelf_io.specs.Faults.{raised}
-use Rattle.shelf_io.specs.declared.refusal.IoRefusal.{IoRefusal}
-use Rattle.shelf_io.specs.declared.refusal.IoRefusal.TheVariants as io
-use Rattle.shelf_io.specs.declared.refusal.SlotRefusal.{SlotRefusal}
-use Rattle.shelf_io.specs.declared.refusal.SlotRefusal.TheVariants.{ReadFault, OutOfMemory}
+use Rattle.slot_io.specs.Faults.{raised}
+use Rattle.slot_io.specs.declared.refusal.IoRefusal.{IoRefusal}
+use Rattle.slot_io.specs.declared.refusal.IoRefusal.TheVariants as io
+use Rattle.slot_io.specs.declared.refusal.SlotRefusal.{SlotRefusal}
+use Rattle.slot_io.specs.declared.refusal.SlotRefusal.TheVariants.{ReadFault, OutOfMemory}
 
 -- what the reader of a slot answers
 abbrev pub slot_refusal_of : IoRefusal → SlotRefusal

@@ -2,8 +2,8 @@
 use Rattle.std.specs.Prelude.{ℕ, Bool}
 use Rattle.admit_core.specs.declared.ranking.Ranked.{Ranked}
 use Rattle.admit_core.specs.declared.ranking.RankGroup.{RankGroup}
-use Rattle.call_order.specs.declared.scan.Favoured.{Favoured}
-use Rattle.call_order.specs.declared.scan.Favoured.TheVariants.{Scholars, Residents}
+use Rattle.scanned_order.specs.declared.scan.Favoured.{Favoured}
+use Rattle.scanned_order.specs.declared.scan.Favoured.TheVariants.{Scholars, Residents}
 
 abbrev pub is_favoured : Favoured → Ranked → Bool
 is_favoured Scholars = λ r. r.scholar

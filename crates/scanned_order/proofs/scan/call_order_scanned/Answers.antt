@@ -2,8 +2,8 @@ use Rattle.std.proofs.Common.{◌≡◌, Some}
 use Rattle.admit_core.specs.CallOrder.{next_after}
 use Rattle.admit_core.proofs.Remaining.{remaining_falls}
 use Rattle.admit_core.proofs.Calls.{calls_none, calls_push, calls_done}
-use Rattle.call_order.proofs.scan.call_order_scanned.Goals as goal
-use Rattle.call_order.proofs.scan.call_order_scanned.Goals.{In_ok-push-2}
+use Rattle.scanned_order.proofs.scan.call_order_scanned.Goals as goal
+use Rattle.scanned_order.proofs.scan.call_order_scanned.Goals.{In_ok-push-2}
 
 pub loop-candidate-init : goal.loop-candidate-init
 loop-candidate-init c = rw (c.new-list.ensures.items, c.new-trace.ensures.items) (calls_none c.args.group.now)

@@ -25,7 +25,7 @@ pub enum SlotRefusal {
 
 impl From<AllocError> for IoRefusal {
     ghost use Rattle.std.specs.Prelude.{◌≡◌};
-    ghost use Rattle.shelf_io.specs.declared.refusal.IoRefusal.TheVariants.{OutOfMemory};
+    ghost use Rattle.slot_io.specs.declared.refusal.IoRefusal.TheVariants.{OutOfMemory};
 
     ghost from_gives = { λ _ refusal. refusal ≡ OutOfMemory };
 
@@ -36,7 +36,7 @@ impl From<AllocError> for IoRefusal {
 
 impl From<IoRefusal> for SlotRefusal {
     ghost use Rattle.std.specs.Prelude.{◌≡◌};
-    ghost use Rattle.shelf_io.specs.Refusals.{slot_refusal_of};
+    ghost use Rattle.slot_io.specs.Refusals.{slot_refusal_of};
 
     ghost from_gives = { λ of_device of_slot. of_slot ≡ slot_refusal_of of_device };
 
@@ -50,7 +50,7 @@ impl From<IoRefusal> for SlotRefusal {
 
 impl From<AllocError> for SlotRefusal {
     ghost use Rattle.std.specs.Prelude.{◌≡◌};
-    ghost use Rattle.shelf_io.specs.declared.refusal.SlotRefusal.TheVariants.{OutOfMemory};
+    ghost use Rattle.slot_io.specs.declared.refusal.SlotRefusal.TheVariants.{OutOfMemory};
 
     ghost from_gives = { λ _ refusal. refusal ≡ OutOfMemory };
 

@@ -4,7 +4,7 @@ ghost use Rattle.std.specs.List.{list_any};
 ghost use Rattle.admit_core.specs.Lists.{is_among};
 ghost use Rattle.admit_core.specs.CallOrder.{called, remaining, binds, bound_after, may_be_called, next_after, IsCallOrder};
 ghost use Rattle.admit_core.specs.Validity.{IsRanking};
-ghost use Rattle.call_order.specs.Favoured.{is_favoured, rate_of};
+ghost use Rattle.scanned_order.specs.Favoured.{is_favoured, rate_of};
 
 use admit_core::{Bound, CallOrder, OutOfMemory, RankGroup, Ranked, Sequence};
 use std::alloc::Global;
