@@ -9,9 +9,9 @@ ghost use Rattle.certificate.specs.Checked.{ids_in};
 use admit_core::OutOfMemory;
 use bar_law::Falling;
 use day_state::DayState;
-use demand::wish_at;
 use dossier_check::{Index, wish_place};
 use linked_demand::LinkedRound;
+use proposals::wish_at;
 use std::alloc::Global;
 
 /// The boarding ranks of wishes.

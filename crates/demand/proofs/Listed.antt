@@ -1,5 +1,5 @@
 -- What the calls list.
-use Rattle.std.proofs.Common.{ℕ, ◌+◌, ◌≤◌, ◌<◌, ◌≡◌, Bool, List, [], ◌∷◌, map, length, inl, inr, refl, sym, ◌∙◌, ap, arith, filter, nat_le, zero-add}
+use Rattle.std.proofs.Common.{ℕ, ◌+◌, ◌≤◌, ◌<◌, ◌≡◌, Bool, List, [], ◌∷◌, map, length, inl, inr, refl, sym, ◌∙◌, ap, arith, filter, zero-add}
 use Rattle.std.specs.Prelude.{slice_get, slice_index, All}
 use Rattle.std.specs.List.{enumerate_from, range_with_len}
 use Rattle.std.proofs.lemmas.Bool.{cases_Bool}
@@ -13,8 +13,8 @@ use Rattle.admit_core.specs.State.{State, entries, free_beds}
 use Rattle.admit_core.specs.Proposals.{is_proposed, proposed, demanded_ranks}
 use Rattle.admit_core.specs.Boarding.{boarding, name_of}
 use Rattle.bar_law.specs.Overfilled.{rank_over}
-use Rattle.demand.specs.declared.demands.Demand.{Demand}
-use Rattle.demand.specs.Demands.{demands_of}
+use Rattle.proposals.specs.declared.demands.Demand.{Demand}
+use Rattle.proposals.specs.Demands.{demands_of}
 use Rattle.demand.specs.Proposed.{proposed_flags}
 
 flagged_are : (f : Wish × Mark → Bool) (n : ℕ) (es : List (Wish × Mark))
@@ -58,17 +58,3 @@ over_is s orders ceilings bars h free lt is =
     let same : beds ≡ free_beds s h = get_or-map-range_with_len (free_beds s) 0 (length ceilings) h h 0 lt (zero-add h) in
     ap (λ rs. slice_get rs free) (map_ranks (name_of s orders bars h) (demanded_ranks s orders bars h))
     ∙ ap (slice_get (demanded_ranks s orders bars h)) (is ∙ sym same)
-
--- the names of the ranks up to one
-names_of : (name : ℕ → ℕ) (upto : ℕ) (ranks : List ℕ)
-    → map (λ (x : Demand). x.wish) (filter (λ (x : Demand). nat_le x.rank upto) (map (λ r. let d : Demand = record { rank = r; wish = name r } in d) ranks))
-    ≡ map name (filter (λ r. nat_le r upto) ranks)
-names_of name upto [] = refl
-names_of name upto (r ∷ ranks) =
-    let later = names_of name upto ranks in
-    elim (cases_Bool (nat_le r upto)) [ inl passes ↦ rw passes (ap (λ (ks : List ℕ). name r ∷ ks) later) | inr fails ↦ rw fails later ]
-
-pub names_are : (s : State) (orders : List CallOrder) (bars : List ℕ) (h upto : ℕ)
-    → map (λ (x : Demand). x.wish) (filter (λ (x : Demand). nat_le x.rank upto) (demands_of s orders bars h))
-    ≡ map (name_of s orders bars h) (filter (λ r. nat_le r upto) (demanded_ranks s orders bars h))
-names_are s orders bars h upto = names_of (name_of s orders bars h) upto (demanded_ranks s orders bars h)

@@ -1,11 +1,10 @@
 -- The first of each rank in a list put in order by rank: the demanded ranks with their names.
-use Rattle.std.proofs.Common.{ℕ, zero, suc, ◌+◌, ◌≤◌, ◌<◌, ◌≡◌, Bool, true, false, cond, not, ◌&&◌, ◌||◌, List, [], ◌∷◌, map, length, get_or, take, ◌++◌, inl, inr, refl, sym, ◌∙◌, ap, arith, nat_eq, filter, Option, Some, None, nat_lt, add-zero, zero-add}
+use Rattle.std.proofs.Common.{ℕ, zero, suc, ◌+◌, ◌≤◌, ◌<◌, ◌≡◌, Bool, true, false, cond, not, ◌&&◌, ◌||◌, List, [], ◌∷◌, map, length, get_or, inl, inr, refl, sym, ◌∙◌, ap, arith, nat_eq, filter, Option, Some, None, nat_lt, add-zero, zero-add}
 use Rattle.std.specs.Prelude.{◌==◌, option_map, unwrap_or, find}
 use Rattle.std.specs.List.{list_any, enumerate_from, dedup, dedup_from, AllByRecursion}
 use Rattle.std.specs.List.Sorted.{IsNonDecreasingBy, IsPermutation, IsStableByKey}
 use Rattle.std.specs.Ordering.{nat_cmp}
 use Rattle.std.proofs.lemmas.Bool.{cases_Bool, false≢true, eqb-true, eqb-false, eq-eqb, ne_eqb, cases_eq, and_right}
-use Rattle.std.proofs.lemmas.List.{take_more}
 use Rattle.std.proofs.lemmas.Slice.Zip.{length-zip}
 use Rattle.std.proofs.lemmas.List.FromFn.{get_or-map-range_with_len}
 use Rattle.admit_core.specs.declared.dossier.Wish.{Wish}
@@ -17,31 +16,11 @@ use Rattle.admit_core.specs.Proposals.{is_proposed, proposed, demands_bed, deman
 use Rattle.admit_core.specs.Boarding.{name_of}
 use Rattle.admit_core.proofs.Tests.{Ascends, same_members, ascends_ascending, among-ascending}
 use Rattle.day_state.proofs.Ordering.{stable_own}
-use Rattle.demand.specs.declared.demands.Demand.{Demand}
+use Rattle.proposals.specs.declared.demands.Demand.{Demand}
 use Rattle.day_state.specs.Kept.{wish_in}
 use Rattle.day_state.proofs.Places.{entry_in, entries_by_place}
-use Rattle.demand.specs.Demands.{demands_of, needs_bed, demand_in, same_rank}
-
--- one more that passes a test, or fails it, in what is made of those who pass
-picked_last : {X : Type 0} (p : ℕ → Bool) (f : ℕ → X) (xs : List ℕ) (x : ℕ) → p x ≡ true → map f (filter p (xs ++ x ∷ [])) ≡ map f (filter p xs) ++ f x ∷ []
-picked_last p f [] x passes = rw passes refl
-picked_last {X} p f (y ∷ ys) x passes =
-    let later = picked_last p f ys x passes in
-    elim (cases_Bool (p y)) [ inl here ↦ rw here (ap (λ (zs : List X). f y ∷ zs) later) | inr not_here ↦ rw not_here later ]
-
-left_last : {X : Type 0} (p : ℕ → Bool) (f : ℕ → X) (xs : List ℕ) (x : ℕ) → p x ≡ false → map f (filter p (xs ++ x ∷ [])) ≡ map f (filter p xs)
-left_last p f [] x fails = rw fails refl
-left_last {X} p f (y ∷ ys) x fails =
-    let later = left_last p f ys x fails in
-    elim (cases_Bool (p y)) [ inl here ↦ rw here (ap (λ (zs : List X). f y ∷ zs) later) | inr not_here ↦ rw not_here later ]
-
-pub picked : {X : Type 0} (p : ℕ → Bool) (f : ℕ → X) (xs : List ℕ) (i : ℕ) → i < length xs → p (get_or xs i 0) ≡ true
-    → map f (filter p (take (i + 1) xs)) ≡ map f (filter p (take i xs)) ++ f (get_or xs i 0) ∷ []
-picked p f xs i lt passes = rw (take_more xs i 0 lt) (picked_last p f (take i xs) (get_or xs i 0) passes)
-
-pub passed_over : {X : Type 0} (p : ℕ → Bool) (f : ℕ → X) (xs : List ℕ) (i : ℕ) → i < length xs → p (get_or xs i 0) ≡ false
-    → map f (filter p (take (i + 1) xs)) ≡ map f (filter p (take i xs))
-passed_over p f xs i lt fails = rw (take_more xs i 0 lt) (left_last p f (take i xs) (get_or xs i 0) fails)
+use Rattle.proposals.specs.Demands.{demands_of}
+use Rattle.demand.specs.Needs.{needs_bed, demand_in, same_rank}
 
 -- at this rank
 abbrev at_rank : ℕ → Demand → Bool

@@ -15,14 +15,14 @@ use Rattle.admit_core.specs.State.{State, holds_seat, seats_left}
 use Rattle.admit_core.specs.OwnWishes.{own_places}
 use Rattle.admit_core.specs.Proposals.{order_of, before, ahead, needs_no_seat, has_open_wish, wants_seat, is_open, is_proposed}
 use Rattle.day_state.specs.Kept.{wish_in, mark_in}
-use Rattle.demand.specs.Flags.{SetsAlso}
-use Rattle.demand.specs.Open.{is_open_at}
-use Rattle.demand.specs.Called.{AreCalled}
+use Rattle.proposals.specs.Flags.{SetsAlso}
+use Rattle.proposals.specs.Open.{is_open_at}
+use Rattle.proposals.specs.Called.{AreCalled}
 use Rattle.demand.specs.Proposed.{is_served_at, is_proposed_at, proposed_flags}
-use Rattle.demand.proofs.Front.{front_short, front_fewer, front_same, among_more, count_more}
+use Rattle.proposals.proofs.Front.{front_short, front_fewer, front_same, among_more, count_more}
 use Rattle.day_state.proofs.Places.{entry_in, entries_by_place}
-use Rattle.demand.proofs.OwnOpen.{no_open, among_own}
-use Rattle.demand.proofs.Setting.{sets_then, sets_none, sets_same}
+use Rattle.proposals.proofs.OwnOpen.{no_open, among_own}
+use Rattle.proposals.proofs.Setting.{sets_then, sets_none, sets_same}
 
 -- who stands at a place of the order is called by the limit or by the seats
 abbrev pub is_called_at : State → List ℕ → ℕ → List ℕ → ℕ → Bool

@@ -1,5 +1,2 @@
-pub mod Flags
-pub mod Open
-pub mod Called
 pub mod Proposed
-pub mod Demands
+pub mod Needs

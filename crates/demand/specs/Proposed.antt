@@ -4,7 +4,7 @@ use Rattle.day_state.specs.Kept.{mark_in, wish_in}
 use Rattle.admit_core.specs.declared.ranking.CallOrder.{CallOrder}
 use Rattle.admit_core.specs.State.{State, entries, holds_seat}
 use Rattle.admit_core.specs.Proposals.{is_proposed}
-use Rattle.demand.specs.Open.{is_open_at}
+use Rattle.proposals.specs.Open.{is_open_at}
 
 -- the wish at a place is an open one of a candidate in a programme, and they are live in it,
 -- or are called to it

@@ -3,28 +3,13 @@ ghost use Rattle.std.specs.Prelude.{◌≡◌, ℕ, ◌<◌, length, List, map, 
 ghost use Rattle.std.specs.List.{dedup};
 ghost use Rattle.admit_core.specs.declared.ranking.CallOrder.{CallOrder};
 ghost use Rattle.admit_core.specs.Proposals.{proposed};
-ghost use Rattle.demand.specs.Demands.{demands_of, needs_bed, demand_in, same_rank};
+ghost use Rattle.proposals.specs.Demands.{demands_of};
+ghost use Rattle.demand.specs.Needs.{needs_bed, demand_in, same_rank};
 
-use crate::open::wish_at;
-use crate::ranked::{Ranked, sort_by_rank};
 use admit_core::OutOfMemory;
 use day_state::DayState;
+use proposals::{Demand, sort_by_rank, wish_at};
 use std::alloc::Global;
-
-/// A demanded rank, and the least place of a wish that demands it.
-#[derive(Clone, Copy, Debug, PartialEq, Eq)]
-pub struct Demand {
-    pub rank: u32,
-    pub wish: u32,
-}
-
-impl Ranked for Demand {
-    ghost rank_of = { λ demand. demand.rank };
-
-    fn rank(&self) -> u32 {
-        self.rank
-    }
-}
 
 /// Whether the wish at a place has a school in which its candidate has a rank and no bed.
 fn needs_bed(state: &DayState<'_>, school: u32, place: u32) -> bool

@@ -4,16 +4,14 @@
 //! `let wishes = proposed(alloc, &state, &orders, bars.as_slice())?;`
 #![tactic(auto)]
 
-mod called;
 mod demands;
-mod open;
-mod ranked;
 mod round;
 mod walk;
 
-pub use called::{call_everyone, limit_of, order_of};
-pub use demands::{Demand, demands_of};
-pub use open::{has_open_wish, is_open, mark_at, wish_at};
-pub use ranked::{Ranked, sort_by_rank};
-pub use round::{PlainRound, names_up_to};
-pub use walk::{programme_count, proposed};
+pub use demands::demands_of;
+pub use proposals::{
+    Demand, Ranked, call_everyone, has_open_wish, is_open, limit_of, mark_at, names_up_to,
+    order_of, programme_count, sort_by_rank, wish_at,
+};
+pub use round::PlainRound;
+pub use walk::proposed;

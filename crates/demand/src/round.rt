@@ -1,17 +1,17 @@
 //! The boarding schools of a state as a system of falling bars.
-ghost use Rattle.std.specs.Prelude.{◌≡◌, ◌<◌, length, map, filter, slice_get, All, IfOk, nat_le};
+ghost use Rattle.std.specs.Prelude.{◌≡◌, ◌<◌, length, map, slice_get, All, IfOk};
 ghost use Rattle.admit_core.specs.CallOrder.{AreCallOrders};
 ghost use Rattle.admit_core.specs.Proposals.{proposed};
 ghost use Rattle.admit_core.specs.Boarding.{boarding};
 ghost use Rattle.bar_law.specs.Overfilled.{rank_over};
-ghost use Rattle.demand.specs.Called.{AreCalled};
+ghost use Rattle.proposals.specs.Called.{AreCalled};
 
-use crate::called::call_everyone;
-use crate::demands::{Demand, demands_of};
+use crate::demands::demands_of;
 use crate::walk::proposed_places;
 use admit_core::{CallOrders, OutOfMemory, Steps};
 use bar_law::Falling;
 use day_state::DayState;
+use proposals::{Demand, call_everyone, names_up_to};
 use std::alloc::Global;
 use std::sync::ledger::Ledger;
 use vacancies::beds_left;
@@ -144,17 +144,4 @@ fn rank_at(demands: &[Demand], place: u32) -> Option<u32>
     ensures { result ≡ slice_get (map (λ x. x.rank) demands.now) place }
 {
     demands.get(place as usize).map(|demand| demand.rank)
-}
-
-/// The wishes of the demands whose rank is at most another.
-pub fn names_up_to(alloc: Global, demands: &[Demand], upto: u32) -> Result<Vec<u32>, OutOfMemory>
-    ensures { IfOk result (λ v.
-        v.items ≡ map (λ x. x.wish) (filter (λ x. nat_le x.rank upto) demands.now)) }
-{
-    let names = demands
-        .iter()
-        .filter(|demand| demand.rank <= upto)
-        .map(|demand| demand.wish)
-        .collect(alloc)?;
-    Ok(names)
 }

@@ -1,19 +1,17 @@
 //! The walk along call orders that finds the proposed wishes.
-ghost use Rattle.std.specs.Prelude.{◌≡◌, ℕ, ◌<◌, ◌^◌, ◌&&◌, ◌||◌, false, nat_lt, length, map, filter, replicate, All, IfOk};
+ghost use Rattle.std.specs.Prelude.{◌≡◌, ◌<◌, ◌^◌, ◌&&◌, ◌||◌, false, nat_lt, length, map, filter, replicate, All, IfOk};
 ghost use Rattle.std.specs.List.{enumerate_from};
 ghost use Rattle.admit_core.specs.CallOrder.{AreCallOrders};
 ghost use Rattle.admit_core.specs.Lists.{is_among};
 ghost use Rattle.admit_core.specs.Proposals.{wants_seat, proposed};
-ghost use Rattle.day_state.specs.Kept.{wish_in};
-ghost use Rattle.demand.specs.Called.{AreCalled};
-ghost use Rattle.demand.specs.Flags.{SetsAlso};
-ghost use Rattle.demand.specs.Open.{is_open_at};
+ghost use Rattle.proposals.specs.Called.{AreCalled};
+ghost use Rattle.proposals.specs.Flags.{SetsAlso};
+ghost use Rattle.proposals.specs.Open.{is_open_at};
 ghost use Rattle.demand.specs.Proposed.{is_served_at, is_proposed_at, proposed_flags};
 
-use crate::called::{call_everyone, limit_of, order_of};
-use crate::open::{has_open_wish, is_open_at};
 use admit_core::{CallOrders, OutOfMemory};
 use day_state::DayState;
+use proposals::{call_everyone, has_open_wish, is_open_at, limit_of, order_of, programme_count};
 use std::alloc::Global;
 use vacancies::seats_left;
 
@@ -102,16 +100,6 @@ fn no_flags(alloc: Global, state: &DayState<'_>) -> Result<Vec<bool>, OutOfMemor
 {
     let dossier = state.dossier();
     Ok(vec![in alloc; false; dossier.wishes.len()]?)
-}
-
-/// The number of programmes. Each wish is for one of them.
-pub fn programme_count(state: &DayState<'_>) -> u32
-    ensures count { result ≡ length state.now.dossier.programmes }
-    ensures each { (k : ℕ) → k < length state.now.dossier.wishes
-        → (wish_in state.now.dossier.wishes k).programme < result }
-{
-    let dossier = state.dossier();
-    dossier.programmes.len() as u32
 }
 
 /// Whether each wish is proposed, by place.

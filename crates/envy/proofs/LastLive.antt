@@ -14,7 +14,7 @@ use Rattle.admit_core.specs.Lists.{is_among}
 use Rattle.admit_core.proofs.Evenings.{entry_wish}
 use Rattle.day_state.specs.Bundles.{number_in}
 use Rattle.day_state.specs.Kept.{wish_in}
-use Rattle.demand.specs.Called.{AreCalled}
+use Rattle.proposals.specs.Called.{AreCalled}
 use Rattle.admit_core.specs.Proposals.{order_of}
 use Rattle.admit_core.specs.State.{State, entries, holds_seat, is_live}
 use Rattle.envy.specs.Known.{AreLast, envied_at, is_live_from, place_of, reaches}

@@ -16,9 +16,9 @@ use crate::known::{best_wishes, last_live, wish_count};
 use crate::laws::laws_of_automatic_days;
 use admit_core::{CallOrders, Mark, OutOfMemory, Status, Wish};
 use day_state::DayState;
-use demand::{call_everyone, mark_at, order_of, programme_count, wish_at};
 use indexmap::IndexMap;
 use keyed_hash::Keyed;
+use proposals::{call_everyone, mark_at, order_of, programme_count, wish_at};
 use std::alloc::Global;
 use vacancies::seats_left;
 

@@ -7,9 +7,9 @@ ghost use Rattle.envy.specs.Known.{place_of};
 
 use admit_core::{CallOrder, CallOrders, OutOfMemory};
 use day_state::DayState;
-use demand::call_everyone;
 use indexmap::IndexSet;
 use keyed_hash::{KeyMaker, Keyed};
+use proposals::call_everyone;
 use std::alloc::Global;
 
 /// Hashing by a key of these candidates.

@@ -8,9 +8,9 @@ ghost use Rattle.envy.specs.Known.{AreBest, AreLast, is_better, is_below, place_
 
 use admit_core::{Mark, OutOfMemory, Wish};
 use day_state::DayState;
-use demand::{mark_at, programme_count, wish_at};
 use indexmap::IndexMap;
 use keyed_hash::{KeyMaker, Keyed};
+use proposals::{mark_at, programme_count, wish_at};
 use std::alloc::Global;
 
 /// The number of wishes.

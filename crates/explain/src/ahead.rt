@@ -4,7 +4,7 @@ ghost use Rattle.std.specs.List.{before_first};
 ghost use Rattle.admit_core.specs.Proposals.{wants_seat};
 
 use day_state::DayState;
-use demand::has_open_wish;
+use proposals::has_open_wish;
 
 /// Whether a candidate has an open wish in a programme and is not live in it.
 fn wants_seat(state: &DayState<'_>, bars: &[u32], programme: u32, candidate: u32) -> bool

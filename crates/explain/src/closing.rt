@@ -9,7 +9,7 @@ ghost use Rattle.day_run.specs.CampaignDays.{pass_of};
 use admit_core::{CallOrders, Wish};
 use day_run::{Campaign, Desk};
 use day_state::DayState;
-use demand::{call_everyone, order_of, programme_count, wish_at};
+use proposals::{call_everyone, order_of, programme_count, wish_at};
 use std::marker::Model;
 
 /// The state in which a day's last pass began, the call orders, the ceilings of the day and the

@@ -14,7 +14,7 @@ use crate::closing::Closing;
 use admit_core::{BarCause, CallOrders, Explanation, Mark, Wish};
 use day_run::{Campaign, Desk};
 use day_state::DayState;
-use demand::{is_open, limit_of, mark_at};
+use proposals::{is_open, limit_of, mark_at};
 use vacancies::seats_left;
 
 /// Why the wish at a place stands as it does in the evening of a campaign's last day, which came

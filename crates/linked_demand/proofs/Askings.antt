@@ -12,7 +12,7 @@ use Rattle.admit_core.specs.Proposals.{is_behind_bar, is_barred, is_open}
 use Rattle.admit_core.specs.State.{State, is_waiting}
 use Rattle.day_state.specs.Kept.{mark_in, waiting_mark, wish_in}
 use Rattle.day_state.proofs.Along.{among-filter}
-use Rattle.demand.proofs.Front.{among_more}
+use Rattle.proposals.proofs.Front.{among_more}
 use Rattle.linked_demand.specs.Opens.{opens_of}
 use Rattle.linked_demand.specs.Seats.{boards_at, boarders_of}
 use Rattle.linked_demand.proofs.Rounding.{opens_by_place}

@@ -10,7 +10,7 @@ use Rattle.admit_core.specs.declared.dossier.Wish.{Wish}
 use Rattle.admit_core.specs.declared.state.Mark.{Mark}
 use Rattle.admit_core.specs.declared.ranking.CallOrder.{CallOrder}
 use Rattle.admit_core.specs.State.{State, seats_left}
-use Rattle.demand.specs.Flags.{SetsAlso}
+use Rattle.proposals.specs.Flags.{SetsAlso}
 use Rattle.linked_demand.specs.Demand.{is_proposed_at}
 use Rattle.linked_demand.specs.Fronts.{AreFronts, sure_open, reached_open}
 use Rattle.linked_demand.specs.Line.{is_reached}

@@ -6,7 +6,7 @@ use Rattle.std.proofs.Math.ListN.{set}
 use Rattle.std.proofs.lemmas.Bool.{cases_Bool, cases_eq, eq-eqb, ne_eqb}
 use Rattle.std.proofs.lemmas.List.{length-set, length-append}
 use Rattle.std.proofs.lemmas.Option.{slice_get_within, slice_get_read}
-use Rattle.demand.proofs.Ranking.{picked, passed_over}
+use Rattle.proposals.proofs.Picking.{picked, passed_over}
 use Rattle.linked_demand.specs.Keyed.{AreEmpty, IsPutIn, AreRowsOf}
 use Rattle.linked_demand.proofs.Keeping.{add_none}
 use Rattle.linked_demand.proofs.RoundFalls.{get_set_here, get_set_other}

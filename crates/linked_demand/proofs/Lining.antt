@@ -16,7 +16,7 @@ use Rattle.admit_core.specs.Proposals.{order_of}
 use Rattle.admit_core.proofs.OrderPermutes.{nat_eq_turn}
 use Rattle.day_state.specs.Kept.{wish_in}
 use Rattle.day_state.proofs.Places.{candidate_in}
-use Rattle.demand.proofs.Front.{front_same}
+use Rattle.proposals.proofs.Front.{front_same}
 use Rattle.linked_demand.specs.Links.{IsPlaceOf, claim_of}
 use Rattle.linked_demand.specs.Opens.{applies_in}
 use Rattle.linked_demand.specs.Seats.{applies_at, is_early}

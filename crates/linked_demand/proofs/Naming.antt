@@ -9,8 +9,8 @@ use Rattle.admit_core.specs.declared.state.Mark.{Mark}
 use Rattle.admit_core.specs.State.{entries}
 use Rattle.admit_core.specs.Proposals.{demands_bed}
 use Rattle.admit_core.specs.Boarding.{name_of}
-use Rattle.demand.specs.declared.demands.Demand.{Demand}
-use Rattle.demand.specs.Demands.{demands_of}
+use Rattle.proposals.specs.declared.demands.Demand.{Demand}
+use Rattle.proposals.specs.Demands.{demands_of}
 use Rattle.linked_demand.specs.declared.rows.RowWish.{RowWish}
 use Rattle.linked_demand.specs.Links.{LinksRow}
 use Rattle.linked_demand.specs.Opens.{opens_of}

@@ -12,7 +12,7 @@ use Rattle.admit_core.specs.declared.ranking.CallOrder.{CallOrder}
 use Rattle.admit_core.specs.State.{State, entries, is_waiting, holds_seat, holds_bed, is_school, seats_left}
 use Rattle.admit_core.specs.Proposals.{is_behind_bar, is_open, wants_seat, ahead, before, order_of, is_proposed}
 use Rattle.admit_core.proofs.Tests.{Implies}
-use Rattle.demand.proofs.Front.{up_to, before_is}
+use Rattle.proposals.proofs.Front.{up_to, before_is}
 use Rattle.linked_demand.specs.Line.{LineRow, set_count, is_reached}
 use Rattle.linked_demand.specs.Links.{IsPlaceOf, IsSeatPlace}
 use Rattle.linked_demand.specs.Opens.{opens_of, flagged, is_flagged_in, wants_by, ahead_by, is_proposed_by, applies_in, line_of, seat_row, is_past}

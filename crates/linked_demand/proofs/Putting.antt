@@ -5,7 +5,7 @@ use Rattle.std.proofs.Math.ListN.{set}
 use Rattle.std.proofs.lemmas.Bool.{cases_Bool, eqb-true, eqb-false}
 use Rattle.std.proofs.lemmas.List.{length-set, get_or-set_same, get_or-set_other, take_all}
 use Rattle.admit_core.specs.Lists.{is_among}
-use Rattle.demand.proofs.Front.{among_more}
+use Rattle.proposals.proofs.Front.{among_more}
 use Rattle.linked_demand.specs.Seats.{PutAt}
 
 pub put_none : (X : Type 0) (d : X) (ks : List ℕ) (x : X) (old : List X) → PutAt X d (take 0 ks) x old old

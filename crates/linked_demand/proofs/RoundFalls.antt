@@ -16,7 +16,7 @@ use Rattle.linked_demand.specs.Links.{LinksRow}
 use Rattle.linked_demand.specs.Opens.{opens_of}
 use Rattle.linked_demand.specs.Rows.{IsRow, CutsAt, AllWait, AreItems, AreOpen, row_item}
 use Rattle.linked_demand.specs.Rounds.{Round, IsRound}
-use Rattle.demand.specs.Demands.{demands_of}
+use Rattle.proposals.specs.Demands.{demands_of}
 use Rattle.linked_demand.specs.Demand.{is_proposed_at, firsts}
 use Rattle.linked_demand.proofs.Naming.{demands_told}
 use Rattle.linked_demand.proofs.Falling.{flag_map, flags_fallen, in_front, row_fallen, row_stays}

@@ -16,8 +16,8 @@ use Rattle.admit_core.proofs.OrderPermutes.{distinct-order}
 use Rattle.admit_core.specs.Lists.{is_among}
 use Rattle.admit_core.specs.Proposals.{order_of}
 use Rattle.day_state.specs.Kept.{wish_in}
-use Rattle.demand.specs.Called.{AreCalled}
-use Rattle.demand.proofs.Front.{among_more}
+use Rattle.proposals.specs.Called.{AreCalled}
+use Rattle.proposals.proofs.Front.{among_more}
 use Rattle.linked_demand.specs.Links.{IsPlaceOf, claim_of}
 use Rattle.linked_demand.specs.Opens.{applies_in, line_of}
 use Rattle.linked_demand.specs.Seats.{PutAt, AreSeated, IsLineup, is_below, is_passed}

@@ -4,7 +4,7 @@ use Rattle.std.specs.declared.alloc.Global.{Global}
 use Rattle.admit_core.specs.declared.ranking.CallOrder.{CallOrder}
 use Rattle.admit_core.specs.State.{State, entries, free_beds}
 use Rattle.admit_core.specs.Proposals.{demanded_ranks}
-use Rattle.demand.specs.declared.demands.Demand.{Demand}
+use Rattle.proposals.specs.declared.demands.Demand.{Demand}
 use Rattle.linked_demand.specs.declared.rows.RowWish.{RowWish}
 use Rattle.linked_demand.specs.Links.{LinksRow}
 use Rattle.linked_demand.specs.Opens.{is_proposed_by}

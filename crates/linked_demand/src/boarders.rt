@@ -6,7 +6,7 @@ ghost use Rattle.linked_demand.specs.Seats.{boards_at};
 use crate::wishes::wish_count;
 use admit_core::OutOfMemory;
 use day_state::DayState;
-use demand::wish_at;
+use proposals::wish_at;
 use std::alloc::Global;
 
 /// A wish with a school: its rank there, and its programme.

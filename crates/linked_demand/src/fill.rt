@@ -12,7 +12,7 @@ use crate::links::SeatLinks;
 use crate::rows::{RowWish, put_in, rows_with_room};
 use admit_core::OutOfMemory;
 use day_state::DayState;
-use demand::sort_by_rank;
+use proposals::sort_by_rank;
 use std::alloc::Global;
 use vacancies::beds_left;
 

@@ -11,7 +11,7 @@ use crate::marks::Marks;
 use crate::seats::needs_no_seat;
 use admit_core::Steps;
 use day_state::DayState;
-use demand::{is_open, wish_at};
+use proposals::{is_open, wish_at};
 use std::sync::ledger::Ledger;
 
 /// Whether a wish is open, by its flag and under bars, and is called by its turn alone.

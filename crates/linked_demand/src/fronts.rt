@@ -2,7 +2,7 @@
 //! claims that the seats reach.
 ghost use Rattle.std.specs.Prelude.{◌≡◌, ◌≤◌, ◌<◌, ◌&&◌, false, length, replicate, take, slice_index_or, All, IfOk};
 ghost use Rattle.admit_core.specs.Lists.{is_among};
-ghost use Rattle.demand.specs.Flags.{SetsAlso};
+ghost use Rattle.proposals.specs.Flags.{SetsAlso};
 ghost use Rattle.linked_demand.specs.Fronts.{sure_open, listed_open, claimed_open, reached_open, AreFronts};
 ghost use Rattle.linked_demand.specs.Opens.{all_sure};
 ghost use Rattle.linked_demand.specs.Wants.{AreBelow};

@@ -4,7 +4,7 @@ ghost use Rattle.std.specs.Prelude.{◌<◌, ◌^◌, length};
 use crate::wishes::wish_count;
 use admit_core::OutOfMemory;
 use day_state::DayState;
-use demand::wish_at;
+use proposals::wish_at;
 use std::alloc::Global;
 
 /// Which of so many guesses is a candidate's. Most numbers need no division.

@@ -5,7 +5,7 @@ ghost use Rattle.std.specs.List.{IsDistinct};
 ghost use Rattle.admit_core.specs.CallOrder.{AreCallOrders};
 ghost use Rattle.admit_core.specs.Proposals.{order_of};
 ghost use Rattle.day_state.specs.Kept.{candidate_in};
-ghost use Rattle.demand.specs.Called.{AreCalled};
+ghost use Rattle.proposals.specs.Called.{AreCalled};
 ghost use Rattle.linked_demand.specs.Claims.{AreWishesFor};
 ghost use Rattle.linked_demand.specs.Links.{claim_of};
 ghost use Rattle.linked_demand.specs.Opens.{line_of};
@@ -18,7 +18,7 @@ use crate::maybe_sure::maybe_sure_of;
 use crate::wishing::wishes_by_programme;
 use admit_core::{CallOrders, OutOfMemory};
 use day_state::{DayState, part};
-use demand::{call_everyone, limit_of, order_of, programme_count};
+use proposals::{call_everyone, limit_of, order_of, programme_count};
 use std::alloc::Global;
 use std::mem;
 

@@ -25,7 +25,7 @@ use crate::rows::RowWish;
 use crate::seats::{needs_no_seat, reached_of};
 use admit_core::{CallOrders, Mark, OutOfMemory, Steps};
 use day_state::DayState;
-use demand::wish_at;
+use proposals::wish_at;
 use std::alloc::Global;
 use std::marker::Model;
 use std::sync::ledger::Ledger;

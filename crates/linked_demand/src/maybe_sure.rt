@@ -7,7 +7,7 @@ use crate::seats::is_set;
 use crate::wishes::wish_count;
 use admit_core::OutOfMemory;
 use day_state::DayState;
-use demand::wish_at;
+use proposals::wish_at;
 use std::alloc::Global;
 
 /// Whether a wish is another one than that at a place, and of the same programme.

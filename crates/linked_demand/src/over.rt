@@ -10,7 +10,7 @@ use crate::marks::Marks;
 use crate::overs::Overs;
 use crate::rows::RowWish;
 use admit_core::OutOfMemory;
-use demand::Demand;
+use proposals::Demand;
 use std::alloc::Global;
 
 /// The demanded rank numbered `free + 1` of a row, where there are so many.

@@ -21,7 +21,7 @@ use crate::wishes::wish_count;
 use admit_core::{CallOrders, OutOfMemory, Steps};
 use bar_law::Falling;
 use day_state::DayState;
-use demand::names_up_to;
+use proposals::names_up_to;
 use std::alloc::Global;
 use std::marker::Model;
 use std::sync::ledger::Ledger;

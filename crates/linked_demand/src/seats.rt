@@ -8,7 +8,7 @@ use crate::line::reach_of;
 use crate::lineup::Lineup;
 use admit_core::{CallOrders, OutOfMemory};
 use day_state::DayState;
-use demand::programme_count;
+use proposals::programme_count;
 use std::alloc::Global;
 use vacancies::seats_left;
 

@@ -6,7 +6,7 @@ use crate::rows::{put_in, rows_with_room};
 use crate::wishes::wish_count;
 use admit_core::OutOfMemory;
 use day_state::DayState;
-use demand::{programme_count, wish_at};
+use proposals::{programme_count, wish_at};
 use std::alloc::Global;
 
 /// How many wishes there are for each programme: room is made by it, so no clause speaks of the

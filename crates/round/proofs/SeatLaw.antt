@@ -24,7 +24,7 @@ use Rattle.admit_core.specs.Proposals.{is_open, wants_seat, has_open_wish, order
 use Rattle.admit_core.specs.Days.{offered}
 use Rattle.admit_core.proofs.OrderPermutes.{distinct-order, nat_eq_turn}
 use Rattle.day_state.specs.Kept.{wish_in}
-use Rattle.demand.proofs.Calling.{all_called}
+use Rattle.proposals.proofs.Calling.{all_called}
 use Rattle.round.specs.PassLaws.{new_seat_holders}
 use Rattle.round.proofs.Members.{among-filter, among_filtered, distinct-filter, distinct_once, none_twice}
 use Rattle.round.proofs.NewHolders.{MakesLive, becomes_live, entry_wish}

@@ -23,7 +23,7 @@ use Rattle.admit_core.specs.Validity.{IsValid}
 use Rattle.admit_core.specs.declared.dossier.Wish.{Wish}
 use Rattle.admit_core.specs.declared.ranking.CallOrder.{CallOrder}
 use Rattle.admit_core.proofs.Tests.{among-map}
-use Rattle.demand.proofs.Calling.{all_called}
+use Rattle.proposals.proofs.Calling.{all_called}
 use Rattle.linked_demand.proofs.Seating.{called_once}
 use Rattle.stable_market.specs.Markets.{MarketRows, IsMarket, IsSmall, is_list_below, is_distinct, lists_it, listers, order_of as order_in}
 use Rattle.stable_market.specs.Listers.{AreLists, naming}

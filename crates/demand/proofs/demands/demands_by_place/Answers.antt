@@ -1,7 +1,7 @@
 use Rattle.std.proofs.Common.{List, [], ◌∷◌, ◌++◌, map, filter, take, sym, ◌∙◌, ap, arith}
-use Rattle.demand.specs.declared.demands.Demand.{Demand}
-use Rattle.demand.specs.Demands.{needs_bed, demand_in}
-use Rattle.demand.proofs.Ranking.{picked, passed_over}
+use Rattle.proposals.specs.declared.demands.Demand.{Demand}
+use Rattle.demand.specs.Needs.{needs_bed, demand_in}
+use Rattle.proposals.proofs.Picking.{picked, passed_over}
 use Rattle.demand.proofs.demands.demands_by_place.Goals as goal
 use Rattle.demand.proofs.demands.demands_by_place.Goals.{then-needs_bed+in_ok-push, else-needs_bed}
 

@@ -1,5 +1,5 @@
 use Rattle.std.proofs.Common.{◌≡◌, map, filter, take}
-use Rattle.demand.specs.Demands.{needs_bed, demand_in}
+use Rattle.demand.specs.Needs.{needs_bed, demand_in}
 use Rattle.demand.proofs.demands.demands_by_place.Given as goal
 
 abbrev pub invariant-loop-place : goal.invariant-loop-place

@@ -1,6 +1,6 @@
 use Rattle.std.proofs.Common.{rules}
 use Rattle.std.proofs.lemmas.Fn.{dedup_same}
-use Rattle.demand.specs.Demands.{same_rank}
+use Rattle.demand.specs.Needs.{same_rank}
 use Rattle.demand.proofs.demands.keep_firsts.Goals as goal
 
 pub returns : goal.returns

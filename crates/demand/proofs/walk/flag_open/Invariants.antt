@@ -1,7 +1,7 @@
 use Rattle.std.proofs.Common.{◌&&◌, take}
 use Rattle.admit_core.specs.Lists.{is_among}
-use Rattle.demand.specs.Flags.{SetsAlso}
-use Rattle.demand.specs.Open.{is_open_at}
+use Rattle.proposals.specs.Flags.{SetsAlso}
+use Rattle.proposals.specs.Open.{is_open_at}
 use Rattle.demand.proofs.walk.flag_open.Given as goal
 
 abbrev pub invariant-loop-place : goal.invariant-loop-place

@@ -1,6 +1,6 @@
 use Rattle.std.proofs.Common.{false, length}
 use Rattle.std.specs.Prelude.{replicate}
-use Rattle.demand.specs.Flags.{SetsAlso}
+use Rattle.proposals.specs.Flags.{SetsAlso}
 use Rattle.demand.proofs.Visiting.{is_proposed_below}
 use Rattle.demand.proofs.walk.proposed_flags.Given as goal
 

@@ -1,6 +1,6 @@
 use Rattle.std.proofs.Common.{◌&&◌, false, get_or, take}
 use Rattle.admit_core.specs.Lists.{is_among}
-use Rattle.demand.specs.Flags.{SetsAlso}
+use Rattle.proposals.specs.Flags.{SetsAlso}
 use Rattle.linked_demand.proofs.fronts.flag_claim.Given as goal
 
 abbrev pub invariant-loop-wish : goal.invariant-loop-wish

@@ -1,7 +1,7 @@
 use Rattle.std.proofs.Common.{ℕ, ◌+◌, ◌<◌, ◌≡◌, ◌&&◌, false, length, get_or, take, refl, ◌∙◌, arith, subst}
 use Rattle.admit_core.specs.Lists.{is_among}
-use Rattle.demand.specs.Flags.{SetsAlso}
-use Rattle.demand.proofs.Setting.{sets_none, sets_then}
+use Rattle.proposals.specs.Flags.{SetsAlso}
+use Rattle.proposals.proofs.Setting.{sets_none, sets_then}
 use Rattle.linked_demand.specs.Fronts.{claimed_open}
 use Rattle.linked_demand.proofs.Fronting.{claimed_more}
 use Rattle.linked_demand.proofs.Walking.{below_read}

@@ -1,5 +1,5 @@
 use Rattle.std.proofs.Common.{take}
-use Rattle.demand.specs.Flags.{SetsAlso}
+use Rattle.proposals.specs.Flags.{SetsAlso}
 use Rattle.linked_demand.specs.Fronts.{claimed_open}
 use Rattle.linked_demand.proofs.fronts.flag_front.Given as goal
 

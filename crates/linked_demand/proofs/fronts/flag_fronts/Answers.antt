@@ -1,6 +1,6 @@
 use Rattle.std.proofs.Common.{ℕ, ◌+◌, ◌<◌, ◌≡◌, get_or, length, take, refl, ◌∙◌, arith, subst}
-use Rattle.demand.specs.Flags.{SetsAlso}
-use Rattle.demand.proofs.Setting.{sets_none, sets_then}
+use Rattle.proposals.specs.Flags.{SetsAlso}
+use Rattle.proposals.proofs.Setting.{sets_none, sets_then}
 use Rattle.linked_demand.specs.Fronts.{claimed_open, reached_open}
 use Rattle.linked_demand.proofs.Fronting.{front_within, front_below, reached_more}
 use Rattle.linked_demand.proofs.fronts.flag_fronts.Goals as goal

@@ -1,4 +1,4 @@
-use Rattle.demand.specs.Flags.{SetsAlso}
+use Rattle.proposals.specs.Flags.{SetsAlso}
 use Rattle.linked_demand.specs.Fronts.{reached_open}
 use Rattle.linked_demand.proofs.fronts.flag_fronts.Given as goal
 

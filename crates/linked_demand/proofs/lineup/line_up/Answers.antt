@@ -8,7 +8,7 @@ use Rattle.std.proofs.lemmas.List.Elements.{All-nil, All-push}
 use Rattle.std.proofs.lemmas.List.Filters.{length-filter_both}
 use Rattle.admit_core.specs.Proposals.{order_of}
 use Rattle.day_state.specs.Kept.{candidate_in}
-use Rattle.demand.proofs.Ranking.{picked, passed_over}
+use Rattle.proposals.proofs.Picking.{picked, passed_over}
 use Rattle.day_state.specs.declared.spans.Span.{Span}
 use Rattle.day_state.specs.Spans.{IsWithin, part_of}
 use Rattle.linked_demand.specs.Links.{claim_of}

@@ -1,6 +1,6 @@
 use Rattle.std.proofs.Common.{List, map, ◌∙◌, ap}
 use Rattle.std.specs.Prelude.{slice_get}
-use Rattle.demand.specs.declared.demands.Demand.{Demand}
+use Rattle.proposals.specs.declared.demands.Demand.{Demand}
 use Rattle.demand.proofs.Listed.{over_is}
 use Rattle.demand.proofs.round.PlainRound.over_among.Goals as goal
 

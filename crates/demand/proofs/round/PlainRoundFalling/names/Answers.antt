@@ -1,7 +1,7 @@
 use Rattle.std.proofs.Common.{◌≡◌, ℕ, List, map, filter, nat_le, subst, ◌∙◌, ap}
 use Rattle.std.specs.Prelude.{IfOk}
-use Rattle.demand.specs.declared.demands.Demand.{Demand}
-use Rattle.demand.proofs.Listed.{names_are}
+use Rattle.proposals.specs.declared.demands.Demand.{Demand}
+use Rattle.proposals.proofs.Named.{names_are}
 use Rattle.demand.proofs.round.PlainRoundFalling.names.Goals as goal
 
 pub returns : goal.returns

@@ -1,6 +1,6 @@
 use Rattle.std.proofs.Common.{ℕ, ◌≡◌, false, length, replicate, sym, ◌∙◌, ap}
 use Rattle.std.proofs.lemmas.List.{length-replicate}
-use Rattle.demand.specs.Flags.{SetsAlso}
+use Rattle.proposals.specs.Flags.{SetsAlso}
 use Rattle.linked_demand.specs.Fronts.{listed_open, reached_open}
 use Rattle.linked_demand.specs.Links.{LinksRow}
 use Rattle.linked_demand.specs.Opens.{all_sure}

@@ -1,9 +1,9 @@
 use Rattle.std.proofs.Common.{◌≡◌, ℕ, List, map, filter, nat_le, subst, sym, ◌∙◌, ap, length, arith, Some, refl}
 use Rattle.std.specs.Prelude.{IfOk, slice_get}
 use Rattle.std.proofs.lemmas.Option.{slice_get_read}
-use Rattle.demand.specs.declared.demands.Demand.{Demand}
-use Rattle.demand.specs.Demands.{demands_of}
-use Rattle.demand.proofs.Listed.{names_are}
+use Rattle.proposals.specs.declared.demands.Demand.{Demand}
+use Rattle.proposals.specs.Demands.{demands_of}
+use Rattle.proposals.proofs.Named.{names_are}
 use Rattle.linked_demand.specs.Demand.{is_proposed_at}
 use Rattle.linked_demand.specs.Rounds.{Round, bar_each}
 use Rattle.linked_demand.specs.Rows.{IsFront}

@@ -1,7 +1,7 @@
 use Rattle.std.proofs.Common.{◌∙◌}
 use Rattle.day_state.proofs.Change.{own_within}
-use Rattle.demand.proofs.OwnOpen.{has_open_own}
-use Rattle.demand.proofs.open.has_open_wish.Goals as goal
+use Rattle.proposals.proofs.OwnOpen.{has_open_own}
+use Rattle.proposals.proofs.open.has_open_wish.Goals as goal
 
 pub any_open-requires-clause-own : goal.any_open-requires-clause-own
 any_open-requires-clause-own c = rw c.requires.own (own_within c.args.state.now.dossier c.args.candidate)

@@ -1,8 +1,8 @@
 use Rattle.std.proofs.Common.{subst, ◌∙◌}
 use Rattle.admit_core.specs.DossierRows.{DossierRows}
 use Rattle.admit_core.specs.Validity.{IsValid}
-use Rattle.demand.proofs.Calling.{all_called}
-use Rattle.demand.proofs.called.call_everyone.Goals as goal
+use Rattle.proposals.proofs.Calling.{all_called}
+use Rattle.proposals.proofs.called.call_everyone.Goals as goal
 
 pub returns : goal.returns
 returns c =

@@ -1,17 +1,9 @@
--- The demanded ranks of a school with their names.
-use Rattle.std.specs.Prelude.{ℕ, Bool, not, ◌&&◌, ◌==◌, nat_lt, List, map}
-use Rattle.day_state.specs.Kept.{wish_in}
-use Rattle.demand.specs.declared.demands.Demand.{Demand}
+-- Which wishes demand a bed, by place, and the demands of one rank.
+use Rattle.std.specs.Prelude.{ℕ, Bool, not, ◌&&◌, ◌==◌, nat_lt, List}
 use Rattle.admit_core.specs.declared.dossier.Wish.{Wish}
-use Rattle.admit_core.specs.declared.ranking.CallOrder.{CallOrder}
 use Rattle.admit_core.specs.State.{State, has_school, holds_bed}
-use Rattle.admit_core.specs.Proposals.{demanded_ranks}
-use Rattle.admit_core.specs.Boarding.{name_of}
-
--- each demanded rank with its name, from the least rank
-abbrev pub demands_of : State → List CallOrder → List ℕ → ℕ → List Demand
-demands_of s orders bars h = map (λ r. record { rank = r; wish = name_of s orders bars h r })
-    (demanded_ranks s orders bars h)
+use Rattle.day_state.specs.Kept.{wish_in}
+use Rattle.proposals.specs.declared.demands.Demand.{Demand}
 
 -- the wish at a place demands a bed of the school, where it is proposed
 abbrev pub needs_bed : State → ℕ → ℕ → Bool

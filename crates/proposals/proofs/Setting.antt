@@ -2,7 +2,7 @@
 use Rattle.std.proofs.Common.{ℕ, ◌<◌, ◌≡◌, Bool, true, false, ◌||◌, List, length, set, get_or, inl, inr, refl, ◌∙◌, ap, arith, nat_eq, length-set}
 use Rattle.std.proofs.lemmas.List.{get_or-set_same, get_or-set_other}
 use Rattle.std.proofs.lemmas.Bool.{cases_Bool, eqb-true, eqb-false}
-use Rattle.demand.specs.Flags.{SetsAlso}
+use Rattle.proposals.specs.Flags.{SetsAlso}
 
 or_false : (a : Bool) → a ≡ (a || false)
 or_false true = refl

@@ -15,7 +15,7 @@ use Rattle.admit_core.specs.Proposals.{is_open, is_open_in, has_open_wish}
 use Rattle.day_state.specs.Kept.{wish_in, mark_in}
 use Rattle.day_state.proofs.Places.{any_same, any-filter, any-map, candidate_in, entry_in, entries_by_place}
 use Rattle.day_state.proofs.Ordering.{none_found}
-use Rattle.demand.specs.Open.{is_open_at}
+use Rattle.proposals.specs.Open.{is_open_at}
 
 turn_and : (own opens test : Bool) → (own && (opens && test)) ≡ ((opens && own) && test)
 turn_and true true test = refl

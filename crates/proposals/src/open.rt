@@ -5,7 +5,7 @@ ghost use Rattle.std.specs.List.{list_any};
 ghost use Rattle.admit_core.specs.OwnWishes.{own_places};
 ghost use Rattle.admit_core.specs.Proposals.{is_behind_bar, is_open, has_open_wish};
 ghost use Rattle.day_state.specs.Kept.{mark_in, wish_in};
-ghost use Rattle.demand.specs.Open.{is_open_at};
+ghost use Rattle.proposals.specs.Open.{is_open_at};
 
 use admit_core::{Mark, Wish};
 use day_state::DayState;

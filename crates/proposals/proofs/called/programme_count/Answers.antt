@@ -2,7 +2,7 @@ use Rattle.std.proofs.Common.{length, subst, ◌∙◌, ap, arith}
 use Rattle.admit_core.specs.DossierRows.{DossierRows}
 use Rattle.admit_core.specs.Validity.{IsValid}
 use Rattle.day_state.proofs.Change.{wish_valid}
-use Rattle.demand.proofs.walk.programme_count.Goals as goal
+use Rattle.proposals.proofs.called.programme_count.Goals as goal
 
 pub returns-clause-each : goal.returns-clause-each
 returns-clause-each c =

@@ -10,7 +10,7 @@ use Rattle.admit_core.specs.Validity.{IsValid, IsValidGroup}
 use Rattle.admit_core.proofs.OrderPermutes.{among-order}
 use Rattle.day_state.specs.Kept.{wish_in}
 use Rattle.day_state.proofs.Change.{wish_valid}
-use Rattle.demand.specs.Called.{AreCalled}
+use Rattle.proposals.specs.Called.{AreCalled}
 
 as_many : (groups : List RankGroup) (orders : List CallOrder) → AreCallOrders groups orders → length orders ≡ length groups
 as_many [] [] are = refl

@@ -1,9 +1,10 @@
-//! The call orders of a dossier.
-ghost use Rattle.std.specs.Prelude.{◌≡◌, ◌<◌, length};
+//! The programmes of a dossier, and their call orders.
+ghost use Rattle.std.specs.Prelude.{◌≡◌, ℕ, ◌<◌, length};
 ghost use Rattle.admit_core.specs.CallOrder.{AreCallOrders};
 ghost use Rattle.admit_core.specs.DossierRows.{limit_of};
 ghost use Rattle.admit_core.specs.Proposals.{order_of};
-ghost use Rattle.demand.specs.Called.{AreCalled};
+ghost use Rattle.day_state.specs.Kept.{wish_in};
+ghost use Rattle.proposals.specs.Called.{AreCalled};
 
 use admit_core::CallOrders;
 use day_state::DayState;
@@ -37,4 +38,14 @@ pub fn limit_of(state: &DayState<'_>, programme: u32) -> u32
 {
     let dossier = state.dossier();
     dossier.programmes.as_slice()[programme as usize].limit
+}
+
+/// The number of programmes. Each wish is for one of them.
+pub fn programme_count(state: &DayState<'_>) -> u32
+    ensures count { result ≡ length state.now.dossier.programmes }
+    ensures each { (k : ℕ) → k < length state.now.dossier.wishes
+        → (wish_in state.now.dossier.wishes k).programme < result }
+{
+    let dossier = state.dossier();
+    dossier.programmes.len() as u32
 }

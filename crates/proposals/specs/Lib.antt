@@ -1,0 +1,4 @@
+pub mod Flags
+pub mod Open
+pub mod Called
+pub mod Demands

@@ -1,0 +1,34 @@
+//! A demanded rank, with a wish that demands it.
+ghost use Rattle.std.specs.Prelude.{◌≡◌, map, filter, nat_le, IfOk};
+
+use crate::ranked::Ranked;
+use admit_core::OutOfMemory;
+use std::alloc::Global;
+
+/// A demanded rank, and the least place of a wish that demands it.
+#[derive(Clone, Copy, Debug, PartialEq, Eq)]
+pub struct Demand {
+    pub rank: u32,
+    pub wish: u32,
+}
+
+impl Ranked for Demand {
+    ghost rank_of = { λ demand. demand.rank };
+
+    fn rank(&self) -> u32 {
+        self.rank
+    }
+}
+
+/// The wishes of the demands whose rank is at most another.
+pub fn names_up_to(alloc: Global, demands: &[Demand], upto: u32) -> Result<Vec<u32>, OutOfMemory>
+    ensures { IfOk result (λ v.
+        v.items ≡ map (λ x. x.wish) (filter (λ x. nat_le x.rank upto) demands.now)) }
+{
+    let names = demands
+        .iter()
+        .filter(|demand| demand.rank <= upto)
+        .map(|demand| demand.wish)
+        .collect(alloc)?;
+    Ok(names)
+}

@@ -1,0 +1,15 @@
+//! What the systems of falling bars look at: which wishes are open under given bars, the call order
+//! and limit of a programme, and items in order of their rank.
+//!
+//! `let open = is_open(&state, bars.as_slice(), place);`
+#![tactic(auto)]
+
+mod called;
+mod demands;
+mod open;
+mod ranked;
+
+pub use called::{call_everyone, limit_of, order_of, programme_count};
+pub use demands::{Demand, names_up_to};
+pub use open::{has_open_wish, is_open, is_open_at, mark_at, wish_at};
+pub use ranked::{Ranked, sort_by_rank};
