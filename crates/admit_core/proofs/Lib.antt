@@ -27,6 +27,8 @@ pub mod Rows
 pub mod ScholarsFirst
 pub mod SlotFacts
 pub mod SmallDossier
+pub mod SortedBy
+pub mod SortedLists
 pub mod Statuses
 pub mod Tests
 pub mod WorkedFaultRows

@@ -15,7 +15,3 @@ zip_built items rankings (g ∷ rows) (l ∷ lists) e =
     let here : items l ≡ ranked_in rankings g.id = cc in
     let there : map items lists ≡ map (ranked_in rankings) (map (λ g. g.id) rows) = cc in
     rw (here, zip_built items rankings rows lists there) refl
-
-pub map_map : {A B C : Type 0} (g : B → C) (v : A → B) (xs : List A) → map g (map v xs) ≡ map (λ x. g (v x)) xs
-map_map g v [] = refl
-map_map g v (x ∷ xs) = rw (map_map g v xs) refl

@@ -17,10 +17,10 @@ use Rattle.admit_core.specs.Relations.{ranking_tests, group_ids}
 use Rattle.admit_core.specs.Standing.{group_of_row, ranked_in, ranked_row}
 use Rattle.dossier_check.specs.declared.ranks.Dealt.{Dealt}
 use Rattle.dossier_check.specs.Dealt.{AreDealt, HasItsGroup}
-use Rattle.dossier_check.proofs.BuiltGroups.{map_map}
+use Rattle.std.proofs.lemmas.Simd.{map-map}
 use Rattle.dossier_check.proofs.Faultless.{no_tests, and_then, none_in, differ, knows_all}
 use Rattle.dossier_check.proofs.Places.{nat_eq_sound, nat_eq_sym}
-use Rattle.dossier_check.proofs.SortedLists.{IsPermutation-sorted_by}
+use Rattle.admit_core.proofs.SortedLists.{IsPermutation-sorted_by}
 use Rattle.dossier_check.proofs.ValidRankings.{map-ranked_in}
 
 -- what holds of each list holds of the list that an id has
@@ -115,8 +115,8 @@ no_rank_fault t dealt is known candidates ranks =
     let ordered : ℕ → List Ranked = λ group. sorted_by (λ r. r.rank) (ranked_in t.rankings group) in
     let lists : map (λ g. g.list) dealt.rankings.items ≡ map ordered ids =
     ap (map (λ (g : RankGroup). g.list)) is.rankings
-    ∙ map_map (λ (g : RankGroup). g.list) (group_of_row t) t.groups
-    ∙ sym (map_map ordered (λ g. g.id) t.groups) in
+    ∙ map-map (λ (g : RankGroup). g.list) (group_of_row t) t.groups
+    ∙ sym (map-map ordered (λ g. g.id) t.groups) in
     let places : AllPairs (λ r row. (nat_eq row.group r.group && nat_eq row.rank r.rank) ≡ false) t.rankings =
     rows_apart t.rankings (λ r. r.rank) ids known
     (λ group there. distinct_before_by (λ r. r.rank) (λ r. r.rank) (ranked_in t.rankings group)

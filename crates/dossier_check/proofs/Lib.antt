@@ -23,8 +23,6 @@ pub mod RisingIds
 pub mod RowFacts
 pub mod Runs
 pub mod Scans
-pub mod SortedBy
-pub mod SortedLists
 pub mod TwiceWished
 pub mod Undated
 pub mod Valid

@@ -12,7 +12,7 @@ use Rattle.admit_core.specs.Ranges.{AreTables}
 use Rattle.admit_core.specs.Relations.{school_ids, wish_ids, is_target}
 use Rattle.admit_core.specs.Standing.{place_of, school_of_row, wish_of_row, target_of, ceiling_of_row, answer_of_row, dossier_of}
 use Rattle.admit_core.specs.Validity.{IsValidCeiling, NotSameDay, IsTarget, IsValidAnswer}
-use Rattle.dossier_check.proofs.BuiltGroups.{map_map}
+use Rattle.std.proofs.lemmas.Simd.{map-map}
 use Rattle.dossier_check.proofs.FaultFree.{second_passes, third_passes}
 use Rattle.dossier_check.proofs.Firsts.{length-map-here}
 use Rattle.dossier_check.proofs.LastRow.{days_rise}
@@ -43,7 +43,7 @@ module _ (t : Tables) (ranges : AreTables t) (fine : HasNoFault t) where
       record { day = row.day; school = school_there (get_or t.ceilings k c).school (ceiling_schools_known t fine k c lt); ceiling = row.ceiling })
 
   pub ceilings_by_day : IsNonDecreasing (map (λ c. c.day) (dossier_of t).ceilings)
-  ceilings_by_day = subst IsNonDecreasing (sym (map_map (λ c. c.day) (ceiling_of_row t) t.ceilings)) (days_rise (λ c. c.day) t.ceilings (third_passes fine.ceilings))
+  ceilings_by_day = subst IsNonDecreasing (sym (map-map (λ c. c.day) (ceiling_of_row t) t.ceilings)) (days_rise (λ c. c.day) t.ceilings (third_passes fine.ceilings))
 
   not_same_day : (i j : ℕ) (d : CeilingRow) → (i < j) → j < length t.ceilings → NotSameDay (ceiling_of_row t (get_or t.ceilings i d)) (ceiling_of_row t (get_or t.ceilings j d))
   not_same_day i j d lt in_j days schools =
@@ -59,7 +59,7 @@ module _ (t : Tables) (ranges : AreTables t) (fine : HasNoFault t) where
   wish_there wish known = rw (length-map-here (wish_of_row t) t.wishes, ← length-map-here (λ w. w.id) t.wishes) (place_within (wish_ids t) wish known)
 
   target_there : (kind : AnswerKind) (target : ℕ) → is_target t kind target ≡ true → IsTarget (dossier_of t) kind (target_of t kind target)
-  target_there Quit target known = among_distinct target (map (λ w. w.candidate) (dossier_of t).wishes) (rw (map_map (λ w. w.candidate) (wish_of_row t) t.wishes) known)
+  target_there Quit target known = among_distinct target (map (λ w. w.candidate) (dossier_of t).wishes) (rw (map-map (λ w. w.candidate) (wish_of_row t) t.wishes) known)
   target_there Accept target known = wish_there target known
   target_there Refuse target known = wish_there target known
   target_there Withdraw target known = wish_there target known
@@ -71,4 +71,4 @@ module _ (t : Tables) (ranges : AreTables t) (fine : HasNoFault t) where
       record { day = (ranges.answers.each k a lt).day; target = target_there row.kind row.target (targets_known t fine k a lt) })
 
   pub answers_by_day : IsNonDecreasing (map (λ a. a.day) (dossier_of t).answers)
-  answers_by_day = subst IsNonDecreasing (sym (map_map (λ a. a.day) (answer_of_row t) t.answers)) (days_rise (λ a. a.day) t.answers (second_passes fine.answers))
+  answers_by_day = subst IsNonDecreasing (sym (map-map (λ a. a.day) (answer_of_row t) t.answers)) (days_rise (λ a. a.day) t.answers (second_passes fine.answers))

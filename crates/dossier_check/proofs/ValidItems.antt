@@ -9,21 +9,21 @@ use Rattle.admit_core.specs.Ranges.{AreTables, IsGroupRow}
 use Rattle.admit_core.specs.Relations.{group_ids}
 use Rattle.admit_core.specs.Standing.{place_of, ranked_row, ranked_in, group_of_row, programme_of_row, school_of_row, wish_of_row, dossier_of}
 use Rattle.admit_core.specs.Validity.{HasOwnIds, IsValidGroup, IsValidRanked, IsValidProgramme, IsValidSchool}
-use Rattle.dossier_check.proofs.BuiltGroups.{map_map}
+use Rattle.std.proofs.lemmas.Simd.{map-map}
 use Rattle.dossier_check.proofs.Firsts.{length-map-here}
 use Rattle.dossier_check.proofs.NoFault.{HasNoFault}
 use Rattle.dossier_check.proofs.Places.{place_within}
 use Rattle.dossier_check.proofs.RowFacts.{group_ids_apart, programme_ids_apart, school_ids_apart, wish_ids_apart, groups_known}
-use Rattle.dossier_check.proofs.SortedLists.{IsPermutation-sorted_by}
+use Rattle.admit_core.proofs.SortedLists.{IsPermutation-sorted_by}
 use Rattle.dossier_check.proofs.ValidRankings.{ranking_of, ranked_few}
 
 module _ (t : Tables) (ranges : AreTables t) (fine : HasNoFault t) where
   pub own_ids : HasOwnIds (dossier_of t)
   own_ids = record {
-    groups = subst (IsDistinct nat_eq) (sym (map_map (λ g. g.id) (group_of_row t) t.groups)) (group_ids_apart t fine);
-    programmes = subst (IsDistinct nat_eq) (sym (map_map (λ p. p.id) (programme_of_row t) t.programmes)) (programme_ids_apart t fine);
-    schools = subst (IsDistinct nat_eq) (sym (map_map (λ h. h.id) school_of_row t.schools)) (school_ids_apart t fine);
-    wishes = subst (IsDistinct nat_eq) (sym (map_map (λ w. w.id) (wish_of_row t) t.wishes)) (wish_ids_apart t fine);
+    groups = subst (IsDistinct nat_eq) (sym (map-map (λ g. g.id) (group_of_row t) t.groups)) (group_ids_apart t fine);
+    programmes = subst (IsDistinct nat_eq) (sym (map-map (λ p. p.id) (programme_of_row t) t.programmes)) (programme_ids_apart t fine);
+    schools = subst (IsDistinct nat_eq) (sym (map-map (λ h. h.id) school_of_row t.schools)) (school_ids_apart t fine);
+    wishes = subst (IsDistinct nat_eq) (sym (map-map (λ w. w.id) (wish_of_row t) t.wishes)) (wish_ids_apart t fine);
   }
 
   valid_ranked : (group : ℕ) → All IsValidRanked (ranked_in t.rankings group)

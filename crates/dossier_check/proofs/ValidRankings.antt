@@ -13,10 +13,10 @@ use Rattle.admit_core.specs.Ranges.{AreRows, IsGroupRow, IsRankRow}
 use Rattle.admit_core.specs.Relations.{ranking_tests}
 use Rattle.admit_core.specs.Standing.{ranked_row, ranked_in, group_of_row}
 use Rattle.admit_core.specs.Validity.{IsRanking}
-use Rattle.dossier_check.proofs.BuiltGroups.{map_map}
+use Rattle.std.proofs.lemmas.Simd.{map-map}
 use Rattle.dossier_check.proofs.Firsts.{length-map-here}
 use Rattle.dossier_check.proofs.FaultFree.{PassesAll, first_passes, third_passes, apart}
-use Rattle.dossier_check.proofs.SortedLists.{length-sorted_by, IsDistinct-sorted_by, IsStrictlyIncreasing-sorted_by}
+use Rattle.admit_core.proofs.SortedLists.{length-sorted_by, IsDistinct-sorted_by, IsStrictlyIncreasing-sorted_by}
 
 module _ {R : Type 0} (p : R → Bool) (key : R → ℕ) where
   -- of two that pass the keys differ
@@ -61,7 +61,7 @@ distinct_in rankings group key differ =
 
 -- the candidates of a group in file order, by their rows
 pub map-ranked_in : (rankings : List RankRow) (group : ℕ) (key : Ranked → ℕ) → map (λ r. key (ranked_row r)) (filter (λ r. nat_eq group r.group) rankings) ≡ map key (ranked_in rankings group)
-map-ranked_in rankings group key = sym (map_map key ranked_row (filter (λ r. nat_eq group r.group) rankings))
+map-ranked_in rankings group key = sym (map-map key ranked_row (filter (λ r. nat_eq group r.group) rankings))
 
 length-ranked_in-le : (rankings : List RankRow) (group : ℕ) → length (ranked_in rankings group) ≤ length rankings
 length-ranked_in-le rankings group =

@@ -12,7 +12,7 @@ use Rattle.admit_core.specs.Relations.{group_ids}
 use Rattle.admit_core.specs.Standing.{ranked_row, ranked_in, group_of_row, programme_of_row, school_of_row, wish_of_row, ceiling_of_row, answer_of_row, dossier_of}
 use Rattle.admit_core.specs.Validity.{HasSize}
 use Rattle.dossier_check.proofs.Firsts.{length-map-here}
-use Rattle.dossier_check.proofs.SortedLists.{length-sorted_by}
+use Rattle.admit_core.proofs.SortedLists.{length-sorted_by}
 
 sum-cons : (n : ℕ) (ns : List ℕ) → sum (n ∷ ns) ≡ n + sum ns
 sum-cons n ns = sum_by-cons (λ x. x) n ns

@@ -18,13 +18,13 @@ use Rattle.admit_core.specs.Ranges.{AreTables, IsNumber}
 use Rattle.admit_core.specs.Relations.{group_ids, programme_ids, school_ids, is_in_group, is_ranked, is_boarded}
 use Rattle.admit_core.specs.Standing.{place_of, ranked_in, group_of_row, programme_of_row, school_of_row, board_rank_of, wish_of_row, dossier_of}
 use Rattle.admit_core.specs.Validity.{HasBoardRank, IsValidWish}
-use Rattle.dossier_check.proofs.BuiltGroups.{map_map}
+use Rattle.std.proofs.lemmas.Simd.{map-map}
 use Rattle.dossier_check.proofs.Firsts.{length-map-here, position_or_len-map}
 use Rattle.dossier_check.proofs.Found.{list_any-map}
 use Rattle.dossier_check.proofs.NoFault.{HasNoFault}
 use Rattle.dossier_check.proofs.Places.{IsFound, found, any_some, any-find, find-any, at_place, place_within}
 use Rattle.dossier_check.proofs.RowFacts.{groups_known, programmes_known, schools_known, all_ranked, all_boarded}
-use Rattle.dossier_check.proofs.SortedLists.{IsPermutation-sorted_by}
+use Rattle.admit_core.proofs.SortedLists.{IsPermutation-sorted_by}
 
 -- an option that passes a test holds a value that passes it
 some_passing : {X : Type 0} (f : X → Bool) (o : Option X) → option_map_or f o false ≡ true → (x : X) × (o ≡ Some x) × (f x ≡ true)
@@ -57,7 +57,7 @@ module _ (t : Tables) (ranges : AreTables t) (fine : HasNoFault t) where
       let known : is_among programme (programme_ids t) ≡ true = list_any-map (nat_eq programme) (λ p. p.id) t.programmes ∙ any in
       let lt : i < length t.programmes = rw (← at, ← length-map-here (λ p. p.id) t.programmes) (place_within (programme_ids t) programme known) in
       let value : get_or (map (λ q. q.group) (dossier_of t).programmes) i 0 ≡ place_of (group_ids t) (get_or t.programmes i p).group =
-      ap (λ gs. get_or gs i 0) (map_map (λ q. q.group) (programme_of_row t) t.programmes) ∙ get_or-map (λ q. place_of (group_ids t) q.group) t.programmes i p 0 lt in (
+      ap (λ gs. get_or gs i 0) (map-map (λ q. q.group) (programme_of_row t) t.programmes) ∙ get_or-map (λ q. place_of (group_ids t) q.group) t.programmes i p 0 lt in (
         rw at value ∙ ap (λ q. place_of (group_ids t) q.group) here,
         ap (λ q. is_among q.group (group_ids t)) (sym here) ∙ groups_known t fine i p lt,
       )

@@ -15,7 +15,7 @@ use Rattle.admit_core.specs.Lists.{is_among, sorted_by}
 use Rattle.admit_core.specs.Standing.{ranked_in}
 use Rattle.dossier_check.specs.Dealt.{HasItsGroup, candidates_in}
 use Rattle.dossier_check.proofs.Places.{nat_eq_sound, nat_eq_same}
-use Rattle.dossier_check.proofs.SortedLists.{IsPermutation-sorted_by, numbers_in_order}
+use Rattle.admit_core.proofs.SortedLists.{IsPermutation-sorted_by, numbers_in_order}
 
 -- the candidates of a group are those whom the rankings have in it
 in_group : (rows : List RankRow) (group candidate : ℕ)

@@ -4,6 +4,7 @@ ghost use Rattle.indexmap.specs.IndexMap.{get};
 ghost use Rattle.admit_core.specs.declared.slot.Slot.TheVariants as slots;
 ghost use Rattle.admit_core.specs.Faults.{first_in};
 ghost use Rattle.admit_core.specs.Relations.{wish_tests, programme_ids, school_ids, wish_ids};
+ghost use Rattle.dossier_check.specs.Chained.{past_two};
 ghost use Rattle.dossier_check.specs.Dealt.{SaysWhoIsRanked};
 ghost use Rattle.dossier_check.specs.Outcome.{AnswersFault};
 ghost use Rattle.dossier_check.specs.Pairs.{pair_eq};
@@ -304,7 +305,7 @@ fn firsts_in(tests: PreferenceTests) -> IndexMap<u32, FirstWish, Keyed>
 /// What the tests of wishes keep.
 fn keys_in(tests: WishTests<'_>) -> WishKeys
     ensures ids { result.ids ≡ tests.entry.first.ids }
-    ensures firsts { result.firsts ≡ tests.entry.rest.rest.rest.rest.rest.rest.first.firsts }
+    ensures firsts { result.firsts ≡ (past_two (past_two (past_two tests.entry))).first.firsts }
 {
     let Then { first: own, rest } = tests;
     let Then { first: _, rest } = rest;

@@ -17,7 +17,7 @@ use Rattle.admit_core.specs.Validity.{IsValid, IsValidWish, IsApart}
 use Rattle.admit_core.specs.declared.dossier.Wish.{Wish}
 use Rattle.admit_core.proofs.Holders.{any_map}
 use Rattle.admit_core.proofs.Tests.{among-map_filter}
-use Rattle.dossier_check.proofs.SortedLists.{IsPermutation-sorted_by, IsDistinct-sorted_by}
+use Rattle.admit_core.proofs.SortedLists.{IsPermutation-sorted_by, IsDistinct-sorted_by}
 use Rattle.stable_market.specs.Markets.{is_list_below}
 use Rattle.stable_market.specs.Firsts.{all_of}
 use Rattle.stable_market.specs.Dossiers.{counts, counted, named, own, by_preference}

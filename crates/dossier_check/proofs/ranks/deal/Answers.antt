@@ -2,7 +2,7 @@ use Rattle.std.proofs.Common.{◌≡◌, map, sym, ap, ◌∙◌}
 use Rattle.admit_core.specs.Relations.{group_ids}
 use Rattle.admit_core.specs.Standing.{ranked_in}
 use Rattle.dossier_check.specs.Dealt.{candidates_of}
-use Rattle.dossier_check.proofs.BuiltGroups.{map_map}
+use Rattle.std.proofs.lemmas.Simd.{map-map}
 use Rattle.dossier_check.proofs.ranks.deal.Goals as goal
 
 pub returns : goal.returns
@@ -14,7 +14,7 @@ returns c =
       rankings = c.in_ok-rankings.ensures;
       candidates = c.in_ok-candidates.ensures
           ∙ ap (map (λ l. candidates_of l.items)) c.as_slice-2.ensures.value
-          ∙ sym (map_map candidates_of (λ l. l.items) made)
+          ∙ sym (map-map candidates_of (λ l. l.items) made)
           ∙ ap (map candidates_of) lists
-          ∙ map_map candidates_of (ranked_in t.rankings) (group_ids t);
+          ∙ map-map candidates_of (ranked_in t.rankings) (group_ids t);
     }

@@ -1,6 +1,6 @@
 use Rattle.std.proofs.Common.{◌≡◌, map, sym, ap, ◌∙◌}
 use Rattle.std.proofs.lemmas.Result.{IfOk-weaker}
-use Rattle.dossier_check.proofs.BuiltGroups.{map_map}
+use Rattle.std.proofs.lemmas.Simd.{map-map}
 use Rattle.stable_market.specs.Dossiers.{by_preference, own}
 use Rattle.stable_market.proofs.owned.lists_of.Goals as goal
 
@@ -13,7 +13,7 @@ returns c =
     (λ lists. lists.items ≡ map (λ k. by_preference (own wishes k)) names)
     (λ lists e.
     e ∙ ap (map (λ row. by_preference row.items)) c.as_slice.ensures.value
-    ∙ sym (map_map by_preference (λ row. row.items) rows)
+    ∙ sym (map-map by_preference (λ row. row.items) rows)
     ∙ ap (map by_preference) c.in_ok-rows.ensures
-    ∙ map_map by_preference (own wishes) names)
+    ∙ map-map by_preference (own wishes) names)
     c.lists_from.ensures
