@@ -1,5 +1,5 @@
--- Counts of faults, which never fall, and the calls that are to fail.
-use Rattle.std.specs.Prelude.{ℕ, ◌+◌, ◌-◌, ◌^◌, ◌≤◌, ◌<◌, List, Contains, min}
+-- Counts of faults, which never fall.
+use Rattle.std.specs.Prelude.{ℕ, ◌+◌, ◌-◌, ◌^◌, ◌≤◌, min}
 use Rattle.admit_core.specs.declared.slot.Slot.{Slot}
 
 -- a counter of 64 bits after so many more, which stops at its last value
@@ -21,7 +21,3 @@ Rose before now = raised before ≤ now
 -- no slot's count is less than it was
 abbrev pub NoneFell : (Slot → ℕ) → (Slot → ℕ) → Type 0
 NoneFell before now = (slot : Slot) → before slot ≤ now slot
-
--- the call after these many is in the list of those that are to fail
-abbrev pub IsToFail : List ℕ → ℕ → Type 0
-IsToFail failing calls = (calls + 1 < 2 ^ 64) × Contains failing (calls + 1)

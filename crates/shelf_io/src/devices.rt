@@ -4,7 +4,7 @@ ghost use Rattle.std.specs.Io.{ReadsAtMost};
 ghost use Rattle.shelf_io.specs.Devices.{file_name};
 ghost use Rattle.shelf_io.specs.Refusals.{read_answer, write_answer};
 
-use crate::memory_shelf::raise;
+use crate::counters::raise;
 use crate::refusal::IoRefusal;
 use crate::shelf::Shelf;
 use crate::sink::Sink;

@@ -2,9 +2,8 @@
 
 use crate::texts::{bytes_in, push_word, text_of};
 use admit_core::{OutOfMemory, Slot};
-use shelf_io::{
-    IoRefusal, MemShelf, MemSink, PlainShelf, PlainSink, Shelf, SlotRefusal, read_slot, write_all,
-};
+use memory_io::{MemShelf, MemSink, PlainShelf, PlainSink};
+use shelf_io::{IoRefusal, Shelf, SlotRefusal, read_slot, write_all};
 use std::alloc::Global;
 
 /// What came out of a slot that has these bytes.

@@ -3,8 +3,8 @@
 use crate::told::Told;
 use bar_fixpoint::{FirstPicker, LastPicker, TurnPicker};
 use case_file::{SLOTS, Slots};
+use memory_io::{MemShelf, MemSink};
 use replay_cli::{Pickers, run};
-use shelf_io::{MemShelf, MemSink};
 use std::alloc::{AllocError, Global};
 
 /// What fails outside: a read by its number, from 1 over all slots, and the sink once it holds so

@@ -2,8 +2,8 @@
 use Rattle.std.specs.Prelude.{ℕ, List, Option, Some}
 use Rattle.admit_core.specs.Slots.{at}
 use Rattle.admit_core.specs.declared.slot.Slot.{Slot}
-use Rattle.shelf_io.specs.declared.memory_shelf.MemShelf.{MemShelf}
-use Rattle.shelf_io.specs.declared.memory_shelf.PlainShelf.{PlainShelf}
+use Rattle.memory_io.specs.declared.memory_shelf.MemShelf.{MemShelf}
+use Rattle.memory_io.specs.declared.memory_shelf.PlainShelf.{PlainShelf}
 
 -- the bytes left in a slot, and how many were taken since they were put there
 abbrev pub left_of : PlainShelf → Slot → Option (List ℕ)

@@ -1,6 +1,6 @@
 //! Calls that are to fail.
 ghost use Rattle.std.specs.Prelude.{◌≡◌, ◌+◌, ◌-◌, ◌^◌, ◌↔◌, ◌∷◌, ◌++◌, [], IsTrue, OnOk, OnErr, min};
-ghost use Rattle.shelf_io.specs.Faults.{IsToFail};
+ghost use Rattle.memory_io.specs.Plans.{IsToFail};
 
 use admit_core::OutOfMemory;
 use std::alloc::Global;

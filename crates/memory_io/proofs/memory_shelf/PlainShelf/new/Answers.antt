@@ -1,5 +1,5 @@
 use Rattle.std.proofs.Common.{ap, Some}
-use Rattle.shelf_io.proofs.memory_shelf.PlainShelf.new.Goals as goal
+use Rattle.memory_io.proofs.memory_shelf.PlainShelf.new.Goals as goal
 
 pub returns-clause-left : goal.returns-clause-left
 returns-clause-left c = λ slot. ap Some (c.from_fn.ensures slot).1.0

@@ -1,12 +1,11 @@
 //! Sinks in memory.
 ghost use Rattle.std.specs.Prelude.{◌≡◌, ◌+◌, ◌-◌, ◌^◌, ◌↔◌, ◌∷◌, ◌++◌, ◌≤◌, ◌<◌, ◌⊎◌, [], Some, IfOk, OnOk, OnErr, IsErrOf, length, min};
-ghost use Rattle.shelf_io.specs.Faults.{IsToFail};
-ghost use Rattle.shelf_io.specs.Rooms.{fitting};
+ghost use Rattle.memory_io.specs.Plans.{IsToFail};
+ghost use Rattle.memory_io.specs.Rooms.{fitting};
 
 use crate::plan::Plan;
-use crate::refusal::IoRefusal;
-use crate::sink::Sink;
 use admit_core::OutOfMemory;
+use shelf_io::{IoRefusal, Sink};
 use std::alloc::Global;
 
 /// A sink in memory that never fails.
@@ -16,7 +15,7 @@ pub struct PlainSink {
 }
 
 impl PlainSink {
-    ghost use Rattle.shelf_io.specs.MemorySink.{plain_held};
+    ghost use Rattle.memory_io.specs.MemorySink.{plain_held};
 
     /// A sink that holds nothing.
     pub fn new(alloc: Global) -> PlainSink
@@ -38,7 +37,7 @@ impl PlainSink {
 impl Sink for PlainSink {
     ghost use Rattle.std.specs.Io.{WritesAtMost};
     ghost use Rattle.std.specs.Io.KnownBytes.{WriteAppends};
-    ghost use Rattle.shelf_io.specs.MemorySink.{plain_held};
+    ghost use Rattle.memory_io.specs.MemorySink.{plain_held};
 
     ghost held = { λ sink. Some (plain_held sink) };
 
@@ -70,7 +69,7 @@ pub struct MemSink {
 }
 
 impl MemSink {
-    ghost use Rattle.shelf_io.specs.MemorySink.{sink_calls, sink_failing, sink_faults, sink_held, sink_room};
+    ghost use Rattle.memory_io.specs.MemorySink.{sink_calls, sink_failing, sink_faults, sink_held, sink_room};
 
     /// A sink that holds nothing, and takes `room` bytes in all, or any number.
     pub fn new(alloc: Global, room: Option<u64>) -> MemSink
@@ -130,7 +129,7 @@ impl Sink for MemSink {
     ghost use Rattle.std.specs.Io.{WritesAtMost};
     ghost use Rattle.std.specs.Io.KnownBytes.{WriteAppends};
     ghost use Rattle.shelf_io.specs.Refusals.{faults_after};
-    ghost use Rattle.shelf_io.specs.MemorySink.{sink_calls, sink_failing, sink_faults, sink_held, sink_room};
+    ghost use Rattle.memory_io.specs.MemorySink.{sink_calls, sink_failing, sink_faults, sink_held, sink_room};
     ghost use Rattle.shelf_io.specs.Faults.{Rose};
 
     ghost held = { λ sink. Some (sink_held sink) };

@@ -1,7 +1,7 @@
 -- What the sinks in memory tell.
 use Rattle.std.specs.Prelude.{ℕ, List, Option}
-use Rattle.shelf_io.specs.declared.memory_sink.MemSink.{MemSink}
-use Rattle.shelf_io.specs.declared.memory_sink.PlainSink.{PlainSink}
+use Rattle.memory_io.specs.declared.memory_sink.MemSink.{MemSink}
+use Rattle.memory_io.specs.declared.memory_sink.PlainSink.{PlainSink}
 
 -- the bytes that a sink holds
 abbrev pub plain_held : PlainSink → List ℕ

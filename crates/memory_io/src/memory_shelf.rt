@@ -1,12 +1,12 @@
 //! Shelves in memory.
 ghost use Rattle.std.specs.Prelude.{◌≡◌, ◌+◌, ◌-◌, ◌^◌, ◌↔◌, ◌∷◌, ◌++◌, ◌≤◌, ◌<◌, ◌⊎◌, [], Some, IfSome, OnOk, OnErr, IsErrOf, drop, take, length, min};
 ghost use Rattle.admit_core.specs.Slots.{at, with_at};
-ghost use Rattle.shelf_io.specs.Faults.{IsToFail, raised_by};
+ghost use Rattle.memory_io.specs.Plans.{IsToFail};
+ghost use Rattle.shelf_io.specs.Faults.{raised_by};
 
 use crate::plan::Plan;
-use crate::refusal::IoRefusal;
-use crate::shelf::Shelf;
 use admit_core::{OutOfMemory, PerSlot, Slot};
+use shelf_io::{IoRefusal, Shelf, raise};
 use std::alloc::Global;
 use std::marker::Model;
 
@@ -19,7 +19,7 @@ struct Stock {
 
 impl Model for Stock {
     ghost use Rattle.std.specs.Prelude.{◌≤◌, drop, vec_len};
-    ghost use Rattle.shelf_io.specs.Stocks.{Stocked};
+    ghost use Rattle.memory_io.specs.Stocks.{Stocked};
 
     ghost Value = { Stocked };
 
@@ -61,7 +61,7 @@ pub struct PlainShelf {
 impl PlainShelf {
     ghost use Rattle.admit_core.specs.declared.slot.Slot.{Slot};
     ghost use Rattle.shelf_io.specs.Bytes.{OthersKept};
-    ghost use Rattle.shelf_io.specs.MemoryShelf.{left_of, taken_of};
+    ghost use Rattle.memory_io.specs.MemoryShelf.{left_of, taken_of};
 
     /// A shelf with nothing in its slots.
     pub fn new(alloc: Global) -> PlainShelf
@@ -93,7 +93,7 @@ impl Shelf for PlainShelf {
     ghost use Rattle.std.specs.Io.{ReadsAtMost};
     ghost use Rattle.std.specs.Io.KnownBytes.{ReadConsumes};
     ghost use Rattle.shelf_io.specs.Bytes.{CountsTaken, OthersKept};
-    ghost use Rattle.shelf_io.specs.MemoryShelf.{left_of, taken_of};
+    ghost use Rattle.memory_io.specs.MemoryShelf.{left_of, taken_of};
 
     ghost left = { left_of };
 
@@ -118,15 +118,6 @@ impl Shelf for PlainShelf {
     }
 }
 
-/// Adds to a slot's counter, which stops at its last value.
-pub(crate) fn raise(counts: &mut PerSlot<u64>, slot: Slot, more: u64)
-    ensures raised { counts.new ≡ with_at counts.old slot (raised_by more (at counts.old slot)) }
-    ensures not_less { at counts.old slot ≤ raised_by more (at counts.old slot) }
-{
-    let count = counts.get_mut(slot);
-    *count = count.saturating_add(more);
-}
-
 /// A shelf in memory, some of whose calls fail.
 #[derive(Drop)]
 pub struct MemShelf {
@@ -138,7 +129,7 @@ pub struct MemShelf {
 impl MemShelf {
     ghost use Rattle.admit_core.specs.declared.slot.Slot.{Slot};
     ghost use Rattle.shelf_io.specs.Bytes.{OthersKept};
-    ghost use Rattle.shelf_io.specs.MemoryShelf.{mem_calls, mem_failing, mem_faults, mem_left, mem_taken};
+    ghost use Rattle.memory_io.specs.MemoryShelf.{mem_calls, mem_failing, mem_faults, mem_left, mem_taken};
 
     /// A shelf with nothing in its slots.
     pub fn new(alloc: Global) -> MemShelf
@@ -187,7 +178,7 @@ impl Shelf for MemShelf {
     ghost use Rattle.shelf_io.specs.Bytes.{CountsTaken, OthersKept};
     ghost use Rattle.shelf_io.specs.Faults.{NoneFell, Rose};
     ghost use Rattle.shelf_io.specs.Refusals.{faults_after};
-    ghost use Rattle.shelf_io.specs.MemoryShelf.{mem_calls, mem_failing, mem_faults, mem_left, mem_taken};
+    ghost use Rattle.memory_io.specs.MemoryShelf.{mem_calls, mem_failing, mem_faults, mem_left, mem_taken};
 
     ghost left = { mem_left };
 

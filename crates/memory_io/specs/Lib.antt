@@ -1,0 +1,5 @@
+pub mod MemoryShelf
+pub mod MemorySink
+pub mod Plans
+pub mod Rooms
+pub mod Stocks
