@@ -1,8 +1,9 @@
 -- A dossier in which one school has another number of beds is valid as well.
-use Rattle.std.proofs.Common.{ℕ, ◌+◌, ◌≤◌, ◌<◌, ◌≡◌, ◌==◌, Bool, true, false, List, ◌∷◌, [], map, length, get_or, Option, refl, sym, ◌∙◌, subst, arith, if◌then◌else◌}
+use Rattle.std.proofs.Common.{ℕ, ◌+◌, ◌≤◌, ◌<◌, ◌≡◌, ◌==◌, Bool, true, false, List, ◌∷◌, [], map, length, get_or, set, Option, ap, refl, suc, sym, zero, ◌∙◌, subst, arith, if◌then◌else◌}
 use Rattle.std.specs.Prelude.{nat_eq}
 use Rattle.std.specs.List.{All, IsDistinct, enumerate_from}
 use Rattle.std.specs.Option.{ForSome}
+use Rattle.std.proofs.lemmas.Bool.{eq-eqb, ne_eqb}
 use Rattle.std.proofs.lemmas.List.{length-map}
 use Rattle.std.proofs.lemmas.List.Elements.{All-cons, All-head, All-tail}
 use Rattle.std.proofs.lemmas.List.FromFn.{length-enumerate_from}
@@ -18,6 +19,28 @@ with_n h n x = if x.0 == h then record x.1 { beds = n } else x.1
 -- no school comes or goes
 pub as_many : (schools : List School) (h n : ℕ) → length (schools_with schools h n) ≡ length schools
 as_many schools h n = length-map (enumerate_from 0 schools) (with_n h n) ∙ length-enumerate_from 0 schools
+
+-- those past the school stay
+past : (h k n : ℕ) (schools : List School) → h < k → map (with_n h n) (enumerate_from k schools) ≡ schools
+past h k n [] later = refl
+past h k n (s ∷ schools) later =
+    let other : (k == h) ≡ false = ne_eqb k h (λ same. omega (arith, same, later)) in
+    rw (other, past h (k + 1) n schools (omega (arith, later))) refl
+
+put_from : (h k i n : ℕ) (schools : List School) (d : School) → h ≡ k + i → i < length schools
+    → set schools i (record (get_or schools i d) { beds = n }) ≡ map (with_n h n) (enumerate_from k schools)
+put_from h k i n [] d at lt = absurd (omega (arith, lt))
+put_from h k zero n (s ∷ schools) d at lt =
+    let here : (k == h) ≡ true = eq-eqb k h (omega (arith, at)) in
+    rw (here, past h (k + 1) n schools (omega (arith, at))) refl
+put_from h k (suc i) n (s ∷ schools) d at lt =
+    let other : (k == h) ≡ false = ne_eqb k h (λ same. omega (arith, same, at)) in
+    rw other (ap (λ (l : List School). s ∷ l) (put_from h (k + 1) i n schools d (omega (arith, at)) (omega (arith, lt))))
+
+-- the one school is put
+pub put_beds : (schools : List School) (h n : ℕ) (d : School) → h < length schools
+    → set schools h (record (get_or schools h d) { beds = n }) ≡ schools_with schools h n
+put_beds schools h n d lt = put_from h 0 h n schools d (omega arith) lt
 
 id_stays : (is : Bool) (n : ℕ) (s : School) → (if is then record s { beds = n } else s).id ≡ s.id
 id_stays true n s = refl

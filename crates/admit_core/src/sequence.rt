@@ -1,6 +1,7 @@
 //! Fields that contracts see as lists.
-ghost use Rattle.std.specs.Prelude.{◌≡◌, ◌==◌, [], length};
+ghost use Rattle.std.specs.Prelude.{◌≡◌, ◌==◌, [], IfOk, length};
 
+use crate::refusal::OutOfMemory;
 use std::alloc::Global;
 use std::marker::Model;
 
@@ -41,6 +42,15 @@ impl<T> Sequence<T> {
     {
         let Sequence { items } = self;
         items
+    }
+
+    /// The same items again.
+    pub(crate) fn copied(&self, alloc: Global) -> Result<Sequence<T>, OutOfMemory>
+    where
+        T: Copy,
+        ensures { IfOk result (λ copy. copy ≡ self.now) }
+    {
+        Ok(Sequence::from_vec(Vec::from_slice(alloc, self.as_slice())?))
     }
 
     /// The items as a slice.

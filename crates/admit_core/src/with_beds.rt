@@ -1,9 +1,9 @@
 //! A dossier in which one school has another number of beds.
-ghost use Rattle.std.specs.Prelude.{◌≡◌, ◌≤◌, ◌<◌, ◌==◌, if◌then◌else◌, IfOk, length};
+ghost use Rattle.std.specs.Prelude.{◌≡◌, ◌≤◌, ◌<◌, IfOk, length};
 ghost use Rattle.admit_core.specs.LeastBeds.{rebuilt, schools_with};
 ghost use Rattle.admit_core.specs.Validity.{IsValid};
 
-use crate::dossier::{Answer, CeilingChange, Dossier, School};
+use crate::dossier::{Answer, CeilingChange, Dossier, Programme, School, Wish};
 use crate::ranking::RankGroup;
 use crate::refusal::OutOfMemory;
 use crate::sequence::Sequence;
@@ -18,7 +18,7 @@ fn copy_of(alloc: Global, group: &RankGroup) -> Result<RankGroup, OutOfMemory>
         id: group.id,
         scholar_pct: group.scholar_pct,
         resident_pct: group.resident_pct,
-        list: Sequence::from_vec(group.list.as_slice().to_vec(alloc)?),
+        list: group.list.copied(alloc)?,
     })
 }
 
@@ -33,17 +33,6 @@ fn copies_of(alloc: Global, groups: &[RankGroup]) -> Result<Vec<RankGroup>, OutO
     Ok(copies)
 }
 
-/// The school, with so many beds where it is the one that is meant.
-fn with_beds_where(school: &School, is_meant: bool, beds: u32) -> School
-    ensures { result ≡ (if is_meant then record school.now { beds = beds } else school.now) }
-{
-    if is_meant {
-        School { beds, ..*school }
-    } else {
-        *school
-    }
-}
-
 /// These schools, of which the one at this place has so many beds.
 fn with_beds_at(
     alloc: Global,
@@ -51,60 +40,43 @@ fn with_beds_at(
     place: usize,
     beds: u32,
 ) -> Result<Vec<School>, OutOfMemory>
+    requires { place < length schools.now }
     ensures { IfOk result (λ v. v.items ≡ schools_with schools.now place beds) }
 {
-    Ok(
-        schools
-            .iter()
-            .enumerate()
-            .map(|x| with_beds_where(x.1, x.0 == place, beds))
-            .collect(alloc)?,
-    )
+    let mut copies = Vec::from_slice(alloc, schools)?;
+    let school = schools[place];
+    copies[place] = School { beds, ..school };
+    Ok(copies)
+}
+
+/// Copies of the groups, the programmes and the wishes.
+fn named_copied(
+    alloc: Global,
+    dossier: &Dossier,
+) -> Result<(Sequence<RankGroup>, Sequence<Programme>, Sequence<Wish>), OutOfMemory>
+    ensures groups { IfOk result (λ copies. copies.0 ≡ dossier.now.groups) }
+    ensures programmes { IfOk result (λ copies. copies.1 ≡ dossier.now.programmes) }
+    ensures wishes { IfOk result (λ copies. copies.2 ≡ dossier.now.wishes) }
+{
+    let groups = copies_of(alloc, dossier.groups.as_slice())?;
+    let programmes = dossier.programmes.copied(alloc)?;
+    let wishes = dossier.wishes.copied(alloc)?;
+    Ok((Sequence::from_vec(groups), programmes, wishes))
 }
 
 /// Copies of what happens to wishes and schools, day by day.
-struct Events {
-    statuses: Vec<Status>,
-    ceilings: Vec<CeilingChange>,
-    answers: Vec<Answer>,
-}
-
-// Not derived: so the copies are dropped in one step where they are held.
-impl Drop for Events {
-    fn drop(self) {
-        let Events {
-            statuses: _,
-            ceilings: _,
-            answers: _,
-        } = self;
-    }
-}
-
-impl Events {
-    fn copied(alloc: Global, dossier: &Dossier) -> Result<Events, OutOfMemory>
-        ensures statuses { IfOk result (λ events. events.statuses.items ≡ dossier.now.statuses) }
-        ensures ceilings { IfOk result (λ events. events.ceilings.items ≡ dossier.now.ceilings) }
-        ensures answers { IfOk result (λ events. events.answers.items ≡ dossier.now.answers) }
-    {
-        Ok(Events {
-            statuses: dossier.statuses.as_slice().to_vec(alloc)?,
-            ceilings: dossier.ceilings.as_slice().to_vec(alloc)?,
-            answers: dossier.answers.as_slice().to_vec(alloc)?,
-        })
-    }
-
-    fn into_parts(self) -> (Vec<Status>, Vec<CeilingChange>, Vec<Answer>)
-        ensures statuses { result.0.items ≡ self.statuses.items }
-        ensures ceilings { result.1.items ≡ self.ceilings.items }
-        ensures answers { result.2.items ≡ self.answers.items }
-    {
-        let Events {
-            statuses,
-            ceilings,
-            answers,
-        } = self;
-        (statuses, ceilings, answers)
-    }
+fn events_copied(
+    alloc: Global,
+    dossier: &Dossier,
+) -> Result<(Sequence<Status>, Sequence<CeilingChange>, Sequence<Answer>), OutOfMemory>
+    ensures statuses { IfOk result (λ copies. copies.0 ≡ dossier.now.statuses) }
+    ensures ceilings { IfOk result (λ copies. copies.1 ≡ dossier.now.ceilings) }
+    ensures answers { IfOk result (λ copies. copies.2 ≡ dossier.now.answers) }
+{
+    let statuses = dossier.statuses.copied(alloc)?;
+    let ceilings = dossier.ceilings.copied(alloc)?;
+    let answers = dossier.answers.copied(alloc)?;
+    Ok((statuses, ceilings, answers))
 }
 
 /// A dossier's copy, but for its schools.
@@ -116,19 +88,16 @@ fn with_schools(
     requires { IsValid (record dossier.now { schools = schools.items }) }
     ensures { IfOk result (λ copy. copy ≡ record dossier.now { schools = schools.items }) }
 {
-    let events = Events::copied(alloc, dossier)?;
-    let wishes = dossier.wishes.as_slice().to_vec(alloc)?;
-    let programmes = dossier.programmes.as_slice().to_vec(alloc)?;
-    let groups = copies_of(alloc, dossier.groups.as_slice())?;
-    let (statuses, ceilings, answers) = events.into_parts();
+    let (groups, programmes, wishes) = named_copied(alloc, dossier)?;
+    let (statuses, ceilings, answers) = events_copied(alloc, dossier)?;
     Ok(Dossier {
-        groups: Sequence::from_vec(groups),
-        programmes: Sequence::from_vec(programmes),
+        groups,
+        programmes,
         schools: Sequence::from_vec(schools),
-        wishes: Sequence::from_vec(wishes),
-        statuses: Sequence::from_vec(statuses),
-        ceilings: Sequence::from_vec(ceilings),
-        answers: Sequence::from_vec(answers),
+        wishes,
+        statuses,
+        ceilings,
+        answers,
     })
 }
 

@@ -210,7 +210,8 @@ pub(crate) fn checked(
     requires first { first.now ≡ first_evening input.now.dossier }
 
     ensures { IfOk result (λ reply. IsChecked
-        input.now.dossier input.now.chain (option_copied dated.entry) orders.now.orders reply.exit reply.text.items) }
+        input.now.dossier input.now.chain (option_copied dated.entry) orders.now.orders
+        reply.exit reply.text.items) }
 {
     match read_chain(alloc, input.chain.as_slice()) {
         Ok(chain) => check_chain(alloc, input, dated, orders, first, chain.days.as_slice()),

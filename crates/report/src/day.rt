@@ -5,7 +5,6 @@ ghost use Rattle.report.specs.DayText.{IsFallOf, IsLapseOf, IsPassOf, auto_line,
 use crate::date::DateWord;
 use crate::ids::{push_numbers, school_id, wish_id};
 use crate::number::push_number;
-use crate::status::word_of;
 use admit_core::{Change, DayRecord, Dossier, Fall, Lapse, OutOfMemory, PassEnd, Terms};
 use calendar::{Civil, deadline, on_day};
 use std::alloc::{AllocError, Global};
@@ -69,7 +68,7 @@ fn push_auto(text: &mut String, dossier: &Dossier, change: Change) -> Result<(),
     text.push_str("auto ")?;
     push_number(text, wish_id(dossier, change.wish))?;
     text.push_str(" ")?;
-    text.push_str(word_of(change.status))?;
+    text.push_str(change.status.word())?;
     text.push_str("\n")
 }
 

@@ -9,7 +9,6 @@ ghost use Rattle.calendar.specs.Dates.{IsCivil};
 
 use crate::date::DateWord;
 use crate::number::push_number;
-use crate::status::word_of;
 use admit_core::{OutOfMemory, Status, Terms, Wish};
 use calendar::{Civil, on_day};
 use day_state::DayState;
@@ -22,7 +21,7 @@ fn push_row(text: &mut String, id: u32, status: Status) -> Result<(), AllocError
 {
     push_number(text, id)?;
     text.push_str(",")?;
-    text.push_str(word_of(status))?;
+    text.push_str(status.word())?;
     text.push_str("\n")
 }
 
@@ -106,7 +105,7 @@ fn push_dated_row(
 {
     push_number(text, wish.id)?;
     text.push_str(",")?;
-    text.push_str(word_of(state.status(place)))?;
+    text.push_str(state.status(place).word())?;
     text.push_str(",")?;
     push_since(text, state, start, terms, place)
 }

@@ -13,7 +13,6 @@ mod number;
 mod order;
 mod refusal;
 mod sample;
-mod status;
 mod words;
 mod worked;
 
