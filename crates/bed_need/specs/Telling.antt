@@ -4,7 +4,7 @@ use Rattle.admit_core.specs.declared.records.Fall.{Fall}
 use Rattle.admit_core.specs.Falls.{FallingSystem, IsRun}
 use Rattle.bar_fixpoint.specs.Chosen.{AreChosen}
 use Rattle.bar_law.specs.Runs.{schools_of}
-use Rattle.day_run.specs.DayPasses.{TellsMore}
+use Rattle.desk_day.specs.DayPasses.{TellsMore}
 
 -- a picker told of the schools of a run of falls, each of which it chose
 pub record TellsOfRun (sys : FallingSystem) (choice : List ℕ → List ℕ → ℕ)

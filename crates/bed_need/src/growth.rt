@@ -5,7 +5,7 @@ ghost use Rattle.admit_core.specs.CallOrder.{AreCallOrders};
 ghost use Rattle.admit_core.specs.DossierRows.{beds_of};
 ghost use Rattle.admit_core.specs.Falls.{IsAtMost, IsGreatest};
 ghost use Rattle.admit_core.specs.LeastBeds.{rebuilt};
-ghost use Rattle.day_run.specs.DayPasses.{TellsMore};
+ghost use Rattle.desk_day.specs.DayPasses.{TellsMore};
 ghost use Rattle.bed_need.specs.Growing.{IsGrowth, with_more_beds, with_n_beds};
 ghost use Rattle.bed_need.specs.Telling.{IsAsked, TellsOfBoth};
 

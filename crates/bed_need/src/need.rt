@@ -3,7 +3,7 @@ ghost use Rattle.std.specs.Prelude.{◌≡◌, ◌<◌, ◌≤◌, length, IfOk}
 ghost use Rattle.admit_core.specs.Boarding.{boarding};
 ghost use Rattle.admit_core.specs.CallOrder.{AreCallOrders};
 ghost use Rattle.admit_core.specs.LeastBeds.{IsLeastBeds, rebuilt};
-ghost use Rattle.day_run.specs.DayPasses.{TellsMore};
+ghost use Rattle.desk_day.specs.DayPasses.{TellsMore};
 ghost use Rattle.bed_need.specs.Growing.{with_n_beds};
 ghost use Rattle.bed_need.specs.Needing.{IsNeed, need_of};
 ghost use Rattle.bed_need.specs.Telling.{IsAsked, TellsOfRun};

@@ -26,7 +26,7 @@ use Rattle.admit_core.specs.State.{State}
 use Rattle.admit_core.specs.Validity.{IsValid}
 use Rattle.admit_core.proofs.DemandLaws.{boarding_is_lawful}
 use Rattle.admit_core.proofs.FallsLaw.{falls_under, over_in, over_rank}
-use Rattle.day_run.proofs.SameDossier.{evening_dossier, morning_dossier}
+use Rattle.desk_day.proofs.SameDossier.{evening_dossier, morning_dossier}
 use Rattle.certificate.specs.ChainText.{chain_text}
 use Rattle.certificate.specs.Grammar.{read}
 use Rattle.certificate.specs.ProvedDays.{AreProvedDays}

@@ -12,10 +12,11 @@ use Rattle.admit_core.specs.EveningLaws.{last_bars}
 use Rattle.admit_core.specs.Explanations.{LastPass}
 use Rattle.linked_demand.specs.declared.lineup.Lineup.{Lineup}
 use Rattle.linked_demand.specs.Lineups.{IsLineupOf}
-use Rattle.day_run.specs.AnswersOn.{IsUnfitOf}
-use Rattle.day_run.specs.LastPasses.{IsLastPass, last_pass}
-use Rattle.day_run.specs.RunDay.{Moment, IsDayDone, KeepsOpening, TellsNoneUnfit}
-use Rattle.day_run.specs.declared.refusal.DayRefusal.{DayRefusal}
+use Rattle.desk_day.specs.AnswersOn.{IsUnfitOf}
+use Rattle.desk_day.specs.DeskStates.{DeskStates}
+use Rattle.desk_day.specs.LastPasses.{IsLastPass, last_pass}
+use Rattle.desk_day.specs.RunDay.{Moment, IsDayDone, KeepsOpening, TellsNoneUnfit}
+use Rattle.desk_day.specs.declared.refusal.DayRefusal.{DayRefusal}
 
 -- the orders and the terms of a campaign, the days that were run, and whether the last one came
 -- about; the present state, that of the evening before, the opening of the last pass, its bars, and
@@ -30,6 +31,21 @@ pub record Progress : Type 0 where
   pub opening : State
   pub bars : List ℕ
   pub ceilings : List ℕ
+
+-- the same by its parts
+abbrev pub progress : List CallOrder → Option Terms → ℕ → Bool → DeskStates → List ℕ → List ℕ
+    → Progress
+progress orders terms day has_day desk bars ceilings = record {
+  orders = orders;
+  terms = terms;
+  day = day;
+  has_day = has_day;
+  present = desk.present;
+  evening = desk.evening;
+  opening = desk.opening;
+  bars = bars;
+  ceilings = ceilings;
+}
 
 -- the last pass of a campaign
 abbrev pub pass_of : Progress → LastPass

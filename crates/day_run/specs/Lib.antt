@@ -1,12 +1,2 @@
-pub mod AnswersOn
-pub mod Changes
-pub mod DayPasses
-pub mod Touched
-pub mod DeskStates
-pub mod Evening
-pub mod Ceilings
 pub mod CampaignDays
-pub mod DayLaws
-pub mod DayPlaces
-pub mod LastPasses
-pub mod RunDay
+pub mod CampaignLaws

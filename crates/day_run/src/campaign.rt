@@ -2,13 +2,13 @@
 ghost use Rattle.std.specs.Prelude.{◌≡◌, ◌<◌, length, IfOk, IfErr, IsTrue, None, Some};
 ghost use Rattle.admit_core.specs.CallOrder.{AreCallOrders};
 ghost use Rattle.day_run.specs.CampaignDays.{EndsNextDay, IsBegun, pass_of};
-ghost use Rattle.day_run.specs.LastPasses.{IsLastPass};
+ghost use Rattle.desk_day.specs.LastPasses.{IsLastPass};
 
 use crate::course::Course;
-use crate::refusal::DayRefusal;
 use admit_core::{CallOrders, DayRecord, Dossier, Terms};
 use bar_fixpoint::Picker;
 use day_state::DayState;
+use desk_day::DayRefusal;
 use std::alloc::Global;
 use std::mem;
 

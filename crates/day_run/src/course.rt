@@ -4,15 +4,12 @@ ghost use Rattle.std.specs.Option.{ForSome};
 ghost use Rattle.admit_core.specs.CallOrder.{AreCallOrders};
 ghost use Rattle.admit_core.specs.EveningLaws.{last_bars};
 ghost use Rattle.day_run.specs.CampaignDays.{EndsNextDay, IsBegun, pass_of};
-ghost use Rattle.day_run.specs.LastPasses.{IsLastPass};
+ghost use Rattle.desk_day.specs.LastPasses.{IsLastPass};
 
-use crate::ceilings::{ceilings_on, own_ceilings};
-use crate::day::run_day_along;
-use crate::desk::Desk;
-use crate::refusal::DayRefusal;
 use admit_core::{CallOrders, DayRecord, Dossier, OutOfMemory, PassEnd, Terms};
 use bar_fixpoint::Picker;
 use day_state::DayState;
+use desk_day::{DayRefusal, Desk, ceilings_on, own_ceilings, run_day_along};
 use linked_demand::Lineup;
 use std::alloc::Global;
 use std::marker::Model;
@@ -46,34 +43,15 @@ impl Drop for Course<'_> {
 }
 
 impl<'d> Model for Course<'d> {
-    ghost use Rattle.day_run.specs.CampaignDays.{Progress, IsAlong};
+    ghost use Rattle.day_run.specs.CampaignDays.{Progress, IsAlong, progress};
 
     ghost Value = { Progress };
 
-    ghost view = { λ s. record {
-      orders = s.orders.now.orders;
-      terms = s.terms;
-      day = s.day;
-      has_day = s.has_day;
-      present = s.desk.present;
-      evening = s.desk.evening;
-      opening = s.desk.opening;
-      bars = s.bars.items;
-      ceilings = s.ceilings.items;
-    } };
+    ghost view = { λ s. progress s.orders.now.orders s.terms s.day s.has_day s.desk s.bars.items
+        s.ceilings.items };
 
-    ghost invariant = { λ s. IsAlong s.lineup
-        (record {
-          orders = s.orders.now.orders;
-          terms = s.terms;
-          day = s.day;
-          has_day = s.has_day;
-          present = s.desk.present;
-          evening = s.desk.evening;
-          opening = s.desk.opening;
-          bars = s.bars.items;
-          ceilings = s.ceilings.items;
-        }) };
+    ghost invariant = { λ s. IsAlong s.lineup (progress s.orders.now.orders s.terms s.day
+        s.has_day s.desk s.bars.items s.ceilings.items) };
 }
 
 impl<'d> Course<'d> {

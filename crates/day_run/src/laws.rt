@@ -1,5 +1,6 @@
 //! The laws of days, over definitions alone.
-ghost use Rattle.day_run.specs.DayLaws.{OnlyFallsDiffer, CampaignsAreFixed};
+ghost use Rattle.day_run.specs.CampaignLaws.{CampaignsAreFixed};
+ghost use Rattle.desk_day.specs.DayLaws.{OnlyFallsDiffer};
 
 /// The laws of days. The call does nothing.
 pub fn laws_of_days()

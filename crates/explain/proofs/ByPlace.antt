@@ -12,7 +12,7 @@ use Rattle.admit_core.specs.Explanations.{explanation}
 use Rattle.admit_core.specs.State.{entries}
 use Rattle.day_state.specs.Kept.{mark_in, wish_in}
 use Rattle.explain.specs.Laws.{EachIsListed}
-use Rattle.explain.specs.Sayings.{explanation_at}
+use Rattle.explanations.specs.Sayings.{explanation_at}
 
 pub each_is_listed : EachIsListed
 each_is_listed last evening same long long_too =

@@ -1,7 +1,7 @@
 -- Each day ended with its last pass.
 use Rattle.std.proofs.Common.{refl}
 use Rattle.admit_core.specs.EveningLaws.{last_bars}
-use Rattle.day_run.proofs.PassEnds.{day_ends_so, desk_ends_so}
+use Rattle.desk_day.proofs.PassEnds.{day_ends_so, desk_ends_so}
 use Rattle.explain.specs.Laws.{DaysEndSo, DesksEndSo}
 
 pub days_end_so : DaysEndSo

@@ -2,18 +2,16 @@
 use Rattle.std.proofs.Common.{ℕ, ◌+◌, ◌≡◌, List, [], ◌∷◌, refl, sym, ◌∙◌, ap, subst}
 use Rattle.std.specs.List.{AllZip}
 use Rattle.admit_core.specs.declared.ranking.CallOrder.{CallOrder}
-use Rattle.admit_core.specs.declared.ranking.RankGroup.{RankGroup}
 use Rattle.admit_core.specs.declared.records.PassEnd.{PassEnd}
-use Rattle.admit_core.specs.CallOrder.{AreCallOrders}
 use Rattle.admit_core.specs.Days.{IsDay, ceilings_of, closing, morning}
 use Rattle.admit_core.specs.EveningLaws.{last_bars}
 use Rattle.admit_core.specs.Explanations.{explained}
 use Rattle.admit_core.specs.State.{State}
-use Rattle.admit_core.proofs.OneOrder.{same_order}
-use Rattle.day_run.specs.DayLaws.{SameButFalls}
-use Rattle.day_run.specs.DayPasses.{last_opening, stamp_of}
-use Rattle.day_run.proofs.SameDays.{campaigns_are_fixed, only_falls_differ}
-use Rattle.day_run.specs.LastPasses.{last_of, last_pass}
+use Rattle.desk_day.specs.DayLaws.{SameButFalls}
+use Rattle.desk_day.specs.DayPasses.{last_opening, stamp_of}
+use Rattle.day_run.proofs.SameCampaigns.{campaigns_are_fixed, same_orders}
+use Rattle.desk_day.proofs.SameDays.{only_falls_differ}
+use Rattle.desk_day.specs.LastPasses.{last_of, last_pass}
 use Rattle.explain.specs.Laws.{CampaignsFixThem, DaysFixThem}
 
 -- the last bars are the same
@@ -52,16 +50,6 @@ days_fix_them terms orders ceilings old one other evening night number a b =
     explained (last_pass (last_opening orders other.day 1
     (morning terms other.day old) other.passes) orders ceilings bs) evening.marks) bars
     ∙ ap (λ (s : State). explained (last_of terms orders ceilings old other) s.marks) fixed.0
-
--- the groups of a dossier have one list of call orders
-same_orders : (groups : List RankGroup) (one other : List CallOrder) → AreCallOrders groups one → AreCallOrders groups other → one ≡ other
-same_orders [] [] [] a b = refl
-same_orders [] [] (y ∷ ys) a b = absurd b
-same_orders [] (x ∷ xs) other a b = absurd a
-same_orders (g ∷ gs) [] other a b = absurd a
-same_orders (g ∷ gs) (x ∷ xs) [] a b = absurd b
-same_orders (g ∷ gs) (x ∷ xs) (y ∷ ys) a b =
-    ap (λ (o : CallOrder). o ∷ xs) (same_order g x y a.0 b.0) ∙ ap (λ (os : List CallOrder). y ∷ os) (same_orders gs xs ys a.1 b.1)
 
 pub campaigns_fix_them : CampaignsFixThem
 campaigns_fix_them terms orders others first last old days twins day twin noon noon_too evening

@@ -1,5 +1,5 @@
 -- Of each wish exactly one explanation holds.
-use Rattle.std.proofs.Common.{ℕ, ◌≡◌, Bool, true, false, not, ◌||◌, inl, inr, refl, sym, ◌∙◌, ap, subst, Option, Some, None}
+use Rattle.std.proofs.Common.{ℕ, ◌≡◌, true, false, inl, inr, refl, sym, ◌∙◌, ap, subst, Option, Some, None}
 use Rattle.std.proofs.lemmas.Bool.{and_parts, cases_Bool, false≢true, not-true, not_from_false}
 use Rattle.admit_core.specs.declared.dossier.Wish.{Wish}
 use Rattle.admit_core.specs.declared.explanation.Explanation.{Explanation}
@@ -11,6 +11,7 @@ use Rattle.admit_core.specs.State.{is_gone, is_live, is_waiting}
 use Rattle.admit_core.specs.Proposals.{is_barred, is_behind_bar}
 use Rattle.admit_core.specs.Explanations.{LastPass, barred_at, explanation, no_seat}
 use Rattle.explain.specs.Laws.{EachHasOne, IsExplanation}
+use Rattle.explanations.proofs.CaseByCase.{waits_else, when_barred, when_gone, when_live, when_seatless}
 
 waits_not_live : (status : Status)
     → is_waiting (record { status = status; stamp = record { day = 0; pass = 0 } }) ≡ true
@@ -25,29 +26,7 @@ waits_not_live AutoRefused t = absurd (false≢true t)
 waits_not_live AutoWithdrawn t = absurd (false≢true t)
 waits_not_live Lapsed t = absurd (false≢true t)
 
--- neither gone nor live is a wish that waits
-pub waits_else : (live waits : Bool) → not (live || waits) ≡ false → live ≡ false → waits ≡ true
-waits_else true waits not_gone not_live = absurd (false≢true (sym not_live))
-waits_else false true not_gone not_live = refl
-waits_else false false not_gone not_live = absurd (false≢true (sym not_gone))
-
--- what the explanation is, case by case
 module _ (last : LastPass) (now : Mark) (w : Wish) (m : Mark) where
-  pub when_gone : is_gone now ≡ true → explanation last now w m ≡ Gone now.status now.stamp
-  when_gone gone = rw gone refl
-
-  pub when_live : is_live now ≡ true → explanation last now w m ≡ Live now.status now.stamp
-  when_live live = rw live refl
-
-  pub when_barred : is_live now ≡ false → is_waiting now ≡ true
-      → is_barred last.opening last.bars w m ≡ true
-      → explanation last now w m ≡ barred_at last w.board_rank w.school
-  when_barred not_live waits barred = rw (not_live, waits, barred) refl
-
-  pub when_seatless : is_live now ≡ false → is_waiting now ≡ true
-      → is_barred last.opening last.bars w m ≡ false → explanation last now w m ≡ no_seat last w
-  when_seatless not_live waits not_barred = rw (not_live, waits, not_barred) refl
-
   barred_holds : (school : Option ℕ) → w.school ≡ school → is_live now ≡ false
       → is_waiting now ≡ true → is_barred last.opening last.bars w m ≡ true
       → IsExplanation last now w m (explanation last now w m)
@@ -55,7 +34,7 @@ module _ (last : LastPass) (now : Mark) (w : Wish) (m : Mark) where
       let behind = (and_parts (is_waiting m) (is_behind_bar last.opening last.bars w w.school) barred).1 in
       absurd (false≢true (sym (ap (is_behind_bar last.opening last.bars w) is) ∙ behind))
   barred_holds (Some h) is not_live waits barred =
-      let e = when_barred not_live waits barred ∙ ap (barred_at last w.board_rank) is in
+      let e = when_barred last now w m not_live waits barred ∙ ap (barred_at last w.board_rank) is in
       subst (IsExplanation last now w m) (sym e) (
         record {
           waits = waits;
@@ -71,15 +50,15 @@ module _ (last : LastPass) (now : Mark) (w : Wish) (m : Mark) where
   holds =
       let P = IsExplanation last now w m in
       elim (cases_Bool (is_gone now)) [
-        | inl gone ↦ subst P (sym (when_gone gone)) (gone, refl)
+        | inl gone ↦ subst P (sym (when_gone last now w m gone)) (gone, refl)
         | inr not_gone ↦ elim (cases_Bool (is_live now)) [
-          | inl live ↦ subst P (sym (when_live live)) (live, refl)
+          | inl live ↦ subst P (sym (when_live last now w m live)) (live, refl)
           | inr not_live ↦
               let waits = waits_else (is_live now) (is_waiting now) not_gone not_live in
               elim (cases_Bool (is_barred last.opening last.bars w m)) [
                 | inl barred ↦ barred_holds w.school refl not_live waits barred
                 | inr not_barred ↦
-                    subst P (sym (when_seatless not_live waits not_barred))
+                    subst P (sym (when_seatless last now w m not_live waits not_barred))
                     (record {
                       waits = waits;
                       not_barred = not_from_false
@@ -91,14 +70,15 @@ module _ (last : LastPass) (now : Mark) (w : Wish) (m : Mark) where
       ]
 
   alone : (x : Explanation) → IsExplanation last now w m x → x ≡ explanation last now w m
-  alone (Gone status stamp) is = ap (λ (n : Mark). Gone n.status n.stamp) (sym is.1) ∙ sym (when_gone is.0)
-  alone (Live status stamp) is = ap (λ (n : Mark). Live n.status n.stamp) (sym is.1) ∙ sym (when_live is.0)
+  alone (Gone status stamp) is = ap (λ (n : Mark). Gone n.status n.stamp) (sym is.1) ∙ sym (when_gone last now w m is.0)
+  alone (Live status stamp) is = ap (λ (n : Mark). Live n.status n.stamp) (sym is.1) ∙ sym (when_live last now w m is.0)
   alone (Barred h rank bar cause) is =
       let b = is.0 in
       let same : Barred h rank bar cause ≡ barred_at last w.board_rank (Some h) = rw (b.own_rank, b.own_bar, is.1) refl in
-      same ∙ ap (barred_at last w.board_rank) (sym b.school) ∙ sym (when_barred (waits_not_live now.status b.waits) b.waits b.barred)
+      same ∙ ap (barred_at last w.board_rank) (sym b.school) ∙ sym (when_barred last now w m (waits_not_live now.status b.waits) b.waits
+      b.barred)
   alone (NoSeat ahead left position limit) is =
-      is.numbers ∙ sym (when_seatless (waits_not_live now.status is.waits) is.waits
+      is.numbers ∙ sym (when_seatless last now w m (waits_not_live now.status is.waits) is.waits
       (not-true (is_barred last.opening last.bars w m) is.not_barred))
 
 pub each_has_one : EachHasOne

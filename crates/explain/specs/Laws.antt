@@ -14,9 +14,9 @@ use Rattle.admit_core.specs.Proposals.{is_barred}
 use Rattle.admit_core.specs.Days.{Days, IsDay, ceilings_of}
 use Rattle.admit_core.specs.EveningLaws.{last_bars}
 use Rattle.admit_core.specs.Explanations.{LastPass, cause_of, explained, explanation, no_seat}
-use Rattle.day_run.specs.RunDay.{IsDayDone, Moment}
-use Rattle.day_run.specs.LastPasses.{IsLastPass, last_of, last_pass}
-use Rattle.explain.specs.Sayings.{explanation_at}
+use Rattle.desk_day.specs.RunDay.{IsDayDone, Moment}
+use Rattle.desk_day.specs.LastPasses.{IsLastPass, last_of, last_pass}
+use Rattle.explanations.specs.Sayings.{explanation_at}
 
 -- each case by a condition of its own: what it takes for a wish that has the mark now in the
 -- evening, and had m in the opening

@@ -1,21 +1,12 @@
-//! The one case that holds of a wish.
+//! The one case that holds of a wish after the last day of a campaign.
 ghost use Rattle.std.specs.Prelude.{◌≡◌, ◌<◌, length, IsTrue};
-ghost use Rattle.std.specs.Option.{ForSome};
-ghost use Rattle.admit_core.specs.State.{is_gone};
-ghost use Rattle.admit_core.specs.Proposals.{is_barred};
-ghost use Rattle.admit_core.specs.Explanations.{explanation, barred_at, cause_of, no_seat};
-ghost use Rattle.day_state.specs.Kept.{mark_in, wish_in};
-ghost use Rattle.day_run.specs.LastPasses.{IsLastPass, last_pass};
 ghost use Rattle.day_run.specs.CampaignDays.{pass_of};
-ghost use Rattle.explain.specs.Sayings.{Explains};
+ghost use Rattle.desk_day.specs.LastPasses.{IsOfDossier};
+ghost use Rattle.explanations.specs.Sayings.{Explains};
 
-use crate::ahead::{before, count_ahead};
-use crate::closing::Closing;
-use admit_core::{BarCause, CallOrders, Explanation, Mark, Wish};
-use day_run::{Campaign, Desk};
-use day_state::DayState;
-use proposals::{is_open, limit_of, mark_at};
-use vacancies::seats_left;
+use admit_core::Explanation;
+use day_run::Campaign;
+use explanations::{Closing, explained};
 
 /// Why the wish at a place stands as it does in the evening of a campaign's last day, which came
 /// about: the one case that holds.
@@ -25,124 +16,19 @@ pub fn explain(campaign: &Campaign<'_>, wish: u32) -> Explanation
     ensures { Explains (pass_of campaign.now.course) campaign.now.course.present wish result }
 {
     let _ = campaign.has_day(); // what its last day left
-    let last = Closing::of_campaign(campaign);
+    let last = closing_of(campaign);
     explained(campaign.state(), &last, wish)
 }
 
-/// The same over a desk after its last day: the ceilings are those of that day, and the bars those
-/// of its last pass. Each day leaves a desk with it, as the clause `desks` of
-/// `laws_of_explanations` says.
-pub fn explain_on_desk(
-    desk: &Desk<'_>,
-    orders: &CallOrders,
-    ceilings: &[u32],
-    bars: &[u32],
-    wish: u32,
-) -> Explanation
-    requires last { IsLastPass
-        (last_pass desk.now.opening orders.now.orders ceilings.now bars.now) desk.now.present }
-    requires wish { wish < length desk.now.present.dossier.wishes }
-    ensures { Explains
-        (last_pass desk.now.opening orders.now.orders ceilings.now bars.now)
-        desk.now.present wish result }
+/// The pass that a campaign's last day closed with.
+fn closing_of<'p, 'd>(campaign: &'p Campaign<'d>) -> Closing<'p, 'd>
+    requires { IsOfDossier (pass_of campaign.now.course) }
+    ensures { result ≡ pass_of campaign.now.course }
 {
-    let last = Closing::of_desk(desk, orders, ceilings, bars);
-    explained(desk.now(), &last, wish)
-}
-
-/// The case that holds of a wish in an evening, after this last pass.
-fn explained(evening: &DayState<'_>, last: &Closing<'_, '_>, wish: u32) -> Explanation
-    requires last { IsLastPass last.now evening.now }
-    requires wish { wish < length evening.now.dossier.wishes }
-    ensures { Explains last.now evening.now wish result }
-{
-    let dossier = evening.dossier();
-    let _ = &dossier.wishes; // learns that the dossier is valid
-    let _ = last.opening.marks(); // one for each wish
-    case_of(mark_at(evening, wish), last, wish)
-}
-
-/// The case that holds of the wish at a place, which has this mark in the evening.
-fn case_of(now: Mark, last: &Closing<'_, '_>, place: u32) -> Explanation
-    requires { place < length last.now.opening.dossier.wishes }
-    ensures { result ≡ explanation last.now now
-        (wish_in last.now.opening.dossier.wishes place) (mark_in last.now.opening.marks place) }
-{
-    let Mark { status, stamp } = now;
-    if is_gone(now) {
-        Explanation::Gone { status, stamp }
-    } else if now.is_live() {
-        Explanation::Live { status, stamp }
-    } else if is_barred(last, place) {
-        barred_at(last, last.wish_at(place))
-    } else {
-        no_seat(last, last.wish_at(place))
-    }
-}
-
-/// Whether a mark is that of a wish that is neither live nor waits.
-fn is_gone(mark: Mark) -> bool
-    ensures { result ≡ is_gone mark }
-{
-    !mark.is_live() && !mark.is_waiting()
-}
-
-/// Whether the wish at a place was barred in the opening.
-fn is_barred(last: &Closing<'_, '_>, place: u32) -> bool
-    requires { place < length last.now.opening.dossier.wishes }
-    ensures { result ≡ is_barred last.now.opening last.now.bars
-        (wish_in last.now.opening.dossier.wishes place) (mark_in last.now.opening.marks place) }
-{
-    mark_at(last.opening, place).is_waiting() && !is_open(last.opening, last.bars, place)
-}
-
-/// The bar of a wish's school, and why it is as low as it is.
-fn barred_at(last: &Closing<'_, '_>, wish: Wish) -> Explanation
-    requires { ForSome wish.school (λ h. h < length last.now.opening.dossier.schools) }
-    ensures { result ≡ barred_at last.now wish.board_rank wish.school }
-{
-    let rank = wish.board_rank;
-    match wish.school {
-        None => Explanation::Barred {
-            school: 0,
-            rank,
-            bar: 0,
-            cause: BarCause::Ceiling,
-        },
-        Some(school) => Explanation::Barred {
-            school,
-            rank,
-            bar: last.bars[school as usize],
-            cause: cause_of(last, school),
-        },
-    }
-}
-
-/// Whether a school's bar stands at its ceiling, or fell for its beds.
-fn cause_of(last: &Closing<'_, '_>, school: u32) -> BarCause
-    requires { school < length last.now.opening.dossier.schools }
-    ensures { result ≡ cause_of last.now school }
-{
-    if last.bars[school as usize] == last.ceilings[school as usize] {
-        BarCause::Ceiling
-    } else {
-        let dossier = last.opening.dossier();
-        BarCause::Full {
-            beds: dossier.schools.as_slice()[school as usize].beds,
-        }
-    }
-}
-
-/// How many stand ahead and how many seats are left, the position and the call limit.
-fn no_seat(last: &Closing<'_, '_>, wish: Wish) -> Explanation
-    requires { wish.programme < length last.now.opening.dossier.programmes }
-    ensures { result ≡ no_seat last.now wish }
-{
-    let before = before(last.order_of(wish.programme), wish.candidate);
-    Explanation::NoSeat {
-        ahead: count_ahead(last.opening, last.bars, wish.programme, before),
-        left: seats_left(last.opening, wish.programme),
-        position: before.len() as u32 + 1,
-        limit: limit_of(last.opening, wish.programme),
+    Closing {
+        opening: campaign.opening(),
+        orders: campaign.orders(),
+        ceilings: campaign.ceilings(),
+        bars: campaign.bars(),
     }
 }

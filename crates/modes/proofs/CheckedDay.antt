@@ -18,12 +18,12 @@ use Rattle.admit_core.specs.declared.state.Status.{Status}
 use Rattle.certificate.proofs.Ending.{evening_is}
 use Rattle.certificate.specs.ChainText.{IsDayOf}
 use Rattle.certificate.specs.ProvedDays.{AreProvedDays, evening_after, evening_by}
-use Rattle.day_run.proofs.SameDossier.{evening_dossier}
-use Rattle.day_run.proofs.Stamps.{stamps_kept}
-use Rattle.day_run.specs.AnswersOn.{unfit_refusal}
-use Rattle.day_run.specs.RunDay.{IsStampedBy, KeepsStamps}
-use Rattle.day_run.specs.declared.refusal.DayRefusal.{DayRefusal}
-use Rattle.day_run.specs.declared.refusal.DayRefusal.TheVariants as refusals
+use Rattle.desk_day.proofs.SameDossier.{evening_dossier}
+use Rattle.desk_day.proofs.Stamps.{stamps_kept}
+use Rattle.desk_day.specs.AnswersOn.{unfit_refusal}
+use Rattle.desk_day.specs.RunDay.{IsStampedBy, KeepsStamps}
+use Rattle.desk_day.specs.declared.refusal.DayRefusal.{DayRefusal}
+use Rattle.desk_day.specs.declared.refusal.DayRefusal.TheVariants as refusals
 use Rattle.intake.specs.Dated.{AreDatedFor}
 use Rattle.intake.specs.declared.terms.DatedTerms.{DatedTerms}
 use Rattle.modes.proofs.Writable.{finals_dated, first_known}

@@ -14,9 +14,9 @@ use Rattle.bed_need.specs.Growing.{IsGrowth, with_more_beds, with_n_beds}
 use Rattle.bed_need.specs.Telling.{TellsOfBoth, TellsOfRun}
 use Rattle.bed_need.specs.Text.{beds_text}
 use Rattle.bed_need.proofs.Growing.{figures_are_fixed}
-use Rattle.day_run.specs.DayPasses.{TellsMore}
-use Rattle.day_run.specs.DeskStates.{DeskStates}
-use Rattle.day_run.specs.LastPasses.{IsLastPass}
+use Rattle.desk_day.specs.DayPasses.{TellsMore}
+use Rattle.desk_day.specs.DeskStates.{DeskStates}
+use Rattle.desk_day.specs.LastPasses.{IsLastPass}
 use Rattle.dossier_check.specs.Ids.{Ids}
 use Rattle.played.specs.LastDays.{IsDeskAfter, IsLastOf, pass_on}
 use Rattle.modes.specs.Asking.{TellsPicks}

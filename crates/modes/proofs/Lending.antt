@@ -5,8 +5,8 @@ use Rattle.std.proofs.lemmas.List.{append-nil}
 use Rattle.admit_core.specs.declared.ranking.CallOrder.{CallOrder}
 use Rattle.admit_core.specs.declared.records.DayRecord.{DayRecord}
 use Rattle.admit_core.specs.declared.refusal.Refusal.{Refusal}
-use Rattle.day_run.specs.DayPasses.{TellsMore}
-use Rattle.day_run.specs.DeskStates.{DeskStates}
+use Rattle.desk_day.specs.DayPasses.{TellsMore}
+use Rattle.desk_day.specs.DeskStates.{DeskStates}
 use Rattle.played.specs.Lent.{Lent, Untold}
 use Rattle.played.specs.PlayedDays.{Played}
 use Rattle.played.proofs.Naming.{OnlyNamed, back_untouched, each_named}

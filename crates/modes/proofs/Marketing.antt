@@ -4,7 +4,7 @@ use Rattle.admit_core.specs.DossierRows.{DossierRows}
 use Rattle.admit_core.specs.Falls.{IsGreatest}
 use Rattle.admit_core.specs.declared.ranking.CallOrder.{CallOrder}
 use Rattle.bar_law.specs.Runs.{schools_of}
-use Rattle.day_run.specs.DayPasses.{TellsMore}
+use Rattle.desk_day.specs.DayPasses.{TellsMore}
 use Rattle.stable_market.specs.Bars.{market_system}
 use Rattle.stable_market.specs.Dossiers.{candidates_of, market_of}
 use Rattle.stable_market.specs.Markets.{MarketRows}

@@ -10,9 +10,9 @@ use Rattle.admit_core.specs.declared.ranking.CallOrder.{CallOrder}
 use Rattle.admit_core.specs.declared.records.DayRecord.{DayRecord}
 use Rattle.admit_core.specs.declared.records.Terms.{Terms}
 use Rattle.admit_core.specs.declared.refusal.Refusal.{Refusal}
-use Rattle.day_run.specs.DeskStates.{DeskStates}
-use Rattle.day_run.specs.LastPasses.{last_pass}
-use Rattle.explain.specs.Sayings.{Explains}
+use Rattle.desk_day.specs.DeskStates.{DeskStates}
+use Rattle.desk_day.specs.LastPasses.{last_pass}
+use Rattle.explanations.specs.Sayings.{Explains}
 use Rattle.intake.specs.Dated.{terms_in}
 use Rattle.played.proofs.LastDay.{desk_played}
 use Rattle.played.specs.LastDays.{pass_on}

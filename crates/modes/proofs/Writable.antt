@@ -19,8 +19,8 @@ use Rattle.admit_core.specs.declared.records.Terms.{Terms}
 use Rattle.admit_core.specs.declared.refusal.Refusal.{Refusal}
 use Rattle.admit_core.specs.declared.state.Mark.{Mark}
 use Rattle.calendar.specs.Dates.{IsCivil, IsRead, last_day}
-use Rattle.day_run.specs.DayPlaces.{IsPassIn}
-use Rattle.day_run.specs.DeskStates.{DeskStates}
+use Rattle.desk_day.specs.DayPlaces.{IsPassIn}
+use Rattle.desk_day.specs.DeskStates.{DeskStates}
 use Rattle.intake.specs.Dated.{AreDatedFor, terms_in}
 use Rattle.intake.specs.declared.terms.DatedTerms.{DatedTerms}
 use Rattle.played.specs.Lent.{Lent}

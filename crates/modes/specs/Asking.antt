@@ -1,7 +1,7 @@
 -- What the ending of a run asks of the picker that it is lent.
 use Rattle.std.specs.Prelude.{◌≡◌, ℕ, ◌++◌, false, List, [], Option, None, Some, Result, Ok, Err, ⊤}
 use Rattle.admit_core.specs.declared.refusal.Refusal.{Refusal}
-use Rattle.day_run.specs.DeskStates.{DeskStates}
+use Rattle.desk_day.specs.DeskStates.{DeskStates}
 use Rattle.played.specs.Lent.{AreBack, Lent, Untold, is_named}
 use Rattle.played.specs.PlayedDays.{Played}
 use Rattle.request.specs.declared.modes.Mode.{Mode}

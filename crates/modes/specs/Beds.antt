@@ -7,7 +7,7 @@ use Rattle.admit_core.specs.declared.ranking.CallOrder.{CallOrder}
 use Rattle.admit_core.specs.declared.records.DayRecord.{DayRecord}
 use Rattle.bed_need.specs.Figures.{AreFigures, Figures, TellsOfFigures}
 use Rattle.bed_need.specs.Text.{beds_text}
-use Rattle.day_run.specs.DeskStates.{DeskStates}
+use Rattle.desk_day.specs.DeskStates.{DeskStates}
 use Rattle.dossier_check.specs.Ids.{Ids}
 use Rattle.played.specs.LastDays.{IsLastOf, pass_on}
 

@@ -1,8 +1,8 @@
 -- What a test of days tells.
 use Rattle.std.specs.Prelude.{◌≡◌, ℕ, Option, Some, None, Result, Ok, Err, ⊤}
 use Rattle.certificate.specs.Verdicts.{KeepsSchool}
-use Rattle.day_run.specs.declared.refusal.DayRefusal.{DayRefusal}
-use Rattle.day_run.specs.declared.refusal.DayRefusal.TheVariants as refusals
+use Rattle.desk_day.specs.declared.refusal.DayRefusal.{DayRefusal}
+use Rattle.desk_day.specs.declared.refusal.DayRefusal.TheVariants as refusals
 use Rattle.modes.specs.declared.unproved.Unproved.{Unproved}
 use Rattle.modes.specs.declared.unproved.Unproved.TheVariants.{Unfit, Rejected, OutOfMemory}
 

@@ -16,7 +16,7 @@ use Rattle.admit_core.specs.declared.records.Terms.{Terms}
 use Rattle.certificate.specs.Grammar.{read}
 use Rattle.certificate.specs.ProvedDays.{AreProvedDays, evening_after, evening_by}
 use Rattle.certificate.specs.VerdictText.{verdict_text}
-use Rattle.day_run.specs.AnswersOn.{unfit_refusal}
+use Rattle.desk_day.specs.AnswersOn.{unfit_refusal}
 use Rattle.intake.specs.Dated.{terms_in}
 use Rattle.intake.specs.Input.{Job}
 use Rattle.intake.specs.declared.terms.DatedTerms.{DatedTerms}

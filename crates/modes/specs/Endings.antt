@@ -5,8 +5,8 @@ use Rattle.admit_core.specs.Days.{first_evening}
 use Rattle.admit_core.specs.declared.refusal.Refusal.{Refusal}
 use Rattle.certificate.specs.ChainText.{chain_text}
 use Rattle.certificate.specs.Checked.{ids_in}
-use Rattle.day_run.specs.DayPasses.{TellsMore}
-use Rattle.day_run.specs.DeskStates.{DeskStates}
+use Rattle.desk_day.specs.DayPasses.{TellsMore}
+use Rattle.desk_day.specs.DeskStates.{DeskStates}
 use Rattle.intake.specs.Dated.{AreDatedFor, terms_in}
 use Rattle.intake.specs.Input.{Job, NamesIn}
 use Rattle.played.specs.LastDays.{IsDeskAfter}

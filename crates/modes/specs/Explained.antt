@@ -4,9 +4,9 @@ use Rattle.admit_core.specs.DossierRows.{DossierRows}
 use Rattle.admit_core.specs.declared.explanation.Explanation.{Explanation}
 use Rattle.admit_core.specs.declared.ranking.CallOrder.{CallOrder}
 use Rattle.admit_core.specs.declared.records.DayRecord.{DayRecord}
-use Rattle.day_run.specs.DeskStates.{DeskStates}
+use Rattle.desk_day.specs.DeskStates.{DeskStates}
 use Rattle.dossier_check.specs.Ids.{Ids}
-use Rattle.explain.specs.Sayings.{Explains}
+use Rattle.explanations.specs.Sayings.{Explains}
 use Rattle.played.specs.LastDays.{IsLastOf, pass_on}
 use Rattle.report.specs.ExplainText.{explain_text}
 

@@ -6,9 +6,9 @@ ghost use Rattle.modes.specs.Explained.{IsExplained};
 ghost use Rattle.played.specs.LastDays.{IsDeskAfter};
 
 use admit_core::{CallOrders, DayRecord, OutOfMemory, PassEnd};
-use day_run::{Desk, ceilings_on};
+use desk_day::{Desk, ceilings_on};
 use dossier_check::wish_place;
-use explain::explain_on_desk;
+use explanations::explain_on_desk;
 use intake::Input;
 use report::explain_text;
 use std::alloc::Global;

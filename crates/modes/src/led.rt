@@ -2,7 +2,7 @@
 ghost use Rattle.std.specs.Prelude.{◌≡◌};
 
 use admit_core::{CallOrders, DayRecord};
-use day_run::Desk;
+use desk_day::Desk;
 
 /// All days that were asked for, by which call orders they were run, and the desk after them.
 pub(crate) struct Led<'d> {

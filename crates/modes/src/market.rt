@@ -4,7 +4,7 @@ ghost use Rattle.std.specs.Prelude.{◌≡◌, ◌<◌, IfOk, OnErr};
 ghost use Rattle.admit_core.specs.CallOrder.{AreCallOrders};
 ghost use Rattle.admit_core.specs.Falls.{IsGreatest};
 ghost use Rattle.bar_fixpoint.specs.Chosen.{TellsOfFalls};
-ghost use Rattle.day_run.specs.DayPasses.{TellsMore};
+ghost use Rattle.desk_day.specs.DayPasses.{TellsMore};
 ghost use Rattle.modes.specs.Asking.{TellsPicks};
 ghost use Rattle.modes.specs.Market.{PicksForMarket, TellsMarket};
 ghost use Rattle.stable_market.specs.Bars.{market_system};

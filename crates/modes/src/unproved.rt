@@ -1,7 +1,7 @@
 //! Why the days of a chain are not all proved.
 
 use admit_core::{CheckReason, OutOfMemory, Refusal};
-use day_run::DayRefusal;
+use desk_day::DayRefusal;
 
 /// Why the days of a chain are not all proved.
 #[derive(Clone, Copy)]

@@ -6,11 +6,11 @@ use Rattle.admit_core.specs.Days.{ceilings_of, unfit_on}
 use Rattle.admit_core.specs.DossierRows.{DossierRows}
 use Rattle.admit_core.specs.declared.records.DayRecord.{DayRecord}
 use Rattle.admit_core.specs.declared.refusal.Refusal.{Refusal}
-use Rattle.day_run.specs.AnswersOn.{unfit_refusal}
-use Rattle.day_run.specs.DeskStates.{DeskStates}
-use Rattle.day_run.specs.RunDay.{IsDayDone}
-use Rattle.day_run.specs.declared.refusal.DayRefusal.{DayRefusal}
-use Rattle.day_run.specs.declared.refusal.DayRefusal.TheVariants as refusals
+use Rattle.desk_day.specs.AnswersOn.{unfit_refusal}
+use Rattle.desk_day.specs.DeskStates.{DeskStates}
+use Rattle.desk_day.specs.RunDay.{IsDayDone}
+use Rattle.desk_day.specs.declared.refusal.DayRefusal.{DayRefusal}
+use Rattle.desk_day.specs.declared.refusal.DayRefusal.TheVariants as refusals
 use Rattle.request.specs.Pickers.{picker_on}
 use Rattle.request.specs.declared.pickers.PickerChoice.{PickerChoice}
 use Rattle.request.specs.declared.pickers.PickerName.{PickerName}

@@ -10,10 +10,10 @@ use Rattle.admit_core.specs.declared.ranking.CallOrder.{CallOrder}
 use Rattle.admit_core.specs.declared.records.DayRecord.{DayRecord}
 use Rattle.admit_core.specs.declared.records.Terms.{Terms}
 use Rattle.admit_core.specs.declared.refusal.Refusal.{Refusal}
-use Rattle.day_run.specs.DeskStates.{DeskStates}
-use Rattle.day_run.specs.LastPasses.{IsLastPass}
-use Rattle.day_run.proofs.LastBars.{length-ceilings_of}
-use Rattle.day_run.proofs.PassEnds.{desk_ends_so}
+use Rattle.desk_day.specs.DeskStates.{DeskStates}
+use Rattle.desk_day.specs.LastPasses.{IsLastPass}
+use Rattle.desk_day.proofs.LastBars.{length-ceilings_of}
+use Rattle.desk_day.proofs.PassEnds.{desk_ends_so}
 use Rattle.request.specs.declared.pickers.PickerChoice.{PickerChoice}
 use Rattle.played.specs.LastDays.{IsDeskAfter, IsLastOf, pass_on}
 use Rattle.played.specs.Lent.{Lent}

@@ -5,7 +5,7 @@ use Rattle.std.proofs.lemmas.Grind.{flat_map-append}
 use Rattle.std.proofs.lemmas.List.{append-nil}
 use Rattle.std.proofs.lemmas.List.Elements.{filter-append}
 use Rattle.admit_core.specs.declared.records.DayRecord.{DayRecord}
-use Rattle.day_run.specs.DayPasses.{TellsMore, schools_of_passes}
+use Rattle.desk_day.specs.DayPasses.{TellsMore, schools_of_passes}
 use Rattle.request.specs.Pickers.{picker_on}
 use Rattle.request.specs.declared.pickers.PickerChoice.{PickerChoice}
 use Rattle.request.specs.declared.pickers.PickerName.{PickerName}

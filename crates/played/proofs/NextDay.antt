@@ -3,11 +3,11 @@ use Rattle.std.proofs.Common.{◌≡◌, ◌∙◌, ℕ, List, [], ◌∷◌, �
 use Rattle.std.proofs.lemmas.List.{append-nil}
 use Rattle.admit_core.specs.Days.{ceilings_of}
 use Rattle.admit_core.specs.declared.records.DayRecord.{DayRecord}
-use Rattle.day_run.specs.DayPasses.{TellsMore, schools_of_passes}
-use Rattle.day_run.specs.DeskStates.{DeskStates}
-use Rattle.day_run.specs.RunDay.{IsDayDone}
-use Rattle.day_run.specs.declared.refusal.DayRefusal.{DayRefusal}
-use Rattle.day_run.specs.declared.refusal.DayRefusal.TheVariants as refusals
+use Rattle.desk_day.specs.DayPasses.{TellsMore, schools_of_passes}
+use Rattle.desk_day.specs.DeskStates.{DeskStates}
+use Rattle.desk_day.specs.RunDay.{IsDayDone}
+use Rattle.desk_day.specs.declared.refusal.DayRefusal.{DayRefusal}
+use Rattle.desk_day.specs.declared.refusal.DayRefusal.TheVariants as refusals
 use Rattle.request.specs.Pickers.{picker_on}
 use Rattle.request.specs.declared.pickers.PickerName.{PickerName}
 use Rattle.played.specs.Lent.{Lent, Told, is_named, picked_by}

@@ -6,8 +6,8 @@ use Rattle.admit_core.specs.EveningLaws.{last_bars}
 use Rattle.admit_core.specs.Explanations.{LastPass}
 use Rattle.admit_core.specs.declared.ranking.CallOrder.{CallOrder}
 use Rattle.admit_core.specs.declared.records.DayRecord.{DayRecord}
-use Rattle.day_run.specs.DeskStates.{DeskStates}
-use Rattle.day_run.specs.LastPasses.{IsLastPass, last_pass}
+use Rattle.desk_day.specs.DeskStates.{DeskStates}
+use Rattle.desk_day.specs.LastPasses.{IsLastPass, last_pass}
 
 -- a day is the last of these
 abbrev pub IsLastOf : List DayRecord → DayRecord → Type 0

@@ -4,7 +4,7 @@ use Rattle.std.specs.Option.{option_map_or}
 use Rattle.std.specs.declared.alloc.Global.{Global}
 use Rattle.std.specs.declared.dyn_box.DynBox.{DynBox}
 use Rattle.admit_core.specs.declared.records.DayRecord.{DayRecord}
-use Rattle.day_run.specs.DayPasses.{TellsMore, schools_of_passes}
+use Rattle.desk_day.specs.DayPasses.{TellsMore, schools_of_passes}
 use Rattle.request.specs.Pickers.{picker_on}
 use Rattle.request.specs.declared.pickers.PickerChoice.{PickerChoice}
 use Rattle.request.specs.declared.pickers.PickerName.{PickerName}

@@ -4,9 +4,9 @@ use Rattle.admit_core.specs.Days.{ceilings_of, unfit_on}
 use Rattle.admit_core.specs.declared.ranking.CallOrder.{CallOrder}
 use Rattle.admit_core.specs.declared.records.DayRecord.{DayRecord}
 use Rattle.admit_core.specs.declared.records.Terms.{Terms}
-use Rattle.day_run.specs.AnswersOn.{IsUnfitOf}
-use Rattle.day_run.specs.RunDay.{IsDayDone, Moment, TellsNoneUnfit}
-use Rattle.day_run.specs.declared.refusal.DayRefusal.{DayRefusal}
+use Rattle.desk_day.specs.AnswersOn.{IsUnfitOf}
+use Rattle.desk_day.specs.RunDay.{IsDayDone, Moment, TellsNoneUnfit}
+use Rattle.desk_day.specs.declared.refusal.DayRefusal.{DayRefusal}
 
 -- a day under its own ceilings: it came about, or the first answer that does not fit is refused, or
 -- memory ran out

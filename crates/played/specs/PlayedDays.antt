@@ -9,11 +9,11 @@ use Rattle.admit_core.specs.declared.ranking.CallOrder.{CallOrder}
 use Rattle.admit_core.specs.declared.records.DayRecord.{DayRecord}
 use Rattle.admit_core.specs.declared.records.Terms.{Terms}
 use Rattle.admit_core.specs.declared.refusal.Refusal.{Refusal}
-use Rattle.day_run.specs.AnswersOn.{IsUnfitOf, unfit_refusal}
-use Rattle.day_run.specs.DeskStates.{DeskStates}
-use Rattle.day_run.specs.RunDay.{IsDayDone, Moment}
-use Rattle.day_run.specs.declared.refusal.DayRefusal.{DayRefusal}
-use Rattle.day_run.specs.declared.refusal.DayRefusal.TheVariants as refusals
+use Rattle.desk_day.specs.AnswersOn.{IsUnfitOf, unfit_refusal}
+use Rattle.desk_day.specs.DeskStates.{DeskStates}
+use Rattle.desk_day.specs.RunDay.{IsDayDone, Moment}
+use Rattle.desk_day.specs.declared.refusal.DayRefusal.{DayRefusal}
+use Rattle.desk_day.specs.declared.refusal.DayRefusal.TheVariants as refusals
 use Rattle.played.specs.Lent.{AreBack, Lent, Told, Untold, picked_by}
 use Rattle.request.specs.Pickers.{picker_on}
 use Rattle.request.specs.declared.pickers.PickerChoice.{PickerChoice}

@@ -10,7 +10,7 @@ ghost use Rattle.played.specs.PlayedDays.{EndsNext};
 use crate::pickers::Pickers;
 use admit_core::{CallOrders, DayRecord, Terms};
 use bar_fixpoint::Picker;
-use day_run::{DayRefusal, Desk, ceilings_on, run_day_along};
+use desk_day::{DayRefusal, Desk, ceilings_on, run_day_along};
 use linked_demand::Lineup;
 use request::{PickerChoice, PickerName, picker_on};
 use std::alloc::Global;

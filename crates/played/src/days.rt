@@ -9,7 +9,7 @@ use crate::day::next_day;
 use crate::pickers::Pickers;
 use admit_core::{CallOrders, DayRecord, Dossier, OutOfMemory, Refusal, Terms};
 use call_order::call_orders;
-use day_run::{DayRefusal, Desk};
+use desk_day::{DayRefusal, Desk};
 use linked_demand::Lineup;
 use request::PickerChoice;
 use std::alloc::Global;

@@ -13,8 +13,8 @@ use Rattle.admit_core.specs.declared.refusal.Refusal.{Refusal}
 use Rattle.admit_core.specs.declared.state.Status.{Status}
 use Rattle.admit_core.specs.declared.tables.Since.{Since}
 use Rattle.certificate.specs.Checked.{ids_in}
-use Rattle.day_run.specs.AnswersOn.{unfit_refusal}
-use Rattle.day_run.specs.DeskStates.{DeskStates}
+use Rattle.desk_day.specs.AnswersOn.{unfit_refusal}
+use Rattle.desk_day.specs.DeskStates.{DeskStates}
 use Rattle.dossier_check.specs.Dates.{dates_of}
 use Rattle.dossier_check.specs.Ids.{Ids, ids_of}
 use Rattle.intake.specs.Dated.{AreDatedFor, dated_from, terms_in}

@@ -1,6 +1,6 @@
 use Rattle.std.proofs.Common.{refl, rules}
 use Rattle.bar_law.specs.Runs.{schools_of}
-use Rattle.day_run.proofs.PassesSoFar.{tells_of_falls, tells_still}
+use Rattle.desk_day.proofs.PassesSoFar.{tells_of_falls, tells_still}
 use Rattle.bed_need.proofs.Telling.{run_of_pass}
 use Rattle.bed_need.proofs.growth.bars_in.Goals as goal
 

@@ -1,6 +1,6 @@
 use Rattle.std.proofs.Common.{◌≡◌, ◌∙◌, ◌+◌, ap, length, refl, rules, subst}
 use Rattle.bar_law.specs.Runs.{schools_of}
-use Rattle.day_run.proofs.PassesSoFar.{tells_of_falls, tells_still}
+use Rattle.desk_day.proofs.PassesSoFar.{tells_of_falls, tells_still}
 use Rattle.admit_core.specs.Proposals.{demanded_ranks}
 use Rattle.admit_core.specs.State.{State, bed_holders}
 use Rattle.admit_core.specs.Validity.{IsValid}

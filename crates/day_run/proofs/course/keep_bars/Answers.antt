@@ -1,5 +1,5 @@
 use Rattle.std.proofs.Common.{◌∙◌, ap, sym, ℕ, List, length}
-use Rattle.day_run.proofs.LastBars.{last_bars_are}
+use Rattle.desk_day.proofs.LastBars.{last_bars_are}
 use Rattle.day_run.proofs.course.keep_bars.Goals as goal
 
 pub copy_bars-requires : goal.copy_bars-requires

@@ -1,4 +1,5 @@
-use Rattle.day_run.proofs.SameDays.{only_falls_differ, campaigns_are_fixed}
+use Rattle.day_run.proofs.SameCampaigns.{campaigns_are_fixed}
+use Rattle.desk_day.proofs.SameDays.{only_falls_differ}
 use Rattle.day_run.proofs.laws.laws_of_days.Goals as goal
 
 pub returns-clause-day : goal.returns-clause-day

@@ -1,7 +1,7 @@
 use Rattle.std.proofs.Common.{◌≡◌, ◌+◌, All, drop}
 use Rattle.std.specs.Option.{option_copied}
 use Rattle.certificate.specs.ProvedDays.{evening_after}
-use Rattle.day_run.specs.RunDay.{IsStampedBy}
+use Rattle.desk_day.specs.RunDay.{IsStampedBy}
 use Rattle.modes.specs.Checking.{why_none}
 use Rattle.modes.proofs.checked.check_days.Given as goal
 

@@ -2,7 +2,7 @@ use Rattle.std.proofs.Common.{◌∙◌, List, ap, sym, subst}
 use Rattle.admit_core.specs.CallOrder.{AreCallOrders}
 use Rattle.admit_core.specs.State.{State}
 use Rattle.admit_core.specs.declared.ranking.CallOrder.{CallOrder}
-use Rattle.day_run.specs.DeskStates.{DeskStates}
+use Rattle.desk_day.specs.DeskStates.{DeskStates}
 use Rattle.modes.proofs.endings.envied.Goals as goal
 
 pub blocked_text-requires : goal.blocked_text-requires

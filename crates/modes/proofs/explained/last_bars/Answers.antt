@@ -1,5 +1,5 @@
 use Rattle.std.proofs.Common.{◌∙◌, sym}
-use Rattle.day_run.proofs.LastBars.{last_bars_are}
+use Rattle.desk_day.proofs.LastBars.{last_bars_are}
 use Rattle.modes.proofs.explained.last_bars.Goals as goal
 
 pub returns-in-Some : goal.returns-in-Some

@@ -3,7 +3,7 @@ use Rattle.std.proofs.lemmas.Result.{IfOk-weaker}
 use Rattle.admit_core.specs.DossierRows.{DossierRows}
 use Rattle.admit_core.specs.Falls.{IsGreatest}
 use Rattle.admit_core.specs.Validity.{IsValid}
-use Rattle.day_run.proofs.PassesSoFar.{tells_of_falls}
+use Rattle.desk_day.proofs.PassesSoFar.{tells_of_falls}
 use Rattle.stable_market.specs.Bars.{market_system}
 use Rattle.stable_market.specs.Markets.{MarketRows}
 use Rattle.stable_market.specs.Matchings.{IsStable}

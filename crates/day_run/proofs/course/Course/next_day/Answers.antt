@@ -3,9 +3,9 @@ use Rattle.admit_core.specs.declared.records.PassEnd.{PassEnd}
 use Rattle.admit_core.specs.DossierRows.{DossierRows}
 use Rattle.admit_core.specs.State.{State}
 use Rattle.admit_core.specs.EveningLaws.{last_bars}
-use Rattle.day_run.proofs.LastBars.{last_bars_long}
+use Rattle.desk_day.proofs.LastBars.{last_bars_long}
 use Rattle.day_run.proofs.DayEnds.{next_ran}
-use Rattle.day_run.proofs.PassEnds.{desk_ends_so}
+use Rattle.desk_day.proofs.PassEnds.{desk_ends_so}
 use Rattle.day_run.proofs.course.Course.next_day.Goals as goal
 
 pub run_day_along-requires-clause-ceilings : goal.run_day_along-requires-clause-ceilings
@@ -21,7 +21,8 @@ keep_bars-requires g c =
     ∙ c.in_ok-ceilings.ensures.one_each
     ∙ ap (λ (d : DossierRows). length d.schools) (c.dossier.ensures ∙ ap (λ (s : State). s.dossier) c.now.ensures) in
     c.self.invariant.progress.bars
-    ∙ sym (ap (λ (l : List PassEnd). length (last_bars l)) c.as_slice-2.ensures ∙ last_bars_long _ _ _ _ _ _ c.in_ok-done.done.passes c.in_ok-done.ensures.done.is_day.passes ∙ schools)
+    ∙ sym (ap (λ (l : List PassEnd). length (last_bars l)) c.as_slice-2.ensures
+    ∙ last_bars_long _ _ _ _ _ _ c.in_ok-done.done.passes c.in_ok-done.ensures.done.is_day.passes ∙ schools)
 
 pub invariant_of-self-2 : goal.invariant_of-self-2
 invariant_of-self-2 g c =
@@ -48,6 +49,9 @@ invariant_of-self-2 g c =
 
 pub returns : goal.returns
 returns g c =
-    next_ran c.args.self.now _ _ c.as_slice.result.now c.in_ok-ceilings.ceilings.items _ c.dossier.result.now c.run_day_along.new.desk _ _ _ _ c.in_ok-done.done c.self.view_is
-    c.as_ref.ensures.value c.as_slice.ensures.value c.in_ok-ceilings.ensures.ceilings (c.dossier.ensures ∙ ap (λ (s : State). s.dossier) c.now.ensures)
-    c.in_ok-done.ensures.done c.run_day_along.ensures.dossier (c.keep_bars.ensures ∙ ap last_bars c.as_slice-2.ensures) c.run_day_along.ensures.choice
+    next_ran c.args.self.now _ _ c.as_slice.result.now c.in_ok-ceilings.ceilings.items _ c.dossier.result.now c.run_day_along.new.desk _ _ _
+    _ c.in_ok-done.done c.self.view_is
+    c.as_ref.ensures.value c.as_slice.ensures.value c.in_ok-ceilings.ensures.ceilings
+    (c.dossier.ensures ∙ ap (λ (s : State). s.dossier) c.now.ensures)
+    c.in_ok-done.ensures.done c.run_day_along.ensures.dossier (c.keep_bars.ensures ∙ ap last_bars c.as_slice-2.ensures)
+    c.run_day_along.ensures.choice

@@ -1,0 +1,11 @@
+pub mod AnswersOn
+pub mod Changes
+pub mod DayPasses
+pub mod Touched
+pub mod DeskStates
+pub mod Evening
+pub mod Ceilings
+pub mod DayLaws
+pub mod DayPlaces
+pub mod LastPasses
+pub mod RunDay

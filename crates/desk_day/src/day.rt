@@ -1,0 +1,153 @@
+//! A day.
+ghost use Rattle.std.specs.Prelude.{◌≡◌, length, IfOk, IfErr, true};
+ghost use Rattle.std.specs.Option.{option_copied, ForSome};
+ghost use Rattle.admit_core.specs.CallOrder.{AreCallOrders};
+ghost use Rattle.admit_core.specs.Ranges.{IsDay as IsDayNumber};
+ghost use Rattle.admit_core.specs.Days.{unfit_on};
+ghost use Rattle.desk_day.specs.AnswersOn.{IsUnfitOf};
+ghost use Rattle.desk_day.specs.DayPasses.{IsAnswered};
+ghost use Rattle.desk_day.specs.RunDay.{EndsDay, IsDayDone, KeepsOpening, TellsNoneUnfit};
+ghost use Rattle.linked_demand.specs.Lineups.{IsLineupOf};
+
+use crate::answers_on::answer;
+use crate::desk::Desk;
+use crate::evening::record_day;
+use crate::lapses::lapse_offers;
+use crate::passes::make_passes;
+use crate::refusal::DayRefusal;
+use crate::touched::list_touched;
+use admit_core::{CallOrders, DayRecord, Terms};
+use bar_fixpoint::Picker;
+use day_state::DayState;
+use linked_demand::Lineup;
+use std::alloc::Global;
+
+/// Runs a day, with its lapse where terms are given, along a lineup of the dossier, which many days
+/// may share. After a refusal the state is that of the evening before.
+pub fn run_day_along(
+    alloc: Global,
+    desk: &mut Desk<'_>,
+    orders: &CallOrders,
+    lineup: &Lineup,
+    ceilings: &[u32],
+    terms: Option<&Terms>,
+    day: u32,
+    picker: &mut dyn Picker,
+) -> Result<DayRecord, DayRefusal>
+    requires orders { AreCallOrders desk.old.present.dossier.groups orders.now.orders }
+    requires lineup { IsLineupOf desk.old.present.dossier orders.now.orders lineup.now }
+    requires ceilings { length ceilings.now ≡ length desk.old.present.dossier.schools }
+    requires before { ForSome (option_copied terms)
+        (λ t. length t.before ≡ length desk.old.present.dossier.wishes) }
+    requires day { IsDayNumber day }
+
+    ensures { EndsDay (option_copied terms.entry) orders.now.orders ceilings.now day
+        (record { desk = desk.old; told = told picker.old; choice = choice picker.old })
+        (record { desk = desk.new; told = told picker.new; choice = choice picker.new }) result }
+{
+    keep_evening(&mut desk.evening, &desk.present, desk.is_alike);
+    let outcome = play(
+        alloc,
+        &mut desk.opening,
+        &mut desk.present,
+        orders,
+        lineup,
+        ceilings,
+        terms,
+        day,
+        desk.is_answered,
+        desk.is_alike,
+        &mut desk.beside,
+        picker,
+    );
+    desk.is_alike = false;
+    if outcome.is_err() {
+        desk.present.set_from(&desk.evening);
+    } else {
+        desk.is_answered = true;
+    }
+    outcome
+}
+
+/// Makes the evening the present state, where it is not yet.
+fn keep_evening<'d>(evening: &mut DayState<'d>, present: &DayState<'d>, is_alike: bool)
+    requires same { evening.old.dossier ≡ present.now.dossier }
+    requires alike { is_alike ≡ true → evening.old ≡ present.now }
+    ensures { evening.new ≡ present.now }
+{
+    if !is_alike {
+        evening.set_from(present);
+    }
+}
+
+/// Makes the lapse, the answers and the passes of a day. A refusal may come in their midst.
+///
+/// It is told whether all have been answered for in the evening before, and whether the opening is
+/// that evening. It lists the wishes of those whom the lapse and the answers may have changed.
+fn play<'d>(
+    alloc: Global,
+    opening: &mut DayState<'d>,
+    state: &mut DayState<'d>,
+    orders: &CallOrders,
+    lineup: &Lineup,
+    ceilings: &[u32],
+    terms: Option<&Terms>,
+    day: u32,
+    is_answered: bool,
+    is_alike: bool,
+    beside: &mut Vec<u32>,
+    picker: &mut dyn Picker,
+) -> Result<DayRecord, DayRefusal>
+    requires same { opening.old.dossier ≡ state.old.dossier }
+    requires orders { AreCallOrders state.old.dossier.groups orders.now.orders }
+    requires lineup { IsLineupOf state.old.dossier orders.now.orders lineup.now }
+    requires ceilings { length ceilings.now ≡ length state.old.dossier.schools }
+    requires before { ForSome (option_copied terms)
+        (λ t. length t.before ≡ length state.old.dossier.wishes) }
+    requires day { IsDayNumber day }
+    requires answered { is_answered ≡ true → IsAnswered state.old }
+    requires alike { is_alike ≡ true → opening.old ≡ state.old }
+
+    ensures done { IfOk result (λ done. IsDayDone (option_copied terms.entry) orders.now.orders
+        ceilings.now day
+        (record {
+          desk = record { present = state.old; evening = state.old; opening = opening.old };
+          told = told picker.old;
+          choice = choice picker.old;
+        })
+        done
+        (record {
+          desk = record { present = state.new; evening = state.old; opening = opening.new };
+          told = told picker.new;
+          choice = choice picker.new;
+        })) }
+    ensures unfit { IfErr result
+        (IsUnfitOf state.old.dossier day (unfit_on (option_copied terms.entry) day state.old)) }
+    ensures unopened { IfErr result (KeepsOpening opening.old opening.new) }
+    ensures untold { IfErr result (TellsNoneUnfit (told picker.old) (told picker.new)) }
+    ensures answered { IfOk result (λ _. IsAnswered state.new) }
+    ensures same { state.new.dossier ≡ state.old.dossier }
+    ensures opening_same { opening.new.dossier ≡ state.old.dossier }
+    ensures choice { choice picker.new ≡ choice picker.old }
+{
+    let _ = state.marks(); // one for each wish
+    let _ = state.dossier().wishes.len(); // learns that the dossier is valid
+    let lapsed = lapse_offers(alloc, state, terms, day)?;
+    answer(state, day)?;
+    list_touched(beside, state, lapsed.as_slice(), day)?;
+    let passes = make_passes(
+        alloc,
+        opening,
+        state,
+        orders,
+        lineup,
+        ceilings,
+        day,
+        is_answered,
+        is_alike,
+        beside,
+        picker,
+    )?;
+    let done = record_day(alloc, state, day, passes, lapsed)?;
+    Ok(done)
+}

@@ -1,0 +1,23 @@
+//! One day on a `Desk`: its lapses and answers, passes until the automatic answers free nothing, and
+//! the evening.
+//!
+//! `let day = run_day_along(alloc, &mut desk, &orders, &lineup, ceilings, None, 1, picker)?;`
+#![tactic(auto)]
+
+mod answers_on;
+mod ceilings;
+mod changes;
+mod day;
+mod desk;
+mod evening;
+mod lapses;
+mod morning;
+mod passes;
+mod refusal;
+mod touched;
+
+pub use ceilings::{ceilings_on, own_ceilings};
+pub use day::run_day_along;
+pub use desk::Desk;
+pub use morning::make_morning;
+pub use refusal::DayRefusal;

@@ -1,0 +1,72 @@
+//! Whose wishes the lapse and the answers of a day may change.
+ghost use Rattle.std.specs.Prelude.{◌≡◌, ◌<◌, ◌++◌, All, OnOk, length, map};
+ghost use Rattle.std.specs.List.{flat_map};
+ghost use Rattle.desk_day.specs.DayPlaces.{AreWishesOf};
+ghost use Rattle.desk_day.specs.Touched.{touched, wishes_of_answer};
+
+use crate::answers_on::answers_on;
+use admit_core::{Answer, AnswerKind, Lapse, OutOfMemory};
+use day_state::DayState;
+use std::alloc::AllocError;
+
+/// Lists wishes of all whose offers lapse, and of all who answer on the day, in place of those that
+/// were listed.
+pub(crate) fn list_touched(
+    places: &mut Vec<u32>,
+    state: &DayState<'_>,
+    lapsed: &[Lapse],
+    day: u32,
+) -> Result<(), OutOfMemory>
+    requires { All (λ l. l.wish < length state.now.dossier.wishes) lapsed.now }
+    ensures listed { OnOk result (places.new.items ≡ touched state.now.dossier lapsed.now day) }
+    ensures within { OnOk result (AreWishesOf state.now.dossier places.new.items) }
+{
+    places.clear();
+    push_lapsed(places, lapsed)?;
+    let today = answers_on(state.dossier(), day);
+    push_answered(places, state, today.answers)?;
+    Ok(())
+}
+
+/// Adds the wishes of lapses.
+fn push_lapsed(places: &mut Vec<u32>, lapsed: &[Lapse]) -> Result<(), AllocError>
+    ensures { OnOk result (places.new.items ≡ places.old.items ++ map (λ l. l.wish) lapsed.now) }
+{
+    for lapse in lapsed {
+        places.push(lapse.wish)?;
+    }
+    Ok(())
+}
+
+/// Adds wishes of those who answer.
+fn push_answered(
+    places: &mut Vec<u32>,
+    state: &DayState<'_>,
+    answers: &[Answer],
+) -> Result<(), AllocError>
+    ensures { OnOk result (places.new.items
+        ≡ places.old.items ++ flat_map (wishes_of_answer state.now.dossier) answers.now) }
+{
+    for answer in answers {
+        push_wishes_of(places, state, *answer)?;
+    }
+    Ok(())
+}
+
+/// Adds a wish, or all wishes, of the candidate whose answer it is.
+fn push_wishes_of(
+    places: &mut Vec<u32>,
+    state: &DayState<'_>,
+    answer: Answer,
+) -> Result<(), AllocError>
+    ensures { OnOk result (places.new.items
+        ≡ places.old.items ++ wishes_of_answer state.now.dossier answer) }
+{
+    match answer.kind {
+        AnswerKind::Quit => places.extend_from_slice(state.own_wishes(answer.target))?,
+        AnswerKind::Accept | AnswerKind::Refuse | AnswerKind::Withdraw => {
+            places.push(answer.target)?;
+        }
+    }
+    Ok(())
+}
