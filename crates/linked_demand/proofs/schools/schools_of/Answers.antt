@@ -1,4 +1,4 @@
-use Rattle.std.proofs.Common.{◌≡◌, ◌∙◌, sym, ap, ℕ, length, true, arith, List, Vec, subst, Some, None, Option, map}
+use Rattle.std.proofs.Common.{◌≡◌, ◌∙◌, sym, ap, ℕ, length, true, List, Vec, subst, Some, None, Option, map}
 use Rattle.std.specs.Prelude.{slice_get, replicate}
 use Rattle.std.specs.declared.alloc.Global.{Global}
 use Rattle.std.specs.List.{range_with_len}
