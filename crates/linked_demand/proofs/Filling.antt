@@ -289,7 +289,8 @@ row_sorted s orders bars opens h row long are moved rises stable =
     }
 
 -- the rows below a number are in order by rank, and the others by place
-pub record AreSortedBelow (s : State) (orders : List CallOrder) (bars : List ℕ) (opens : List Bool) (n : ℕ) (rows : List (Vec RowWish Global)) : Type 0 where
+pub record AreSortedBelow (s : State) (orders : List CallOrder) (bars : List ℕ) (opens : List Bool) (n : ℕ)
+    (rows : List (Vec RowWish Global)) : Type 0 where
   pub one_each : length rows ≡ length s.dossier.schools
   pub done : (h : ℕ) (row : Vec RowWish Global) → h < n → slice_get rows h ≡ Some row → IsRow s bars h row.items
   pub items : (h : ℕ) (row : Vec RowWish Global) → h < n → slice_get rows h ≡ Some row → AreItems s orders row.items

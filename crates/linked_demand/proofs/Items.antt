@@ -1,6 +1,6 @@
 -- What an item of a row keeps of its wish: the place of its candidate in the line, and whether they need a seat.
-use Rattle.std.proofs.Common.{ℕ, ◌<◌, ◌≡◌, Bool, true, false, ◌&&◌, ◌||◌, List, length, get_or, refl, sym, ◌∙◌, ap, arith, nat_eq, subst}
-use Rattle.std.specs.Prelude.{slice_index}
+use Rattle.std.proofs.Common.{ℕ, ◌<◌, ◌≡◌, Bool, true, false, ◌&&◌, ◌||◌, List, [], length, get_or, refl, sym, ◌∙◌, ap, arith, nat_eq, subst}
+use Rattle.std.specs.Prelude.{slice_index, All}
 use Rattle.std.specs.List.{position_or_len}
 use Rattle.std.proofs.Math.Bool.{or_comm}
 use Rattle.std.proofs.lemmas.Bool.{eq-eqb, ne_eqb}
@@ -21,7 +21,8 @@ use Rattle.linked_demand.specs.Line.{LineRow, is_reached}
 use Rattle.linked_demand.specs.Links.{IsLinked, IsPlaceOf, IsSeatPlace, LinksRow, WaitsAt}
 use Rattle.linked_demand.specs.Opens.{line_of}
 use Rattle.linked_demand.specs.Rows.{line_place, row_item}
-use Rattle.linked_demand.proofs.Closing.{Closes, closes_read, proposed_at_is, proposed_right, wish_of, wish_there, wish_within}
+use Rattle.linked_demand.proofs.Closing.{Closes, claim_right, closes_read, proposed_at_is, proposed_right, wish_of, wish_there, wish_within}
+use Rattle.linked_demand.proofs.Ticking.{claim_fits}
 
 -- the one place of a number is that of its first one
 place_is : (c : ℕ) (xs : List ℕ) (k : ℕ) → IsPlaceOf c xs k → position_or_len (nat_eq c) xs ≡ k
@@ -86,6 +87,13 @@ module _ {s : State} {orders : List CallOrder} {opens : List Bool} {lines : List
         ∙ place_is w.candidate (line_of s.dossier orders w.programme) (slice_index places x.wish) at in
         let P = λ (n : ℕ). IsSeatPlace s.dossier orders w n in
         subst P (sym place) at
+
+    -- the claim that is read at its place has places of wishes
+    pub item_claim : (all : List (List ℕ)) → all ≡ get_or claims x.programme all → (claim : List ℕ)
+        → claim ≡ get_or all x.place [] → All (λ v. v < length s.dossier.wishes) claim
+    item_claim all all_read claim claim_read =
+        let right = claim_right closes_item x.place item_stands all all_read claim claim_read in
+        claim_fits closes_item _ _ claim right (length s.dossier.wishes) refl
 
     -- where it is open, it says whether it is proposed
     pub item_proposed : get_or row.opens x.wish false ≡ true → (line : LineRow) → line ≡ get_or lines x.programme line

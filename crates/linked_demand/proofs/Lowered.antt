@@ -17,7 +17,7 @@ use Rattle.admit_core.specs.Boarding.{boarding}
 use Rattle.linked_demand.specs.declared.rows.RowWish.{RowWish}
 use Rattle.linked_demand.specs.Links.{LinksRow}
 use Rattle.linked_demand.specs.Opens.{opens_of}
-use Rattle.linked_demand.specs.Rows.{IsRow, AreItems, AreRows, CutsAt, StayOpen}
+use Rattle.linked_demand.specs.Rows.{IsRow, AreRows, AllItems, CutsAt, StayOpen}
 use Rattle.linked_demand.specs.Rounds.{Round, IsRound, IsRoundUnder, bar_each}
 use Rattle.linked_demand.specs.Demand.{over_at, IsAsked}
 use Rattle.linked_demand.specs.Marks.{is_new, MarksSchools}
@@ -40,28 +40,20 @@ one_free_each links bars free rows right =
     (length links.state.dossier.schools) ∙ sym right.bars_each ∙ sym right.rows_each
 
 -- the rows and links of a state are a round
-pub round_built : (s : State) (orders : List CallOrder) (links : LinksRow) (ceilings free : List ℕ)
-    (rows : List (Vec RowWish Global))
-    → links ≡ record { state = s; orders = orders; opens = opens_of s ceilings }
-    → length s.marks ≡ length s.dossier.wishes → length ceilings ≡ length s.dossier.schools
-    → free ≡ map (free_beds s) (range_with_len 0 (length s.dossier.schools)) → AreRows links.state ceilings rows
-    → ((h : ℕ) (row : Vec RowWish Global) → slice_get rows h ≡ Some row → AreItems links.state links.orders row.items)
-    → IsRound links ceilings free rows
-round_built s orders links ceilings free rows is long each free_are rows_are items_are =
-    let Q = λ (l : LinksRow). AreRows l.state ceilings rows in
-    let R = λ (l : LinksRow). (h : ℕ) (row : Vec RowWish Global) → slice_get rows h ≡ Some row
-    → AreItems l.state l.orders row.items in
-    let rows_now = subst Q is rows_are in
-    let P = λ (l : LinksRow). IsRound l ceilings free rows in
-    subst P (sym is) (record {
-      marks_each = long;
-      bars_each = each;
-      free_are = free_are;
-      rows_each = rows_now.one_each ∙ sym each;
-      opens_are = refl;
-      rows_are = rows_now.each;
-      items_are = subst R is items_are;
-    })
+pub round_built : (links : LinksRow) (ceilings free : List ℕ) (rows : List (Vec RowWish Global))
+    → links.opens ≡ opens_of links.state ceilings → length links.state.marks ≡ length links.state.dossier.wishes
+    → length ceilings ≡ length links.state.dossier.schools
+    → free ≡ map (free_beds links.state) (range_with_len 0 (length links.state.dossier.schools))
+    → AreRows links.state ceilings rows → AllItems links.state links.orders rows → IsRound links ceilings free rows
+round_built links ceilings free rows opens long each free_are rows_are items_are = record {
+  marks_each = long;
+  bars_each = each;
+  free_are = free_are;
+  rows_each = rows_are.one_each ∙ sym each;
+  opens_are = opens;
+  rows_are = rows_are.each;
+  items_are = items_are;
+}
 
 -- a round that is built has all answers, since all schools were asked
 pub answers_built : (links : LinksRow) (bars free : List ℕ) (rows : List (Vec RowWish Global))

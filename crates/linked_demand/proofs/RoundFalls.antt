@@ -4,7 +4,7 @@ use Rattle.std.specs.declared.alloc.Global.{Global}
 use Rattle.std.specs.Prelude.{slice_index, slice_set, slice_get}
 use Rattle.std.proofs.Math.ListN.{set}
 use Rattle.std.proofs.lemmas.Bool.{cases_eq, eqb-true, false≢true, le-ltb}
-use Rattle.std.proofs.lemmas.List.{length-set}
+use Rattle.std.proofs.lemmas.List.{length-set, get_or_default}
 use Rattle.std.proofs.lemmas.Option.{slice_get_within, slice_get_read}
 use Rattle.admit_core.specs.declared.dossier.Wish.{Wish}
 use Rattle.admit_core.specs.declared.state.Mark.{Mark}
@@ -14,7 +14,7 @@ use Rattle.admit_core.specs.State.{State, entries, holds_bed, is_school, is_wait
 use Rattle.linked_demand.specs.declared.rows.RowWish.{RowWish}
 use Rattle.linked_demand.specs.Links.{LinksRow}
 use Rattle.linked_demand.specs.Opens.{opens_of}
-use Rattle.linked_demand.specs.Rows.{IsRow, CutsAt, AllWait, AreItems, AreOpen, row_item}
+use Rattle.linked_demand.specs.Rows.{IsRow, CutsAt, AllWait, AreItems, AreOpen, IsOpenItem, row_item}
 use Rattle.linked_demand.specs.Rounds.{Round, IsRound}
 use Rattle.proposals.specs.Demands.{demands_of}
 use Rattle.linked_demand.specs.Demand.{is_proposed_at, firsts}
@@ -49,7 +49,8 @@ module _ (links : LinksRow) (bars free : List ℕ) (h to : ℕ) (rows : List (Ve
   items_own = right.items_are h row found
 
   pub round_fallen : (le : to ≤ slice_index bars h) (after : LinksRow) (kept : Vec RowWish Global) → after.state ≡ links.state
-      → after.orders ≡ links.orders → CutsAt to row.items links.opens kept.items after.opens → IsRound after (slice_set bars h to) free (slice_set rows h kept)
+      → after.orders ≡ links.orders → CutsAt to row.items links.opens kept.items after.opens
+      → IsRound after (slice_set bars h to) free (slice_set rows h kept)
   round_fallen le after kept same orders cut =
       let cut_bars : CutsAt to row.items (opens_of links.state bars) kept.items after.opens =
       let P = λ (os : List Bool). CutsAt to row.items os kept.items after.opens in
@@ -103,6 +104,13 @@ open_flag : (waits behind : Bool) → waits ≡ true → behind ≡ false → (w
 open_flag true false w b = refl
 open_flag true true w b = absurd (false≢true (sym b))
 open_flag false behind w b = absurd (false≢true w)
+
+-- an item that is read of a row of open ones is open
+pub item_open : (links : LinksRow) (row : List RowWish) → AreOpen links row → (i : ℕ) → i < length row → (other : RowWish)
+    → IsOpenItem links (get_or row i other)
+item_open links row open_are i lt other =
+    let x = get_or row i other in
+    open_are i x (slice_get_read row (length row) i x refl lt (get_or_default row i other x lt))
 
 -- the wishes of all rows are open
 pub rows_open : (links : LinksRow) (bars free : List ℕ) (rows : List (Vec RowWish Global))

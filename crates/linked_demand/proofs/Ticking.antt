@@ -64,7 +64,8 @@ told_none s orders opens i seen is none bars count marked =
     })
 
 fresh_bits : (waits cand own flags behind : Bool)
-    → ((((waits && cand) && own) && flags) && (waits && not (waits && behind))) ≡ ((cand && own) && (flags && (waits && not (waits && behind))))
+    → ((((waits && cand) && own) && flags) && (waits && not (waits && behind)))
+    ≡ ((cand && own) && (flags && (waits && not (waits && behind))))
 fresh_bits true true true flags behind = refl
 fresh_bits true true false flags behind = refl
 fresh_bits true false own flags behind = refl

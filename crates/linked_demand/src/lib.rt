@@ -23,6 +23,7 @@ mod overs;
 mod rising;
 mod round;
 mod rows;
+mod schools;
 mod seats;
 mod wishes;
 mod wishing;

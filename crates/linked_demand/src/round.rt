@@ -9,13 +9,13 @@ ghost use Rattle.linked_demand.specs.Rounds.{bar_each, is_proposed_in};
 ghost use Rattle.linked_demand.specs.Ticks.{changes_between};
 
 use crate::cut::close_past;
-use crate::fill::{free_of, rows_of};
 use crate::lineup::Lineup;
 use crate::links::SeatLinks;
 use crate::marks::Marks;
 use crate::over::{ask_marked, demands_in, front_of};
 use crate::overs::Overs;
 use crate::rows::RowWish;
+use crate::schools::{Schools, school_count, schools_of};
 use crate::seats::is_set;
 use crate::wishes::wish_count;
 use admit_core::{CallOrders, OutOfMemory, Steps};
@@ -25,13 +25,6 @@ use proposals::names_up_to;
 use std::alloc::Global;
 use std::marker::Model;
 use std::sync::ledger::Ledger;
-
-/// The number of schools.
-fn school_count(state: &DayState<'_>) -> u32
-    ensures { result ≡ length state.now.dossier.schools }
-{
-    state.dossier().schools.len() as u32
-}
 
 /// The boarding schools (*internats*) of a state, with their ceilings and their present bars. It
 /// keeps who is served in each programme and which schools are overfilled: a fall costs the rows of
@@ -103,19 +96,18 @@ impl<'a, 'd> LinkedRound<'a, 'd> {
         ensures offers { IfOk result (λ r. ⟦<LinkedRound<'a, 'd> as Falling>⟧.offers r ≡ proposed
             state.now orders.now.orders) }
     {
-        let _ = state.marks(); // one for each wish
-        let links = SeatLinks::build(alloc, state, orders, lineup, ceilings)?;
-        let free = free_of(alloc, state)?;
-        let rows = rows_of(alloc, &links, &lineup.boarders, ceilings)?;
-        let count = school_count(state);
-        let mut overs = Overs::none(alloc, count)?;
-        let mut marked = Marks::all(alloc, count)?;
-        ask_marked(&links, &rows, &free, &mut marked, &mut overs);
         let bars = ceilings.to_vec(alloc)?;
-        let ceilings = ceilings.to_vec(alloc)?;
+        let own = ceilings.to_vec(alloc)?;
+        let links = SeatLinks::build(alloc, state, orders, lineup, ceilings)?;
+        let Schools {
+            free,
+            rows,
+            overs,
+            marked,
+        } = schools_of(alloc, &links, &lineup.boarders, ceilings)?;
         Ok(LinkedRound {
             links,
-            ceilings,
+            ceilings: own,
             bars,
             free,
             rows,

@@ -69,7 +69,8 @@ or_last false true = refl
 or_last false false = refl
 
 -- who is among one more
-pub among_more : (n : ℕ) (xs : List ℕ) (i : ℕ) → i < length xs → is_among n (take (i + 1) xs) ≡ (is_among n (take i xs) || nat_eq n (get_or xs i 0))
+pub among_more : (n : ℕ) (xs : List ℕ) (i : ℕ) → i < length xs
+    → is_among n (take (i + 1) xs) ≡ (is_among n (take i xs) || nat_eq n (get_or xs i 0))
 among_more n xs i lt =
     rw (take_more xs i 0 lt)
     (list_any-append (nat_eq n) (take i xs) (get_or xs i 0 ∷ []) ∙ or_last (is_among n (take i xs)) (nat_eq n (get_or xs i 0)))
@@ -81,7 +82,13 @@ count_step q (y ∷ ys) x =
     elim (cases_Bool (q y)) [ inl passes ↦ rw passes (omega (arith, later)) | inr fails ↦ rw fails later ]
 
 -- how many pass a test among one more
-pub count_more : (q : ℕ → Bool) (xs : List ℕ) (i : ℕ) → i < length xs → count_by q (take (i + 1) xs) ≡ count_by q (take i xs) + cond (q (get_or xs i 0)) 1 0
+pub count_more : (q : ℕ → Bool) (xs : List ℕ) (i : ℕ) → i < length xs
+    → count_by q (take (i + 1) xs) ≡ count_by q (take i xs) + cond (q (get_or xs i 0)) 1 0
 count_more q xs i lt =
     rw (take_more xs i 0 lt)
-    (omega (arith, count_step q (take i xs) (get_or xs i 0), length-filter q (take i xs ++ get_or xs i 0 ∷ []), length-filter q (take i xs)))
+    (omega (
+      arith,
+      count_step q (take i xs) (get_or xs i 0),
+      length-filter q (take i xs ++ get_or xs i 0 ∷ []),
+      length-filter q (take i xs),
+    ))

@@ -10,7 +10,8 @@ use Rattle.proposals.specs.Demands.{demands_of}
 
 -- the names of the ranks up to one
 names_of : (name : ℕ → ℕ) (upto : ℕ) (ranks : List ℕ)
-    → map (λ (x : Demand). x.wish) (filter (λ (x : Demand). nat_le x.rank upto) (map (λ r. let d : Demand = record { rank = r; wish = name r } in d) ranks))
+    → map (λ (x : Demand). x.wish) (filter (λ (x : Demand). nat_le x.rank upto)
+    (map (λ r. let d : Demand = record { rank = r; wish = name r } in d) ranks))
     ≡ map name (filter (λ r. nat_le r upto) ranks)
 names_of name upto [] = refl
 names_of name upto (r ∷ ranks) =

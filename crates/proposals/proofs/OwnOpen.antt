@@ -25,7 +25,8 @@ turn_and false false test = refl
 
 -- an open wish in a programme by place
 in_turn : (s : State) (bars : List ℕ) (p c k : ℕ)
-    → (((wish_in s.dossier.wishes k).candidate == c) && is_open_at s bars p k) ≡ is_open_in s bars p c (wish_in s.dossier.wishes k) (mark_in s.marks k)
+    → (((wish_in s.dossier.wishes k).candidate == c) && is_open_at s bars p k)
+    ≡ is_open_in s bars p c (wish_in s.dossier.wishes k) (mark_in s.marks k)
 in_turn s bars p c k =
     let w = wish_in s.dossier.wishes k in
     turn_and (w.candidate == c) (is_open s bars w (mark_in s.marks k)) (w.programme == p)
@@ -50,7 +51,8 @@ pub no_open : (s : State) (bars : List ℕ) (p c : ℕ) → length s.marks ≡ l
 no_open s bars p c long none k lt =
     let places = range_with_len 0 (length s.dossier.wishes) in
     let test = λ (e : Wish × Mark). is_open_in s bars p c e.0 e.1 in
-    let by_place : list_any (λ k. test (entry_in s k)) places ≡ false = sym (any-map test (entry_in s) places) ∙ sym (ap (list_any test) (entries_by_place s long)) ∙ none in
+    let by_place : list_any (λ k. test (entry_in s k)) places ≡ false =
+    sym (any-map test (entry_in s) places) ∙ sym (ap (list_any test) (entries_by_place s long)) ∙ none in
     let all = none_found (λ k. test (entry_in s k)) places by_place in
     let within : k < length places = omega (arith, length-range_with_len 0 (length s.dossier.wishes)) in
     let at : get_or places k 0 ≡ k = get_or-range_with_len 0 (length s.dossier.wishes) k 0 lt ∙ zero-add k in

@@ -4,8 +4,8 @@ use Rattle.linked_demand.specs.Line.{next, last_new}
 use Rattle.linked_demand.specs.Links.{LinksRow}
 use Rattle.linked_demand.specs.Opens.{all_sure, line_of, wanting_at}
 use Rattle.linked_demand.specs.Wants.{wants_along}
-use Rattle.linked_demand.proofs.Closing.{wish_within, programme_within, claim_right, claims_each, row_within}
-use Rattle.linked_demand.proofs.Items.{closes_item, item_stands}
+use Rattle.linked_demand.proofs.Closing.{wish_within, programme_within, claims_each, row_within}
+use Rattle.linked_demand.proofs.Items.{closes_item, item_claim, item_stands}
 use Rattle.linked_demand.proofs.Leaving.{Reads, before_within, row_below, stays_closed, moves_closed, reached_each, reach_put, reach_kept, in_claims, claim_there}
 use Rattle.linked_demand.proofs.Moving.{newly_none, newly_some}
 use Rattle.linked_demand.proofs.Ticking.{claim_fits, told_none, told_some}
@@ -32,21 +32,13 @@ at-claim-requires g c =
 
 pub wants_seat-wanted-requires-clause-claim : goal.wants_seat-wanted-requires-clause-claim
 wants_seat-wanted-requires-clause-claim g c =
-    let k = closes_item c.self.invariant.reach.links c.args.self.now c.self.view_is c.args.item
-    c.requires.waits c.requires.item in
-    let at = item_stands c.self.invariant.reach.links c.args.self.now c.self.view_is c.args.item c.requires.waits c.requires.item in
-    let claim = claim_right k c.args.item.place at c.index-claims.result.now c.index-claims.ensures
-    c.at-claim.result.now c.at-claim.ensures in
-    claim_fits k _ _ c.at-claim.result.now claim (length c.self.inside.state.now.dossier.wishes) refl
+    item_claim c.self.invariant.reach.links c.args.self.now c.self.view_is c.args.item c.requires.waits c.requires.item
+    c.index-claims.result.now c.index-claims.ensures c.at-claim.result.now c.at-claim.ensures
 
 pub wants_seat-wants-requires-clause-claim : goal.wants_seat-wants-requires-clause-claim
 wants_seat-wants-requires-clause-claim g c =
-    let k = closes_item c.self.invariant.reach.links c.args.self.now c.self.view_is c.args.item
-    c.requires.waits c.requires.item in
-    let at = item_stands c.self.invariant.reach.links c.args.self.now c.self.view_is c.args.item c.requires.waits c.requires.item in
-    let claim = claim_right k c.args.item.place at c.index-claims.result.now c.index-claims.ensures
-    c.at-claim.result.now c.at-claim.ensures in
-    claim_fits k _ _ c.at-claim.result.now claim (length c.self.inside.state.now.dossier.wishes) refl
+    item_claim c.self.invariant.reach.links c.args.self.now c.self.view_is c.args.item c.requires.waits c.requires.item
+    c.index-claims.result.now c.index-claims.ensures c.at-claim.result.now c.at-claim.ensures
 
 pub index-before-requires : goal.index-before-requires
 index-before-requires g c =

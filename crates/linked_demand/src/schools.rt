@@ -1,0 +1,60 @@
+//! What a round keeps of the schools of a state: beds, rows, answers and marks.
+ghost use Rattle.std.specs.Prelude.{◌≡◌, length, IfOk};
+ghost use Rattle.linked_demand.specs.Boarders.{AreBoarders};
+ghost use Rattle.linked_demand.specs.Opens.{opens_of};
+ghost use Rattle.linked_demand.specs.Rounds.{IsRoundUnder};
+
+use crate::boarders::Boarder;
+use crate::fill::{free_of, rows_of};
+use crate::links::SeatLinks;
+use crate::marks::Marks;
+use crate::over::ask_marked;
+use crate::overs::Overs;
+use crate::rows::RowWish;
+use admit_core::OutOfMemory;
+use day_state::DayState;
+use std::alloc::Global;
+
+/// The free beds of each school, its row, its first rank that has no bed, and a mark.
+pub struct Schools {
+    pub free: Vec<u32>,
+    pub rows: Vec<Vec<RowWish>>,
+    pub overs: Overs,
+    pub marked: Marks,
+}
+
+/// The number of schools.
+pub fn school_count(state: &DayState<'_>) -> u32
+    ensures { result ≡ length state.now.dossier.schools }
+{
+    state.dossier().schools.len() as u32
+}
+
+/// The schools at the bars under which the wishes of these links are open, each asked once.
+pub fn schools_of(
+    alloc: Global,
+    links: &SeatLinks<'_, '_>,
+    boarders: &[Boarder],
+    bars: &[u32],
+) -> Result<Schools, OutOfMemory>
+    requires boarders { AreBoarders links.now.state.dossier boarders.now }
+    requires opens { links.now.opens ≡ opens_of links.now.state bars.now }
+    requires bars { length bars.now ≡ length links.now.state.dossier.schools }
+    ensures { IfOk result (λ x. IsRoundUnder links.now bars.now bars.now x.free.items
+        x.rows.items x.overs x.marked) }
+{
+    let state = links.state();
+    let _ = state.marks(); // one for each wish
+    let count = school_count(state);
+    let mut overs = Overs::none(alloc, count)?;
+    let mut marked = Marks::all(alloc, count)?;
+    let free = free_of(alloc, state)?;
+    let rows = rows_of(alloc, links, boarders, bars)?;
+    ask_marked(links, &rows, &free, &mut marked, &mut overs);
+    Ok(Schools {
+        free,
+        rows,
+        overs,
+        marked,
+    })
+}
