@@ -37,8 +37,11 @@ above_all n (m ∷ ms) above = (above 0 (omega arith), above_all n ms (λ i lt. 
 
 ascends : (ns : List ℕ) → ((i j : ℕ) → i < j → j < length ns → get_or ns i 0 < get_or ns j 0) → Ascends ns
 ascends [] rises = tt
-ascends (n ∷ ns) rises =
-    (above_all n ns (λ i lt. rises 0 (suc i) (omega arith) (omega arith)), ascends ns (λ i j lt within. rises (suc i) (suc j) (omega arith) (omega arith)))
+ascends (n ∷ ns) rises = (
+  above_all n ns (λ i lt. rises 0 (suc i) (omega arith) (omega arith)),
+  ascends ns
+      (λ i j lt within. rises (suc i) (suc j) (omega arith) (omega arith)),
+)
 
 ascends_from : (ns : List ℕ) → IsStrictlyIncreasing ns → Ascends ns
 ascends_from ns rises = ascends ns (λ i j lt within. AllPairs-from_increasing ns rises i j 0 lt within)
@@ -68,14 +71,16 @@ among_own d (k ∷ ks) q =
     let x = candidate_of d k in
     let all = range_with_len 0 (length d.wishes) in
     let first : is_among q (own_places d x) ≡ ((c == x) && is_among q all) =
-    any-filter_same (nat_eq q) (λ j. candidate_of d j == x) (c == x) (λ j t. ap (λ (i : ℕ). candidate_of d i == x) (sym (eqb-true q j t))) all in
+    any-filter_same (nat_eq q) (λ j. candidate_of d j == x) (c == x) (λ j t. ap (λ (i : ℕ). candidate_of d i == x) (sym (eqb-true q j t)))
+    all in
     let own = λ (i : ℕ). own_places d (candidate_of d i) in
     ap (is_among q) (flat_map-cons own k ks)
     ∙ list_any-append (nat_eq q) (own_places d x) (flat_map own ks)
     ∙ rw (first, among_own d ks q) (or_and (is_among q all) (c == x) (is_among c (map (candidate_of d) ks)))
 
 among_beside : (d : DossierRows) (places : List ℕ) (q : ℕ)
-    → is_among q (wishes_beside d places) ≡ (is_among (candidate_of d q) (map (candidate_of d) places) && is_among q (range_with_len 0 (length d.wishes)))
+    → is_among q (wishes_beside d places) ≡
+    (is_among (candidate_of d q) (map (candidate_of d) places) && is_among q (range_with_len 0 (length d.wishes)))
 among_beside d places q =
     let t = λ (j : ℕ). is_among (candidate_of d j) (map (candidate_of d) places) in
     any-filter_same (nat_eq q) t (t q) (λ j e. ap t (sym (eqb-true q j e))) (range_with_len 0 (length d.wishes))
@@ -88,14 +93,18 @@ in_order d places own sorted once own_is moved rises once_is =
     ∙ same_members (dedup eqb sorted) (wishes_beside d places)
     (ascends_from (dedup eqb sorted) (IsStrictlyIncreasing-dedup sorted rises))
     (ascends_from (wishes_beside d places)
-    (IsStrictlyIncreasing-filter (λ k. is_among (candidate_of d k) (map (candidate_of d) places)) (range_with_len 0 (length d.wishes)) (range_rises 0 (length d.wishes))))
-    (λ q. once_among q ∙ sym (list_any-IsPermutation (nat_eq q) own sorted moved) ∙ ap (is_among q) own_is ∙ among_own d places q ∙ sym (among_beside d places q))
+    (IsStrictlyIncreasing-filter (λ k. is_among (candidate_of d k) (map (candidate_of d) places)) (range_with_len 0 (length d.wishes))
+    (range_rises 0 (length d.wishes))))
+    (λ q. once_among q ∙ sym (list_any-IsPermutation (nat_eq q) own sorted moved) ∙ ap (is_among q) own_is ∙ among_own d places q
+    ∙ sym (among_beside d places q))
   where
     once_among : (q : ℕ) → is_among q (dedup eqb sorted) ≡ is_among q sorted
     once_among q =
         both_ways (is_among q (dedup eqb sorted)) (is_among q sorted)
-        (λ t. list_any-from_Contains nat_eq_equiv q sorted (Contains-from_dedup eqb sorted q (Contains-from_any eqb-true q (dedup eqb sorted) t)))
-        (λ t. list_any-from_Contains nat_eq_equiv q (dedup eqb sorted) (Contains-dedup_nat sorted q (Contains-from_any eqb-true q sorted t)))
+        (λ t. list_any-from_Contains nat_eq_equiv q sorted (Contains-from_dedup eqb sorted q
+        (Contains-from_any eqb-true q (dedup eqb sorted) t)))
+        (λ t. list_any-from_Contains nat_eq_equiv q (dedup eqb sorted) (Contains-dedup_nat sorted q
+        (Contains-from_any eqb-true q sorted t)))
 
 -- whether the wish at a place changed, and its change
 abbrev pub changed_at : List Mark → List Mark → ℕ → Bool
@@ -124,7 +133,8 @@ by_place test give a (m ∷ ms) (n ∷ ns) long tests gives =
     ]
 
 -- a stronger test asks only among those that pass a weaker one
-asked_within : (p q : ℕ → Bool) (a n : ℕ) → ((k : ℕ) → k < a + n → p k ≡ true → q k ≡ true) → filter p (filter q (range_with_len a n)) ≡ filter p (range_with_len a n)
+asked_within : (p q : ℕ → Bool) (a n : ℕ) → ((k : ℕ) → k < a + n → p k ≡ true → q k ≡ true)
+    → filter p (filter q (range_with_len a n)) ≡ filter p (range_with_len a n)
 asked_within p q a zero weaker = refl
 asked_within p q a (suc n) weaker =
     let rest = asked_within p q (a + 1) n (λ k lt. weaker k (omega arith)) in
@@ -178,21 +188,26 @@ pub own_all : (d : DossierRows) (places : List ℕ) (i : ℕ) (now : List ℕ) �
     → now ≡ flat_map (λ k. own_places d (candidate_of d k)) places
 own_all d places i now so_far le = so_far ∙ ap (flat_map (λ (k : ℕ). own_places d (candidate_of d k))) (take_all i places le)
 
-pub beside_within : (d : DossierRows) (places own : List ℕ) (i : ℕ) → own ≡ wishes_beside d places → i < length own → get_or own i 0 < length d.wishes
+pub beside_within : (d : DossierRows) (places own : List ℕ) (i : ℕ) → own ≡ wishes_beside d places → i < length own
+    → get_or own i 0 < length d.wishes
 beside_within d places own i own_is lt =
     let n = length d.wishes in
     let all : All (λ (k : ℕ). k < n) (range_with_len 0 n) = λ k e within.
     let in_range : k < n = omega (arith, within, length-range_with_len 0 n) in rw (get_or-range_with_len 0 n k e in_range) (omega arith) in
-    rw own_is (All-filter (λ k. is_among (candidate_of d k) (map (candidate_of d) places)) (λ (k : ℕ). k < n) (range_with_len 0 n) all i 0 (rw own_is at lt))
+    rw own_is (All-filter (λ k. is_among (candidate_of d k) (map (candidate_of d) places)) (λ (k : ℕ). k < n) (range_with_len 0 n) all i 0
+    (rw own_is at lt))
 
 -- and one more of their wishes
-pub beside_some : (ms ns : List Mark) (own : List ℕ) (i : ℕ) (x y : Status) (now : List Change) → now ≡ listed (change_at ns) (changed_at ms ns) own i
+pub beside_some : (ms ns : List Mark) (own : List ℕ) (i : ℕ) (x y : Status) (now : List Change)
+    → now ≡ listed (change_at ns) (changed_at ms ns) own i
     → i < length own → x ≡ (mark_in ms (get_or own i 0)).status → y ≡ (mark_in ns (get_or own i 0)).status → is_answered_change x y ≡ true
     → now ++ record { wish = get_or own i 0; status = y } ∷ [] ≡ listed (change_at ns) (changed_at ms ns) own (i + 1)
 beside_some ms ns own i x y now so_far lt x_is y_is passes =
     rw y_is (listed_some (change_at ns) (changed_at ms ns) own i 0 now so_far lt (rw (x_is, y_is) at passes))
 
-pub beside_none : (ms ns : List Mark) (own : List ℕ) (i : ℕ) (x y : Status) (now : List Change) → now ≡ listed (change_at ns) (changed_at ms ns) own i
+pub beside_none : (ms ns : List Mark) (own : List ℕ) (i : ℕ) (x y : Status) (now : List Change)
+    → now ≡ listed (change_at ns) (changed_at ms ns) own i
     → i < length own → x ≡ (mark_in ms (get_or own i 0)).status → y ≡ (mark_in ns (get_or own i 0)).status → is_answered_change x y ≡ false
     → now ≡ listed (change_at ns) (changed_at ms ns) own (i + 1)
-beside_none ms ns own i x y now so_far lt x_is y_is fails = listed_none (change_at ns) (changed_at ms ns) own i 0 now so_far lt (rw (x_is, y_is) at fails)
+beside_none ms ns own i x y now so_far lt x_is y_is fails = listed_none (change_at ns) (changed_at ms ns) own i 0 now so_far lt
+    (rw (x_is, y_is) at fails)

@@ -38,7 +38,8 @@ alone Lapsed best worse = refl
 
 -- an automatic answer after an offer
 after_offer : (best worse : Bool)
-    → not (status_number Offered == status_number (auto_status Offered best worse)) ≡ is_answered_change Waiting (auto_status Offered best worse)
+    → not (status_number Offered == status_number (auto_status Offered best worse)) ≡ is_answered_change Waiting
+    (auto_status Offered best worse)
 after_offer true worse = refl
 after_offer false worse = refl
 
@@ -59,7 +60,8 @@ waiting_is Lapsed t = absurd (cc)
 -- one mark: m in the opening, then the offer, then the automatic answer
 one_change : (stamp : Stamp) (best : Option (Wish × Mark)) (w : Wish) (m : Mark) (made : Bool) → (made ≡ true → is_waiting m ≡ true)
     → let o : Mark = if made then changed_to Offered stamp m else m in
-    not (status_number o.status == status_number (auto_mark stamp best w o).status) ≡ is_answered_change m.status (auto_mark stamp best w o).status
+    not (status_number o.status == status_number (auto_mark stamp best w o).status) ≡ is_answered_change m.status
+    (auto_mark stamp best w o).status
 one_change stamp None w m false waits = same_stays m.status
 one_change stamp None w m true waits =
     rw (changed_status Offered stamp m, waiting_is m.status (waits refl)) refl
@@ -70,7 +72,8 @@ one_change stamp (Some best) w m true waits =
     (after_offer (w.preference == best.0.preference) (nat_lt best.0.preference w.preference))
 
 -- only waiting wishes are proposed
-pub proposed_waits : (s : State) (orders : List CallOrder) (bars : List ℕ) (w : Wish) (m : Mark) → is_proposed s orders bars w m ≡ true → is_waiting m ≡ true
+pub proposed_waits : (s : State) (orders : List CallOrder) (bars : List ℕ) (w : Wish) (m : Mark) → is_proposed s orders bars w m ≡ true
+    → is_waiting m ≡ true
 proposed_waits s orders bars w m t =
     elim (cases_Bool (is_waiting m)) [
       | inl waits ↦ waits
@@ -91,7 +94,9 @@ is_answered x = is_answered_change x.1.0.status x.1.1.status
 
 -- where f and then h change each mark so, the changes by h alone are those told from the first marks
 alike : (f h : Wish → Mark → Mark)
-    → ((w : Wish) (m : Mark) → not (status_number (f w m).status == status_number (h w (f w m)).status) ≡ is_answered_change m.status (h w (f w m)).status)
+    →
+    ((w : Wish) (m : Mark) → not (status_number (f w m).status == status_number (h w (f w m)).status) ≡ is_answered_change m.status
+    (h w (f w m)).status)
     → (n : ℕ) (ws : List Wish) (ms : List Mark)
     → let os = map (λ (x : Wish × Mark). f x.0 x.1) (zip ws ms) in
     let cs = map (λ (x : Wish × Mark). h x.0 x.1) (zip ws os) in

@@ -17,19 +17,26 @@ no_refusal P (Ok x) is none = tt
 no_refusal P (Err e) is none = absurd (false≢true (sym none ∙ is))
 
 -- a day that is recorded so came about
-pub done_so : (terms : Option Terms) (orders : List CallOrder) (ceilings : List ℕ) (day : ℕ) (before after : Moment) (found done : DayRecord) → found ≡ done
+pub done_so : (terms : Option Terms) (orders : List CallOrder) (ceilings : List ℕ) (day : ℕ) (before after : Moment)
+    (found done : DayRecord) → found ≡ done
     → IsDayDone terms orders ceilings day before done after → IsDayDone terms orders ceilings day before found after
 done_so terms orders ceilings day before after found done same is =
     subst (λ (d : DayRecord). IsDayDone terms orders ceilings day before d after) (sym same) is
 
 -- the evenings of the desk do not matter
 module _ (terms : Option Terms) (orders : List CallOrder) (ceilings : List ℕ) (day : ℕ) where
-  abbrev pub at : State → State → State → List ℕ → (List ℕ → List ℕ → ℕ) → Moment
-  at present evening opening told choice = record { desk = record { present = present; evening = evening; opening = opening }; told = told; choice = choice }
+  abbrev at : State → State → State → List ℕ → (List ℕ → List ℕ → ℕ) → Moment
+  at present evening opening told choice = record {
+    desk = record { present = present; evening = evening; opening = opening };
+    told = told;
+    choice = choice;
+  }
 
-  pub done_there : (old was new opening one other late later : State) (told told_after : List ℕ) (choice choice_after : List ℕ → List ℕ → ℕ) (r : Result DayRecord DayRefusal)
+  done_there : (old was new opening one other late later : State) (told told_after : List ℕ) (choice choice_after : List ℕ → List ℕ → ℕ)
+      (r : Result DayRecord DayRefusal)
       → IfOk r (λ done. IsDayDone terms orders ceilings day (at old one was told choice) done (at new late opening told_after choice_after))
-      → IfOk r (λ done. IsDayDone terms orders ceilings day (at old other was told choice) done (at new later opening told_after choice_after))
+      → IfOk r
+      (λ done. IsDayDone terms orders ceilings day (at old other was told choice) done (at new later opening told_after choice_after))
   done_there old was new opening one other late later told told_after choice choice_after (Err e) is = tt
   done_there old was new opening one other late later told told_after choice choice_after (Ok done) is = record {
     number = is.number;
@@ -43,15 +50,19 @@ module _ (terms : Option Terms) (orders : List CallOrder) (ceilings : List ℕ) 
     chosen = is.chosen;
   }
 
-  pub ends_played : (desk : DeskStates) (old evening was new now opening : State) (told told_after : List ℕ) (choice choice_after : List ℕ → List ℕ → ℕ) (r : Result DayRecord DayRefusal)
+  pub ends_played : (desk : DeskStates) (old evening was new now opening : State) (told told_after : List ℕ)
+      (choice choice_after : List ℕ → List ℕ → ℕ) (r : Result DayRecord DayRefusal)
       → (at old evening was told choice).desk ≡ desk → now ≡ old
       → IfOk r (λ done. IsDayDone terms orders ceilings day (at old old was told choice) done (at new old opening told_after choice_after))
       → IfErr r (IsUnfitOf old.dossier day (unfit_on terms day old)) → OnErr r (new ≡ old) → new.dossier ≡ old.dossier
       → IfErr r (KeepsOpening was opening)
       → IfErr r (TellsNoneUnfit told told_after) → choice_after ≡ choice
-      → EndsDay terms orders ceilings day (record { desk = desk; told = told; choice = choice }) (at new now opening told_after choice_after) r
-  ends_played desk old evening was new now opening told told_after choice choice_after r is now_is done unfit restored same unopened untold kept =
-      let P : DeskStates → Type 0 = λ d. EndsDay terms orders ceilings day (record { desk = d; told = told; choice = choice }) (at new now opening told_after choice_after) r in
+      → EndsDay terms orders ceilings day (record { desk = desk; told = told; choice = choice })
+      (at new now opening told_after choice_after) r
+  ends_played desk old evening was new now opening told told_after choice choice_after r is now_is done unfit restored same unopened untold
+      kept =
+      let P : DeskStates → Type 0 = λ d. EndsDay terms orders ceilings day (record { desk = d; told = told; choice = choice })
+      (at new now opening told_after choice_after) r in
       subst P is (record {
         done = done_there old was new opening old evening old now told told_after choice choice_after r done;
         unfit = unfit;

@@ -18,24 +18,29 @@ use Rattle.desk_day.specs.DayPasses.{PassesKeepLaws, stamp_of}
 use Rattle.desk_day.proofs.SameDays.{only_falls_differ}
 use Rattle.desk_day.proofs.SameDossier.{morning_dossier}
 
-pass_kept : (orders : List CallOrder) (ceilings : List ℕ) (day k : ℕ) (s : State) (pass : PassEnd) → IsValid s.dossier → AreCallOrders s.dossier.groups orders
+pass_kept : (orders : List CallOrder) (ceilings : List ℕ) (day k : ℕ) (s : State) (pass : PassEnd) → IsValid s.dossier
+    → AreCallOrders s.dossier.groups orders
     → length ceilings ≡ length s.dossier.schools → IsPassEnd s orders ceilings (stamp_of day k) pass
     → KeepsPassLaws s (offered s orders pass.pass.bars (stamp_of day k)) ceilings pass.pass
 pass_kept orders ceilings day k s pass valid called long is =
-    pass_laws_kept s (offered s orders pass.pass.bars (stamp_of day k)) orders ceilings (stamp_of day k) pass.pass is.pass refl valid called long
+    pass_laws_kept s (offered s orders pass.pass.bars (stamp_of day k)) orders ceilings (stamp_of day k) pass.pass is.pass refl valid called
+    long
 
-passes_kept : (orders : List CallOrder) (ceilings : List ℕ) (day k : ℕ) (s : State) (passes : List PassEnd) (evening : State) → IsValid s.dossier
+passes_kept : (orders : List CallOrder) (ceilings : List ℕ) (day k : ℕ) (s : State) (passes : List PassEnd) (evening : State)
+    → IsValid s.dossier
     → AreCallOrders s.dossier.groups orders → length ceilings ≡ length s.dossier.schools → Passes orders ceilings day k s passes evening
     → PassesKeepLaws orders ceilings day k s passes
 passes_kept orders ceilings day k s [] evening valid called long are = absurd are
-passes_kept orders ceilings day k s (pass ∷ []) evening valid called long are = (pass_kept orders ceilings day k s pass valid called long are.0, tt)
+passes_kept orders ceilings day k s (pass ∷ []) evening valid called long are =
+    (pass_kept orders ceilings day k s pass valid called long are.0, tt)
 passes_kept orders ceilings day k s (pass ∷ next ∷ rest) evening valid called long are = (
   pass_kept orders ceilings day k s pass valid called long are.0,
   passes_kept orders ceilings day (k + 1) (closing s orders pass.pass.bars (stamp_of day k)) (next ∷ rest) evening valid called long are.2,
 )
 
 pub laws_kept : (terms : Option Terms) (orders : List CallOrder) (ceilings : List ℕ) (old : State) (day : DayRecord) (evening : State)
-    → IsValid old.dossier → AreCallOrders old.dossier.groups orders → length ceilings ≡ length old.dossier.schools → IsDay terms orders ceilings old day evening
+    → IsValid old.dossier → AreCallOrders old.dossier.groups orders → length ceilings ≡ length old.dossier.schools
+    → IsDay terms orders ceilings old day evening
     → KeepsLaws terms orders ceilings old day evening
 laws_kept terms orders ceilings old day evening valid called long is =
     let s = morning terms day.day old in

@@ -36,10 +36,12 @@ places_in {X} n xs le k d lt =
     omega arith
 
 -- what is chosen of an enumerated list
-chosen_in : {X : Type 0} (n : ℕ) (test : ℕ × X → Bool) (xs : List X) → length xs ≤ n → All (λ (x : ℕ × X). x.0 < n) (filter test (enumerate_from 0 xs))
+chosen_in : {X : Type 0} (n : ℕ) (test : ℕ × X → Bool) (xs : List X) → length xs ≤ n
+    → All (λ (x : ℕ × X). x.0 < n) (filter test (enumerate_from 0 xs))
 chosen_in {X} n test xs le = All-filter test (λ (x : ℕ × X). x.0 < n) (enumerate_from 0 xs) (places_in n xs le)
 
-first_found : {X : Type 0} (n : ℕ) (test : ℕ × X → Bool) (ys : List (ℕ × X)) → All (λ (y : ℕ × X). y.0 < n) ys → 0 < n → unwrap_or (option_map (λ (y : ℕ × X). y.0) (find test ys)) 0 < n
+first_found : {X : Type 0} (n : ℕ) (test : ℕ × X → Bool) (ys : List (ℕ × X)) → All (λ (y : ℕ × X). y.0 < n) ys → 0 < n
+    → unwrap_or (option_map (λ (y : ℕ × X). y.0) (find test ys)) 0 < n
 first_found n test [] all some = some
 first_found {X} n test (y ∷ ys) all some =
     elim (cases_Bool (test y)) [
@@ -62,7 +64,8 @@ no_ranks : (s : State) (orders : List CallOrder) (bars : List ℕ) (h k : ℕ) �
 no_ranks s orders bars h k none = rw none (take_all k [] (omega arith))
 
 fall_in : (s : State) (orders : List CallOrder) (ceilings bars : List ℕ) (f : Fall) → length ceilings ≡ length s.dossier.schools
-    → IsTrue (is_overfilled (boarding s orders ceilings) bars f.school) → f ≡ fall_of (boarding s orders ceilings) bars f.school → IsFallIn s.dossier f
+    → IsTrue (is_overfilled (boarding s orders ceilings) bars f.school) → f ≡ fall_of (boarding s orders ceilings) bars f.school
+    → IsFallIn s.dossier f
 fall_in s orders ceilings bars f same over is = record {
   school =
       let within : f.school < length ceilings = ltb-true f.school (length ceilings) (and_parts _ _ over).0 in
@@ -79,14 +82,17 @@ falls_in : (s : State) (orders : List CallOrder) (ceilings bars : List ℕ) (fal
     → AreFalls (boarding s orders ceilings) bars falls → All (IsFallIn s.dossier) falls
 falls_in s orders ceilings bars [] same are = All-nil (IsFallIn s.dossier)
 falls_in s orders ceilings bars (f ∷ fs) same are =
-    All-cons (IsFallIn s.dossier) f fs (fall_in s orders ceilings bars f same are.0 are.1) (falls_in s orders ceilings (fallen bars f) fs same are.2)
+    All-cons (IsFallIn s.dossier) f fs (fall_in s orders ceilings bars f same are.0 are.1)
+    (falls_in s orders ceilings (fallen bars f) fs same are.2)
 
-few_offered : (s : State) (orders : List CallOrder) (bars : List ℕ) (stamp : Stamp) (new : List Mark) → length (zip (offered s orders bars stamp).marks new) ≤ length s.dossier.wishes
+few_offered : (s : State) (orders : List CallOrder) (bars : List ℕ) (stamp : Stamp) (new : List Mark)
+    → length (zip (offered s orders bars stamp).marks new) ≤ length s.dossier.wishes
 few_offered s orders bars stamp new =
     let as_many : length (offered s orders bars stamp).marks ≡ length (entries s) = length-map (entries s) _ in
     omega (arith, length-zip (offered s orders bars stamp).marks new, few_entries s)
 
-pass_in : (s : State) (orders : List CallOrder) (ceilings : List ℕ) (stamp : Stamp) (end : PassEnd) → length ceilings ≡ length s.dossier.schools
+pass_in : (s : State) (orders : List CallOrder) (ceilings : List ℕ) (stamp : Stamp) (end : PassEnd)
+    → length ceilings ≡ length s.dossier.schools
     → IsPassEnd s orders ceilings stamp end → IsPassIn s.dossier end
 pass_in s orders ceilings stamp end same is =
     let n = length s.dossier.wishes in
@@ -99,10 +105,12 @@ pass_in s orders ceilings stamp end same is =
       autos =
           All-same (λ (c : Change). c.wish < n) end.autos _ is.autos
           (All-map (λ (c : Change). c.wish < n) (λ (x : ℕ × (Mark × Mark)). record { wish = x.0; status = x.1.1.status }) _
-          (chosen_in n _ (zip (offered s orders end.pass.bars stamp).marks (closing s orders end.pass.bars stamp).marks) (few_offered s orders end.pass.bars stamp _)));
+          (chosen_in n _ (zip (offered s orders end.pass.bars stamp).marks (closing s orders end.pass.bars stamp).marks)
+          (few_offered s orders end.pass.bars stamp _)));
     }
 
-passes_in : (orders : List CallOrder) (ceilings : List ℕ) (day k : ℕ) (s : State) (passes : List PassEnd) (evening : State) → length ceilings ≡ length s.dossier.schools
+passes_in : (orders : List CallOrder) (ceilings : List ℕ) (day k : ℕ) (s : State) (passes : List PassEnd) (evening : State)
+    → length ceilings ≡ length s.dossier.schools
     → Passes orders ceilings day k s passes evening → All (IsPassIn s.dossier) passes
 passes_in orders ceilings day k s [] evening same p = absurd p
 passes_in orders ceilings day k s (pass ∷ []) evening same p =
@@ -111,7 +119,8 @@ passes_in orders ceilings day k s (pass ∷ next ∷ rest) evening same p =
     All-cons (IsPassIn s.dossier) pass (next ∷ rest) (pass_in s orders ceilings (stamp_of day k) pass same p.0)
     (passes_in orders ceilings day (k + 1) (closing s orders pass.pass.bars (stamp_of day k)) (next ∷ rest) evening same p.2)
 
-pub lapsed_in : (terms : Option Terms) (day : ℕ) (s : State) → ForSome terms (λ t. length t.before ≡ length s.dossier.wishes) → All (λ (l : Lapse). l.wish < length s.dossier.wishes) (lapsed_on terms day s)
+pub lapsed_in : (terms : Option Terms) (day : ℕ) (s : State) → ForSome terms (λ t. length t.before ≡ length s.dossier.wishes)
+    → All (λ (l : Lapse). l.wish < length s.dossier.wishes) (lapsed_on terms day s)
 lapsed_in None day s one_each = All-nil (λ (l : Lapse). l.wish < length s.dossier.wishes)
 lapsed_in (Some terms) day s one_each =
     let n = length s.dossier.wishes in
@@ -122,7 +131,8 @@ lapsed_in (Some terms) day s one_each =
 
 -- a day's record speaks of the dossier's wishes, schools and programmes
 pub day_in : (terms : Option Terms) (orders : List CallOrder) (ceilings : List ℕ) (old : State) (day : DayRecord) (evening : State)
-    → ForSome terms (λ t. length t.before ≡ length old.dossier.wishes) → length ceilings ≡ length old.dossier.schools → IsDay terms orders ceilings old day evening → IsDayIn old.dossier day
+    → ForSome terms (λ t. length t.before ≡ length old.dossier.wishes) → length ceilings ≡ length old.dossier.schools
+    → IsDay terms orders ceilings old day evening → IsDayIn old.dossier day
 day_in terms orders ceilings old day evening before one_each is =
     let s = morning terms day.day old in
     let stays : s.dossier ≡ old.dossier = morning_dossier terms day.day old in

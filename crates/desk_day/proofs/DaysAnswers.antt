@@ -53,7 +53,8 @@ answers_found d day from to valid from_in to_in lower upper =
       λ k e low high. until k e (omega (arith, long, high, to_in)) ∙ upper.0 k e.1 low high,
       λ k e low high. until k e high ∙ upper.1 k e.1 low (omega (arith, long, high)),
     )).1 in
-    let count : length (take (to - from) (drop from xs)) ≡ to - from = omega (arith, length-take (to - from) (drop from xs), length-drop from xs) in
+    let count : length (take (to - from) (drop from xs)) ≡ to - from = omega
+    (arith, length-take (to - from) (drop from xs), length-drop from xs) in
     record {
       all = span;
       place = λ k lt.
@@ -61,8 +62,14 @@ answers_found d day from to valid from_in to_in lower upper =
           let e : ℕ × Answer = (0, no_answer) in
           let ys = take (to - from) (drop from rows) in
           ap (λ (l : List (ℕ × Answer)). slice_index (map (λ (x : ℕ × Answer). x.0) l) k) (sym span_rows)
-          ∙ get_or-map (λ (x : ℕ × Answer). x.0) ys k e 0 (omega (arith, length-take (to - from) (drop from rows), length-drop from rows, long))
-          ∙ ap (λ (x : ℕ × Answer). x.0) (get_or-take (to - from) (drop from rows) k e k_in ∙ get_or-drop from rows k e ∙ at (from + k) e (omega arith))
+          ∙ get_or-map (λ (x : ℕ × Answer). x.0) ys k e 0 (omega (
+            arith,
+            length-take (to - from) (drop from rows),
+            length-drop from rows,
+            long,
+          ))
+          ∙ ap (λ (x : ℕ × Answer). x.0) (get_or-take (to - from) (drop from rows) k e k_in ∙ get_or-drop from rows k e
+          ∙ at (from + k) e (omega arith))
           ∙ zero_plus (from + k);
       targets = rw span (All-filter p (λ (a : Answer). IsTarget d a.kind a.target) xs (λ k a lt. (valid.answers k a lt).target));
       few = omega (arith, count, valid.size.answers);
@@ -72,11 +79,13 @@ answers_found d day from to valid from_in to_in lower upper =
     zero_plus n = omega arith
 
 -- the first answer that does not fit is one of the list
-index_within : (k : ℕ) (s : State) (stamp : Stamp) (answers : List Answer) (x : ℕ × Status) → first_unfit k s stamp answers ≡ Some x → (k ≤ x.0) × (x.0 < k + length answers)
+index_within : (k : ℕ) (s : State) (stamp : Stamp) (answers : List Answer) (x : ℕ × Status) → first_unfit k s stamp answers ≡ Some x
+    → (k ≤ x.0) × (x.0 < k + length answers)
 index_within k s stamp [] x e = absurd (cc)
 index_within k s stamp (a ∷ rest) x e =
     elim (cases_Bool (fits s a)) [
-      | inl fit ↦ let later = index_within (k + 1) (after s stamp a) stamp rest x (rw fit at e) in (omega (arith, later.0), omega (arith, later.1))
+      | inl fit ↦ let later = index_within (k + 1) (after s stamp a) stamp rest x
+          (rw fit at e) in (omega (arith, later.0), omega (arith, later.1))
       | inr unfit ↦
           let found : Some (k, status_at s a.target) ≡ Some x = rw unfit at e in
           let same : k ≡ x.0 = ap (λ (o : Option (ℕ × Status)). index_of o) found in
@@ -87,7 +96,8 @@ index_within k s stamp (a ∷ rest) x e =
     index_of None = 0
     index_of (Some y) = y.0
 
-some_refused : (o : Option (ℕ × Status)) (u : UnfitAt) → Err u ≡ refused_at o → (x : ℕ × Status) × (o ≡ Some x) × (u.index ≡ x.0) × (u.status ≡ x.1)
+some_refused : (o : Option (ℕ × Status)) (u : UnfitAt) → Err u ≡ refused_at o
+    → (x : ℕ × Status) × (o ≡ Some x) × (u.index ≡ x.0) × (u.status ≡ x.1)
 some_refused None u e = absurd (cc)
 some_refused (Some x) u e =
     let same : u ≡ record { index = x.0; status = x.1 } = (cc) in
@@ -103,7 +113,8 @@ refused_there d day first x index status refusal place index_is status_is is =
     is ∙ rw (index_is, status_is) (ap (λ k. refusals.Unfit (refusal_at k x.1)) (sym place))
 
 -- what an unfit answer leads to
-pub unfit_applied : (s t : State) (day first : ℕ) (answers : List Answer) (u : UnfitAt) (refusal : DayRefusal) → AreAnswersOn s.dossier day first answers
+pub unfit_applied : (s t : State) (day first : ℕ) (answers : List Answer) (u : UnfitAt) (refusal : DayRefusal)
+    → AreAnswersOn s.dossier day first answers
     → Err u ≡ refused_at (first_unfit 0 s (answers_stamp day) answers)
     → refusal ≡ refusals.Unfit (refusal_at (first + u.index) u.status)
     → IsApplied s day (Err refusal) t
@@ -111,7 +122,8 @@ unfit_applied s t day first answers u refusal are e is =
     let d = s.dossier in
     let found = some_refused (first_unfit 0 s (answers_stamp day) answers) u e in
     let x = found.0 in
-    let here : first_unfit 0 s (answers_stamp day) (answers_of d day) ≡ Some x = ap (λ (l : List Answer). first_unfit 0 s (answers_stamp day) l) (sym are.all) ∙ found.1 in
+    let here : first_unfit 0 s (answers_stamp day) (answers_of d day) ≡ Some x = ap
+    (λ (l : List Answer). first_unfit 0 s (answers_stamp day) l) (sym are.all) ∙ found.1 in
     let within = index_within 0 s (answers_stamp day) answers x found.1 in
     some_and (first_unfit 0 s (answers_stamp day) (answers_of d day)) x (λ y. refusal ≡ refusals.Unfit (unfit_refusal d day y)) here
     (refused_there d day first x u.index u.status refusal (are.place x.0 (omega (arith, within.1))) found.2 found.3 is)
@@ -120,7 +132,8 @@ none_refused : (o : Option (ℕ × Status)) → Ok tt ≡ refused_at o → o ≡
 none_refused None e = refl
 none_refused (Some x) e = absurd (cc)
 
-front_all : (k : ℕ) (s : State) (stamp : Stamp) (answers : List Answer) → first_unfit k s stamp answers ≡ None → after_fitting_front s stamp answers ≡ after_all s stamp answers
+front_all : (k : ℕ) (s : State) (stamp : Stamp) (answers : List Answer) → first_unfit k s stamp answers ≡ None
+    → after_fitting_front s stamp answers ≡ after_all s stamp answers
 front_all k s stamp [] e = refl
 front_all k s stamp (a ∷ rest) e =
     elim (cases_Bool (fits s a)) [

@@ -17,6 +17,8 @@ before_the_end : (term day : ℕ) (o : ℤ) → int_lt (o +ℤ pos term) (pos da
 before_the_end term day o late le = grind (arith, ints)
 
 -- an offer that lapses within a campaign was made before its end
-pub early_offer : (term day : ℕ) (m : Mark) (before : ℤ) → lapses term day before m ≡ true → day ≤ 366 → offer_day before m ≤ℤ pos 2147483647
+pub early_offer : (term day : ℕ) (m : Mark) (before : ℤ) → lapses term day before m ≡ true → day ≤ 366
+    → offer_day before m ≤ℤ pos 2147483647
 early_offer term day m before t le =
-    before_the_end term day (offer_day before m) (and_parts (is_offered m.status) (int_lt (offer_day before m +ℤ pos term) (pos day)) t).1 le
+    before_the_end term day (offer_day before m) (and_parts (is_offered m.status) (int_lt (offer_day before m +ℤ pos term) (pos day)) t).1
+    le

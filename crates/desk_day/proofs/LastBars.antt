@@ -14,7 +14,8 @@ use Rattle.admit_core.specs.EveningLaws.{last_bars}
 use Rattle.desk_day.specs.DayPasses.{stamp_of}
 
 -- there is one bar for each ceiling
-pub last_bars_long : (orders : List CallOrder) (ceilings : List ℕ) (day k : ℕ) (s evening : State) (passes : List PassEnd) → Passes orders ceilings day k s passes evening
+pub last_bars_long : (orders : List CallOrder) (ceilings : List ℕ) (day k : ℕ) (s evening : State) (passes : List PassEnd)
+    → Passes orders ceilings day k s passes evening
     → length (last_bars passes) ≡ length ceilings
 last_bars_long orders ceilings day k s evening [] are = absurd are
 last_bars_long orders ceilings day k s evening (pass ∷ []) are = are.0.pass.greatest.fits.under_ceilings.as_many
@@ -30,7 +31,8 @@ some_same : (x y : PassEnd) → Some x ≡ Some y → x ≡ y
 some_same x y e = (cc)
 
 -- they are those of the pass that stands last
-pub last_bars_are : (passes : List PassEnd) (last : PassEnd) → Some last ≡ slice_get passes (length passes - 1) → last_bars passes ≡ last.pass.bars
+pub last_bars_are : (passes : List PassEnd) (last : PassEnd) → Some last ≡ slice_get passes (length passes - 1)
+    → last_bars passes ≡ last.pass.bars
 last_bars_are [] last e = absurd (cc)
 last_bars_are (pass ∷ []) last e =
     let at : length (pass ∷ []) - 1 ≡ zero = omega arith in

@@ -35,7 +35,8 @@ neither false true none = absurd (cc)
 neither true b none = absurd (cc)
 
 -- who is in neither of two lists
-pub in_neither : (f : ℕ → ℕ) (c : ℕ) (xs ys : List ℕ) → is_among c (map f (xs ++ ys)) ≡ false → (is_among c (map f xs) ≡ false) × (is_among c (map f ys) ≡ false)
+pub in_neither : (f : ℕ → ℕ) (c : ℕ) (xs ys : List ℕ) → is_among c (map f (xs ++ ys)) ≡ false
+    → (is_among c (map f xs) ≡ false) × (is_among c (map f ys) ≡ false)
 in_neither f c xs ys none =
     neither (is_among c (map f xs)) (is_among c (map f ys))
     (sym (ap (is_among c) (map-append f xs ys) ∙ list_any-append (nat_eq c) (map f xs) (map f ys)) ∙ none)
@@ -63,7 +64,8 @@ module _ (s : State) (orders : List CallOrder) (bars : List ℕ) (stamp : Stamp)
           | inr other ↦
               let within : All (λ j. j < length s.marks) ks = rw long (proposed_are_wishes s orders bars) in
               let apart = apart_places (λ (e : Wish × Mark). is_proposed s orders bars e.0 e.1) 0 (entries s) in
-              let given : mark_in (change_along give ks s).marks k ≡ mark_in s.marks k = along_at give ks s apart within k ∙ rw other refl in
+              let given : mark_in (change_along give ks s).marks k ≡ mark_in s.marks k = along_at give ks s apart within k
+              ∙ rw other refl in
               sym given ∙ ap (λ (t : State). mark_in t.marks k) (offers_made s orders bars stamp long)
         ];
   }
@@ -98,18 +100,24 @@ pub offers_within : (s t : State) (orders : List CallOrder) (bars offers : List 
 offers_within s t orders bars offers same are = rw (same, are) (proposed_are_wishes s orders bars)
 
 -- the wishes beside a pass, and its offers
-pub asked_within : (s t : State) (orders : List CallOrder) (bars beside offers asked : List ℕ) → t.dossier ≡ s.dossier → offers ≡ proposed s orders bars
+pub asked_within : (s t : State) (orders : List CallOrder) (bars beside offers asked : List ℕ) → t.dossier ≡ s.dossier
+    → offers ≡ proposed s orders bars
     → All (λ k. k < length s.dossier.wishes) beside → asked ≡ beside ++ offers → All (λ k. k < length t.dossier.wishes) asked
 asked_within s t orders bars beside offers asked same are within asked_are =
-    rw (same, asked_are, are) (All-append (λ (k : ℕ). k < length s.dossier.wishes) beside (proposed s orders bars) within (proposed_are_wishes s orders bars))
+    rw (same, asked_are, are) (All-append (λ (k : ℕ). k < length s.dossier.wishes) beside (proposed s orders bars) within
+    (proposed_are_wishes s orders bars))
 
-pub answered_but : (s off : State) (orders : List CallOrder) (bars beside offers asked : List ℕ) (stamp : Stamp) → length s.marks ≡ length s.dossier.wishes
-    → off ≡ offered s orders bars stamp → offers ≡ proposed s orders bars → asked ≡ beside ++ offers → AreAnsweredBut beside s stamp → AreAnsweredBut asked off stamp
+pub answered_but : (s off : State) (orders : List CallOrder) (bars beside offers asked : List ℕ) (stamp : Stamp)
+    → length s.marks ≡ length s.dossier.wishes
+    → off ≡ offered s orders bars stamp → offers ≡ proposed s orders bars → asked ≡ beside ++ offers → AreAnsweredBut beside s stamp
+    → AreAnsweredBut asked off stamp
 answered_but s off orders bars beside offers asked stamp long off_is are asked_are answered =
     rw (off_is, asked_are, are) (others_answered s orders bars stamp long beside answered)
 
-pub same_but : (s off close opening : State) (orders : List CallOrder) (bars beside offers asked : List ℕ) (stamp : Stamp) → length s.marks ≡ length s.dossier.wishes
-    → off ≡ offered s orders bars stamp → close ≡ auto_all off stamp → opening ≡ s → offers ≡ proposed s orders bars → asked ≡ beside ++ offers
+pub same_but : (s off close opening : State) (orders : List CallOrder) (bars beside offers asked : List ℕ) (stamp : Stamp)
+    → length s.marks ≡ length s.dossier.wishes
+    → off ≡ offered s orders bars stamp → close ≡ auto_all off stamp → opening ≡ s → offers ≡ proposed s orders bars
+    → asked ≡ beside ++ offers
     → AreAnsweredBut beside s stamp → SameOthers asked opening close
 same_but s off close opening orders bars beside offers asked stamp long off_is close_is opening_is are asked_are answered =
     rw (opening_is, close_is, off_is, asked_are, are) (others_same s orders bars stamp long beside answered)

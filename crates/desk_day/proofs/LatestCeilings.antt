@@ -32,7 +32,8 @@ length-changed day (c ∷ cs) xs =
     ]
 
 -- the changes school by school
-by_school : (day h : ℕ) (cs : List CeilingChange) (xs : List ℕ) → h < length xs → slice_index (changed day cs xs) h ≡ one_changed day h cs (slice_index xs h)
+by_school : (day h : ℕ) (cs : List CeilingChange) (xs : List ℕ) → h < length xs
+    → slice_index (changed day cs xs) h ≡ one_changed day h cs (slice_index xs h)
 by_school day h [] xs lt = refl
 by_school day h (c ∷ cs) xs lt =
     elim (cases_Bool (nat_le c.day day)) [
@@ -40,7 +41,8 @@ by_school day h (c ∷ cs) xs lt =
           let rest = by_school day h cs (set xs c.school c.ceiling) (omega (arith, length-set xs c.school c.ceiling)) in
           rw by (rest ∙ elim (cases_eq c.school h) [
             | inl same ↦ rw (same, eq-eqb h h refl) (ap (one_changed day h cs) (get_or-set_same xs h c.ceiling 0 lt))
-            | inr other ↦ rw (ne_eqb c.school h other) (ap (one_changed day h cs) (get_or-set_other xs c.school h c.ceiling 0 (λ e. other (sym e))))
+            | inr other ↦ rw (ne_eqb c.school h other) (ap (one_changed day h cs)
+                (get_or-set_other xs c.school h c.ceiling 0 (λ e. other (sym e))))
           ])
       | inr after ↦
           let rest = by_school day h cs xs lt in
@@ -56,7 +58,9 @@ AreLater [] = Unit {0}
 AreLater (c ∷ cs) = All (λ y. y.school ≡ c.school → c.day < y.day) cs × AreLater cs
 
 pub later_from : (cs : List CeilingChange)
-    → ((i j : ℕ) (d : CeilingChange) → i < j → j < length cs → (get_or cs j d).school ≡ (get_or cs i d).school → (get_or cs i d).day < (get_or cs j d).day)
+    →
+    ((i j : ℕ) (d : CeilingChange) → i < j → j < length cs → (get_or cs j d).school ≡ (get_or cs i d).school → (get_or cs i d).day <
+    (get_or cs j d).day)
     → AreLater cs
 later_from [] each = tt
 later_from (c ∷ cs) each = (
@@ -74,10 +78,12 @@ lesser_has key P x (Some z) y here rest e =
     ]
 
 -- what all have, the one of least key has
-least_has : (key : CeilingChange → ℕ) (P : CeilingChange → Type 0) (xs : List CeilingChange) (y : CeilingChange) → All P xs → least_by key xs ≡ Some y → P y
+least_has : (key : CeilingChange → ℕ) (P : CeilingChange → Type 0) (xs : List CeilingChange) (y : CeilingChange) → All P xs
+    → least_by key xs ≡ Some y → P y
 least_has key P [] y all e = absurd (cc)
 least_has key P (x ∷ xs) y all e =
-    lesser_has key P x (least_by key xs) y (all zero x (omega arith)) (λ z f. least_has key P xs z (λ k d lt. all (suc k) d (omega arith)) f) e
+    lesser_has key P x (least_by key xs) y (all zero x (omega arith)) (λ z f. least_has key P xs z (λ k d lt. all (suc k) d (omega arith))
+    f) e
 
 step : (day h : ℕ) (c : CeilingChange) (kept : List CeilingChange) → counts day h c ≡ true
     → All (λ y. counts day h y ≡ true) kept → All (λ y. y.school ≡ c.school → c.day < y.day) kept
@@ -86,7 +92,8 @@ step : (day h : ℕ) (c : CeilingChange) (kept : List CeilingChange) → counts 
 step day h c kept here all later None e = refl
 step day h c kept here all later (Some y) e =
     let counts_too : counts day h y ≡ true = least_has (λ x. day - x.day) (λ z. counts day h z ≡ true) kept y all e in
-    let is_later : y.school ≡ c.school → c.day < y.day = least_has (λ x. day - x.day) (λ z. z.school ≡ c.school → c.day < z.day) kept y later e in
+    let is_later : y.school ≡ c.school → c.day < y.day = least_has (λ x. day - x.day) (λ z. z.school ≡ c.school → c.day < z.day) kept y
+    later e in
     let mine = and_parts (c.school == h) (nat_le c.day day) here in
     let its = and_parts (y.school == h) (nat_le y.day day) counts_too in
     let lt : c.day < y.day = is_later (eqb-true y.school h its.0 ∙ sym (eqb-true c.school h mine.0)) in
@@ -103,7 +110,8 @@ latest day h (c ∷ cs) own later =
       | inl here ↦
           let kept = filter (counts day h) cs in
           rw here (latest day h cs c.ceiling later.1
-          ∙ step day h c kept here (filter_passes (counts day h) cs) (All-filter (counts day h) (λ y. y.school ≡ c.school → c.day < y.day) cs later.0) (least_by (λ x. day - x.day) kept) refl)
+          ∙ step day h c kept here (filter_passes (counts day h) cs) (All-filter (counts day h) (λ y. y.school ≡ c.school → c.day < y.day)
+          cs later.0) (least_by (λ x. day - x.day) kept) refl)
       | inr not_here ↦ rw not_here (latest day h cs own later.1)
     ]
 
@@ -119,7 +127,8 @@ later_in d valid = later_from d.ceilings (λ i j c lt j_lt same.
     omega (arith, rises, left, right, apart))
 
 -- THE CEILINGS of a day
-pub ceilings_changed : (d : DossierRows) (day : ℕ) → IsValid d → changed day d.ceilings (map (λ (x : School). x.ceiling) d.schools) ≡ ceilings_of d day
+pub ceilings_changed : (d : DossierRows) (day : ℕ) → IsValid d
+    → changed day d.ceilings (map (λ (x : School). x.ceiling) d.schools) ≡ ceilings_of d day
 ceilings_changed d day valid =
     let ceiling = λ (x : School). x.ceiling in
     let own = map ceiling d.schools in
@@ -128,7 +137,8 @@ ceilings_changed d day valid =
     let places = enumerate_from 0 d.schools in
     let long = length-map d.schools ceiling in
     let long_places = length-enumerate_from 0 d.schools in
-    same_lists (changed day cs own) (ceilings_of d day) (omega (arith, length-changed day cs own, long, length-map places f, long_places)) (λ h e lt.
+    same_lists (changed day cs own) (ceilings_of d day) (omega (arith, length-changed day cs own, long, length-map places f, long_places))
+    (λ h e lt.
     let h_own : h < length own = omega (arith, length-changed day cs own) in
     let h_in : h < length d.schools = omega (arith, long) in
     let school : School = record { id = 0; beds = 0; ceiling = 0 } in
@@ -137,8 +147,10 @@ ceilings_changed d day valid =
     get_or_default (changed day cs own) h e 0 lt
     ∙ by_school day h cs own h_own
     ∙ latest day h cs (slice_index own h) (later_in d valid)
-    ∙ ap (λ n. unwrap_or (option_map (λ c. c.ceiling) (least_by (λ c. day - c.day) (filter (counts day h) cs))) n) (get_or-map ceiling d.schools h school 0 h_in)
-    ∙ sym (get_or-map f places h (0, school) e (omega (arith, long_places)) ∙ ap f place ∙ ap (λ n. ceiling_on d day n found) (zero_plus h)))
+    ∙ ap (λ n. unwrap_or (option_map (λ c. c.ceiling) (least_by (λ c. day - c.day) (filter (counts day h) cs))) n)
+    (get_or-map ceiling d.schools h school 0 h_in)
+    ∙ sym (get_or-map f places h (0, school) e (omega (arith, long_places)) ∙ ap f place
+    ∙ ap (λ n. ceiling_on d day n found) (zero_plus h)))
   where
     zero_plus : (n : ℕ) → 0 + n ≡ n
     zero_plus n = omega arith

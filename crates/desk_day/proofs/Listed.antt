@@ -17,7 +17,8 @@ filter-append p (x ∷ xs) ys =
 abbrev pub listed : {X Y : Type 0} → (X → Y) → (X → Bool) → List X → ℕ → List Y
 listed g p xs i = map g (filter p (take i xs))
 
-pub listed_some : {X Y : Type 0} (g : X → Y) (p : X → Bool) (xs : List X) (i : ℕ) (d : X) (now : List Y) → now ≡ listed g p xs i → i < length xs → p (get_or xs i d) ≡ true
+pub listed_some : {X Y : Type 0} (g : X → Y) (p : X → Bool) (xs : List X) (i : ℕ) (d : X) (now : List Y) → now ≡ listed g p xs i
+    → i < length xs → p (get_or xs i d) ≡ true
     → now ++ g (get_or xs i d) ∷ [] ≡ listed g p xs (i + 1)
 listed_some g p xs i d now so_far lt passes =
     let x = get_or xs i d in
@@ -26,7 +27,8 @@ listed_some g p xs i d now so_far lt passes =
     ∙ map-append g (filter p (take i xs)) (filter p (x ∷ []))
     ∙ ap (λ b. map g (filter p (take i xs)) ++ map g (cond b (x ∷ []) [])) passes))
 
-pub listed_none : {X Y : Type 0} (g : X → Y) (p : X → Bool) (xs : List X) (i : ℕ) (d : X) (now : List Y) → now ≡ listed g p xs i → i < length xs → p (get_or xs i d) ≡ false
+pub listed_none : {X Y : Type 0} (g : X → Y) (p : X → Bool) (xs : List X) (i : ℕ) (d : X) (now : List Y) → now ≡ listed g p xs i
+    → i < length xs → p (get_or xs i d) ≡ false
     → now ≡ listed g p xs (i + 1)
 listed_none g p xs i d now so_far lt fails =
     let x = get_or xs i d in

@@ -34,24 +34,29 @@ pair_of_marks : (ms ns : List Mark) (k : ℕ) → k < length ms → k < length n
     → get_or (enumerate_from 0 (zip ms ns)) k (0, (mark_in [] 0, mark_in [] 0)) ≡ (k, (mark_in ms k, mark_in ns k))
 pair_of_marks ms ns k lt lt_too = pair_at ms ns k (mark_in [] 0) lt lt_too ∙ rw (← unwrap_or-slice_get ms k (mark_in [] 0)) refl
 
-all_pairs_long : {X : Type 0} (xs : List X) (ms : List Mark) (k : ℕ) → k < length xs → k < length ms → k < length (enumerate_from 0 (zip xs ms))
+all_pairs_long : {X : Type 0} (xs : List X) (ms : List Mark) (k : ℕ) → k < length xs → k < length ms
+    → k < length (enumerate_from 0 (zip xs ms))
 all_pairs_long xs ms k lt lt_too = omega (arith, length-enumerate_from 0 (zip xs ms), length-zip xs ms)
 
-pub changed_here : (ms ns : List Mark) (k : ℕ) (x y : Status) (now : List Change) → now ≡ listed change_of is_answered (enumerate_from 0 (zip ms ns)) k
+pub changed_here : (ms ns : List Mark) (k : ℕ) (x y : Status) (now : List Change)
+    → now ≡ listed change_of is_answered (enumerate_from 0 (zip ms ns)) k
     → k < length ms → k < length ns → x ≡ (mark_in ms k).status → y ≡ (mark_in ns k).status → is_answered_change x y ≡ true
     → now ++ record { wish = k; status = y } ∷ [] ≡ listed change_of is_answered (enumerate_from 0 (zip ms ns)) (k + 1)
 changed_here ms ns k x y now so_far lt lt_too x_is y_is passes =
     let pairs = enumerate_from 0 (zip ms ns) in
     let e = pair_of_marks ms ns k lt lt_too in
-    rw y_is (rw e at (listed_some change_of is_answered pairs k (0, (mark_in [] 0, mark_in [] 0)) now so_far (all_pairs_long ms ns k lt lt_too) (ap is_answered e ∙ rw (x_is, y_is) at passes)))
+    rw y_is (rw e at (listed_some change_of is_answered pairs k (0, (mark_in [] 0, mark_in [] 0)) now so_far
+    (all_pairs_long ms ns k lt lt_too) (ap is_answered e ∙ rw (x_is, y_is) at passes)))
 
-pub unchanged_here : (ms ns : List Mark) (k : ℕ) (x y : Status) (now : List Change) → now ≡ listed change_of is_answered (enumerate_from 0 (zip ms ns)) k
+pub unchanged_here : (ms ns : List Mark) (k : ℕ) (x y : Status) (now : List Change)
+    → now ≡ listed change_of is_answered (enumerate_from 0 (zip ms ns)) k
     → k < length ms → k < length ns → x ≡ (mark_in ms k).status → y ≡ (mark_in ns k).status → is_answered_change x y ≡ false
     → now ≡ listed change_of is_answered (enumerate_from 0 (zip ms ns)) (k + 1)
 unchanged_here ms ns k x y now so_far lt lt_too x_is y_is fails =
     let pairs = enumerate_from 0 (zip ms ns) in
     let e = pair_of_marks ms ns k lt lt_too in
-    listed_none change_of is_answered pairs k (0, (mark_in [] 0, mark_in [] 0)) now so_far (all_pairs_long ms ns k lt lt_too) (ap is_answered e ∙ rw (x_is, y_is) at fails)
+    listed_none change_of is_answered pairs k (0, (mark_in [] 0, mark_in [] 0)) now so_far (all_pairs_long ms ns k lt lt_too)
+    (ap is_answered e ∙ rw (x_is, y_is) at fails)
 
 pub lapsed_here : (term day : ℕ) (xs : List ℤ) (ms : List Mark) (k : ℕ) (x : ℤ) (m : Mark) (offered : ℤ) (now : List Lapse)
     → now ≡ listed lapse_of (is_lapse term day) (enumerate_from 0 (zip xs ms)) k
@@ -60,7 +65,8 @@ pub lapsed_here : (term day : ℕ) (xs : List ℤ) (ms : List Mark) (k : ℕ) (x
 lapsed_here term day xs ms k x m offered now so_far lt lt_too x_is m_is passes offered_is =
     let pairs = enumerate_from 0 (zip xs ms) in
     let e = pair_at xs ms k (pos 0) lt lt_too in
-    rw (offered_is, x_is, m_is) (rw e at (listed_some lapse_of (is_lapse term day) pairs k (0, (pos 0, mark_in [] 0)) now so_far (all_pairs_long xs ms k lt lt_too) (ap (is_lapse term day) e ∙ rw (x_is, m_is) at passes)))
+    rw (offered_is, x_is, m_is) (rw e at (listed_some lapse_of (is_lapse term day) pairs k (0, (pos 0, mark_in [] 0)) now so_far
+    (all_pairs_long xs ms k lt lt_too) (ap (is_lapse term day) e ∙ rw (x_is, m_is) at passes)))
 
 pub kept_here : (term day : ℕ) (xs : List ℤ) (ms : List Mark) (k : ℕ) (x : ℤ) (m : Mark) (now : List Lapse)
     → now ≡ listed lapse_of (is_lapse term day) (enumerate_from 0 (zip xs ms)) k
@@ -69,4 +75,5 @@ pub kept_here : (term day : ℕ) (xs : List ℤ) (ms : List Mark) (k : ℕ) (x :
 kept_here term day xs ms k x m now so_far lt lt_too x_is m_is fails =
     let pairs = enumerate_from 0 (zip xs ms) in
     let e = pair_at xs ms k (pos 0) lt lt_too in
-    listed_none lapse_of (is_lapse term day) pairs k (0, (pos 0, mark_in [] 0)) now so_far (all_pairs_long xs ms k lt lt_too) (ap (is_lapse term day) e ∙ rw (x_is, m_is) at fails)
+    listed_none lapse_of (is_lapse term day) pairs k (0, (pos 0, mark_in [] 0)) now so_far (all_pairs_long xs ms k lt lt_too)
+    (ap (is_lapse term day) e ∙ rw (x_is, m_is) at fails)

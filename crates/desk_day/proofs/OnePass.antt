@@ -30,7 +30,8 @@ pub closed : (s off close : State) (orders : List CallOrder) (bars : List ℕ) (
     → off ≡ offered s orders bars stamp → close ≡ auto_all off stamp → close ≡ closing s orders bars stamp
 closed s off close orders bars stamp off_is close_is = close_is ∙ ap (λ t. auto_all t stamp) off_is
 
-pub pass_ended : (s off close opening : State) (orders : List CallOrder) (ceilings : List ℕ) (stamp : Stamp) (pass : PassRecord) (autos : List Change) (all : Freed)
+pub pass_ended : (s off close opening : State) (orders : List CallOrder) (ceilings : List ℕ) (stamp : Stamp) (pass : PassRecord)
+    (autos : List Change) (all : Freed)
     → IsPass s orders ceilings pass → off ≡ offered s orders pass.bars stamp → close ≡ auto_all off stamp → all ≡ freed off close
     → opening ≡ s → autos ≡ answered_changes opening close
     → IsPassEnd s orders ceilings stamp (record { pass = pass; autos = autos; freed = all })
@@ -54,7 +55,8 @@ is_open_status x = is_live_status x || is_waiting_status x
 count-cons : (m : Mark) (ms : List Mark) → count_by is_open (m ∷ ms) ≡ one (is_open m) + count_by is_open ms
 count-cons m ms = sum_by-cons (λ n. cond (is_open n) 1 0) m ms
 
-no_more : (ms ns : List Mark) → length ms ≡ length ns → ((k : ℕ) → k < length ms → one (is_open (mark_in ms k)) ≤ one (is_open (mark_in ns k)))
+no_more : (ms ns : List Mark) → length ms ≡ length ns
+    → ((k : ℕ) → k < length ms → one (is_open (mark_in ms k)) ≤ one (is_open (mark_in ns k)))
     → count_by is_open ms ≤ count_by is_open ns
 no_more [] [] long each = omega arith
 no_more [] (n ∷ ns) long each = absurd (omega arith)
@@ -63,7 +65,8 @@ no_more (m ∷ ms) (n ∷ ns) long each =
     let here : one (is_open m) ≤ one (is_open n) = each zero (omega arith) in
     omega (arith, count-cons m ms, count-cons n ns, here, no_more ms ns (omega arith) (λ k lt. each (suc k) (omega arith)))
 
-one_less : (ms ns : List Mark) → length ms ≡ length ns → ((k : ℕ) → k < length ms → one (is_open (mark_in ms k)) ≤ one (is_open (mark_in ns k)))
+one_less : (ms ns : List Mark) → length ms ≡ length ns
+    → ((k : ℕ) → k < length ms → one (is_open (mark_in ms k)) ≤ one (is_open (mark_in ns k)))
     → (k : ℕ) → k < length ms → is_open (mark_in ms k) ≡ false → is_open (mark_in ns k) ≡ true
     → count_by is_open ms < count_by is_open ns
 one_less [] ns long each k lt shut open_one = absurd (omega arith)
@@ -74,7 +77,14 @@ one_less (m ∷ ms) (n ∷ ns) long each zero lt shut open_one =
     omega (arith, count-cons m ms, count-cons n ns, first, second, no_more ms ns (omega arith) (λ k lt. each (suc k) (omega arith)))
 one_less (m ∷ ms) (n ∷ ns) long each (suc k) lt shut open_one =
     let here : one (is_open m) ≤ one (is_open n) = each zero (omega arith) in
-    omega (arith, count-cons m ms, count-cons n ns, here, one_less ms ns (omega arith) (λ k lt. each (suc k) (omega arith)) k (omega arith) shut open_one)
+    omega (
+      arith,
+      count-cons m ms,
+      count-cons n ns,
+      here,
+      one_less ms ns (omega arith) (λ k lt. each (suc k) (omega arith)) k (omega arith)
+          shut open_one,
+    )
 
 -- an offer keeps a wish open
 offer_open : (stamp : Stamp) (m : Mark) (made : Bool) → (made ≡ true → is_waiting m ≡ true)
@@ -118,7 +128,8 @@ live_open : (m : Mark) → is_live m ≡ true → is_open m ≡ true
 live_open m live = rw live refl
 
 -- THE MEASURE: where something was freed, fewer wishes are open
-pub fewer_open : (s off close : State) (orders : List CallOrder) (bars : List ℕ) (stamp : Stamp) (all : Freed) → length s.marks ≡ length s.dossier.wishes
+pub fewer_open : (s off close : State) (orders : List CallOrder) (bars : List ℕ) (stamp : Stamp) (all : Freed)
+    → length s.marks ≡ length s.dossier.wishes
     → off ≡ offered s orders bars stamp → close ≡ auto_all off stamp → all ≡ freed off close → IsTrue (not (frees_nothing all))
     → open_wishes close < open_wishes s
 fewer_open s off close orders bars stamp all long off_is close_is all_is some =
@@ -127,7 +138,8 @@ fewer_open s off close orders bars stamp all long off_is close_is all_is some =
     first : State
     first = offered s orders bars stamp
 
-    fewer : frees_nothing (freed (offered s orders bars stamp) (auto_all (offered s orders bars stamp) stamp)) ≡ false → open_wishes (auto_all (offered s orders bars stamp) stamp) < open_wishes s
+    fewer : frees_nothing (freed (offered s orders bars stamp) (auto_all (offered s orders bars stamp) stamp)) ≡ false
+        → open_wishes (auto_all (offered s orders bars stamp) stamp) < open_wishes s
     fewer e =
         let o = offered s orders bars stamp in
         let f = λ (w : Wish) (m : Mark). if is_proposed s orders bars w m then changed_to Offered stamp m else m in
@@ -137,7 +149,8 @@ fewer_open s off close orders bars stamp all long off_is close_is all_is some =
         let found = freeing_refuses o stamp (o_long ∙ long) e in
         let offer_at : (k : ℕ) → k < length s.marks → is_open (mark_in o.marks k) ≡ is_open (mark_in s.marks k) = λ k lt.
         ap is_open (mark_in-with_marks f s long k lt)
-        ∙ offer_open stamp (mark_in s.marks k) (is_proposed s orders bars (wish_in s.dossier.wishes k) (mark_in s.marks k)) (proposed_waits s orders bars (wish_in s.dossier.wishes k) (mark_in s.marks k)) in
+        ∙ offer_open stamp (mark_in s.marks k) (is_proposed s orders bars (wish_in s.dossier.wishes k) (mark_in s.marks k))
+        (proposed_waits s orders bars (wish_in s.dossier.wishes k) (mark_in s.marks k)) in
         let at : (k : ℕ) → k < length c.marks → one (is_open (mark_in c.marks k)) ≤ one (is_open (mark_in s.marks k)) = λ k lt.
         let in_o : k < length o.marks = omega (arith, c_long) in
         let auto_at = ap (λ (m : Mark). one (is_open m)) (mark_in-with_marks (all_mark o stamp) o (o_long ∙ long) k in_o) in
@@ -147,7 +160,8 @@ fewer_open s off close orders bars stamp all long off_is close_is all_is some =
         let k = found.0 in
         let is = found.1 in
         let in_c : k < length c.marks = omega (arith, is.in_range, c_long, o_long, long) in
-        one_less c.marks s.marks (c_long ∙ o_long) at k in_c (ap is_open_status is.refused) (sym (offer_at k (omega (arith, in_c, c_long, o_long))) ∙ live_open (mark_in o.marks k) is.lived)
+        one_less c.marks s.marks (c_long ∙ o_long) at k in_c (ap is_open_status is.refused)
+        (sym (offer_at k (omega (arith, in_c, c_long, o_long))) ∙ live_open (mark_in o.marks k) is.lived)
 
 pub open_at_most : (s : State) → length s.marks ≡ length s.dossier.wishes → open_wishes s ≤ length s.dossier.wishes
 open_at_most s long = omega (arith, count_by-le-length is_open s.marks, long)

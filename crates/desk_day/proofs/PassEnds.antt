@@ -41,7 +41,8 @@ day_ends_so terms orders ceilings old day evening called long is =
     (long ∙ ap (λ (d : DossierRows). length d.schools) same) is.passes
 
 -- so does a day on a desk, whose ceilings and last bars are kept
-pub desk_ends_so : (terms : Option Terms) (orders : List CallOrder) (ceilings kept bars : List ℕ) (day : ℕ) (before after : Moment) (done : DayRecord)
+pub desk_ends_so : (terms : Option Terms) (orders : List CallOrder) (ceilings kept bars : List ℕ) (day : ℕ) (before after : Moment)
+    (done : DayRecord)
     → AreCallOrders before.desk.present.dossier.groups orders → length ceilings ≡ length before.desk.present.dossier.schools
     → IsDayDone terms orders ceilings day before done after → ceilings ≡ kept → bars ≡ last_bars done.passes
     → IsLastPass (last_pass after.desk.opening orders kept bars) after.desk.present

@@ -15,7 +15,8 @@ lapse_dossier (Some terms) day s = refl
 
 -- neither a lapse nor an answer changes the dossier
 pub morning_dossier : (terms : Option Terms) (day : ℕ) (s : State) → (morning terms day s).dossier ≡ s.dossier
-morning_dossier terms day s = dossier_after_all (after_lapse terms day s) (stamp_of day 0) (answers_of s.dossier day) ∙ lapse_dossier terms day s
+morning_dossier terms day s = dossier_after_all (after_lapse terms day s) (stamp_of day 0) (answers_of s.dossier day)
+    ∙ lapse_dossier terms day s
 
 passes_dossier : (orders : List CallOrder) (ceilings : List ℕ) (day k : ℕ) (s : State) (passes : List PassEnd) (evening : State)
     → Passes orders ceilings day k s passes evening → evening.dossier ≡ s.dossier

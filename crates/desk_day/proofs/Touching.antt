@@ -49,7 +49,8 @@ wishes_are (x ∷ xs) = ap (λ (ns : List ℕ). x.0 ∷ ns) (wishes_are xs)
 
 -- THE LAPSE names each wish whose offer ends
 named_lapse : (terms : Terms) (day : ℕ) (s : State) (k : ℕ) → length terms.before ≡ length s.marks → k < length s.marks
-    → lapses terms.term day (slice_index_or terms.before k (pos 0)) (mark_in s.marks k) ≡ true → is_among k (wishes_of (lapses_of terms day s)) ≡ true
+    → lapses terms.term day (slice_index_or terms.before k (pos 0)) (mark_in s.marks k) ≡ true
+    → is_among k (wishes_of (lapses_of terms day s)) ≡ true
 named_lapse terms day s k long lt passes =
     let e : ℤ × Mark = (pos 0, mark_in [] 0) in
     let p = λ (x : ℤ × Mark). lapses terms.term day x.0 x.1 in
@@ -76,17 +77,22 @@ lapsed_other (Some terms) day c s long each none =
           elim (cases_Bool (lapses terms.term day (slice_index_or terms.before k (pos 0)) (mark_in s.marks k))) [
             | inl passes ↦
                 let c_is : candidate_of s.dossier k ≡ c = candidate_in s.dossier.wishes k ∙ mine in
-                absurd (false≢true (sym none ∙ rw c_is at (among-map (candidate_of s.dossier) k names (named_lapse terms day s k before k_in passes))))
-            | inr stays ↦ sym (unwrap_or-slice_get (lapse terms day s).marks k (mark_in [] 0) ∙ lapse_at terms day s before k k_in ∙ rw stays refl)
+                absurd (false≢true (sym none ∙ rw c_is at (among-map (candidate_of s.dossier) k names
+                (named_lapse terms day s k before k_in passes))))
+            | inr stays ↦ sym (unwrap_or-slice_get (lapse terms day s).marks k (mark_in [] 0) ∙ lapse_at terms day s before k k_in
+                ∙ rw stays refl)
           ];
     }
 
 -- THE ANSWERS: each names a wish of its candidate
-named_target : (s : State) (c target : ℕ) → (candidate_at s target == c) ≡ true → is_among c (map (candidate_of s.dossier) (target ∷ [])) ≡ true
+named_target : (s : State) (c target : ℕ) → (candidate_at s target == c) ≡ true
+    → is_among c (map (candidate_of s.dossier) (target ∷ [])) ≡ true
 named_target s c target mine =
-    or_left (nat_eq c (candidate_of s.dossier target)) false (eq-eqb c (candidate_of s.dossier target) (sym (eqb-true (candidate_at s target) c mine)))
+    or_left (nat_eq c (candidate_of s.dossier target)) false (eq-eqb c (candidate_of s.dossier target)
+    (sym (eqb-true (candidate_at s target) c mine)))
 
-named_answer : (s : State) (kind : AnswerKind) (c target k : ℕ) → k < length s.dossier.wishes → candidate_at s k ≡ c → is_own_kind kind s c target ≡ true
+named_answer : (s : State) (kind : AnswerKind) (c target k : ℕ) → k < length s.dossier.wishes → candidate_at s k ≡ c
+    → is_own_kind kind s c target ≡ true
     → is_among c (map (candidate_of s.dossier) (wishes_of_kind s.dossier kind target)) ≡ true
 named_answer s Accept c target k lt its mine = named_target s c target mine
 named_answer s Refuse c target k lt its mine = named_target s c target mine
@@ -120,9 +126,11 @@ kept terms day c s k long each lt its none =
     let parts = in_neither (candidate_of d) c (wishes_of (lapsed_on terms day s)) (flat_map (wishes_of_answer d) answers) none in
     let l = after_lapse terms day s in
     let first : Agrees c s l = lapsed_other terms day c s long each parts.0 in
-    let l_long : length l.marks ≡ length l.dossier.wishes = first.long_too ∙ ap (λ (x : DossierRows). length x.wishes) (sym first.dossier) in
+    let l_long : length l.marks ≡ length l.dossier.wishes = first.long_too
+    ∙ ap (λ (x : DossierRows). length x.wishes) (sym first.dossier) in
     let back : Agrees c (morning terms day s) l =
-    subst (λ (own_ones : List Answer). Agrees c (morning terms day s) (after_all l (stamp_of day 0) own_ones)) (none_own s c k answers lt its parts.1)
+    subst (λ (own_ones : List Answer). Agrees c (morning terms day s) (after_all l (stamp_of day 0) own_ones))
+    (none_own s c k answers lt its parts.1)
     (agrees_after c s l l (stamp_of day 0) first.dossier (agrees_self c l l_long) answers) in
     joined c s l (morning terms day s) first (turned c (morning terms day s) l back)
 
@@ -134,7 +142,8 @@ lapse_long (Some terms) day s long each = (refl, length-lapse terms day s (each 
 
 -- where nobody is named, the day begins as the evening before
 nothing_changed : (terms : Option Terms) (day : ℕ) (s : State) → length s.marks ≡ length s.dossier.wishes
-    → ForSome terms (λ t. length t.before ≡ length s.dossier.wishes) → touched s.dossier (lapsed_on terms day s) day ≡ [] → morning terms day s ≡ s
+    → ForSome terms (λ t. length t.before ≡ length s.dossier.wishes) → touched s.dossier (lapsed_on terms day s) day ≡ []
+    → morning terms day s ≡ s
 nothing_changed terms day s long each none =
     let m = morning terms day s in
     let l = after_lapse terms day s in
@@ -146,7 +155,8 @@ nothing_changed terms day s long each none =
     same_state m s same (same_marks m.marks s.marks as_long (λ k lt.
     let c = (wish_in s.dossier.wishes k).candidate in
     let k_in : k < length s.dossier.wishes = omega (arith, as_long, long, lt) in
-    let stays : Agrees c s m = kept terms day c s k long each k_in (candidate_in s.dossier.wishes k) (ap (λ (ks : List ℕ). is_among c (map (candidate_of s.dossier) ks)) none) in
+    let stays : Agrees c s m = kept terms day c s k long each k_in (candidate_in s.dossier.wishes k)
+    (ap (λ (ks : List ℕ). is_among c (map (candidate_of s.dossier) ks)) none) in
     sym (stays.same k k_in refl)))
 
 untouched : (terms : Option Terms) (day : ℕ) (s : State) → length s.marks ≡ length s.dossier.wishes
@@ -159,12 +169,14 @@ untouched terms day s long each answered stamp c none =
       dossier = refl;
       each = λ place lt its.
           let stays : Agrees c s m = kept terms day c s place long each (rw same at lt) (rw same at its) (rw same at none) in
-          let end : Agrees c s (auto_all m stamp) = subst (λ (t : State). Agrees c t (auto_all m stamp)) (answered stamp) (all_both c s m stamp stays) in
+          let end : Agrees c s (auto_all m stamp) = subst (λ (t : State). Agrees c t (auto_all m stamp)) (answered stamp)
+          (all_both c s m stamp stays) in
           (same_own c m (auto_all m stamp) (joined c m s (auto_all m stamp) (turned c s m stays) end)).each place lt its;
     }
 
 -- THE MORNING: all have been answered for but maybe those who are named
-pub morning_answered : (terms : Option Terms) (day : ℕ) (s m : State) (lapsed : List Lapse) (beside : List ℕ) → length s.marks ≡ length s.dossier.wishes
+pub morning_answered : (terms : Option Terms) (day : ℕ) (s m : State) (lapsed : List Lapse) (beside : List ℕ)
+    → length s.marks ≡ length s.dossier.wishes
     → ForSome terms (λ t. length t.before ≡ length s.dossier.wishes) → m ≡ morning terms day s → lapsed ≡ lapsed_on terms day s
     → beside ≡ touched m.dossier lapsed day → IsAnswered s → IsAnsweredBut beside m
 morning_answered terms day s m lapsed beside long each m_is lapsed_is beside_is answered =
@@ -180,7 +192,8 @@ morning_is terms day s l m l_is same m_is =
     m_is ∙ ap (λ (d : DossierRows). after_all l (stamp_of day 0) (answers_of d day)) same
     ∙ ap (λ (t : State). after_all t (stamp_of day 0) (answers_of s.dossier day)) l_is
 
-pub morning_alike : (terms : Option Terms) (day : ℕ) (s m : State) (lapsed : List Lapse) (beside : List ℕ) → length s.marks ≡ length s.dossier.wishes
+pub morning_alike : (terms : Option Terms) (day : ℕ) (s m : State) (lapsed : List Lapse) (beside : List ℕ)
+    → length s.marks ≡ length s.dossier.wishes
     → ForSome terms (λ t. length t.before ≡ length s.dossier.wishes) → m ≡ morning terms day s → lapsed ≡ lapsed_on terms day s
     → beside ≡ touched m.dossier lapsed day → beside ≡ [] → m ≡ s
 morning_alike terms day s m lapsed beside long each m_is lapsed_is beside_is none =
@@ -201,11 +214,14 @@ answers_within : (d : DossierRows) (answers : List Answer) → All (λ (a : Answ
 answers_within d [] are = All-nil (λ (k : ℕ). k < length d.wishes)
 answers_within d (a ∷ rest) are =
     let P = λ (x : Answer). IsTarget d x.kind x.target in
-    rw (flat_map-cons (wishes_of_answer d) a rest) (All-append (λ (k : ℕ). k < length d.wishes) (wishes_of_answer d a) (flat_map (wishes_of_answer d) rest)
+    rw (flat_map-cons (wishes_of_answer d) a rest) (All-append (λ (k : ℕ). k < length d.wishes) (wishes_of_answer d a)
+    (flat_map (wishes_of_answer d) rest)
     (kind_within d a.kind a.target (All-head P a rest are)) (answers_within d rest (All-tail P a rest are)))
 
-pub touched_within : (d : DossierRows) (lapsed : List Lapse) (answers : List Answer) (places : List ℕ) → All (λ (l : Lapse). l.wish < length d.wishes) lapsed
-    → All (λ (a : Answer). IsTarget d a.kind a.target) answers → places ≡ wishes_of lapsed ++ flat_map (wishes_of_answer d) answers → AreWishesOf d places
+pub touched_within : (d : DossierRows) (lapsed : List Lapse) (answers : List Answer) (places : List ℕ)
+    → All (λ (l : Lapse). l.wish < length d.wishes) lapsed
+    → All (λ (a : Answer). IsTarget d a.kind a.target) answers → places ≡ wishes_of lapsed ++ flat_map (wishes_of_answer d) answers
+    → AreWishesOf d places
 touched_within d lapsed answers places within targets are =
     let P = λ (k : ℕ). k < length d.wishes in
     rw are (All-append P (wishes_of lapsed) (flat_map (wishes_of_answer d) answers)

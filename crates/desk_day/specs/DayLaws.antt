@@ -1,5 +1,5 @@
 -- What holds of every day.
-use Rattle.std.specs.Prelude.{◌≡◌, ℕ, List, [], length, All, Option}
+use Rattle.std.specs.Prelude.{◌≡◌, ℕ, List, [], All, Option}
 use Rattle.std.specs.List.{AllZip}
 use Rattle.admit_core.specs.declared.ranking.CallOrder.{CallOrder}
 use Rattle.admit_core.specs.declared.records.PassEnd.{PassEnd}

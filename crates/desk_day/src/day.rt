@@ -1,22 +1,23 @@
 //! A day.
-ghost use Rattle.std.specs.Prelude.{◌≡◌, length, IfOk, IfErr, true};
+ghost use Rattle.std.specs.Prelude.{◌≡◌, length, [], IfOk, IfErr, None, true};
 ghost use Rattle.std.specs.Option.{option_copied, ForSome};
 ghost use Rattle.admit_core.specs.CallOrder.{AreCallOrders};
 ghost use Rattle.admit_core.specs.Ranges.{IsDay as IsDayNumber};
-ghost use Rattle.admit_core.specs.Days.{unfit_on};
+ghost use Rattle.admit_core.specs.Days.{lapsed_on, morning, unfit_on};
 ghost use Rattle.desk_day.specs.AnswersOn.{IsUnfitOf};
-ghost use Rattle.desk_day.specs.DayPasses.{IsAnswered};
+ghost use Rattle.desk_day.specs.DayPasses.{IsAnswered, IsAnsweredBut};
+ghost use Rattle.desk_day.specs.DayPlaces.{AreWishesOf};
 ghost use Rattle.desk_day.specs.RunDay.{EndsDay, IsDayDone, KeepsOpening, TellsNoneUnfit};
 ghost use Rattle.linked_demand.specs.Lineups.{IsLineupOf};
 
 use crate::answers_on::answer;
-use crate::desk::Desk;
+use crate::desk::{Desk, keep_evening};
 use crate::evening::record_day;
 use crate::lapses::lapse_offers;
 use crate::passes::make_passes;
 use crate::refusal::DayRefusal;
 use crate::touched::list_touched;
-use admit_core::{CallOrders, DayRecord, Terms};
+use admit_core::{CallOrders, DayRecord, Lapse, Terms};
 use bar_fixpoint::Picker;
 use day_state::DayState;
 use linked_demand::Lineup;
@@ -69,21 +70,10 @@ pub fn run_day_along(
     outcome
 }
 
-/// Makes the evening the present state, where it is not yet.
-fn keep_evening<'d>(evening: &mut DayState<'d>, present: &DayState<'d>, is_alike: bool)
-    requires same { evening.old.dossier ≡ present.now.dossier }
-    requires alike { is_alike ≡ true → evening.old ≡ present.now }
-    ensures { evening.new ≡ present.now }
-{
-    if !is_alike {
-        evening.set_from(present);
-    }
-}
-
 /// Makes the lapse, the answers and the passes of a day. A refusal may come in their midst.
 ///
 /// It is told whether all have been answered for in the evening before, and whether the opening is
-/// that evening. It lists the wishes of those whom the lapse and the answers may have changed.
+/// that evening.
 fn play<'d>(
     alloc: Global,
     opening: &mut DayState<'d>,
@@ -130,11 +120,8 @@ fn play<'d>(
     ensures opening_same { opening.new.dossier ≡ state.old.dossier }
     ensures choice { choice picker.new ≡ choice picker.old }
 {
-    let _ = state.marks(); // one for each wish
     let _ = state.dossier().wishes.len(); // learns that the dossier is valid
-    let lapsed = lapse_offers(alloc, state, terms, day)?;
-    answer(state, day)?;
-    list_touched(beside, state, lapsed.as_slice(), day)?;
+    let lapsed = begin_day(alloc, state, terms, day, beside)?;
     let passes = make_passes(
         alloc,
         opening,
@@ -150,4 +137,37 @@ fn play<'d>(
     )?;
     let done = record_day(alloc, state, day, passes, lapsed)?;
     Ok(done)
+}
+
+/// Makes the lapse and the answers of a day. It lists the offers that lapsed, and wishes of those
+/// whom the lapse and the answers may have changed. A refusal may come in the midst of the answers.
+fn begin_day(
+    alloc: Global,
+    state: &mut DayState<'_>,
+    terms: Option<&Terms>,
+    day: u32,
+    beside: &mut Vec<u32>,
+) -> Result<Vec<Lapse>, DayRefusal>
+    requires before { ForSome (option_copied terms)
+        (λ t. length t.before ≡ length state.old.dossier.wishes) }
+    requires day { IsDayNumber day }
+
+    ensures lapsed { IfOk result (λ v. v.items ≡ lapsed_on (option_copied terms.entry) day
+        state.old) }
+    ensures fits { IfOk result (λ _. unfit_on (option_copied terms.entry) day state.old ≡ None) }
+    ensures state { IfOk result (λ _. state.new ≡ morning (option_copied terms.entry) day
+        state.old) }
+    ensures within { IfOk result (λ _. AreWishesOf state.new.dossier beside.new.items) }
+    ensures answered { IfOk result (λ _. IsAnswered state.old
+        → IsAnsweredBut beside.new.items state.new) }
+    ensures alike { IfOk result (λ _. beside.new.items ≡ [] → state.new ≡ state.old) }
+    ensures unfit { IfErr result
+        (IsUnfitOf state.old.dossier day (unfit_on (option_copied terms.entry) day state.old)) }
+    ensures dossier { state.new.dossier ≡ state.old.dossier }
+{
+    let _ = state.marks(); // one for each wish
+    let lapsed = lapse_offers(alloc, state, terms, day)?;
+    answer(state, day)?;
+    list_touched(beside, state, lapsed.as_slice(), day)?;
+    Ok(lapsed)
 }

@@ -1,5 +1,5 @@
 //! The states that a day needs.
-ghost use Rattle.std.specs.Prelude.{◌≡◌, IfOk};
+ghost use Rattle.std.specs.Prelude.{◌≡◌, IfOk, true};
 ghost use Rattle.admit_core.specs.Days.{first_evening};
 ghost use Rattle.desk_day.specs.DeskStates.{DeskStates};
 
@@ -95,9 +95,7 @@ impl<'d> Desk<'d> {
         ensures present { self.new.present ≡ self.old.present }
         ensures opening { self.new.opening ≡ self.old.opening }
     {
-        if !self.is_alike {
-            self.evening.set_from(&self.present);
-        }
+        keep_evening(&mut self.evening, &self.present, self.is_alike);
     }
 
     /// The present state alone; the room of the other two is given back.
@@ -113,5 +111,16 @@ impl<'d> Desk<'d> {
             beside: _,
         } = self;
         present
+    }
+}
+
+/// Makes the evening the present state, where it is not yet.
+pub(crate) fn keep_evening<'d>(evening: &mut DayState<'d>, present: &DayState<'d>, is_alike: bool)
+    requires same { evening.old.dossier ≡ present.now.dossier }
+    requires alike { is_alike ≡ true → evening.old ≡ present.now }
+    ensures { evening.new ≡ present.now }
+{
+    if !is_alike {
+        evening.set_from(present);
     }
 }

@@ -1,5 +1,5 @@
-//! One day on a `Desk`: its lapses and answers, passes until the automatic answers free nothing, and
-//! the evening.
+//! One day on a `Desk`: its lapses and answers, passes until the automatic answers free nothing,
+//! and the evening.
 //!
 //! `let day = run_day_along(alloc, &mut desk, &orders, &lineup, ceilings, None, 1, picker)?;`
 #![tactic(auto)]

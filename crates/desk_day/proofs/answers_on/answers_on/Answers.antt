@@ -9,13 +9,15 @@ use Rattle.desk_day.proofs.answers_on.answers_on.Goals as goal
 pub first_not_before-first-requires : goal.first_not_before-first-requires
 first_not_before-first-requires c =
     let valid : IsValid c.args.dossier.now = subst IsValid c.dossier.view_is c.dossier.invariant in
-    let all : c.as_slice-all.result.now ≡ c.args.dossier.now.answers = c.as_slice-all.ensures ∙ ap (λ (d : DossierRows). d.answers) c.dossier.view_is in
+    let all : c.as_slice-all.result.now ≡ c.args.dossier.now.answers = c.as_slice-all.ensures
+    ∙ ap (λ (d : DossierRows). d.answers) c.dossier.view_is in
     rw all (by_day c.args.dossier.now valid)
 
 pub first_after-end-requires : goal.first_after-end-requires
 first_after-end-requires c =
     let valid : IsValid c.args.dossier.now = subst IsValid c.dossier.view_is c.dossier.invariant in
-    let all : c.as_slice-all.result.now ≡ c.args.dossier.now.answers = c.as_slice-all.ensures ∙ ap (λ (d : DossierRows). d.answers) c.dossier.view_is in
+    let all : c.as_slice-all.result.now ≡ c.args.dossier.now.answers = c.as_slice-all.ensures
+    ∙ ap (λ (d : DossierRows). d.answers) c.dossier.view_is in
     rw all (by_day c.args.dossier.now valid)
 
 pub between-requires-clause-rises : goal.between-requires-clause-rises
@@ -26,7 +28,8 @@ between-requires-clause-rises c =
 pub returns : goal.returns
 returns c =
     let valid : IsValid c.args.dossier.now = subst IsValid c.dossier.view_is c.dossier.invariant in
-    let all : c.as_slice-all.result.now ≡ c.args.dossier.now.answers = c.as_slice-all.ensures ∙ ap (λ (d : DossierRows). d.answers) c.dossier.view_is in
+    let all : c.as_slice-all.result.now ≡ c.args.dossier.now.answers = c.as_slice-all.ensures
+    ∙ ap (λ (d : DossierRows). d.answers) c.dossier.view_is in
     rw (c.between.ensures, all) (answers_found c.args.dossier.now c.args.day c.first_not_before-first.result c.first_after-end.result valid
     (rw all at c.first_not_before-first.ensures.within) (rw all at c.first_after-end.ensures.within)
     (rw all at c.first_not_before-first.ensures.point) (rw all at c.first_after-end.ensures.point))

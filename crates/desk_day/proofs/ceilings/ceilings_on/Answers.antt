@@ -11,7 +11,8 @@ pub apply_changes-requires : goal.apply_changes-requires
 apply_changes-requires c =
     let valid : IsValid c.args.dossier.now = subst IsValid c.dossier.view_is c.dossier.invariant in
     let changes = c.as_slice.ensures ∙ ap (λ (d : DossierRows). d.ceilings) c.dossier.view_is in
-    rw (changes, c.in_ok-ceilings.ensures, length-map c.args.dossier.now.schools (λ (s : School). s.ceiling)) (schools_in c.args.dossier.now valid)
+    rw (changes, c.in_ok-ceilings.ensures, length-map c.args.dossier.now.schools (λ (s : School). s.ceiling))
+    (schools_in c.args.dossier.now valid)
 
 pub returns-clause-ceilings : goal.returns-clause-ceilings
 returns-clause-ceilings c =

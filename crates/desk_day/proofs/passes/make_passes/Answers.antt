@@ -19,34 +19,45 @@ use Rattle.desk_day.proofs.passes.make_passes.Goals as goal
 pub passes-init : goal.passes-init
 passes-init g c =
     let s = c.args.state.now in
-    let long : length s.marks ≡ length s.dossier.wishes = ap (λ (ms : List Mark). length ms) (sym c.marks.ensures.marks) ∙ c.marks.ensures.one_each in
+    let long : length s.marks ≡ length s.dossier.wishes = ap (λ (ms : List Mark). length ms) (sym c.marks.ensures.marks)
+    ∙ c.marks.ensures.one_each in
     let first = goal.Picker-dyn g c.args.picker.now in
     record {
-      so_far = so_far_none c.args.orders.now.orders c.args.ceilings.now c.args.day s c.new-ends.result.items c.new-ends.ensures.items long (open_at_most s long);
+      so_far = so_far_none c.args.orders.now.orders c.args.ceilings.now c.args.day s c.new-ends.result.items c.new-ends.ensures.items long
+          (open_at_most s long);
       opening = c.open_first.ensures;
       beside = c.requires.beside;
       answered = c.requires.answered;
-      chosen = chosen_none c.args.orders.now.orders c.args.ceilings.now c.args.day 1 s (first.choice c.args.picker.now.1) (first.told c.args.picker.now.1) c.new-ends.result.items c.new-ends.ensures.items;
-      told = sym (ap (λ l. first.told c.args.picker.now.1 ++ schools_of_passes l) c.new-ends.ensures.items ∙ append-nil (first.told c.args.picker.now.1));
+      chosen = chosen_none c.args.orders.now.orders c.args.ceilings.now c.args.day 1 s (first.choice c.args.picker.now.1)
+          (first.told c.args.picker.now.1) c.new-ends.result.items c.new-ends.ensures.items;
+      told = sym (ap (λ l. first.told c.args.picker.now.1 ++ schools_of_passes l) c.new-ends.ensures.items
+          ∙ append-nil (first.told c.args.picker.now.1));
       choice = refl;
     }
 
 pub passes-smaller : goal.passes-smaller
-passes-smaller g c = c.in_ok-end.ensures.fewer (not_from_false (frees_nothing c.in_ok-end.end.freed) (sym c.frees_nothing.ensures ∙ c.if-frees_nothing.false))
+passes-smaller g c = c.in_ok-end.ensures.fewer (not_from_false (frees_nothing c.in_ok-end.end.freed)
+    (sym c.frees_nothing.ensures ∙ c.if-frees_nothing.false))
 
 pub passes-preserved : goal.passes-preserved
 passes-preserved g c =
-    let some : IsTrue (not (frees_nothing c.in_ok-end.end.freed)) = not_from_false (frees_nothing c.in_ok-end.end.freed) (sym c.frees_nothing.ensures ∙ c.if-frees_nothing.false) in
+    let some : IsTrue (not (frees_nothing c.in_ok-end.end.freed)) = not_from_false (frees_nothing c.in_ok-end.end.freed)
+    (sym c.frees_nothing.ensures ∙ c.if-frees_nothing.false) in
     record {
-      so_far = so_far_more c.args.orders.now.orders c.args.ceilings.now c.args.day c.passes.number c.args.state.now c.passes.state c.make_pass.new.state c.passes.ends.items c.push-in-passes.new.self.items c.in_ok-end.end
-          c.passes.invariant.so_far c.in_ok-end.ensures.end some c.in_ok-end.ensures.state (c.in_ok-end.ensures.fewer some) c.in_ok-end.ensures.marks c.in_ok-end.ensures.dossier c.in_ok-push-2.ensures.items;
+      so_far = so_far_more c.args.orders.now.orders c.args.ceilings.now c.args.day c.passes.number c.args.state.now c.passes.state
+          c.make_pass.new.state c.passes.ends.items c.push-in-passes.new.self.items c.in_ok-end.end
+          c.passes.invariant.so_far c.in_ok-end.ensures.end some c.in_ok-end.ensures.state (c.in_ok-end.ensures.fewer some)
+          c.in_ok-end.ensures.marks c.in_ok-end.ensures.dossier c.in_ok-push-2.ensures.items;
       opening = c.follow.ensures;
       beside = rw c.clear.ensures.items (All-nil (λ (k : ℕ). k < length c.args.state.now.dossier.wishes));
       answered = λ known. answered_all c.make_pass.new.state c.in_ok-end.ensures.answered c.clear.new.self.items;
       chosen =
-          chosen_more c.args.orders.now.orders c.args.ceilings.now c.args.day c.passes.number c.args.state.now _ _ _ _ c.passes.ends.items c.push-in-passes.new.self.items c.passes.state c.in_ok-end.end
-          c.passes.invariant.so_far c.passes.invariant.chosen c.passes.invariant.told c.passes.invariant.choice c.in_ok-end.ensures.chosen c.in_ok-push-2.ensures.items;
-      told = told_more _ _ _ c.passes.ends.items c.push-in-passes.new.self.items c.in_ok-end.end c.passes.invariant.told c.in_ok-end.ensures.told c.in_ok-push-2.ensures.items;
+          chosen_more c.args.orders.now.orders c.args.ceilings.now c.args.day c.passes.number c.args.state.now _ _ _ _ c.passes.ends.items
+          c.push-in-passes.new.self.items c.passes.state c.in_ok-end.end
+          c.passes.invariant.so_far c.passes.invariant.chosen c.passes.invariant.told c.passes.invariant.choice c.in_ok-end.ensures.chosen
+          c.in_ok-push-2.ensures.items;
+      told = told_more _ _ _ c.passes.ends.items c.push-in-passes.new.self.items c.in_ok-end.end c.passes.invariant.told
+          c.in_ok-end.ensures.told c.in_ok-push-2.ensures.items;
       choice = c.make_pass.ensures.choice ∙ c.passes.invariant.choice;
     }
 
@@ -57,27 +68,36 @@ overflow_add-number g c =
 
 pub returns-then-frees_nothing-clause-passes : goal.returns-then-frees_nothing-clause-passes
 returns-then-frees_nothing-clause-passes g c =
-    (so_far_end c.args.orders.now.orders c.args.ceilings.now c.args.day c.passes.number c.args.state.now c.passes.state c.make_pass.new.state c.passes.ends.items c.push.new.self.items c.in_ok-end.end
-    c.passes.invariant.so_far c.in_ok-end.ensures.end (sym c.frees_nothing.ensures ∙ c.if-frees_nothing.true) c.in_ok-end.ensures.state c.in_ok-push.ensures.items).0
+    (so_far_end c.args.orders.now.orders c.args.ceilings.now c.args.day c.passes.number c.args.state.now c.passes.state
+    c.make_pass.new.state c.passes.ends.items c.push.new.self.items c.in_ok-end.end
+    c.passes.invariant.so_far c.in_ok-end.ensures.end (sym c.frees_nothing.ensures ∙ c.if-frees_nothing.true) c.in_ok-end.ensures.state
+    c.in_ok-push.ensures.items).0
 
 pub returns-then-frees_nothing-clause-opening : goal.returns-then-frees_nothing-clause-opening
 returns-then-frees_nothing-clause-opening g c =
     c.passes.invariant.opening
-    ∙ sym (so_far_end c.args.orders.now.orders c.args.ceilings.now c.args.day c.passes.number c.args.state.now c.passes.state c.make_pass.new.state c.passes.ends.items c.push.new.self.items c.in_ok-end.end
-    c.passes.invariant.so_far c.in_ok-end.ensures.end (sym c.frees_nothing.ensures ∙ c.if-frees_nothing.true) c.in_ok-end.ensures.state c.in_ok-push.ensures.items).1
+    ∙ sym (so_far_end c.args.orders.now.orders c.args.ceilings.now c.args.day c.passes.number c.args.state.now c.passes.state
+    c.make_pass.new.state c.passes.ends.items c.push.new.self.items c.in_ok-end.end
+    c.passes.invariant.so_far c.in_ok-end.ensures.end (sym c.frees_nothing.ensures ∙ c.if-frees_nothing.true) c.in_ok-end.ensures.state
+    c.in_ok-push.ensures.items).1
 
 pub returns-then-frees_nothing-clause-few : goal.returns-then-frees_nothing-clause-few
 returns-then-frees_nothing-clause-few g c =
-    (so_far_end c.args.orders.now.orders c.args.ceilings.now c.args.day c.passes.number c.args.state.now c.passes.state c.make_pass.new.state c.passes.ends.items c.push.new.self.items c.in_ok-end.end
-    c.passes.invariant.so_far c.in_ok-end.ensures.end (sym c.frees_nothing.ensures ∙ c.if-frees_nothing.true) c.in_ok-end.ensures.state c.in_ok-push.ensures.items).2
+    (so_far_end c.args.orders.now.orders c.args.ceilings.now c.args.day c.passes.number c.args.state.now c.passes.state
+    c.make_pass.new.state c.passes.ends.items c.push.new.self.items c.in_ok-end.end
+    c.passes.invariant.so_far c.in_ok-end.ensures.end (sym c.frees_nothing.ensures ∙ c.if-frees_nothing.true) c.in_ok-end.ensures.state
+    c.in_ok-push.ensures.items).2
 
 pub returns-then-frees_nothing-clause-told : goal.returns-then-frees_nothing-clause-told
-returns-then-frees_nothing-clause-told g c = told_more _ _ _ c.passes.ends.items c.push.new.self.items c.in_ok-end.end c.passes.invariant.told c.in_ok-end.ensures.told c.in_ok-push.ensures.items
+returns-then-frees_nothing-clause-told g c = told_more _ _ _ c.passes.ends.items c.push.new.self.items c.in_ok-end.end
+    c.passes.invariant.told c.in_ok-end.ensures.told c.in_ok-push.ensures.items
 
 pub returns-then-frees_nothing-clause-chosen : goal.returns-then-frees_nothing-clause-chosen
 returns-then-frees_nothing-clause-chosen g c =
-    chosen_more c.args.orders.now.orders c.args.ceilings.now c.args.day c.passes.number c.args.state.now _ _ _ _ c.passes.ends.items c.push.new.self.items c.passes.state c.in_ok-end.end
-    c.passes.invariant.so_far c.passes.invariant.chosen c.passes.invariant.told c.passes.invariant.choice c.in_ok-end.ensures.chosen c.in_ok-push.ensures.items
+    chosen_more c.args.orders.now.orders c.args.ceilings.now c.args.day c.passes.number c.args.state.now _ _ _ _ c.passes.ends.items
+    c.push.new.self.items c.passes.state c.in_ok-end.end
+    c.passes.invariant.so_far c.passes.invariant.chosen c.passes.invariant.told c.passes.invariant.choice c.in_ok-end.ensures.chosen
+    c.in_ok-push.ensures.items
 
 pub returns-in_err-end-clause-early : goal.returns-in_err-end-clause-early
 returns-in_err-end-clause-early g c = on_err _ (tells_from _ _ _ _ c.passes.invariant.told c.in_err-end.ensures.early)
@@ -111,7 +131,8 @@ follow-requires g c =
     let stamp = stamp_of c.args.day c.passes.number in
     let opens = c.passes.invariant.opening in
     let are = c.as_slice-in-passes.ensures ∙ c.in_ok-end.ensures.end.pass.offers in
-    let asked_are = c.as_slice-in-passes-2.ensures.value ∙ c.in_ok-end.ensures.asked ∙ ap (λ (l : List ℕ). beside ++ l) (sym c.as_slice-in-passes.ensures) in
+    let asked_are = c.as_slice-in-passes-2.ensures.value ∙ c.in_ok-end.ensures.asked
+    ∙ ap (λ (l : List ℕ). beside ++ l) (sym c.as_slice-in-passes.ensures) in
     let opened = ap (λ (t : State). t.dossier) opens in
     let P : DossierRows → Type 0 = λ d. AreWishesOf d beside in
     let within = subst P (sym c.passes.invariant.so_far.dossier) c.passes.invariant.beside in
@@ -120,5 +141,6 @@ follow-requires g c =
       offers = offers_within s opening orders bars offers opened are;
       asked = asked_within s opening orders bars beside offers asked opened are within asked_are;
       steps = λ known. steps_taken s opening c.make_pass.new.state orders bars offers stamp long opens c.in_ok-end.ensures.state are;
-      others = λ known. answered_along s opening orders bars beside offers asked stamp long opens are asked_are (c.passes.invariant.answered known stamp);
+      others = λ known. answered_along s opening orders bars beside offers asked stamp long opens are asked_are
+          (c.passes.invariant.answered known stamp);
     }

@@ -13,7 +13,8 @@ invariant-passes g l =
       opening : l.opening ≡ l.state;
       beside : AreWishesOf l.fn.state.dossier l.beside.items;
       answered : l.is_answered ≡ true → IsAnsweredBut l.beside.items l.state;
-      chosen : AreChosenPasses l.orders.orders l.ceilings l.day 1 l.fn.state (first.choice l.fn.picker.now.1) (first.told l.fn.picker.now.1) l.ends.items;
+      chosen : AreChosenPasses l.orders.orders l.ceilings l.day 1 l.fn.state (first.choice l.fn.picker.now.1)
+          (first.told l.fn.picker.now.1) l.ends.items;
       told : now.told l.picker.now.1 ≡ first.told l.fn.picker.now.1 ++ schools_of_passes l.ends.items;
       choice : now.choice l.picker.now.1 ≡ first.choice l.fn.picker.now.1;
     }
