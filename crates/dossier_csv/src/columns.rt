@@ -9,7 +9,7 @@ use calendar::{parts, read_date};
 use csv::ByteRecord;
 
 /// The least and the greatest number of a column.
-#[derive(Clone, Copy, Debug, PartialEq, Eq)]
+#[derive(Clone, Copy)]
 pub(crate) struct Limits {
     pub(crate) least: u32,
     pub(crate) most: u32,

@@ -5,12 +5,12 @@ use Rattle.admit_core.specs.Falls.{IsGreatest}
 use Rattle.admit_core.specs.declared.ranking.CallOrder.{CallOrder}
 use Rattle.bar_law.specs.Runs.{schools_of}
 use Rattle.desk_day.specs.DayPasses.{TellsMore}
-use Rattle.stable_market.specs.Bars.{market_system}
-use Rattle.stable_market.specs.Dossiers.{candidates_of, market_of}
-use Rattle.stable_market.specs.Markets.{MarketRows}
-use Rattle.stable_market.specs.Matchings.{IsBestForAll, IsStable}
-use Rattle.stable_market.specs.Solving.{IsLedTo}
-use Rattle.stable_market.specs.Text.{market_text}
+use Rattle.markets.specs.Bars.{market_system}
+use Rattle.markets.specs.Dossiers.{candidates_of, market_of}
+use Rattle.markets.specs.Markets.{MarketRows}
+use Rattle.markets.specs.Matchings.{IsBestForAll, IsStable}
+use Rattle.markets.specs.Solving.{IsLedTo}
+use Rattle.markets.specs.Text.{market_text}
 use Rattle.modes.specs.Asking.{TellsPicks}
 use Rattle.modes.specs.Market.{PicksForMarket, TellsMarket}
 

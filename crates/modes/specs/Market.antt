@@ -4,11 +4,11 @@ use Rattle.std.specs.Prelude.{◌≡◌, ℕ, ◌++◌, List, Option}
 use Rattle.admit_core.specs.DossierRows.{DossierRows}
 use Rattle.admit_core.specs.Falls.{IsGreatest}
 use Rattle.admit_core.specs.declared.ranking.CallOrder.{CallOrder}
-use Rattle.stable_market.specs.Bars.{market_system}
-use Rattle.stable_market.specs.Dossiers.{candidates_of, market_of}
-use Rattle.stable_market.specs.Matchings.{IsBestForAll, IsStable}
-use Rattle.stable_market.specs.Solving.{IsLedTo}
-use Rattle.stable_market.specs.Text.{market_text}
+use Rattle.markets.specs.Bars.{market_system}
+use Rattle.markets.specs.Dossiers.{candidates_of, market_of}
+use Rattle.markets.specs.Matchings.{IsBestForAll, IsStable}
+use Rattle.markets.specs.Solving.{IsLedTo}
+use Rattle.markets.specs.Text.{market_text}
 
 -- the text tells the greatest bars of the dossier's market, and a stable matching in which each
 -- candidate has the best programme that they have in any

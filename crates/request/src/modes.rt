@@ -56,7 +56,7 @@ impl fmt::Display for Name {
 }
 
 /// The numbers that the options give, each of which a mode may need.
-#[derive(Clone, Copy, Debug, PartialEq, Eq)]
+#[derive(Clone, Copy)]
 pub(crate) struct Numbers {
     pub(crate) number: Option<u32>,
     pub(crate) wish: Option<u32>,

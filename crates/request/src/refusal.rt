@@ -11,7 +11,7 @@ pub enum WordsRefusal {
 }
 
 /// A value is missing, or fails its test.
-#[derive(Clone, Copy, Debug, PartialEq, Eq)]
+#[derive(Clone, Copy)]
 pub(crate) struct BadWords;
 
 impl From<BadWords> for WordsRefusal {

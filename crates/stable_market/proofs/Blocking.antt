@@ -1,93 +1,15 @@
 -- Who blocks a matching, found by walks.
-use Rattle.std.proofs.Common.{ℕ, zero, suc, ◌+◌, ◌≤◌, ◌<◌, ◌≡◌, Bool, true, false, cond, ◌||◌, List, [], ◌∷◌, ◌++◌, map, length, get_or, inl, inr, refl, sym, ◌∙◌, ap, subst, arith, nat_lt, filter}
-use Rattle.std.specs.Prelude.{Option, Some, None, find, slice_index}
-use Rattle.std.specs.List.{list_any, before_first, range_with_len}
+use Rattle.std.proofs.Common.{ℕ, zero, suc, ◌+◌, ◌≤◌, ◌<◌, ◌≡◌, Bool, true, false, List, [], ◌∷◌, length, get_or, inl, inr, refl, sym, ◌∙◌, ap, subst, arith}
+use Rattle.std.specs.Prelude.{Option, Some, None, find}
+use Rattle.std.specs.List.{before_first}
 use Rattle.std.specs.Option.{is_some}
-use Rattle.std.proofs.lemmas.Bool.{cases_eq, cases_lt, or_right, or_from, le-ltb, false≢true, false_from_ne_true}
-use Rattle.std.proofs.lemmas.List.{length-append, append-nil, get_or_past}
-use Rattle.std.proofs.lemmas.List.Folds.{list_any-append}
-use Rattle.std.proofs.lemmas.List.FromFn.{filter_of_map_range_with_len_more}
+use Rattle.std.proofs.lemmas.Bool.{cases_eq, cases_lt, false≢true, false_from_ne_true}
+use Rattle.std.proofs.lemmas.List.{get_or_past}
 use Rattle.admit_core.specs.Lists.{is_among}
 use Rattle.admit_core.proofs.NextCalls.{find_none}
-use Rattle.stable_market.specs.Markets.{MarketRows, list_of, position_of}
-use Rattle.stable_market.specs.Matchings.{place_of, is_at, holders, preferred, prefers, would_take, block_of, IsMatching, IsStable}
-use Rattle.stable_market.specs.Firsts.{among_filter, range_has, any_of, before_yes, before_no}
-
-map_same : (xs : List ℕ) → map (λ x. x) xs ≡ xs
-map_same [] = refl
-map_same (x ∷ xs) = ap (λ ys. x ∷ ys) (map_same xs)
-
-or_false : (a b : Bool) → b ≡ false → a ≡ (a || b)
-or_false true b e = refl
-or_false false b e = sym e
-
--- those of a range that pass, with one more
-pub kept_more : (t : ℕ → Bool) (k : ℕ) → filter t (range_with_len 0 (k + 1)) ≡ filter t (range_with_len 0 k) ++ cond (t k) (k ∷ []) []
-kept_more t k =
-    let more : filter t (map (λ x. x) (range_with_len 0 (k + 1))) ≡ filter t (map (λ x. x) (range_with_len 0 k)) ++ cond (t k) (k ∷ []) [] =
-    filter_of_map_range_with_len_more t (λ x. x) 0 k k (omega arith) in
-    rw (map_same (range_with_len 0 (k + 1)), map_same (range_with_len 0 k)) at more
-
--- among the first k candidates, so many hold a place in the programme, and none stands later than one
-pub record AreBefore (m : MarketRows) (places : List (Option ℕ)) (p x k held : ℕ) : Type 0 where
-  pub counted : held ≡ length (filter (λ y. is_at p (place_of places y)) (range_with_len 0 k))
-  pub earlier : list_any (λ y. nat_lt (position_of m p x) (position_of m p y))
-      (filter (λ y. is_at p (place_of places y)) (range_with_len 0 k)) ≡ false
-  pub few : held ≤ k
-
-pub before_none : (m : MarketRows) (places : List (Option ℕ)) (p x : ℕ) → AreBefore m places p x 0 0
-before_none m places p x = record { counted = refl; earlier = refl; few = omega arith }
-
-pub before_over : (m : MarketRows) (places : List (Option ℕ)) (p x k held : ℕ) → is_at p (place_of places k) ≡ false
-    → AreBefore m places p x k held
-    → AreBefore m places p x (k + 1) held
-before_over m places p x k held out so =
-    let t : ℕ → Bool = λ y. is_at p (place_of places y) in
-    let same : filter t (range_with_len 0 (k + 1)) ≡ filter t (range_with_len 0 k) =
-    kept_more t k ∙ ap (λ b. filter t (range_with_len 0 k) ++ cond b (k ∷ []) []) out ∙ append-nil (filter t (range_with_len 0 k)) in
-    record {
-      counted = so.counted ∙ ap length (sym same);
-      earlier = ap (list_any (λ y. nat_lt (position_of m p x) (position_of m p y))) same ∙ so.earlier;
-      few = omega (arith, so.few);
-    }
-
-pub before_more : (m : MarketRows) (places : List (Option ℕ)) (p x k held : ℕ) → is_at p (place_of places k) ≡ true
-    → position_of m p k ≤ position_of m p x
-    → AreBefore m places p x k held → AreBefore m places p x (k + 1) (held + 1)
-before_more m places p x k held here le so =
-    let t : ℕ → Bool = λ y. is_at p (place_of places y) in
-    let later : ℕ → Bool = λ y. nat_lt (position_of m p x) (position_of m p y) in
-    let grown : filter t (range_with_len 0 (k + 1)) ≡ filter t (range_with_len 0 k) ++ k ∷ [] =
-    kept_more t k ∙ ap (λ b. filter t (range_with_len 0 k) ++ cond b (k ∷ []) []) here in
-    record {
-      counted = omega (arith, so.counted, ap length grown, length-append (filter t (range_with_len 0 k)) (k ∷ []));
-      earlier =
-          ap (list_any later) grown ∙ list_any-append later (filter t (range_with_len 0 k)) (k ∷ [])
-          ∙ or_from (list_any later (filter t (range_with_len 0 k))) (later k || false) so.earlier
-          (or_from (later k) false (le-ltb (position_of m p x) (position_of m p k) le) refl);
-      few = omega (arith, so.few);
-    }
-
--- one who stands later is enough
-pub later_found : (m : MarketRows) (places : List (Option ℕ)) (p x k : ℕ) → k < length places → is_at p (place_of places k) ≡ true
-    → nat_lt (position_of m p x) (position_of m p k) ≡ true → true ≡ would_take m places p x
-later_found m places p x k lt here later =
-    let t : ℕ → Bool = λ y. is_at p (place_of places y) in
-    let in_range : is_among k (range_with_len 0 (length places)) ≡ true = range_has k 0 (length places) (omega arith) (omega (arith, lt)) in
-    let held : is_among k (holders places p) ≡ true = among_filter t k (range_with_len 0 (length places)) ∙ rw (in_range, here) refl in
-    sym (or_right (nat_lt (length (holders places p)) (slice_index m.seats p))
-    (list_any (λ y. nat_lt (position_of m p x) (position_of m p y)) (holders places p))
-    (any_of (λ y. nat_lt (position_of m p x) (position_of m p y)) k (holders places p) held later))
-
--- and where there is none, a free seat
-pub seat_tells : (m : MarketRows) (places : List (Option ℕ)) (p x k held seats : ℕ) → k ≡ length places → seats ≡ slice_index m.seats p
-    → AreBefore m places p x k held → nat_lt held seats ≡ would_take m places p x
-seat_tells m places p x k held seats k_is seats_are so =
-    let P : ℕ → Type 0 = λ j. AreBefore m places p x j held in
-    let whole = subst P k_is so in
-    ap (λ n. nat_lt n seats) whole.counted ∙ ap (nat_lt (length (holders places p))) seats_are
-    ∙ or_false (nat_lt (length (holders places p)) (slice_index m.seats p))
-    (list_any (λ y. nat_lt (position_of m p x) (position_of m p y)) (holders places p)) whole.earlier
+use Rattle.markets.specs.Markets.{MarketRows, list_of}
+use Rattle.markets.specs.Matchings.{place_of, is_at, preferred, prefers, would_take, block_of, IsMatching, IsStable}
+use Rattle.markets.specs.Firsts.{any_of, before_yes, before_no}
 
 -- a walk along a list up to the first that stops it
 walk_stops : (t u : ℕ → Bool) (xs : List ℕ) (k : ℕ) → k < length xs → ((j : ℕ) → j < k → u (get_or xs j 0) ≡ false)

@@ -4,10 +4,10 @@ use Rattle.std.specs.Prelude.{Option, Some, slice_index}
 use Rattle.std.specs.List.{list_any, before_first, range_with_len}
 use Rattle.std.proofs.lemmas.Bool.{cases_eq, and_parts, or_left, or_right, eq-eqb}
 use Rattle.admit_core.specs.Lists.{is_among}
-use Rattle.stable_market.specs.Markets.{MarketRows, list_of, lists_it, position_of}
-use Rattle.stable_market.specs.Matchings.{place_of, is_at, holders, prefers, would_take, IsStable}
+use Rattle.markets.specs.Markets.{MarketRows, list_of, lists_it, position_of}
+use Rattle.markets.specs.Matchings.{place_of, is_at, holders, prefers, would_take, IsStable}
 use Rattle.stable_market.specs.Truth.{DifferAtMostIn}
-use Rattle.stable_market.specs.Firsts.{among_filter, among_before, at_place}
+use Rattle.markets.specs.Firsts.{among_filter, among_before, at_place}
 use Rattle.std.proofs.Common.{nat_eq}
 
 any_same : (t u : ℕ → Bool) (xs : List ℕ) → ((z : ℕ) → is_among z xs ≡ true → t z ≡ u z) → list_any t xs ≡ list_any u xs

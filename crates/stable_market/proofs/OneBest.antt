@@ -5,11 +5,11 @@ use Rattle.std.specs.List.{before_first}
 use Rattle.std.proofs.lemmas.Bool.{cases_Bool, false≢true}
 use Rattle.std.proofs.lemmas.List.{ext_get_or}
 use Rattle.admit_core.specs.Lists.{is_among}
-use Rattle.stable_market.specs.Markets.{MarketRows, list_of}
-use Rattle.stable_market.specs.Matchings.{place_of, is_at, IsStable, IsBestForAll}
-use Rattle.stable_market.specs.Firsts.{at_place}
-use Rattle.stable_market.specs.Laws.{TheBestIsOne}
-use Rattle.stable_market.proofs.SamePlaced.{other_first}
+use Rattle.markets.specs.Markets.{MarketRows, list_of}
+use Rattle.markets.specs.Matchings.{place_of, is_at, IsStable, IsBestForAll}
+use Rattle.markets.specs.Firsts.{at_place}
+use Rattle.markets.specs.Laws.{TheBestIsOne}
+use Rattle.markets.proofs.SamePlaced.{other_first}
 
 -- a programme that a candidate has in the one they have in the other
 has_it : (m : MarketRows) (one other : List (Option ℕ)) → IsStable m one → IsBestForAll m one → IsStable m other

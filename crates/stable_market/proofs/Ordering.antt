@@ -13,13 +13,14 @@ use Rattle.std.proofs.lemmas.Map.Made.{length-le_from_is_member, length-from_sam
 use Rattle.admit_core.specs.Lists.{is_among}
 use Rattle.admit_core.proofs.Counting.{distinct_kept}
 use Rattle.admit_core.proofs.FullBeds.{rising_distinct}
-use Rattle.stable_market.specs.Markets.{MarketRows, IsMarket, order_of, lists_it, listers, is_list_below, is_order, is_distinct, first_bad_list, first_bad_order}
-use Rattle.stable_market.specs.Listers.{AreLists, AreListers, has_all_of}
+use Rattle.markets.specs.Markets.{MarketRows, IsMarket, order_of, lists_it, listers, is_list_below, is_order, is_distinct, first_bad_list, first_bad_order}
+use Rattle.markets.specs.Listers.{AreLists, AreListers}
+use Rattle.stable_market.specs.Rows.{has_all_of}
 use Rattle.stable_market.specs.Stamps.{AreUpTo, BearStamp}
-use Rattle.stable_market.specs.Firsts.{among_filter, among_range, range_has, one_of_all, any_of}
-use Rattle.stable_market.specs.Positions.{distinct_from}
-use Rattle.stable_market.specs.Lawful.{range_rises}
-use Rattle.stable_market.proofs.Listing.{row_is}
+use Rattle.markets.specs.Firsts.{among_filter, among_range, range_has, one_of_all, any_of}
+use Rattle.markets.specs.Positions.{distinct_from}
+use Rattle.markets.specs.Lawful.{range_rises}
+use Rattle.markets.proofs.Listing.{row_is}
 use Rattle.std.specs.declared.alloc.Global.{Global}
 
 -- two tests that follow from each other

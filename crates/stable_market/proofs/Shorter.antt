@@ -7,11 +7,11 @@ use Rattle.std.proofs.lemmas.List.{length-set, get_or-set_same, get_or-set_other
 use Rattle.std.proofs.lemmas.List.FromFn.{length-map-range_with_len, get_or-map-range_with_len}
 use Rattle.admit_core.specs.Lists.{is_among}
 use Rattle.admit_core.proofs.Counting.{distinct_kept}
-use Rattle.stable_market.specs.Markets.{MarketRows, IsMarket, list_of, order_of, lists_it, listers, is_distinct, is_list_below, is_order, position_of}
+use Rattle.markets.specs.Markets.{MarketRows, IsMarket, list_of, order_of, lists_it, listers, is_distinct, is_list_below, is_order, position_of}
 use Rattle.stable_market.specs.Truth.{DifferAtMostIn}
-use Rattle.stable_market.specs.Firsts.{all_of, among_filter}
-use Rattle.stable_market.specs.Positions.{order_distinct, order_lists, in_order, is_programme, position_is}
-use Rattle.stable_market.proofs.Stamping.{is_distinct_from, list_distinct, list_below}
+use Rattle.markets.specs.Firsts.{all_of, among_filter}
+use Rattle.markets.specs.Positions.{order_distinct, order_lists, in_order, is_programme, position_is}
+use Rattle.markets.proofs.BelowCount.{is_distinct_from, list_distinct, list_below}
 
 -- two who are kept stand as they stood, the one before the other or not
 pos_here : (y w : ℕ) (xs : List ℕ) → nat_eq y w ≡ true → position_or_len (nat_eq y) (w ∷ xs) ≡ 0

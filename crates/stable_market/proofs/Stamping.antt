@@ -1,43 +1,20 @@
 -- Stamps along a list.
-use Rattle.std.proofs.Common.{ℕ, ◌+◌, ◌≤◌, ◌<◌, ◌≡◌, Bool, true, false, not, ◌||◌, List, [], ◌∷◌, ◌++◌, length, take, get_or, inl, inr, refl, sym, ◌∙◌, ap, subst, arith, nat_eq, nat_lt}
+use Rattle.std.proofs.Common.{ℕ, ◌+◌, ◌≤◌, ◌<◌, ◌≡◌, true, false, not, List, [], ◌∷◌, ◌++◌, length, take, get_or, inl, inr, refl, sym, ◌∙◌, ap, subst, arith, nat_eq, nat_lt}
 use Rattle.std.specs.Prelude.{slice_index}
-use Rattle.std.specs.List.{list_all, position_or_len, IsDistinct}
+use Rattle.std.specs.List.{list_all}
 use Rattle.std.proofs.Math.ListN.{set}
-use Rattle.std.proofs.lemmas.Bool.{cases_eq, and_parts, and_from, eq-eqb, ne_eqb, lt-ltb, ltb-true, false≢true, false_from_ne_true, or_left, or_right}
+use Rattle.std.proofs.lemmas.Bool.{cases_eq, and_parts, and_from, eq-eqb, ne_eqb, lt-ltb, false≢true, false_from_ne_true, or_left, or_right}
 use Rattle.std.proofs.lemmas.Cmp.{nat_eq_equiv}
-use Rattle.std.proofs.lemmas.List.{length-set, take_more, get_or-take, length-take-le}
+use Rattle.std.proofs.lemmas.List.{length-set, take_more}
 use Rattle.std.proofs.lemmas.List.Folds.{list_all-append, list_any-append}
 use Rattle.std.proofs.lemmas.Grind.{get_or-set_at}
 use Rattle.std.proofs.lemmas.Map.Keys.{IsDistinct-push, apart_from_distinct}
-use Rattle.std.proofs.lemmas.Map.Made.{distinct_count-from_IsDistinct}
-use Rattle.admit_core.specs.Lists.{is_among, distinct}
+use Rattle.admit_core.specs.Lists.{is_among}
 use Rattle.admit_core.proofs.FallsLaw.{at_set}
-use Rattle.stable_market.specs.Markets.{is_distinct, is_list_below}
+use Rattle.markets.specs.Markets.{is_distinct, is_list_below}
 use Rattle.stable_market.specs.Stamps.{AreOlder, AreUpTo, BearStamp}
-use Rattle.stable_market.specs.Firsts.{one_of_all}
-use Rattle.stable_market.specs.Positions.{distinct_from, among_at, first_place, at_first}
-
-pub is_distinct_from : (xs : List ℕ) → IsDistinct nat_eq xs → is_distinct xs ≡ true
-is_distinct_from xs apart = eq-eqb (length (distinct xs)) (length xs) (distinct_count-from_IsDistinct nat_eq_equiv xs apart)
-
--- the parts of a list of numbers below a count
-pub list_distinct : (n : ℕ) (xs : List ℕ) → is_list_below n xs ≡ true → IsDistinct nat_eq xs
-list_distinct n xs t = distinct_from xs (and_parts (is_distinct xs) (list_all (λ p. nat_lt p n) xs) t).0
-
-pub list_below : (n : ℕ) (xs : List ℕ) (q : ℕ) → is_list_below n xs ≡ true → is_among q xs ≡ true → q < n
-list_below n xs q t among = ltb-true q n
-    (one_of_all (λ p. nat_lt p n) q xs (and_parts (is_distinct xs) (list_all (λ p. nat_lt p n) xs) t).1 among)
-
-pub last_differs : (a b : Bool) → b ≡ false → (a || (b || false)) ≡ a
-last_differs true b e = refl
-last_differs false b e = rw e refl
-
--- one of a front stands at a place of it
-pub earlier : (p : ℕ) (xs : List ℕ) (k : ℕ) → k ≤ length xs → is_among p (take k xs) ≡ true → (j : ℕ) × ((j < k) × (get_or xs j 0 ≡ p))
-earlier p xs k le t =
-    let j : ℕ = position_or_len (nat_eq p) (take k xs) in
-    let j_lt : j < k = omega (arith, first_place p (take k xs) t, length-take-le k xs le) in
-    (j, (j_lt, sym (get_or-take k xs j 0 j_lt) ∙ at_first p (take k xs) t))
+use Rattle.markets.specs.Positions.{distinct_from, among_at}
+use Rattle.markets.proofs.BelowCount.{last_differs, earlier, list_below, list_distinct, is_distinct_from}
 
 -- what the stamps say after the first k of a list
 pub record AreStamped (n stamp : ℕ) (xs : List ℕ) (stamps : List ℕ) : Type 0 where

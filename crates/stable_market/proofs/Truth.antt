@@ -6,13 +6,13 @@ use Rattle.std.specs.Prelude.{Option, Some, None, is_some}
 use Rattle.std.specs.List.{before_first}
 use Rattle.std.proofs.lemmas.Bool.{cases_Bool, and_parts, and_from, or_cases, or_left, or_right, eq-eqb, eqb-true, false≢true, false_from_ne_true}
 use Rattle.admit_core.specs.Lists.{is_among}
-use Rattle.stable_market.specs.Markets.{MarketRows, IsMarket, list_of, lists_it, position_of}
-use Rattle.stable_market.specs.Matchings.{place_of, is_at, prefers, IsStable, IsBestForAll}
+use Rattle.markets.specs.Markets.{MarketRows, IsMarket, list_of, lists_it, position_of}
+use Rattle.markets.specs.Matchings.{place_of, is_at, prefers, IsStable, IsBestForAll}
 use Rattle.stable_market.specs.Truth.{DifferAtMostIn, TruthPays}
-use Rattle.stable_market.specs.Firsts.{among_filter, among_before, before_yes, before_no}
-use Rattle.stable_market.specs.Positions.{is_candidate}
+use Rattle.markets.specs.Firsts.{among_filter, among_before, before_yes, before_no}
+use Rattle.markets.specs.Positions.{is_candidate}
 use Rattle.stable_market.proofs.Moved.{stable_there}
-use Rattle.stable_market.proofs.SamePlaced.{any_two, there_is_a_best}
+use Rattle.markets.proofs.SamePlaced.{any_two, there_is_a_best}
 use Rattle.stable_market.proofs.Shorter.{shortened, is_shorter, shorter_is_alike, own_list, listed_before}
 
 -- one before another that stands before the first that passes stands before it too

@@ -3,8 +3,8 @@ use Rattle.std.specs.Prelude.{◌≡◌, ℕ, ◌<◌, List, length, find, nat_l
 use Rattle.std.specs.List.{list_any, range_with_len}
 use Rattle.std.specs.Option.{is_some}
 use Rattle.stable_market.specs.declared.block.MarketBlock.{MarketBlock}
-use Rattle.stable_market.specs.Markets.{MarketRows, position_of}
-use Rattle.stable_market.specs.Matchings.{IsStable, holders, block_of}
+use Rattle.markets.specs.Markets.{MarketRows, position_of}
+use Rattle.markets.specs.Matchings.{IsStable, holders, block_of}
 
 -- the last position at which somebody has a place: it is past k exactly where somebody's is
 pub record AreLasts (m : MarketRows) (places : List (Option ℕ)) (lasts : List ℕ) : Type 0 where

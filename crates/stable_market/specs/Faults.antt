@@ -2,7 +2,7 @@
 use Rattle.std.specs.Prelude.{◌≡◌, ◌≢◌, length, Some, None, ⊤}
 use Rattle.stable_market.specs.declared.fault.MarketFault.{MarketFault}
 use Rattle.stable_market.specs.declared.fault.MarketFault.TheVariants.{BadCount, BadList, BadOrder, OutOfMemory}
-use Rattle.stable_market.specs.Markets.{MarketRows, first_bad_list, first_bad_order}
+use Rattle.markets.specs.Markets.{MarketRows, first_bad_list, first_bad_order}
 
 -- the fault of rows: the first that stands of the counts, the lists and the orders; want of memory
 -- says nothing

@@ -1,7 +1,7 @@
 -- Nobody gains by handing in another list than the true one.
 use Rattle.std.specs.Prelude.{◌≡◌, ◌≢◌, ℕ, false, List, Option, Some, length, nat_lt, IsTrue}
-use Rattle.stable_market.specs.Markets.{MarketRows, IsMarket, list_of, lists_it, position_of}
-use Rattle.stable_market.specs.Matchings.{place_of, prefers, IsStable, IsBestForAll}
+use Rattle.markets.specs.Markets.{MarketRows, IsMarket, list_of, lists_it, position_of}
+use Rattle.markets.specs.Matchings.{place_of, prefers, IsStable, IsBestForAll}
 
 -- two markets that differ at most in the list of one candidate: the others list the same, the seats
 -- are the same, and each programme ranks alike those who list it in both

@@ -1,9 +1,9 @@
 -- Two small markets, and what the definitions give on them.
 use Rattle.std.specs.Prelude.{◌≡◌, true, [], ◌∷◌, Some, None}
 use Rattle.admit_core.specs.Falls.{bars_after, falls_by, is_settled}
-use Rattle.stable_market.specs.Markets.{MarketRows, first_bad_list, first_bad_order}
-use Rattle.stable_market.specs.Matchings.{block_of}
-use Rattle.stable_market.specs.Bars.{market_system, demanded, matched_under}
+use Rattle.markets.specs.Markets.{MarketRows, first_bad_list, first_bad_order}
+use Rattle.markets.specs.Matchings.{block_of}
+use Rattle.markets.specs.Bars.{market_system, demanded, matched_under}
 
 -- two candidates and two programmes: each candidate prefers the one that prefers the other
 abbrev pub crossed : MarketRows

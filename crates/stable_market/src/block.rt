@@ -1,14 +1,11 @@
 //! Whether a matching is stable, and who blocks it.
 ghost use Rattle.std.specs.Prelude.{ℕ, ◌≡◌, ◌<◌, ◌≤◌, Some, length, IfOk, IsTrue};
-ghost use Rattle.stable_market.specs.Matchings.{IsMatching, place_of, would_take, block_of};
+ghost use Rattle.markets.specs.Matchings.{IsMatching, place_of, would_take, block_of};
 ghost use Rattle.stable_market.specs.Blocks.{AreLasts, IsFirstBlock, noted};
-ghost use Rattle.stable_market.specs.Rounds.{AreCounts};
+ghost use Rattle.markets.specs.Rounds.{AreCounts};
 
-use crate::counts::counts_of;
-use crate::market::Market;
-use crate::ranked::Ranked;
-use crate::seating::is_at;
 use admit_core::OutOfMemory;
+use markets::{Market, Ranked, counts_of, is_at};
 use std::alloc::Global;
 
 /// A candidate who prefers a programme to their place, and whom it would take. Both are counted

@@ -1,6 +1,5 @@
-//! What holds of markets and their greatest bars, over definitions alone.
-ghost use Rattle.stable_market.specs.Laws.{MarketsAreLawful, GreatestBarsAreStable, GreatestBarsAreBest, GreatestBarsPlaceTheSame};
-ghost use Rattle.stable_market.specs.Laws.{ThereIsABest, TheBestIsOne, TheSameHavePlaces, TheSameWhicheverFallsFirst};
+//! What holds of all stable matchings of a market, over definitions alone.
+ghost use Rattle.markets.specs.Laws.{ThereIsABest, TheBestIsOne, TheSameHavePlaces};
 ghost use Rattle.stable_market.specs.Truth.{TruthPays};
 ghost use Rattle.stable_market.specs.Worked.{CrossedMarket, ContestedMarket, RefusedRows};
 
@@ -9,17 +8,6 @@ pub fn worked_markets()
     ensures crossed { CrossedMarket }
     ensures contested { ContestedMarket }
     ensures refused { RefusedRows }
-{}
-
-/// The greatest bars give a stable matching, the best one for every candidate, and the same
-/// whichever programme falls first; who has a place in it has one in every stable matching. The
-/// call does nothing.
-pub fn laws_of_markets()
-    ensures lawful { MarketsAreLawful }
-    ensures stable { GreatestBarsAreStable }
-    ensures best { GreatestBarsAreBest }
-    ensures same { TheSameWhicheverFallsFirst }
-    ensures placed { GreatestBarsPlaceTheSame }
 {}
 
 /// Every market has one stable matching that is best for all its candidates, and in all its stable

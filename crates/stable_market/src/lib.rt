@@ -1,34 +1,22 @@
-//! Markets of candidates and programmes, solved by bars that fall. Each candidate lists programmes,
-//! best first, and each programme orders its candidates; the bars stand on positions in these
-//! orders. What they leave is stable, and the best stable matching for every candidate.
+//! What is known of markets beside their solution: which rows are one, who blocks a matching first,
+//! and what holds of all stable matchings. The markets themselves and their solution are those of
+//! the crate `markets`, and have their names here too.
 //!
-//! `let solved = solve(alloc, &market, &mut FirstPicker::new(alloc), &mut steps)?;`
+//! `let market = new_market(alloc, lists, orders, seats)?;`
 #![tactic(auto)]
 
 mod block;
-mod counts;
 mod fault;
-mod filling;
 mod laws;
-mod listers;
 mod lists;
-mod market;
-mod named;
+mod market_rows;
 mod orders;
-mod owned;
-mod ranked;
-mod round;
-mod seating;
-mod solution;
 mod stamps;
-mod standing;
-mod text;
 
 pub use block::{MarketBlock, first_block};
 pub use fault::MarketFault;
-pub use laws::{laws_of_markets, laws_of_stable_matchings, worked_markets};
-pub use market::Market;
-pub use named::{Named, from_dossier};
-pub use round::MarketRound;
-pub use solution::{Solved, solve};
-pub use text::market_text;
+pub use laws::{laws_of_stable_matchings, worked_markets};
+pub use market_rows::new_market;
+pub use markets::{
+    Market, MarketRound, Named, Solved, from_dossier, laws_of_markets, market_text, solve,
+};

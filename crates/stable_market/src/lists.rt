@@ -1,6 +1,6 @@
 //! Whether lists name programmes of a market, none twice.
 ghost use Rattle.std.specs.Prelude.{◌≡◌, ◌≤◌, not, length, position, IfOk};
-ghost use Rattle.stable_market.specs.Markets.{is_list_below};
+ghost use Rattle.markets.specs.Markets.{is_list_below};
 
 use crate::stamps::stamp_list;
 use admit_core::{OutOfMemory, Sequence};

@@ -1,12 +1,13 @@
 //! Whether orders have the candidates whose lists name their programmes.
 ghost use Rattle.std.specs.Prelude.{◌≡◌, ◌≤◌, ◌<◌, [], length, All, IfOk};
-ghost use Rattle.stable_market.specs.Markets.{first_bad_order};
-ghost use Rattle.stable_market.specs.Listers.{AreLists, has_all_of};
+ghost use Rattle.markets.specs.Markets.{first_bad_order};
+ghost use Rattle.markets.specs.Listers.{AreLists};
+ghost use Rattle.stable_market.specs.Rows.{has_all_of};
 ghost use Rattle.stable_market.specs.Stamps.{AreOlder, AreUpTo};
 
-use crate::listers::listers_of;
 use crate::stamps::{all_bear, stamp_list};
 use admit_core::{OutOfMemory, Sequence};
+use markets::listers_of;
 use std::alloc::Global;
 
 /// The first programme whose order misses a candidate whose list names it, or has another, or one

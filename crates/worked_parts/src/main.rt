@@ -7,7 +7,7 @@
 mod dates;
 mod devices;
 mod market_rows;
-mod markets;
+mod market_words;
 mod matchings;
 mod orders;
 mod plain;
@@ -56,7 +56,7 @@ fn other_answer(rt: HostRuntime, name: &str, input: &str) -> Result<String, OutO
         "folder" => devices::folder_in(rt, input),
         "output" => devices::output_in(rt, input),
         "prints" => devices::printed(rt, input),
-        "market" => markets::market_in(alloc, input),
+        "market" => market_words::market_in(alloc, input),
         "matchings" => matchings::matchings_in(alloc, input),
         "counts" => samples::counts_in(alloc, input),
         "sample" => samples::sample_in(alloc, input),

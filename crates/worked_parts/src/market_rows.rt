@@ -1,6 +1,6 @@
 //! Small markets by their numbers.
 
-use crate::markets::made;
+use crate::market_words::made;
 use admit_core::OutOfMemory;
 use stable_market::{Market, MarketFault};
 use std::alloc::Global;

@@ -3,7 +3,7 @@
 //! that they prefer by handing in another list.
 
 use crate::market_rows::{LISTS, Rows, rows_of};
-use crate::markets::solved;
+use crate::market_words::solved;
 use crate::plain::{is_as_good, is_stable, liking, place_of, places_of};
 use admit_core::OutOfMemory;
 use bar_fixpoint::FirstPicker;

@@ -4,11 +4,11 @@ use Rattle.admit_core.specs.DossierRows.{DossierRows}
 use Rattle.admit_core.specs.Falls.{IsGreatest}
 use Rattle.admit_core.specs.Validity.{IsValid}
 use Rattle.desk_day.proofs.PassesSoFar.{tells_of_falls}
-use Rattle.stable_market.specs.Bars.{market_system}
-use Rattle.stable_market.specs.Markets.{MarketRows}
-use Rattle.stable_market.specs.Matchings.{IsStable}
-use Rattle.stable_market.specs.Text.{market_text}
-use Rattle.stable_market.proofs.Telling.{bar_each, places_there}
+use Rattle.markets.specs.Bars.{market_system}
+use Rattle.markets.specs.Markets.{MarketRows}
+use Rattle.markets.specs.Matchings.{IsStable}
+use Rattle.markets.specs.Text.{market_text}
+use Rattle.markets.proofs.Telling.{bar_each, places_there}
 use Rattle.modes.specs.Market.{TellsMarket}
 use Rattle.modes.proofs.Marketing.{always, led_more, picks_market, tells_market}
 use Rattle.modes.proofs.market.text_of.Goals as goal

@@ -1,6 +1,6 @@
 use Rattle.std.proofs.Common.{◌∙◌, sym, ap, arith, refl}
-use Rattle.stable_market.specs.Markets.{MarketRows, list_of}
-use Rattle.stable_market.specs.Matchings.{place_of}
+use Rattle.markets.specs.Markets.{MarketRows, list_of}
+use Rattle.markets.specs.Matchings.{place_of}
 use Rattle.stable_market.proofs.Blocking.{block_stops, block_found, block_ends}
 use Rattle.stable_market.proofs.block.block_of.Goals as goal
 

@@ -1,8 +1,8 @@
 use Rattle.std.proofs.Common.{◌≡◌, ◌<◌, ◌∙◌, ℕ, sym, ap, arith, length, Some}
 use Rattle.std.specs.Option.{is_some}
-use Rattle.stable_market.specs.Markets.{MarketRows}
-use Rattle.stable_market.specs.Matchings.{block_of}
-use Rattle.stable_market.specs.Positions.{is_programme}
+use Rattle.markets.specs.Markets.{MarketRows}
+use Rattle.markets.specs.Matchings.{block_of}
+use Rattle.markets.specs.Positions.{is_programme}
 use Rattle.stable_market.proofs.Ordering.{range_found}
 use Rattle.stable_market.proofs.Blocking.{stable_from}
 use Rattle.stable_market.proofs.block.first_block.Goals as goal

@@ -1,6 +1,6 @@
 use Rattle.std.proofs.Common.{ℕ, ◌≡◌, ◌≤◌, ◌<◌, false}
 use Rattle.std.specs.Option.{is_some}
-use Rattle.stable_market.specs.Matchings.{block_of}
+use Rattle.markets.specs.Matchings.{block_of}
 use Rattle.stable_market.proofs.block.first_block.Given as goal
 
 abbrev pub invariant-loop-candidate : goal.invariant-loop-candidate

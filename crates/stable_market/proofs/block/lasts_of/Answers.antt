@@ -1,7 +1,7 @@
 use Rattle.std.proofs.Common.{ℕ, ap, arith, length, refl}
-use Rattle.stable_market.specs.Markets.{MarketRows}
-use Rattle.stable_market.specs.Matchings.{place_of}
-use Rattle.stable_market.proofs.Noting.{lasts_more}
+use Rattle.markets.specs.Markets.{MarketRows}
+use Rattle.markets.specs.Matchings.{place_of}
+use Rattle.stable_market.proofs.LastNoting.{lasts_more}
 use Rattle.stable_market.proofs.block.lasts_of.Goals as goal
 
 pub overflow_cast-candidate : goal.overflow_cast-candidate

@@ -1,4 +1,4 @@
-use Rattle.stable_market.proofs.Noting.{AreLastsTo}
+use Rattle.stable_market.proofs.LastNoting.{AreLastsTo}
 use Rattle.stable_market.proofs.block.lasts_of.Given as goal
 
 abbrev pub invariant-loop-candidate : goal.invariant-loop-candidate

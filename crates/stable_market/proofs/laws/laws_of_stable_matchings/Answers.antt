@@ -1,5 +1,5 @@
 use Rattle.stable_market.proofs.OneBest.{the_best_is_one}
-use Rattle.stable_market.proofs.SamePlaced.{any_two, there_is_a_best}
+use Rattle.markets.proofs.SamePlaced.{any_two, there_is_a_best}
 use Rattle.stable_market.proofs.Truth.{truth_pays}
 use Rattle.stable_market.proofs.laws.laws_of_stable_matchings.Goals as goal
 

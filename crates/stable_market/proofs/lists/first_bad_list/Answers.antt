@@ -1,7 +1,7 @@
 use Rattle.std.proofs.Common.{ℕ, List, [], ◌+◌, ◌-◌, ◌≡◌, Bool, true, false, not, arith, length, get_or, sym, ◌∙◌, ap, Some}
 use Rattle.std.proofs.lemmas.List.{get_or_default}
-use Rattle.stable_market.specs.Markets.{is_list_below}
-use Rattle.stable_market.specs.Firsts.{position_found, position_none}
+use Rattle.markets.specs.Markets.{is_list_below}
+use Rattle.markets.specs.Firsts.{position_found, position_none}
 use Rattle.stable_market.proofs.lists.first_bad_list.Goals as goal
 
 pub returns-then-not-stamp_list : goal.returns-then-not-stamp_list

@@ -1,5 +1,5 @@
 use Rattle.std.proofs.Common.{ℕ, [], sym, length, arith}
-use Rattle.stable_market.specs.Markets.{MarketRows}
+use Rattle.markets.specs.Markets.{MarketRows}
 use Rattle.stable_market.proofs.Ordering.{orders_more, orders_found, orders_none, row_read, order_read, told_now, row_within}
 use Rattle.stable_market.proofs.orders.first_bad_order.Goals as goal
 

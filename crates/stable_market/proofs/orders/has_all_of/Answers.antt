@@ -3,7 +3,7 @@ use Rattle.std.proofs.lemmas.Bool.{OnTrue_at, eq-eqb, eqb-true}
 use Rattle.std.proofs.lemmas.List.Elements.{All-contains}
 use Rattle.std.proofs.lemmas.Map.Views.{Contains-from_any}
 use Rattle.admit_core.specs.Lists.{is_among}
-use Rattle.stable_market.specs.Markets.{is_list_below}
+use Rattle.markets.specs.Markets.{is_list_below}
 use Rattle.stable_market.proofs.Ordering.{stamped_same}
 use Rattle.stable_market.proofs.orders.has_all_of.Goals as goal
 

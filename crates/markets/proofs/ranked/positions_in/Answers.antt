@@ -1,0 +1,19 @@
+use Rattle.std.proofs.Common.{ℕ, ◌<◌, ◌∙◌, ap, arith, length}
+use Rattle.markets.specs.Markets.{is_list_below}
+use Rattle.markets.proofs.Ranking.{orders_are_lists, positions_more}
+use Rattle.markets.proofs.ranked.positions_in.Goals as goal
+
+pub put_positions-requires-clause-order : goal.put_positions-requires-clause-order
+put_positions-requires-clause-order c =
+    let m = c.args.market.now in
+    let p : ℕ = c.loop-programme.programme in
+    let lt : p < length m.orders = omega (arith, c.loop-programme-test.true, c.programmes-programme-end.ensures) in
+    ap (λ n. is_list_below n c.order.result.now) c.loop-programme.invariant.one_each
+    ∙ ap (is_list_below (length m.lists)) c.order.ensures.order
+    ∙ orders_are_lists m c.stands.ensures.market p lt
+
+pub loop-programme-preserved : goal.loop-programme-preserved
+loop-programme-preserved c =
+    positions_more c.args.market.now c.loop-programme.programme c.order.result.now c.loop-programme.rows.items
+    c.put_positions.new.rows.items c.order.ensures.order
+    c.loop-programme.invariant c.in_ok-put_positions.ensures

@@ -1,0 +1,30 @@
+use Rattle.std.proofs.Common.{ℕ, List, Option, ◌≡◌, ◌<◌, ◌∙◌, sym, ap, subst, arith, length, map, filter, nat_le}
+use Rattle.std.specs.Prelude.{IfOk, slice_index}
+use Rattle.std.proofs.lemmas.List.{get_or_default, length-map}
+use Rattle.markets.specs.Markets.{MarketRows, candidate_at}
+use Rattle.markets.specs.Bars.{demanded}
+use Rattle.markets.specs.Rounds.{held_to}
+use Rattle.markets.proofs.Rounds.{demanded_upto}
+use Rattle.markets.proofs.round.MarketRoundFalling.names.Goals as goal
+
+pub returns : goal.returns
+returns c =
+    let r = c.args.self.now in
+    let i : ℕ = c.args.i in
+    let bars : List ℕ = r.bars.items in
+    let places = r.seating.places.items in
+    let e : ℕ = c.least-end.result in
+    let i_lt : i < length r.market.orders = omega (arith, c.requires, length-map r.market.orders length) in
+    let bar_is : c.index.result.now ≡ slice_index bars i = c.index.ensures
+    ∙ get_or_default bars i c.index.result.now 0 (omega (arith, i_lt, r.round.seated.one_bar_each)) in
+    let asked : filter (λ (h : ℕ). nat_le h c.args.upto) (demanded r.market bars i) ≡ held_to r.market places i e =
+    demanded_upto r.market r.round.valid bars r.seating.stands.items places r.seating.filling r.round i i_lt c.args.upto e
+    c.least-end.ensures.within (omega (arith, bar_is, c.least-end.ensures.low))
+    (λ h past le. omega (arith, bar_is, c.least-end.ensures.past h past le)) in
+    let P : List ℕ → Type 0 = λ ks. IfOk c.names_within.result (λ v. v.items ≡ ks) in
+    subst P (
+    ap (λ (ps : List (Option ℕ)). map (candidate_at c.market.result.now i) (held_to c.market.result.now ps i e)) c.deref.ensures.value
+    ∙ ap (λ (m : MarketRows). map (candidate_at m i) (held_to m places i e)) c.market.ensures
+    ∙ ap (map (candidate_at r.market i)) (sym asked)
+    )
+    c.names_within.ensures

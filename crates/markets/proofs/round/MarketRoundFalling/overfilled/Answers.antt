@@ -1,0 +1,11 @@
+use Rattle.std.proofs.Common.{List, ℕ, ◌≡◌, subst}
+use Rattle.std.specs.Prelude.{IfOk}
+use Rattle.markets.proofs.Rounds.{overfilled_are}
+use Rattle.markets.proofs.round.MarketRoundFalling.overfilled.Goals as goal
+
+pub returns : goal.returns
+returns c =
+    let r = c.args.self.now in
+    let P : List ℕ → Type 0 = λ ks. IfOk c.overfilled.result (λ v. v.items ≡ ks) in
+    subst P (overfilled_are r.market r.bars.items r.seating.stands.items r.seating.places.items r.seating.filling r.round)
+    c.overfilled.ensures

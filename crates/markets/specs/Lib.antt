@@ -1,0 +1,16 @@
+pub mod Bars
+pub mod Dossiers
+pub mod Fillings
+pub mod Firsts
+pub mod Lawful
+pub mod Laws
+pub mod Listers
+pub mod Markets
+pub mod Matchings
+pub mod Placed
+pub mod Positions
+pub mod Ranked
+pub mod Rounds
+pub mod Solving
+pub mod Standing
+pub mod Text

@@ -1,0 +1,132 @@
+-- Positions in orders, and what the rows of a market say of them.
+use Rattle.std.proofs.Common.{ℕ, suc, ◌+◌, ◌-◌, ◌≤◌, ◌<◌, ◌≡◌, Bool, true, false, cond, not, ◌&&◌, List, [], ◌∷◌, length, get_or, inl, inr, refl, sym, ◌∙◌, ap, arith, nat_eq, nat_lt}
+use Rattle.std.specs.List.{list_all, before_first, position_or_len, range_with_len, IsDistinct}
+use Rattle.std.proofs.lemmas.Bool.{cases_lt, cases_order, and_parts, or_cases, eqb-true, eq-eqb, ltb-true, false≢true}
+use Rattle.std.proofs.lemmas.Cmp.{nat_eq_equiv}
+use Rattle.std.proofs.lemmas.List.{get_or_past, length-take-le}
+use Rattle.std.proofs.lemmas.List.Folds.{list_any_at}
+use Rattle.std.proofs.lemmas.List.Sums.{passes_at_first, prefix_len-le-length}
+use Rattle.std.proofs.lemmas.Map.Made.{IsDistinct-from_count}
+use Rattle.std.proofs.lemmas.Map.Keys.{apart_from_distinct}
+use Rattle.admit_core.specs.Lists.{is_among, distinct}
+use Rattle.markets.specs.Markets.{MarketRows, IsMarket, list_of, order_of, lists_it, listers, is_distinct, position_of, candidate_at}
+use Rattle.markets.specs.Firsts.{among_filter, one_of_all, range_has}
+
+-- one who is in an order stands at a first place of it
+pub first_place : (x : ℕ) (xs : List ℕ) → is_among x xs ≡ true
+    → position_or_len (nat_eq x) xs < length xs
+first_place x [] t = absurd (false≢true t)
+first_place x (y ∷ ys) t =
+    elim (or_cases (nat_eq x y) (is_among x ys) t) [
+      | inl here ↦ rw here (omega arith)
+      | inr later ↦
+          let rest : position_or_len (nat_eq x) ys < length ys = first_place x ys later in
+          elim (nat_eq x y) as (λ b. cond (not b) (1 + position_or_len (nat_eq x) ys) 0
+          < suc (length ys))
+          [ true ↦ omega arith | false ↦ omega arith ]
+    ]
+
+pub length_before : (u : ℕ → Bool) (xs : List ℕ) → length (before_first u xs) ≡ position_or_len u xs
+length_before u xs =
+    length-take-le (position_or_len u xs) xs (prefix_len-le-length (λ x. not (u x)) xs)
+
+-- one at a place of a list is among it
+pub among_at : (xs : List ℕ) (i : ℕ) → i < length xs → is_among (get_or xs i 0) xs ≡ true
+among_at xs i lt =
+    list_any_at (nat_eq (get_or xs i 0)) xs i 0 lt (eq-eqb (get_or xs i 0) (get_or xs i 0) refl)
+
+-- and it stands at its first place what it is
+pub at_first : (x : ℕ) (xs : List ℕ) → is_among x xs ≡ true
+    → get_or xs (position_or_len (nat_eq x) xs) 0 ≡ x
+at_first x xs t =
+    sym (eqb-true x (get_or xs (position_or_len (nat_eq x) xs) 0)
+    (passes_at_first (nat_eq x) xs 0 (first_place x xs t)))
+
+-- where none stands twice, each stands at the place of them
+pub only_place : (xs : List ℕ) (i : ℕ) → IsDistinct nat_eq xs → i < length xs
+    → position_or_len (nat_eq (get_or xs i 0)) xs ≡ i
+only_place xs i apart lt =
+    let x : ℕ = get_or xs i 0 in
+    let j : ℕ = position_or_len (nat_eq x) xs in
+    let j_lt : j < length xs = first_place x xs (among_at xs i lt) in
+    let same : get_or xs j 0 ≡ get_or xs i 0 = at_first x xs (among_at xs i lt) in
+    elim (cases_order j i) [
+      | inl e ↦ e
+      | inr (inl before) ↦
+          absurd
+          (false≢true (sym (apart_from_distinct nat_eq xs j i 0 apart before lt) ∙ eq-eqb
+          (get_or xs j 0) (get_or xs i 0) same))
+      | inr (inr after) ↦
+          absurd (false≢true (sym (apart_from_distinct nat_eq xs i j 0 apart after j_lt)
+          ∙ eq-eqb (get_or xs i 0) (get_or xs j 0) (sym same)))
+    ]
+
+pub distinct_from : (xs : List ℕ) → is_distinct xs ≡ true → IsDistinct nat_eq xs
+distinct_from xs t =
+    IsDistinct-from_count nat_eq_equiv xs (eqb-true (length (distinct xs)) (length xs) t)
+
+module _ (m : MarketRows) (is : IsMarket m) where
+  -- the parts of what an order is
+  order_tests : (p : ℕ) → p < length m.orders
+      → (is_distinct (order_of m p) ≡ true) × (list_all (lists_it m p) (order_of m p) ≡ true) ×
+      (list_all (λ x. is_among x (order_of m p)) (listers m p) ≡ true)
+  order_tests p lt =
+      let first = and_parts (is_distinct (order_of m p) && list_all (lists_it m p) (order_of m p))
+      (list_all (λ x. is_among x (order_of m p)) (listers m p)) (is.orders p lt) in
+      let second = and_parts (is_distinct (order_of m p))
+      (list_all (lists_it m p) (order_of m p)) first.0 in
+      (second.0, second.1, first.1)
+
+  pub order_distinct : (p : ℕ) → p < length m.orders → IsDistinct nat_eq (order_of m p)
+  order_distinct p lt = distinct_from (order_of m p) (order_tests p lt).0
+
+  -- a list is of a candidate of the market
+  pub is_candidate : (p x : ℕ) → lists_it m p x ≡ true → x < length m.lists
+  is_candidate p x t =
+      elim (cases_lt x (length m.lists)) [
+        | inl lt ↦ lt
+        | inr past ↦ absurd (false≢true (sym (ap (is_among p) (get_or_past m.lists x [] past)) ∙ t))
+      ]
+
+  -- and names programmes of the market
+  pub is_programme : (p x : ℕ) → lists_it m p x ≡ true → p < length m.orders
+  is_programme p x t =
+      let both = and_parts (is_distinct (list_of m x))
+      (list_all (λ q. nat_lt q (length m.orders)) (list_of m x))
+      (is.lists x (is_candidate p x t)) in
+      ltb-true p (length m.orders)
+      (one_of_all (λ q. nat_lt q (length m.orders)) p (list_of m x) both.1 t)
+
+  -- who lists a programme is in its order
+  pub in_order : (p x : ℕ) → lists_it m p x ≡ true → is_among x (order_of m p) ≡ true
+  in_order p x t =
+      let within : is_among x (range_with_len 0 (length m.lists))
+      ≡ true = range_has x 0 (length m.lists) (omega arith)
+      (omega (arith, is_candidate p x t)) in
+      let lister : is_among x (listers m p)
+      ≡ true = among_filter (lists_it m p) x (range_with_len 0 (length m.lists))
+      ∙ rw (within, t) refl in
+      one_of_all (λ y. is_among y (order_of m p)) x (listers m p)
+      (order_tests p (is_programme p x t)).2 lister
+
+  -- and nobody else is
+  pub order_lists : (p x : ℕ) → p < length m.orders → is_among x (order_of m p) ≡ true
+      → lists_it m p x ≡ true
+  order_lists p x lt t = one_of_all (lists_it m p) x (order_of m p) (order_tests p lt).1 t
+
+-- a position is one more than a place
+pub position_is : (m : MarketRows) (p x : ℕ)
+    → position_of m p x ≡ position_or_len (nat_eq x) (order_of m p) + 1
+position_is m p x = ap (λ n. n + 1) (length_before (nat_eq x) (order_of m p))
+
+-- the candidate at a position stands there
+pub position_at : (m : MarketRows) (p r : ℕ) → IsDistinct nat_eq (order_of m p) → 1 ≤ r
+    → r ≤ length (order_of m p)
+    → position_of m p (candidate_at m p r) ≡ r
+position_at m p r apart one le =
+    omega (
+      arith,
+      position_is m p (candidate_at m p r),
+      only_place (order_of m p) (r - 1) apart
+          (omega (arith, one, le)),
+    )

@@ -1,0 +1,115 @@
+//! How many candidates programmes have, with a list of those that have more than their seats.
+ghost use Rattle.std.specs.Prelude.{◌≡◌, ◌<◌, ◌≤◌, length, slice_index, slice_set, IfOk, nat_lt, true, false, filter};
+ghost use Rattle.std.specs.List.{range_with_len};
+ghost use Rattle.std.specs.List.Sorted.{IsNonDecreasing, IsPartitionPoint};
+ghost use Rattle.markets.specs.Fillings.{overfilled, is_over};
+
+use admit_core::OutOfMemory;
+use std::alloc::Global;
+use std::marker::Model;
+
+/// The seats and the number of candidates of each programme.
+pub struct Filling {
+    seats: Vec<u32>,
+    counts: Vec<u32>,
+    overfilled: Vec<u32>,
+}
+
+// Not derived: so it is dropped in one step where it is held, and not by each list.
+impl Drop for Filling {
+    fn drop(self) {
+        let Filling {
+            seats: _,
+            counts: _,
+            overfilled: _,
+        } = self;
+    }
+}
+
+impl Model for Filling {
+    ghost use Rattle.std.specs.Prelude.{vec_capacity};
+    ghost use Rattle.markets.specs.Fillings.{Fill, AreListed};
+
+    ghost Value = { Fill };
+
+    ghost view = { λ f. record { seats = f.seats.items; counts = f.counts.items } };
+
+    ghost invariant = { λ f. AreListed (record { seats = f.seats.items; counts = f.counts.items })
+        f.overfilled.items (vec_capacity f.overfilled) };
+}
+
+impl Filling {
+    /// Programmes with these seats and counts. All room that the other calls need is made here.
+    pub fn build(alloc: Global, seats: &[u32], counts: Vec<u32>) -> Result<Filling, OutOfMemory>
+        requires many { length counts.items ≤ 16000000 }
+        requires seats { length seats.now ≡ length counts.items }
+        ensures { IfOk result (λ f. f ≡ record { seats = seats.now; counts = counts.items }) }
+    {
+        let seats = seats.to_vec(alloc)?;
+        let mut overfilled = Vec::with_capacity(alloc, counts.len())?;
+        for programme in 0..counts.len() as u32 {
+            if counts[programme as usize] > seats[programme as usize] {
+                overfilled.push(programme)?;
+            }
+        }
+        Ok(Filling {
+            seats,
+            counts,
+            overfilled,
+        })
+    }
+
+    /// The seats of a programme.
+    pub fn seats(&self, programme: u32) -> u32
+        requires { programme < length self.now.seats }
+        ensures { result ≡ slice_index self.now.seats programme }
+    {
+        self.seats[programme as usize]
+    }
+
+    /// How many candidates a programme has.
+    pub fn count(&self, programme: u32) -> u32
+        requires { programme < length self.now.counts }
+        ensures { result ≡ slice_index self.now.counts programme }
+    {
+        self.counts[programme as usize]
+    }
+
+    /// The programmes that have more candidates than seats, from the least.
+    pub fn overfilled(&self, alloc: Global) -> Result<Vec<u32>, OutOfMemory>
+        ensures { IfOk result (λ places. places.items ≡ overfilled self.now) }
+    {
+        Ok(self.overfilled.to_vec(alloc)?)
+    }
+
+    /// Puts how many candidates a programme has.
+    pub fn put(&mut self, programme: u32, count: u32)
+        requires counts { programme < length self.old.counts }
+        requires seats { programme < length self.old.seats }
+        ensures { self.new ≡ record self.old
+            { counts = slice_set self.old.counts programme count } }
+    {
+        let seats = self.seats[programme as usize];
+        let was_over = self.counts[programme as usize] > seats;
+        let is_over = count > seats;
+        if is_over != was_over {
+            let at = first_not_below(&self.overfilled, programme);
+            if is_over {
+                self.overfilled.insert(at, programme).unwrap();
+            } else {
+                self.overfilled.remove(at);
+            }
+        }
+        self.counts[programme as usize] = count;
+    }
+}
+
+/// The first place in a rising list whose number isn't below this one.
+fn first_not_below(numbers: &[u32], number: u32) -> usize
+    requires { IsNonDecreasing numbers.now }
+    ensures within { result ≤ length numbers.now }
+    ensures point { IsPartitionPoint (λ n. nat_lt n number ≡ true) (λ n. nat_lt n number ≡ false)
+        numbers.now result }
+{
+    numbers.partition_point(|other| *other < number)
+}

@@ -1,0 +1,31 @@
+//! Markets of candidates and programmes, solved by bars that fall. Each candidate lists programmes,
+//! best first, and each programme orders its candidates; the bars stand on positions in these
+//! orders. What they leave is stable, and the best stable matching for every candidate.
+//!
+//! `let solved = solve(alloc, &market, &mut FirstPicker::new(alloc), &mut steps)?;`
+#![tactic(auto)]
+
+mod counts;
+mod filling;
+mod laws;
+mod listers;
+mod market;
+mod named;
+mod owned;
+mod ranked;
+mod round;
+mod seating;
+mod solution;
+mod standing;
+mod text;
+
+pub use counts::counts_of;
+pub use laws::laws_of_markets;
+pub use listers::listers_of;
+pub use market::Market;
+pub use named::{Named, from_dossier};
+pub use ranked::Ranked;
+pub use round::MarketRound;
+pub use seating::is_at;
+pub use solution::{Solved, solve};
+pub use text::market_text;

@@ -1,0 +1,150 @@
+//! The lists of those in a dossier who rank their wishes.
+ghost use Rattle.std.specs.Prelude.{◌≡◌, ◌<◌, ◌++◌, ◌∷◌, [], List, length, map, filter, slice_set, slice_index_or, IfOk, OnOk};
+ghost use Rattle.admit_core.specs.Lists.{sorted_by};
+ghost use Rattle.admit_core.specs.declared.dossier.Wish.{Wish};
+ghost use Rattle.markets.specs.Dossiers.{by_preference, counts, named, own};
+
+use admit_core::{OutOfMemory, Sequence, Wish};
+use indexmap::IndexSet;
+use keyed_hash::{KeyMaker, Keyed};
+use std::alloc::Global;
+
+/// Whether a wish counts in the market: its candidate ranks their wishes, and it asks for no bed.
+fn counts(wish: Wish) -> bool
+    ensures { result ≡ counts wish }
+{
+    wish.preference > 0 && wish.school.is_none()
+}
+
+/// The wishes that count.
+pub fn counted(alloc: Global, wishes: &[Wish]) -> Result<Vec<Wish>, OutOfMemory>
+    ensures { IfOk result (λ v. v.items ≡ filter counts wishes.now) }
+{
+    let counted = wishes
+        .iter()
+        .copied()
+        .filter(|wish| counts(*wish))
+        .collect(alloc)?;
+    Ok(counted)
+}
+
+/// Hashing by a key of the wishes' candidates.
+fn hashing_of(wishes: &[Wish]) -> Keyed {
+    let mut key = KeyMaker::new();
+    for wish in wishes {
+        key.mix(wish.candidate, wish.id);
+    }
+    key.done()
+}
+
+/// The candidates of wishes, each once, in the order of their first wishes.
+pub fn named(alloc: Global, wishes: &[Wish]) -> Result<IndexSet<u32, Keyed>, OutOfMemory>
+    ensures { IfOk result (λ names. names.keys ≡ named wishes.now) }
+{
+    let mut names = IndexSet::with_hasher(alloc, hashing_of(wishes));
+    for wish in wishes {
+        names.insert(wish.candidate)?;
+    }
+    Ok(names)
+}
+
+/// Adds a wish to one of several rows.
+fn add(rows: &mut Vec<Vec<Wish>>, place: usize, wish: Wish) -> Result<(), OutOfMemory>
+    requires { place < length rows.old.items }
+    ensures added { OnOk result (map (λ r. r.items) rows.new.items ≡ slice_set
+        (map (λ r. r.items) rows.old.items) place
+        (slice_index_or (map (λ r. r.items) rows.old.items) place [] ++ wish ∷ [])) }
+    ensures as_many { OnOk result (length rows.new.items ≡ length rows.old.items) }
+{
+    rows[place].push(wish)?;
+    Ok(())
+}
+
+/// An empty row for each candidate.
+fn empty_rows(alloc: Global, names: &IndexSet<u32, Keyed>) -> Result<Vec<Vec<Wish>>, OutOfMemory>
+    ensures { IfOk result (λ rows. map (λ r. r.items) rows.items ≡ map (own []) names.now.keys) }
+{
+    let mut rows = Vec::new(alloc);
+    for name in 0..names.len() {
+        rows.push(Vec::new(alloc))?;
+    }
+    Ok(rows)
+}
+
+/// Adds a wish to the row of its candidate.
+fn lay(
+    rows: &mut Vec<Vec<Wish>>,
+    names: &IndexSet<u32, Keyed>,
+    wish: Wish,
+) -> Result<(), OutOfMemory>
+    requires { length rows.old.items ≡ length names.now.keys }
+    ensures laid { (before : List Wish) → map (λ r. r.items) rows.old.items
+        ≡ map (own before) names.now.keys → OnOk result (map (λ r. r.items) rows.new.items
+        ≡ map (own (before ++ wish ∷ [])) names.now.keys) }
+    ensures as_many { OnOk result (length rows.new.items ≡ length rows.old.items) }
+{
+    let _ = names.len();
+    if let Some(place) = names.get_index_of(&wish.candidate) {
+        add(rows, place, wish)?;
+        return Ok(());
+    }
+    Ok(())
+}
+
+/// The wishes of each candidate.
+fn rows_of(
+    alloc: Global,
+    wishes: &[Wish],
+    names: &IndexSet<u32, Keyed>,
+) -> Result<Vec<Vec<Wish>>, OutOfMemory>
+    ensures { IfOk result (λ rows. map (λ r. r.items) rows.items ≡ map (own wishes.now)
+        names.now.keys) }
+{
+    let mut rows = empty_rows(alloc, names)?;
+    for wish in wishes {
+        lay(&mut rows, names, *wish)?;
+    }
+    Ok(rows)
+}
+
+/// Puts wishes in order by preference.
+fn sort_by_preference(wishes: &mut Vec<Wish>) -> Result<(), OutOfMemory>
+    ensures { OnOk result (wishes.new.items ≡ sorted_by (λ w. w.preference) wishes.old.items) }
+{
+    wishes.sort_by_key(|w| w.preference)?;
+    Ok(())
+}
+
+/// The programmes of a candidate's wishes, by preference.
+fn by_preference(alloc: Global, own: &[Wish]) -> Result<Sequence<u32>, OutOfMemory>
+    ensures { IfOk result (λ list. list ≡ by_preference own.now) }
+{
+    let mut sorted = own.to_vec(alloc)?;
+    sort_by_preference(&mut sorted)?;
+    let list = sorted.iter().map(|wish| wish.programme).collect(alloc)?;
+    Ok(Sequence::from_vec(list))
+}
+
+/// The lists of candidates with these wishes.
+fn lists_from(alloc: Global, rows: &[Vec<Wish>]) -> Result<Vec<Sequence<u32>>, OutOfMemory>
+    ensures { IfOk result (λ lists. lists.items ≡ map (λ row. by_preference row.items) rows.now) }
+{
+    let mut lists = Vec::new(alloc);
+    for row in rows {
+        lists.push(by_preference(alloc, row.as_slice())?)?;
+    }
+    Ok(lists)
+}
+
+/// The list of each candidate of wishes, best first.
+pub fn lists_of(
+    alloc: Global,
+    wishes: &[Wish],
+    names: &IndexSet<u32, Keyed>,
+) -> Result<Vec<Sequence<u32>>, OutOfMemory>
+    ensures { IfOk result (λ lists. lists.items ≡ map (λ c. by_preference (own wishes.now c))
+        names.now.keys) }
+{
+    let rows = rows_of(alloc, wishes, names)?;
+    lists_from(alloc, rows.as_slice())
+}

@@ -1,6 +1,0 @@
-use Rattle.std.proofs.Common.{length}
-use Rattle.stable_market.proofs.Noting.{AreCountsTo}
-use Rattle.stable_market.proofs.counts.counts_of.Given as goal
-
-abbrev pub invariant-loop-place : goal.invariant-loop-place
-invariant-loop-place l = AreCountsTo (length l.market.orders) l.places l.place-index l.counts.items

@@ -1,0 +1,67 @@
+use Rattle.std.proofs.Common.{ℕ, List, ◌≡◌, ◌∙◌, sym, ap, subst, length, arith, Some, None}
+use Rattle.markets.specs.Markets.{IsMarket}
+use Rattle.std.proofs.lemmas.List.{length-map}
+use Rattle.stable_market.specs.Rows.{rows_of}
+use Rattle.stable_market.proofs.Ordering.{market_stands, no_bad_list, bad_order_is, lists_ready}
+use Rattle.stable_market.proofs.market_rows.new_market.Goals as goal
+
+pub first_bad_order-requires-clause-lists : goal.first_bad_order-requires-clause-lists
+first_bad_order-requires-clause-lists c =
+    lists_ready c.len-programmes.result c.deref.result.now c.deref-2.result.now c.deref-3.result.now
+    (c.len-programmes.ensures ∙ sym c.deref-3.ensures.len) (c.deref.ensures.value ∙ sym c.deref-2.ensures.value)
+    (sym c.in_ok-candidate.ensures ∙ c.in_default.is)
+
+pub returns-in-Some-2-clause-fault : goal.returns-in-Some-2-clause-fault
+returns-in-Some-2-clause-fault c =
+    let lists : List (List ℕ) = (rows_of c.args.lists.items c.args.orders.items c.args.seats.items).lists in
+    let orders : List (List ℕ) = (rows_of c.args.lists.items c.args.orders.items c.args.seats.items).orders in
+    let long : length orders ≡ length c.args.orders.items = length-map c.args.orders.items (λ v. v.items) in (
+      omega (arith, long, c.if-len.false, c.len.ensures, c.len-2.ensures),
+      no_bad_list c.len-programmes.result lists c.deref.result.now orders c.args.seats.items
+          (c.len-programmes.ensures ∙ sym c.deref-3.ensures.len ∙ ap length (c.deref-3.ensures.value ∙ c.in_ok-orders.ensures))
+          (c.deref.ensures.value ∙ c.in_ok-lists.ensures) (sym c.in_ok-candidate.ensures ∙ c.in_default.is),
+      bad_order_is (Some c.in-Some-2.programme) lists c.deref-2.result.now orders c.deref-3.result.now c.args.seats.items
+          (c.deref-2.ensures.value ∙ c.in_ok-lists.ensures)
+          (c.deref-3.ensures.value ∙ c.in_ok-orders.ensures) (sym c.in_ok-programme.ensures ∙ c.in-Some-2.is),
+    )
+
+pub from_rows-requires : goal.from_rows-requires
+from_rows-requires c =
+    let lists : List (List ℕ) = c.in_ok-lists.lists.items in
+    let orders : List (List ℕ) = c.in_ok-orders.orders.items in
+    let lists_long : length lists ≡ length c.args.lists.items = ap length c.in_ok-lists.ensures
+    ∙ length-map c.args.lists.items (λ v. v.items) in
+    let long : length orders ≡ length c.args.orders.items = ap length c.in_ok-orders.ensures
+    ∙ length-map c.args.orders.items (λ v. v.items) in
+    record {
+      valid =
+          market_stands (record { lists = lists; orders = orders; seats = c.args.seats.items })
+          (omega (arith, long, c.if-len.false, c.len.ensures, c.len-2.ensures))
+          (no_bad_list c.len-programmes.result lists c.deref.result.now orders c.args.seats.items
+          (c.len-programmes.ensures ∙ sym c.deref-3.ensures.len ∙ ap length c.deref-3.ensures.value) c.deref.ensures.value
+          (sym c.in_ok-candidate.ensures ∙ c.in_default.is))
+          (bad_order_is None lists c.deref-2.result.now orders c.deref-3.result.now c.args.seats.items c.deref-2.ensures.value
+          c.deref-3.ensures.value
+          (sym c.in_ok-programme.ensures ∙ c.in_default-2.is));
+      small = record {
+        candidates = omega (arith, lists_long, c.requires.candidates);
+        programmes = omega
+            (arith, long, c.requires.programmes);
+      };
+    }
+
+pub returns-clause-stands : goal.returns-clause-stands
+returns-clause-stands c =
+    let lists : List (List ℕ) = c.in_ok-lists.lists.items in
+    let orders : List (List ℕ) = c.in_ok-orders.orders.items in
+    let long : length orders ≡ length c.args.orders.items = ap length c.in_ok-orders.ensures
+    ∙ length-map c.args.orders.items (λ v. v.items) in
+    subst IsMarket (sym c.from_rows.ensures)
+    (market_stands (record { lists = lists; orders = orders; seats = c.args.seats.items })
+    (omega (arith, long, c.if-len.false, c.len.ensures, c.len-2.ensures))
+    (no_bad_list c.len-programmes.result lists c.deref.result.now orders c.args.seats.items
+    (c.len-programmes.ensures ∙ sym c.deref-3.ensures.len ∙ ap length c.deref-3.ensures.value) c.deref.ensures.value
+    (sym c.in_ok-candidate.ensures ∙ c.in_default.is))
+    (bad_order_is None lists c.deref-2.result.now orders c.deref-3.result.now c.args.seats.items c.deref-2.ensures.value
+    c.deref-3.ensures.value
+    (sym c.in_ok-programme.ensures ∙ c.in_default-2.is)))

@@ -1,6 +1,0 @@
-use Rattle.std.proofs.Common.{◌≡◌, map, take, []}
-use Rattle.stable_market.specs.Dossiers.{own}
-use Rattle.stable_market.proofs.owned.empty_rows.Given as goal
-
-abbrev pub invariant-loop-name : goal.invariant-loop-name
-invariant-loop-name l = map (λ r. r.items) l.rows.items ≡ map (own []) (take l.name l.names.keys)

@@ -1,6 +1,0 @@
-use Rattle.std.proofs.Common.{◌≡◌, map, take}
-use Rattle.stable_market.specs.Dossiers.{by_preference}
-use Rattle.stable_market.proofs.owned.lists_from.Given as goal
-
-abbrev pub invariant-loop-row : goal.invariant-loop-row
-invariant-loop-row l = l.lists.items ≡ map (λ r. by_preference r.items) (take l.row-index l.rows)

@@ -1,6 +1,0 @@
-use Rattle.std.proofs.Common.{◌≡◌, take}
-use Rattle.stable_market.specs.Dossiers.{named}
-use Rattle.stable_market.proofs.owned.named.Given as goal
-
-abbrev pub invariant-loop-wish : goal.invariant-loop-wish
-invariant-loop-wish l = l.names.keys ≡ named (take l.wish-index l.wishes)

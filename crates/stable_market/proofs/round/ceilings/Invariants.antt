@@ -1,5 +1,0 @@
-use Rattle.std.proofs.Common.{◌≡◌, map, length, take}
-use Rattle.stable_market.proofs.round.ceilings.Given as goal
-
-abbrev pub invariant-loop-programme : goal.invariant-loop-programme
-invariant-loop-programme l = l.ceilings.items ≡ map length (take l.programme l.market.orders)

@@ -1,5 +1,0 @@
-use Rattle.stable_market.specs.Standing.{AreBeyond}
-use Rattle.stable_market.proofs.standing.first_within.Given as goal
-
-abbrev pub invariant-loop-stand : goal.invariant-loop-stand
-invariant-loop-stand l = AreBeyond l.market l.bars l.candidate l.stand

@@ -1,4 +1,0 @@
-use Rattle.worked_parts.proofs.markets.solved.Given as goal
-
-abbrev pub ghosts-solved_counted : goal.ghosts-solved_counted
-ghosts-solved_counted g a = record { name = a.blank.name; parts = a.blank.parts }
