@@ -9,6 +9,7 @@ pub mod Led
 pub mod Listing
 pub mod Noting
 pub mod OneMore
+pub mod Ordering
 pub mod Owning
 pub mod Rankers
 pub mod Ranking
@@ -18,4 +19,5 @@ pub mod SamePlaced
 pub mod SamePlaces
 pub mod Seated
 pub mod Stable
+pub mod Stamping
 pub mod Telling

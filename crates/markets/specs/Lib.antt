@@ -1,5 +1,6 @@
 pub mod Bars
 pub mod Dossiers
+pub mod Faults
 pub mod Fillings
 pub mod Firsts
 pub mod Lawful
@@ -11,6 +12,8 @@ pub mod Placed
 pub mod Positions
 pub mod Ranked
 pub mod Rounds
+pub mod Rows
 pub mod Solving
+pub mod Stamps
 pub mod Standing
 pub mod Text

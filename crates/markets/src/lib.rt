@@ -6,20 +6,25 @@
 #![tactic(auto)]
 
 mod counts;
+mod fault;
 mod filling;
 mod laws;
 mod listers;
+mod lists;
 mod market;
 mod named;
+mod orders;
 mod owned;
 mod ranked;
 mod round;
 mod seating;
 mod solution;
+mod stamps;
 mod standing;
 mod text;
 
 pub use counts::counts_of;
+pub use fault::MarketFault;
 pub use laws::laws_of_markets;
 pub use listers::listers_of;
 pub use market::Market;

@@ -1,8 +1,14 @@
-//! A market.
-ghost use Rattle.std.specs.Prelude.{◌≡◌, ◌≤◌, ◌<◌, length, slice_index, All};
-ghost use Rattle.markets.specs.Markets.{IsMarket, IsSmall, IsSmallMarket, list_of, order_of};
+//! A market, and why rows are none.
+ghost use Rattle.std.specs.Prelude.{◌≡◌, ◌≤◌, ◌<◌, length, map, slice_index, All, IfOk, IfErr};
+ghost use Rattle.markets.specs.Markets.{IsMarket, IsSmall, list_of, order_of};
+ghost use Rattle.markets.specs.Faults.{IsFaultOf};
+ghost use Rattle.markets.specs.Rows.{rows_of};
 
-use admit_core::Sequence;
+use crate::fault::MarketFault;
+use crate::lists::first_bad_list;
+use crate::orders::first_bad_order;
+use admit_core::{OutOfMemory, Sequence};
+use std::alloc::Global;
 use std::marker::Model;
 
 /// Candidates who list programmes, best first, and programmes with seats that order their
@@ -30,22 +36,38 @@ impl Model for Market {
 }
 
 impl Market {
-    /// A market of lists, orders and seats that are known to be one.
-    pub fn from_rows(
-        lists: Vec<Sequence<u32>>,
-        orders: Vec<Sequence<u32>>,
+    /// A market of the candidates' lists and the programmes' orders and seats. On a refusal they
+    /// are dropped. It costs their length.
+    pub fn new(
+        alloc: Global,
+        lists: Vec<Vec<u32>>,
+        orders: Vec<Vec<u32>>,
         seats: Vec<u32>,
-    ) -> Market
-        requires { IsSmallMarket
-            (record { lists = lists.items; orders = orders.items; seats = seats.items }) }
-        ensures { result
-            ≡ record { lists = lists.items; orders = orders.items; seats = seats.items } }
+    ) -> Result<Market, MarketFault>
+        requires candidates { length lists.items ≤ 16000000 }
+        requires programmes { length orders.items ≤ 16000000 }
+        ensures rows { IfOk result
+            (λ market. market ≡ rows_of lists.items orders.items seats.items) }
+        ensures stands { IfOk result (λ market. IsMarket market) }
+        ensures fault { IfErr result (IsFaultOf (rows_of lists.items orders.items seats.items)) }
     {
-        Market {
+        if orders.len() != seats.len() {
+            return Err(MarketFault::BadCount);
+        }
+        let lists = sequences(alloc, lists)?;
+        let orders = sequences(alloc, orders)?;
+        let programmes = orders.len() as u32;
+        if let Some(candidate) = first_bad_list(alloc, &lists, programmes)? {
+            return Err(MarketFault::BadList { candidate });
+        }
+        if let Some(programme) = first_bad_order(alloc, &lists, &orders)? {
+            return Err(MarketFault::BadOrder { programme });
+        }
+        Ok(Market {
             lists,
             orders,
             seats,
-        }
+        })
     }
 
     /// The number of candidates.
@@ -104,4 +126,15 @@ impl Market {
     {
         self.seats[programme as usize]
     }
+}
+
+/// The lists as sequences, which keep no room.
+fn sequences(alloc: Global, lists: Vec<Vec<u32>>) -> Result<Vec<Sequence<u32>>, OutOfMemory>
+    ensures { IfOk result (λ v. v.items ≡ map (λ list. list.items) lists.items) }
+{
+    let sequences = lists
+        .into_iter()
+        .map(|list| Sequence::from_vec(list))
+        .collect(alloc)?;
+    Ok(sequences)
 }

@@ -4,7 +4,7 @@ ghost use Rattle.std.specs.Prelude.{◌≡◌, ◌<◌};
 use crate::texts::{numbers_in, push_places, push_word, push_words};
 use admit_core::{OutOfMemory, Steps};
 use bar_fixpoint::{FirstPicker, LastPicker, Picker, TiredPicker, TurnPicker};
-use stable_market::{Market, MarketFault, Solved, new_market, solve};
+use stable_market::{Market, MarketFault, Solved, solve};
 use std::alloc::Global;
 use std::marker::Brand;
 use std::sync::ledger::{Blank, Ledger};
@@ -58,7 +58,7 @@ pub(crate) fn made(
     if lists.len() > 9 || orders.len() > 9 {
         return Err(MarketFault::BadCount);
     }
-    new_market(alloc, lists, orders, seats)
+    Market::new(alloc, lists, orders, seats)
 }
 
 /// What `solve` answers by this counter.

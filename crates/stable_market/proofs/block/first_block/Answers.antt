@@ -3,7 +3,7 @@ use Rattle.std.specs.Option.{is_some}
 use Rattle.markets.specs.Markets.{MarketRows}
 use Rattle.markets.specs.Matchings.{block_of}
 use Rattle.markets.specs.Positions.{is_programme}
-use Rattle.stable_market.proofs.Ordering.{range_found}
+use Rattle.markets.proofs.Ordering.{range_found}
 use Rattle.stable_market.proofs.Blocking.{stable_from}
 use Rattle.stable_market.proofs.block.first_block.Goals as goal
 

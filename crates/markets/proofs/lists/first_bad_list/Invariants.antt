@@ -1,5 +1,5 @@
-use Rattle.stable_market.proofs.Stamping.{AllStood}
-use Rattle.stable_market.proofs.lists.first_bad_list.Given as goal
+use Rattle.markets.proofs.Stamping.{AllStood}
+use Rattle.markets.proofs.lists.first_bad_list.Given as goal
 
 abbrev pub invariant-loop-list : goal.invariant-loop-list
 invariant-loop-list l = AllStood l.count l.lists l.list-index l.stamp l.stamps.items

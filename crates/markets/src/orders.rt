@@ -2,8 +2,8 @@
 ghost use Rattle.std.specs.Prelude.{◌≡◌, ◌≤◌, ◌<◌, [], length, All, IfOk};
 ghost use Rattle.markets.specs.Markets.{first_bad_order};
 ghost use Rattle.markets.specs.Listers.{AreLists};
-ghost use Rattle.stable_market.specs.Rows.{has_all_of};
-ghost use Rattle.stable_market.specs.Stamps.{AreOlder, AreUpTo};
+ghost use Rattle.markets.specs.Rows.{has_all_of};
+ghost use Rattle.markets.specs.Stamps.{AreOlder, AreUpTo};
 
 use crate::stamps::{all_bear, stamp_list};
 use admit_core::{OutOfMemory, Sequence};

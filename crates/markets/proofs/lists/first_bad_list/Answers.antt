@@ -2,7 +2,7 @@ use Rattle.std.proofs.Common.{ℕ, List, [], ◌+◌, ◌-◌, ◌≡◌, Bool, 
 use Rattle.std.proofs.lemmas.List.{get_or_default}
 use Rattle.markets.specs.Markets.{is_list_below}
 use Rattle.markets.specs.Firsts.{position_found, position_none}
-use Rattle.stable_market.proofs.lists.first_bad_list.Goals as goal
+use Rattle.markets.proofs.lists.first_bad_list.Goals as goal
 
 pub returns-then-not-stamp_list : goal.returns-then-not-stamp_list
 returns-then-not-stamp_list c =

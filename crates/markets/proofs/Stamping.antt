@@ -12,7 +12,7 @@ use Rattle.std.proofs.lemmas.Map.Keys.{IsDistinct-push, apart_from_distinct}
 use Rattle.admit_core.specs.Lists.{is_among}
 use Rattle.admit_core.proofs.FallsLaw.{at_set}
 use Rattle.markets.specs.Markets.{is_distinct, is_list_below}
-use Rattle.stable_market.specs.Stamps.{AreOlder, AreUpTo, BearStamp}
+use Rattle.markets.specs.Stamps.{AreOlder, AreUpTo, BearStamp}
 use Rattle.markets.specs.Positions.{distinct_from, among_at}
 use Rattle.markets.proofs.BelowCount.{last_differs, earlier, list_below, list_distinct, is_distinct_from}
 

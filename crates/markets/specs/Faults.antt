@@ -1,7 +1,7 @@
 -- Why rows are no market.
 use Rattle.std.specs.Prelude.{◌≡◌, ◌≢◌, length, Some, None, ⊤}
-use Rattle.stable_market.specs.declared.fault.MarketFault.{MarketFault}
-use Rattle.stable_market.specs.declared.fault.MarketFault.TheVariants.{BadCount, BadList, BadOrder, OutOfMemory}
+use Rattle.markets.specs.declared.fault.MarketFault.{MarketFault}
+use Rattle.markets.specs.declared.fault.MarketFault.TheVariants.{BadCount, BadList, BadOrder, OutOfMemory}
 use Rattle.markets.specs.Markets.{MarketRows, first_bad_list, first_bad_order}
 
 -- the fault of rows: the first that stands of the counts, the lists and the orders; want of memory

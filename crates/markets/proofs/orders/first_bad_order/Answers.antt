@@ -1,7 +1,7 @@
 use Rattle.std.proofs.Common.{ℕ, [], sym, length, arith}
 use Rattle.markets.specs.Markets.{MarketRows}
-use Rattle.stable_market.proofs.Ordering.{orders_more, orders_found, orders_none, row_read, order_read, told_now, row_within}
-use Rattle.stable_market.proofs.orders.first_bad_order.Goals as goal
+use Rattle.markets.proofs.Ordering.{orders_more, orders_found, orders_none, row_read, order_read, told_now, row_within}
+use Rattle.markets.proofs.orders.first_bad_order.Goals as goal
 
 pub has_all_of-requires-clause-within : goal.has_all_of-requires-clause-within
 has_all_of-requires-clause-within c =

@@ -18,7 +18,7 @@ pub enum MarketFault {
 
 impl From<OutOfMemory> for MarketFault {
     ghost use Rattle.std.specs.Prelude.{◌≡◌};
-    ghost use Rattle.stable_market.specs.declared.fault.MarketFault.TheVariants as faults;
+    ghost use Rattle.markets.specs.declared.fault.MarketFault.TheVariants as faults;
 
     ghost from_gives = { λ _ fault. fault ≡ faults.OutOfMemory };
 

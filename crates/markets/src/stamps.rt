@@ -3,7 +3,7 @@ ghost use Rattle.std.specs.Prelude.{◌≡◌, ◌<◌, length, nat_eq, slice_in
 ghost use Rattle.std.specs.Bool.{OnTrue};
 ghost use Rattle.std.specs.List.{list_all};
 ghost use Rattle.markets.specs.Markets.{is_list_below};
-ghost use Rattle.stable_market.specs.Stamps.{AreOlder, AreUpTo, BearStamp};
+ghost use Rattle.markets.specs.Stamps.{AreOlder, AreUpTo, BearStamp};
 
 /// Stamps the numbers of a list, and says whether they are in range and none stands twice. It stops
 /// at the first that is out of range or bears this stamp already.

@@ -15,8 +15,8 @@ use Rattle.admit_core.proofs.Counting.{distinct_kept}
 use Rattle.admit_core.proofs.FullBeds.{rising_distinct}
 use Rattle.markets.specs.Markets.{MarketRows, IsMarket, order_of, lists_it, listers, is_list_below, is_order, is_distinct, first_bad_list, first_bad_order}
 use Rattle.markets.specs.Listers.{AreLists, AreListers}
-use Rattle.stable_market.specs.Rows.{has_all_of}
-use Rattle.stable_market.specs.Stamps.{AreUpTo, BearStamp}
+use Rattle.markets.specs.Rows.{has_all_of}
+use Rattle.markets.specs.Stamps.{AreUpTo, BearStamp}
 use Rattle.markets.specs.Firsts.{among_filter, among_range, range_has, one_of_all, any_of}
 use Rattle.markets.specs.Positions.{distinct_from}
 use Rattle.markets.specs.Lawful.{range_rises}

@@ -1,7 +1,7 @@
 use Rattle.std.proofs.Common.{ℕ, List, ◌≡◌, ◌<◌, ◌≤◌, arith, length, get_or, sym, subst, take}
 use Rattle.std.proofs.lemmas.List.{take_all}
-use Rattle.stable_market.proofs.Stamping.{AreStamped, stamped_none, stamped_more, out_of_range, stands_twice}
-use Rattle.stable_market.proofs.stamps.stamp_list.Goals as goal
+use Rattle.markets.proofs.Stamping.{AreStamped, stamped_none, stamped_more, out_of_range, stands_twice}
+use Rattle.markets.proofs.stamps.stamp_list.Goals as goal
 
 pub loop-number-init : goal.loop-number-init
 loop-number-init c = stamped_none c.args.stamp c.args.stamps.now c.requires

@@ -4,8 +4,8 @@ use Rattle.std.proofs.lemmas.List.Elements.{All-contains}
 use Rattle.std.proofs.lemmas.Map.Views.{Contains-from_any}
 use Rattle.admit_core.specs.Lists.{is_among}
 use Rattle.markets.specs.Markets.{is_list_below}
-use Rattle.stable_market.proofs.Ordering.{stamped_same}
-use Rattle.stable_market.proofs.orders.has_all_of.Goals as goal
+use Rattle.markets.proofs.Ordering.{stamped_same}
+use Rattle.markets.proofs.orders.has_all_of.Goals as goal
 
 and_true : (a b t : Bool) → a ≡ true → b ≡ true → t ≡ (a && b && t)
 and_true a b t e f = rw (e, f) refl

@@ -1,9 +1,8 @@
-use Rattle.std.proofs.Common.{ℕ, List, ◌≡◌, ◌∙◌, sym, ap, subst, length, arith, Some, None}
-use Rattle.markets.specs.Markets.{IsMarket}
+use Rattle.std.proofs.Common.{ℕ, List, ◌≡◌, ◌∙◌, sym, ap, length, arith, Some, None}
 use Rattle.std.proofs.lemmas.List.{length-map}
-use Rattle.stable_market.specs.Rows.{rows_of}
-use Rattle.stable_market.proofs.Ordering.{market_stands, no_bad_list, bad_order_is, lists_ready}
-use Rattle.stable_market.proofs.market_rows.new_market.Goals as goal
+use Rattle.markets.specs.Rows.{rows_of}
+use Rattle.markets.proofs.Ordering.{market_stands, no_bad_list, bad_order_is, lists_ready}
+use Rattle.markets.proofs.market.Market.new.Goals as goal
 
 pub first_bad_order-requires-clause-lists : goal.first_bad_order-requires-clause-lists
 first_bad_order-requires-clause-lists c =
@@ -25,8 +24,23 @@ returns-in-Some-2-clause-fault c =
           (c.deref-3.ensures.value ∙ c.in_ok-orders.ensures) (sym c.in_ok-programme.ensures ∙ c.in-Some-2.is),
     )
 
-pub from_rows-requires : goal.from_rows-requires
-from_rows-requires c =
+pub returns-clause-stands : goal.returns-clause-stands
+returns-clause-stands c =
+    let lists : List (List ℕ) = c.in_ok-lists.lists.items in
+    let orders : List (List ℕ) = c.in_ok-orders.orders.items in
+    let long : length orders ≡ length c.args.orders.items = ap length c.in_ok-orders.ensures
+    ∙ length-map c.args.orders.items (λ v. v.items) in
+    market_stands (record { lists = lists; orders = orders; seats = c.args.seats.items })
+    (omega (arith, long, c.if-len.false, c.len.ensures, c.len-2.ensures))
+    (no_bad_list c.len-programmes.result lists c.deref.result.now orders c.args.seats.items
+    (c.len-programmes.ensures ∙ sym c.deref-3.ensures.len ∙ ap length c.deref-3.ensures.value) c.deref.ensures.value
+    (sym c.in_ok-candidate.ensures ∙ c.in_default.is))
+    (bad_order_is None lists c.deref-2.result.now orders c.deref-3.result.now c.args.seats.items c.deref-2.ensures.value
+    c.deref-3.ensures.value
+    (sym c.in_ok-programme.ensures ∙ c.in_default-2.is))
+
+pub invariant_of-result : goal.invariant_of-result
+invariant_of-result c =
     let lists : List (List ℕ) = c.in_ok-lists.lists.items in
     let orders : List (List ℕ) = c.in_ok-orders.orders.items in
     let lists_long : length lists ≡ length c.args.lists.items = ap length c.in_ok-lists.ensures
@@ -49,19 +63,3 @@ from_rows-requires c =
             (arith, long, c.requires.programmes);
       };
     }
-
-pub returns-clause-stands : goal.returns-clause-stands
-returns-clause-stands c =
-    let lists : List (List ℕ) = c.in_ok-lists.lists.items in
-    let orders : List (List ℕ) = c.in_ok-orders.orders.items in
-    let long : length orders ≡ length c.args.orders.items = ap length c.in_ok-orders.ensures
-    ∙ length-map c.args.orders.items (λ v. v.items) in
-    subst IsMarket (sym c.from_rows.ensures)
-    (market_stands (record { lists = lists; orders = orders; seats = c.args.seats.items })
-    (omega (arith, long, c.if-len.false, c.len.ensures, c.len-2.ensures))
-    (no_bad_list c.len-programmes.result lists c.deref.result.now orders c.args.seats.items
-    (c.len-programmes.ensures ∙ sym c.deref-3.ensures.len ∙ ap length c.deref-3.ensures.value) c.deref.ensures.value
-    (sym c.in_ok-candidate.ensures ∙ c.in_default.is))
-    (bad_order_is None lists c.deref-2.result.now orders c.deref-3.result.now c.args.seats.items c.deref-2.ensures.value
-    c.deref-3.ensures.value
-    (sym c.in_ok-programme.ensures ∙ c.in_default-2.is)))
