@@ -5,9 +5,9 @@ ghost use Rattle.markets.specs.Listers.{AreLists};
 ghost use Rattle.markets.specs.Rows.{has_all_of};
 ghost use Rattle.markets.specs.Stamps.{AreOlder, AreUpTo};
 
+use crate::listers::listers_of;
 use crate::stamps::{all_bear, stamp_list};
 use admit_core::{OutOfMemory, Sequence};
-use markets::listers_of;
 use std::alloc::Global;
 
 /// The first programme whose order misses a candidate whose list names it, or has another, or one
