@@ -1,6 +1,5 @@
 -- The next day of a campaign.
 use Rattle.std.proofs.Common.{ℕ, ◌+◌, ◌≡◌, true, List, subst, ap, refl, ◌∙◌, Option, Ok}
-use Rattle.admit_core.specs.declared.ranking.CallOrder.{CallOrder}
 use Rattle.admit_core.specs.declared.records.DayRecord.{DayRecord}
 use Rattle.admit_core.specs.declared.records.Terms.{Terms}
 use Rattle.admit_core.specs.Days.{ceilings_of}

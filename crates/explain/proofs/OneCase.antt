@@ -9,7 +9,7 @@ use Rattle.admit_core.specs.declared.state.Status.{Status}
 use Rattle.admit_core.specs.declared.state.Status.TheVariants.{Waiting, Offered, Accepted, Refused, Withdrawn, Quit, AutoRefused, AutoWithdrawn, Lapsed}
 use Rattle.admit_core.specs.State.{is_gone, is_live, is_waiting}
 use Rattle.admit_core.specs.Proposals.{is_barred, is_behind_bar}
-use Rattle.admit_core.specs.Explanations.{LastPass, barred_at, explanation, no_seat}
+use Rattle.admit_core.specs.Explanations.{LastPass, barred_at, explanation}
 use Rattle.explain.specs.Laws.{EachHasOne, IsExplanation}
 use Rattle.explanations.proofs.CaseByCase.{waits_else, when_barred, when_gone, when_live, when_seatless}
 

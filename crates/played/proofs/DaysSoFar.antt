@@ -128,6 +128,18 @@ module _ (plan : Plan) (old : DeskStates) (before : Lent) (played : ℕ) (days :
   untold_still : (after : Lent) → Untold between after → Told plan.who days before after
   untold_still after untold = λ name. untold name ∙ so_far.told name
 
+  -- memory runs out on the next day, or after it
+  out_there : (number : ℕ) (kept : List DayRecord) (new : DeskStates) (after : Lent) → played < number
+      → AreBack between after → PlaysDays plan number old before kept (Err refusals.OutOfMemory) new after
+  out_there number kept new after fewer back = record {
+    last = mid;
+    lead = tt;
+    stops = tt;
+    told = tt;
+    back = back_again before between after so_far.back back;
+    idle = λ none. absurd (omega arith);
+  }
+
   -- the next day does not come about
   stopped : (number : ℕ) (refusal : DayRefusal) (new : DeskStates) (after : Lent) → played < number
       → EndsNext plan (played + 1) mid between (Err refusal) new after
@@ -146,16 +158,7 @@ module _ (plan : Plan) (old : DeskStates) (before : Lent) (played : ℕ) (days :
         back = back_again before between after so_far.back ends.back;
         idle = λ none. absurd (omega arith);
       }
-  stopped number refusals.OutOfMemory new after fewer ends =
-      record {
-        last = mid;
-        lead = tt;
-        stops = tt;
-        told = tt;
-        back = back_again before between after
-            so_far.back ends.back;
-        idle = λ none. absurd (omega arith);
-      }
+  stopped number refusals.OutOfMemory new after fewer ends = out_there number days new after fewer ends.back
 
   pub plays_some : (number : ℕ) (refusal : DayRefusal) (new : DeskStates) (after : Lent)
       (r : Result (Unit {0}) DayRefusal) → IsErrAnd r (λ x. x ≡ refusal) → played < number
@@ -173,15 +176,7 @@ module _ (plan : Plan) (old : DeskStates) (before : Lent) (played : ℕ) (days :
   plays_out number day kept new after (Ok done) from fewer ends = absurd from
   plays_out number day kept new after (Err other) from fewer ends =
       subst (λ (x : DayRefusal). PlaysDays plan number old before kept (Err x) new after) (sym from)
-      (record {
-        last = mid;
-        lead = tt;
-        stops = tt;
-        told = tt;
-        back = back_again before between after
-            so_far.back ends.back;
-        idle = λ none. absurd (omega arith);
-      })
+      (out_there number kept new after fewer ends.back)
 
   pub plays_all : (number : ℕ) → played ≡ number → PlaysDays plan number old before days (Ok tt) mid between
   plays_all number all = record {
