@@ -10,5 +10,6 @@ returns c =
     let days = c.as_slice.ensures.value ∙ c.into_parts-orders.ensures.days in
     let evening = c.into_now-evening.ensures ∙ ap (λ (x : DeskStates). x.present) c.into_parts-orders.ensures.desk in (
       c.done.ensures.exit,
-      c.done.ensures.text ∙ c.in_ok-text.ensures ∙ (λ i. replay_text c.args.input.now.dossier (option_copied c.args.dated) (orders i) (days i) (evening i)),
+      c.done.ensures.text ∙ c.in_ok-text.ensures
+          ∙ (λ i. replay_text c.args.input.now.dossier (option_copied c.args.dated) (orders i) (days i) (evening i)),
     )
