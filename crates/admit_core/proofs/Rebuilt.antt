@@ -47,7 +47,8 @@ id_stays true n s = refl
 id_stays false n s = refl
 
 -- the ids stay
-ids_from : (k : ℕ) (schools : List School) (h n : ℕ) → map (λ s. s.id) (map (with_n h n) (enumerate_from k schools)) ≡ map (λ s. s.id) schools
+ids_from : (k : ℕ) (schools : List School) (h n : ℕ)
+    → map (λ s. s.id) (map (with_n h n) (enumerate_from k schools)) ≡ map (λ s. s.id) schools
 ids_from k [] h n = refl
 ids_from k (s ∷ schools) h n = rw (id_stays (k == h) n s, ids_from (k + 1) schools h n) refl
 
@@ -59,7 +60,8 @@ valid_with false n s small valid = valid
 school_there : (school : Option ℕ) (old new : ℕ) → new ≡ old → ForSome school (λ h. h < old) → ForSome school (λ h. h < new)
 school_there school old new e there = λ x is. subst (λ n. x < n) (sym e) (there x is)
 
-all_valid : (k : ℕ) (schools : List School) (h n : ℕ) → n ≤ 2000000000 → All IsValidSchool schools → All IsValidSchool (map (with_n h n) (enumerate_from k schools))
+all_valid : (k : ℕ) (schools : List School) (h n : ℕ) → n ≤ 2000000000 → All IsValidSchool schools
+    → All IsValidSchool (map (with_n h n) (enumerate_from k schools))
 all_valid k [] h n small valid = λ i x lt. absurd (omega arith)
 all_valid k (s ∷ schools) h n small valid =
     All-cons IsValidSchool (with_n h n (k, s)) (map (with_n h n) (enumerate_from (k + 1) schools))
@@ -73,8 +75,21 @@ rebuilt_is_valid d h n small valid =
     let size = valid.size in
     let ids = valid.ids in
     record {
-      size = record { groups = size.groups; ranked = size.ranked; programmes = size.programmes; schools = rw many size.schools; wishes = size.wishes; ceilings = size.ceilings; answers = size.answers };
-      ids = record { groups = ids.groups; programmes = ids.programmes; schools = subst (IsDistinct nat_eq) (sym (ids_from 0 d.schools h n)) ids.schools; wishes = ids.wishes };
+      size = record {
+        groups = size.groups;
+        ranked = size.ranked;
+        programmes = size.programmes;
+        schools = rw many size.schools;
+        wishes = size.wishes;
+        ceilings = size.ceilings;
+        answers = size.answers;
+      };
+      ids = record {
+        groups = ids.groups;
+        programmes = ids.programmes;
+        schools = subst (IsDistinct nat_eq) (sym (ids_from 0 d.schools h n)) ids.schools;
+        wishes = ids.wishes;
+      };
       groups = valid.groups;
       programmes = λ k p lt. let v = valid.programmes k p lt in record { id = v.id; group = v.group; seats = v.seats; limit = v.limit };
       schools = all_valid 0 d.schools h n small valid.schools;

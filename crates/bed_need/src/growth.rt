@@ -9,13 +9,11 @@ ghost use Rattle.desk_day.specs.DayPasses.{TellsMore};
 ghost use Rattle.bed_need.specs.Growing.{IsGrowth, with_more_beds, with_n_beds};
 ghost use Rattle.bed_need.specs.Telling.{IsAsked, TellsOfBoth};
 
-use crate::need::NO_STAMP;
+use crate::need::pass_in;
 use crate::refitted::refitted;
 use admit_core::{CallOrders, Dossier, OutOfMemory};
 use bar_fixpoint::Picker;
 use day_state::DayState;
-use linked_demand::Lineup;
-use round::pass;
 use std::alloc::Global;
 
 /// The greatest bars of all schools, by place: with the present beds, and with more in one school.
@@ -42,8 +40,7 @@ fn bars_in(
         (boarding state.old orders.now.orders ceilings.now) result
         (choice picker.old) (choice picker.new) (told picker.old) (told picker.new) }
 {
-    let lineup = Lineup::build(alloc, state, orders)?;
-    let found = pass(alloc, state, orders, &lineup, ceilings, NO_STAMP, picker)?;
+    let found = pass_in(alloc, state, orders, ceilings, picker)?;
     Ok(found.bars.into_vec())
 }
 

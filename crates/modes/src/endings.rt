@@ -1,5 +1,5 @@
 //! How a run ends after its days, by its mode.
-ghost use Rattle.std.specs.Prelude.{◌≡◌, ◌<◌, All, IfOk, IfSome, IsSome, IsTrue, None, Ok, Err, length, option_copied};
+ghost use Rattle.std.specs.Prelude.{◌≡◌, ◌<◌, All, IfOk, IfSome, IsSome, IsTrue, None, Some, Ok, Err, length, option_copied};
 ghost use Rattle.admit_core.specs.CallOrder.{AreCallOrders};
 ghost use Rattle.admit_core.specs.Days.{first_evening};
 ghost use Rattle.admit_core.specs.Lists.{is_among};
@@ -10,7 +10,7 @@ ghost use Rattle.modes.specs.Blocked.{blocked_text};
 ghost use Rattle.modes.specs.Checking.{IsChecked};
 ghost use Rattle.modes.specs.Endings.{CanBeEnded, CanEnd, EndsAfter, EndsLent, IsDoneSaying, IsDoneWith, IsEndOf, IsRefusedWith, led_by, lines_before};
 ghost use Rattle.modes.specs.Explained.{IsExplained};
-ghost use Rattle.modes.specs.Jobs.{seen_by};
+ghost use Rattle.modes.specs.Jobs.{picker_after, seen_by};
 ghost use Rattle.modes.specs.Order.{orders_text};
 ghost use Rattle.modes.specs.Replay.{CanBeDated, CanBeWritten, replay_text};
 ghost use Rattle.played.specs.LastDays.{IsDeskAfter};
@@ -303,6 +303,33 @@ fn ended_lent(
     reply
 }
 
+/// How a mode ends that asks the picker of this name.
+fn ended_asked(
+    alloc: Global,
+    request: &Request,
+    input: &Input,
+    dated: Option<&DatedTerms>,
+    led: &Led<'_>,
+    name: PickerName,
+    pickers: &mut Pickers,
+) -> Result<Reply, OutOfMemory>
+    requires named { Some name ≡ picker_after request.now }
+    requires can { CanBeEnded
+        (seen_by request.now input.now (option_copied dated)) (led_by led.now) led.now.desk }
+    requires there { AreThere pickers.old }
+    ensures there { AreThere pickers.new }
+    ensures ends { EndsAfter (Ok led.now.desk)
+        (seen_by request.now input.now (option_copied dated.entry)) (led_by led.now)
+        (standing (λ p. told p) (λ p. choice p) pickers.old)
+        (standing (λ p. told p) (λ p. choice p) pickers.new) result }
+{
+    match name {
+        PickerName::First => { ended_lent(alloc, request, input, dated, led, &mut pickers.first) }
+        PickerName::Last => { ended_lent(alloc, request, input, dated, led, &mut pickers.last) }
+        PickerName::Turn => { ended_lent(alloc, request, input, dated, led, &mut pickers.turn) }
+    }
+}
+
 /// How a run ends once all its days have led to a desk, with the picker that its mode asks.
 fn ended_by(
     alloc: Global,
@@ -323,15 +350,7 @@ fn ended_by(
 {
     match picker_after(request) {
         None => ended(alloc, request, input, dated, led),
-        Some(PickerName::First) => {
-            ended_lent(alloc, request, input, dated, &led, &mut pickers.first)
-        }
-        Some(PickerName::Last) => {
-            ended_lent(alloc, request, input, dated, &led, &mut pickers.last)
-        }
-        Some(PickerName::Turn) => {
-            ended_lent(alloc, request, input, dated, &led, &mut pickers.turn)
-        }
+        Some(name) => ended_asked(alloc, request, input, dated, &led, name, pickers),
     }
 }
 

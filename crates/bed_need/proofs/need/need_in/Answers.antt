@@ -1,53 +1,35 @@
 use Rattle.std.proofs.Common.{◌≡◌, ◌∙◌, ◌+◌, ap, length, refl, rules, subst}
-use Rattle.bar_law.specs.Runs.{schools_of}
-use Rattle.desk_day.proofs.PassesSoFar.{tells_of_falls, tells_still}
 use Rattle.admit_core.specs.Proposals.{demanded_ranks}
 use Rattle.admit_core.specs.State.{State, bed_holders}
 use Rattle.admit_core.specs.Validity.{IsValid}
 use Rattle.bed_need.proofs.Least.{holders_after}
-use Rattle.bed_need.proofs.Telling.{run_of_pass}
 use Rattle.bed_need.proofs.need.need_in.Goals as goal
 
 pub returns-clause-need : goal.returns-clause-need
 returns-clause-need g c =
     let s = c.args.roomy.now in
     let orders = c.args.orders.now.orders in
-    let found = c.in_ok-pass.field-0 in
+    let found = c.in_ok-pass_in.field-0 in
     let h = c.args.school in
     let valid : IsValid s.dossier =
     subst IsValid (c.dossier.view_is ∙ c.dossier-dossier.ensures) c.dossier.invariant in
     let live : c.live_in_school.result
     ≡ length (bed_holders s h) + length (demanded_ranks s orders found.bars h) =
     c.live_in_school.ensures
-    ∙ ap (λ (t : State). length (bed_holders t h)) c.in_ok-pass.ensures.state
+    ∙ ap (λ (t : State). length (bed_holders t h)) c.in_ok-pass_in.ensures.state
     ∙ holders_after s orders found.bars _ h valid in
     record {
       bars = found.bars;
-      greatest = c.in_ok-pass.ensures.pass.greatest;
+      greatest = c.in_ok-pass_in.ensures.pass.greatest;
       is = c.need_of.ensures ∙ rw (live, c.live_in_school-before.ensures) refl;
     }
 
 pub returns-clause-asked : goal.returns-clause-asked
 returns-clause-asked g c =
-    let pass = c.in_ok-pass in
-    record {
-      told =
-          run_of_pass c.args.roomy.now c.args.orders.now.orders c.args.ceilings.now _ _ _
-          pass.field-0 pass.ensures.pass pass.ensures.told pass.ensures.chosen;
-      early = (schools_of pass.field-0.falls, pass.ensures.told);
-      choice = search rules;
-    }
+    let asked = c.in_ok-pass_in.ensures.asked in
+    record { told = asked.told; early = asked.early; choice = asked.choice }
 
-pub returns-in_err-lineup-clause-asked : goal.returns-in_err-lineup-clause-asked
-returns-in_err-lineup-clause-asked g c = record {
-  told = search rules;
-  early = tells_still _ _ refl;
-  choice = search rules;
-}
-
-pub returns-in_err-pass-clause-asked : goal.returns-in_err-pass-clause-asked
-returns-in_err-pass-clause-asked g c = record {
-  told = search rules;
-  early = tells_of_falls _ _ _ _ c.in_err-pass.ensures.early;
-  choice = search rules;
-}
+pub returns-in_err-pass_in-clause-asked : goal.returns-in_err-pass_in-clause-asked
+returns-in_err-pass_in-clause-asked g c =
+    let asked = c.in_err-pass_in.ensures.asked in
+    record { told = search rules; early = asked.early; choice = asked.choice }

@@ -1,39 +1,34 @@
-use Rattle.std.proofs.Common.{◌≡◌, None, rules}
+use Rattle.std.proofs.Common.{◌∙◌, ap}
 use Rattle.std.specs.Option.{option_copied}
 use Rattle.std.proofs.lemmas.Result.{on_ok_weaker}
-use Rattle.admit_core.specs.Days.{ceilings_of, morning, unfit_on}
+use Rattle.admit_core.specs.Days.{ceilings_of}
+use Rattle.admit_core.specs.DossierRows.{DossierRows}
 use Rattle.modes.proofs.CheckedDay.{keeps_dossier, keeps_stamps, leads}
 use Rattle.modes.proofs.checked.check_next.Goals as goal
 
 pub returns-clause-evening : goal.returns-clause-evening
 returns-clause-evening c =
-    let terms = option_copied c.args.terms in
-    let old = c.args.state.now in
-    let dawn = c.make_morning.new.state in
-    let fits : unfit_on terms c.args.day old ≡ None = search rules in
-    let begins : dawn ≡ morning terms c.args.day old = search rules in
-    let under : c.deref.result.now ≡ ceilings_of old.dossier c.args.day = search rules in
+    let under = c.deref.ensures.value ∙ c.in_ok-ceilings.ensures.ceilings
+    ∙ ap (λ (d : DossierRows). ceilings_of d c.args.day) c.dossier.ensures in
     on_ok_weaker c.check_morning.result
-    (λ valid. leads terms c.args.orders.now.orders c.args.day old dawn c.deref.result.now c.args.chain.now fits begins under c.check_morning.new.state valid) c.check_morning.ensures.valid
+    (leads (option_copied c.args.terms) c.args.orders.now.orders c.args.day c.args.state.now c.make_morning.new.state
+    c.deref.result.now c.args.chain.now
+    c.in_ok-make_morning.ensures.fits c.in_ok-make_morning.ensures.morning under c.check_morning.new.state) c.check_morning.ensures.valid
 
 pub returns-clause-dossier : goal.returns-clause-dossier
 returns-clause-dossier c =
-    let terms = option_copied c.args.terms in
-    let old = c.args.state.now in
-    let dawn = c.make_morning.new.state in
-    let fits : unfit_on terms c.args.day old ≡ None = search rules in
-    let begins : dawn ≡ morning terms c.args.day old = search rules in
-    let under : c.deref.result.now ≡ ceilings_of old.dossier c.args.day = search rules in
+    let under = c.deref.ensures.value ∙ c.in_ok-ceilings.ensures.ceilings
+    ∙ ap (λ (d : DossierRows). ceilings_of d c.args.day) c.dossier.ensures in
     on_ok_weaker c.check_morning.result
-    (λ valid. keeps_dossier terms c.args.orders.now.orders c.args.day old dawn c.deref.result.now c.args.chain.now fits begins under c.check_morning.new.state valid) c.check_morning.ensures.valid
+    (keeps_dossier (option_copied c.args.terms) c.args.orders.now.orders c.args.day c.args.state.now c.make_morning.new.state
+    c.deref.result.now c.args.chain.now
+    c.in_ok-make_morning.ensures.fits c.in_ok-make_morning.ensures.morning under c.check_morning.new.state) c.check_morning.ensures.valid
 
 pub returns-clause-stamps : goal.returns-clause-stamps
 returns-clause-stamps c =
-    let terms = option_copied c.args.terms in
-    let old = c.args.state.now in
-    let dawn = c.make_morning.new.state in
-    let fits : unfit_on terms c.args.day old ≡ None = search rules in
-    let begins : dawn ≡ morning terms c.args.day old = search rules in
-    let under : c.deref.result.now ≡ ceilings_of old.dossier c.args.day = search rules in
+    let under = c.deref.ensures.value ∙ c.in_ok-ceilings.ensures.ceilings
+    ∙ ap (λ (d : DossierRows). ceilings_of d c.args.day) c.dossier.ensures in
     on_ok_weaker c.check_morning.result
-    (λ valid. keeps_stamps terms c.args.orders.now.orders c.args.day old dawn c.deref.result.now c.args.chain.now fits begins under c.check_morning.new.state valid) c.check_morning.ensures.valid
+    (keeps_stamps (option_copied c.args.terms) c.args.orders.now.orders c.args.day c.args.state.now c.make_morning.new.state
+    c.deref.result.now c.args.chain.now
+    c.in_ok-make_morning.ensures.fits c.in_ok-make_morning.ensures.morning under c.check_morning.new.state) c.check_morning.ensures.valid
