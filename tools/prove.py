@@ -1,13 +1,12 @@
 #!/usr/bin/env python3
 """prove.py CRATE: proves the libraries that a program stands on, and then proves and builds the program, all as
-the gate does but for one search: each crate from nothing, over the statements alone of those below it. As many
-are proved side by side as there are processors and memory for, and a line is printed as each is. They go in the
-order of their ways up to the program: the first of those that run may use all processors, the second half of
-them, the others one, and each gives way to those before it. A check that several processors share takes more of
-their time, so no more of them share it than the longest way needs. What is built and unchanged is kept."""
-import contextlib
+the gate does but for one search: each crate from nothing, over the statements alone of those below it. They go
+side by side, in the order of their ways up to the program, and a line is printed as each is proved. There is a
+lane for each processor that has memory for a check, and all that runs has no more lanes than there are: checks
+that take turns on a processor cost half as much again. Lanes that one check shares cost more than lanes with a
+check each, so the first of those that run has two, and more only where there is little beside it. What is built
+and unchanged is kept."""
 import functools
-import glob
 import os
 import queue
 import shutil
@@ -21,7 +20,7 @@ import rtlib  # noqa: E402 (the kit's own library, beside its command rt)
 
 A_CHECK = 3_000_000_000  # bytes that a check may take
 A_LOAD = 150  # what it costs to load what a crate stands on, in lines of code
-A_STEP_BACK = 3  # how much nicer each check is than the one before it
+A_PROOF = 0.1  # what a line of proofs costs, in lines of code
 LINES_A_MINUTE = 430  # of code, proved on one processor: measured, and rough
 TARGET = "x86_64-unknown-linux-gnu"
 
@@ -33,11 +32,16 @@ def lanes():
     return max(1, min(len(os.sched_getaffinity(0)), free // A_CHECK))
 
 
+def lines_of(files):
+    return sum(rtlib.text_of(file).count("\n") for file in files)
+
+
 @functools.cache
 def cost(crate):
-    """About what a crate costs, in lines of code: by the code, since proofs cost little beside it."""
-    files = [it for it in rtlib.files_of(crate.folder) if it.endswith(".rt") and "tests" not in os.path.basename(it)]
-    return A_LOAD + sum(rtlib.text_of(file).count("\n") for file in files)
+    """About what a crate costs, in lines of code."""
+    files = list(rtlib.files_of(crate.folder))
+    code = lines_of(it for it in files if it.endswith(".rt") and "tests" not in os.path.basename(it))
+    return A_LOAD + code + A_PROOF * lines_of(it for it in files if "/proofs/" in it)
 
 
 def way_up(crate, crates):
@@ -75,10 +79,8 @@ def prove_library(crate, jobs):
     return True
 
 
-def build(crate, jobs, niceness, ended):
-    """Proves a library, at this niceness. Puts the crate and whether it is proved into a queue."""
-    # What a thread starts is as nice as the thread.
-    os.setpriority(os.PRIO_PROCESS, threading.get_native_id(), niceness)
+def build(crate, jobs, ended):
+    """Proves a library in so many lanes. Puts the crate and whether it is proved into a queue."""
     is_proved = False
     try:
         is_proved = prove_library(crate, jobs)
@@ -86,13 +88,11 @@ def build(crate, jobs, niceness, ended):
         ended.put((crate, is_proved))
 
 
-def give_way(crate, niceness):
-    """Makes the check of a crate that runs so nice, as far as one may."""
-    for process in glob.glob("/proc/[0-9]*"):
-        with contextlib.suppress(OSError):
-            if os.readlink(f"{process}/cwd") == crate.folder and "rattle" in os.readlink(f"{process}/exe"):
-                for thread in os.listdir(f"{process}/task"):
-                    os.setpriority(os.PRIO_PROCESS, int(thread), niceness)
+def share(crate, others, width, is_first):
+    """How many lanes a crate is proved in, beside others that wait: by what they cost, and one, or two where none
+    that runs has a longer way up."""
+    by_cost = round(width * cost(crate) / (cost(crate) + sum(map(cost, others))))
+    return max(by_cost, 2 if is_first else 1)
 
 
 def say(text):
@@ -103,23 +103,19 @@ def prove(crates, width):
     """Proves the libraries and returns those that failed."""
     up = {it: way_up(it, crates) for it in crates}
     left = sorted((it for it in crates if not is_kept(it)), key=lambda it: -up[it])
-    own = os.getpriority(os.PRIO_PROCESS, 0)
-    niceness = [min(own + A_STEP_BACK * rank, 19) for rank in range(width)]
-    count, running, failed, ended = len(crates), [], [], queue.SimpleQueue()
+    count, running, failed, ended = len(crates), {}, [], queue.SimpleQueue()
     proved = {it for it in crates if it not in left}
     while (left and not failed) or running:
         ready = [it for it in left if not failed and proved.issuperset(it.deps)]
-        for crate in ready[: width - len(running)]:
-            rank = sum(up[it] > up[crate] for it in running)
-            jobs = max(1, width >> rank)
-            threading.Thread(target=build, args=(crate, jobs, niceness[rank], ended)).start()
+        while ready and sum(running.values()) < width:
+            crate = ready.pop(0)
+            is_first = all(up[it] <= up[crate] for it in running)
+            jobs = min(share(crate, ready, width, is_first), width - sum(running.values()))
+            threading.Thread(target=build, args=(crate, jobs, ended)).start()
             left.remove(crate)
-            running.append(crate)
-        running.sort(key=lambda it: -up[it])
-        for rank, crate in enumerate(running):
-            give_way(crate, niceness[rank])
+            running[crate] = jobs
         crate, is_proved = ended.get()
-        running.remove(crate)
+        del running[crate]
         if is_proved:
             proved.add(crate)
             say(f"proved {len(proved)} of {count}: {crate.name}")

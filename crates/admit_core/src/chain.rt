@@ -6,7 +6,7 @@ use crate::sequence::Sequence;
 use std::fmt;
 
 /// A written fall of a school's bar. The school and the wishes are ids as read.
-#[derive(Debug, Drop)]
+#[derive(Drop)]
 pub struct FallLine {
     pub row: u64,
     pub school: u32,
@@ -16,7 +16,7 @@ pub struct FallLine {
 }
 
 /// The falls of one pass, the row of its own line, and that of the line that follows.
-#[derive(Debug, Drop)]
+#[derive(Drop)]
 pub struct PassChain {
     pub row: u64,
     pub falls: Sequence<FallLine>,
@@ -24,20 +24,20 @@ pub struct PassChain {
 }
 
 /// The passes of one day, and the row of the line that follows.
-#[derive(Debug, Drop)]
+#[derive(Drop)]
 pub struct DayChain {
     pub passes: Sequence<PassChain>,
     pub next_row: u64,
 }
 
 /// The days 1, 2, .. of a chain.
-#[derive(Debug, Drop)]
+#[derive(Drop)]
 pub struct Chain {
     pub days: Sequence<DayChain>,
 }
 
 /// Why a text is no chain.
-#[derive(Clone, Copy, Debug, PartialEq, Eq)]
+#[derive(Clone, Copy)]
 pub enum ChainReason {
     NotLine,
     WrongNumber,
@@ -46,14 +46,14 @@ pub enum ChainReason {
 }
 
 /// The row at which a text is no chain, counted from 1, and why.
-#[derive(Clone, Copy, Debug, PartialEq, Eq)]
+#[derive(Clone, Copy)]
 pub struct ChainFault {
     pub row: u64,
     pub reason: ChainReason,
 }
 
 /// Why a day's chain is not valid. `StillOver` keeps the place of the school.
-#[derive(Clone, Copy, Debug, PartialEq, Eq)]
+#[derive(Clone, Copy)]
 pub enum CheckReason {
     NotOver,
     WrongWishes,

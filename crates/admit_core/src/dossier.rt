@@ -27,7 +27,7 @@ pub fn limits_of_rules()
 ///
 /// `group` is the place of its ranking group, and `limit` the position in the call order up to
 /// which all are called (*rang limite*), counted from 1; 0 is none.
-#[derive(Clone, Copy, Debug, PartialEq, Eq)]
+#[derive(Clone, Copy)]
 pub struct Programme {
     pub id: u32,
     pub group: u32,
@@ -36,7 +36,7 @@ pub struct Programme {
 }
 
 /// A boarding school (*internat*), with the greatest rank that its bar may reach.
-#[derive(Clone, Copy, Debug, PartialEq, Eq)]
+#[derive(Clone, Copy)]
 pub struct School {
     pub id: u32,
     pub beds: u32,
@@ -48,7 +48,7 @@ pub struct School {
 /// `programme` and `school` are places, and `board_rank`, the candidate's rank in the school, is 0
 /// without a school. A `preference` of 0 says that the candidate answers in person; else 1 is
 /// the best.
-#[derive(Clone, Copy, Debug, PartialEq, Eq)]
+#[derive(Clone, Copy)]
 pub struct Wish {
     pub id: u32,
     pub candidate: u32,
@@ -68,7 +68,7 @@ pub enum AnswerKind {
 }
 
 /// A candidate's answer of a day; the target is a wish's place, or a candidate's id for `Quit`.
-#[derive(Clone, Copy, Debug, PartialEq, Eq)]
+#[derive(Clone, Copy)]
 pub struct Answer {
     pub day: u32,
     pub kind: AnswerKind,
@@ -76,7 +76,7 @@ pub struct Answer {
 }
 
 /// From its day on, a school's ceiling is this one.
-#[derive(Clone, Copy, Debug, PartialEq, Eq)]
+#[derive(Clone, Copy)]
 pub struct CeilingChange {
     pub day: u32,
     pub school: u32,
@@ -85,7 +85,6 @@ pub struct CeilingChange {
 
 /// All rows of a campaign, by place. Each dossier is a valid one: contracts see its rows, and may
 /// rest on all that `specs/Validity.antt` says of them.
-#[derive(Debug)]
 pub struct Dossier {
     pub groups: Sequence<RankGroup>,
     pub programmes: Sequence<Programme>,

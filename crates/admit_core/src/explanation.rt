@@ -3,7 +3,7 @@
 use crate::state::{Stamp, Status};
 
 /// Why a bar is as low as it is: it never fell, or the school's beds were demanded.
-#[derive(Clone, Copy, Debug, PartialEq, Eq)]
+#[derive(Clone, Copy)]
 pub enum BarCause {
     Ceiling,
     Full { beds: u32 },
@@ -11,7 +11,7 @@ pub enum BarCause {
 
 /// Why a wish stands as it does. A school is a place; `position` is the candidate's in the call
 /// order, counted from 1.
-#[derive(Clone, Copy, Debug, PartialEq, Eq)]
+#[derive(Clone, Copy)]
 pub enum Explanation {
     Gone {
         status: Status,

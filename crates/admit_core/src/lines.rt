@@ -184,13 +184,6 @@ impl fmt::Display for Reason {
     }
 }
 
-/// As it is printed.
-impl fmt::Debug for Reason {
-    fn fmt<W: fmt::Write>(&self, f: &mut fmt::Formatter<W>) -> fmt::Result {
-        fmt::Display::fmt(self, f)
-    }
-}
-
 /// The line of a refusal, without its line feed.
 impl fmt::Display for Refusal {
     ghost output = { λ refusal. Some (refusal_text refusal) };

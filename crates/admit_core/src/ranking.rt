@@ -3,7 +3,7 @@
 use crate::sequence::Sequence;
 
 /// A candidate of a ranking (*classement*), a lesser rank being the better one.
-#[derive(Clone, Copy, Debug, PartialEq, Eq)]
+#[derive(Clone, Copy)]
 pub struct Ranked {
     pub candidate: u32,
     pub rank: u32,
@@ -12,7 +12,7 @@ pub struct Ranked {
 }
 
 /// A ranking with its two minimum rates, from 0 to 100 per cent. The list ascends by rank.
-#[derive(Debug, Drop)]
+#[derive(Drop)]
 pub struct RankGroup {
     pub id: u32,
     pub scholar_pct: u32,
@@ -33,14 +33,14 @@ pub enum Bound {
 
 /// The order in which a group's candidates are called (*ordre d'appel*), by their ids, with the
 /// bound of each position.
-#[derive(Debug, Drop)]
+#[derive(Drop)]
 pub struct CallOrder {
     pub list: Sequence<u32>,
     pub trace: Sequence<Bound>,
 }
 
 /// One call order for each ranking group.
-#[derive(Debug, Drop)]
+#[derive(Drop)]
 pub struct CallOrders {
     pub orders: Sequence<CallOrder>,
 }

@@ -5,7 +5,7 @@ use crate::state::{Change, Freed};
 
 /// One fall of a school's bar: `to` is one less than the first demanded rank that finds no bed. The
 /// wishes show it, one for each demanded rank up to that one.
-#[derive(Debug, Drop)]
+#[derive(Drop)]
 pub struct Fall {
     pub school: u32,
     pub from: u32,
@@ -15,7 +15,7 @@ pub struct Fall {
 
 /// The bars at the end of a pass, the falls that led to them, and the places of the wishes that
 /// were offered.
-#[derive(Debug, Drop)]
+#[derive(Drop)]
 pub struct PassRecord {
     pub bars: Sequence<u32>,
     pub falls: Sequence<Fall>,
@@ -23,7 +23,7 @@ pub struct PassRecord {
 }
 
 /// A pass with the automatic answers that followed it.
-#[derive(Debug, Drop)]
+#[derive(Drop)]
 pub struct PassEnd {
     pub pass: PassRecord,
     pub autos: Sequence<Change>,
@@ -31,7 +31,7 @@ pub struct PassEnd {
 }
 
 /// An offer that ended with its deadline; `offered` is the offer's day.
-#[derive(Clone, Copy, Debug, PartialEq, Eq)]
+#[derive(Clone, Copy)]
 pub struct Lapse {
     pub wish: u32,
     pub offered: i32,
@@ -39,14 +39,14 @@ pub struct Lapse {
 
 /// How long an offer stands, in days, and the offer day of each wish that came in as offered, day 1
 /// being the first of the campaign.
-#[derive(Debug, Drop)]
+#[derive(Drop)]
 pub struct Terms {
     pub term: u32,
     pub before: Sequence<i32>,
 }
 
 /// A day's passes, and the seats and beds that are left in the evening.
-#[derive(Debug, Drop)]
+#[derive(Drop)]
 pub struct DayRecord {
     pub day: u32,
     pub passes: Sequence<PassEnd>,

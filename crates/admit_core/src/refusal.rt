@@ -27,7 +27,7 @@ impl<T: Drop> From<AllocFailed<T>> for OutOfMemory {
 /// number of fields found; `NotNumber`, `OutOfRange`, `NotFlag`, `NotWord`, `NotDate` and `Unknown`
 /// keep the field; `Repeat`, `RankTaken`, `PreferenceMixed`, `PreferenceTaken` and `TwoAccepted`
 /// keep the earlier row; `UnfitAnswer` keeps the status found.
-#[derive(Clone, Copy, PartialEq, Eq)]
+#[derive(Clone, Copy)]
 pub enum Reason {
     Header,
     FieldCount(u64),
@@ -51,7 +51,7 @@ pub enum Reason {
 }
 
 /// The row that is refused, and why. A slot that is refused as a whole has row 0.
-#[derive(Clone, Copy, Debug, PartialEq, Eq)]
+#[derive(Clone, Copy)]
 pub struct Refusal {
     pub slot: Slot,
     pub row: u64,
@@ -59,7 +59,7 @@ pub struct Refusal {
 }
 
 /// Why no rows came of the input.
-#[derive(Clone, Copy, Debug, PartialEq, Eq)]
+#[derive(Clone, Copy)]
 pub enum InFault {
     Refused(Refusal),
     OutOfMemory,

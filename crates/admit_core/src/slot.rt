@@ -18,7 +18,7 @@ pub enum Slot {
 }
 
 /// A value for each slot.
-#[derive(Debug, Drop)]
+#[derive(Drop)]
 pub struct PerSlot<T> {
     pub groups: T,
     pub programmes: T,

@@ -5,7 +5,7 @@ use crate::sequence::Sequence;
 use crate::state::Status;
 
 /// A ranking group with its two minimum rates, from 0 to 100.
-#[derive(Clone, Copy, Debug, PartialEq, Eq)]
+#[derive(Clone, Copy, Debug)]
 pub struct GroupRow {
     pub id: u32,
     pub scholar_pct: u32,
@@ -13,7 +13,7 @@ pub struct GroupRow {
 }
 
 /// A programme; a `limit` of 0 is none.
-#[derive(Clone, Copy, Debug, PartialEq, Eq)]
+#[derive(Clone, Copy, Debug)]
 pub struct ProgrammeRow {
     pub id: u32,
     pub group: u32,
@@ -22,7 +22,7 @@ pub struct ProgrammeRow {
 }
 
 /// A boarding school with the highest rank that its bar may reach.
-#[derive(Clone, Copy, Debug, PartialEq, Eq)]
+#[derive(Clone, Copy, Debug)]
 pub struct SchoolRow {
     pub id: u32,
     pub beds: u32,
@@ -30,7 +30,7 @@ pub struct SchoolRow {
 }
 
 /// A candidate's rank in a group.
-#[derive(Clone, Copy, Debug, PartialEq, Eq)]
+#[derive(Clone, Copy, Debug)]
 pub struct RankRow {
     pub group: u32,
     pub candidate: u32,
@@ -40,7 +40,7 @@ pub struct RankRow {
 }
 
 /// A candidate's rank in a boarding school.
-#[derive(Clone, Copy, Debug, PartialEq, Eq)]
+#[derive(Clone, Copy, Debug)]
 pub struct BoardRow {
     pub school: u32,
     pub candidate: u32,
@@ -48,7 +48,7 @@ pub struct BoardRow {
 }
 
 /// A wish; a `preference` of 0 says that the candidate answers in person.
-#[derive(Clone, Copy, Debug, PartialEq, Eq)]
+#[derive(Clone, Copy, Debug)]
 pub struct WishRow {
     pub id: u32,
     pub candidate: u32,
@@ -58,7 +58,7 @@ pub struct WishRow {
 }
 
 /// A civil date as read, of a year from 1900 to 2299.
-#[derive(Clone, Copy, Debug, PartialEq, Eq)]
+#[derive(Clone, Copy, Debug)]
 pub struct Since {
     pub year: u32,
     pub month: u32,
@@ -66,7 +66,7 @@ pub struct Since {
 }
 
 /// The status that a wish comes in with, and since when.
-#[derive(Clone, Copy, Debug, PartialEq, Eq)]
+#[derive(Clone, Copy, Debug)]
 pub struct StateRow {
     pub wish: u32,
     pub status: Status,
@@ -74,7 +74,7 @@ pub struct StateRow {
 }
 
 /// A school's ceiling from a day on.
-#[derive(Clone, Copy, Debug, PartialEq, Eq)]
+#[derive(Clone, Copy, Debug)]
 pub struct CeilingRow {
     pub day: u32,
     pub school: u32,
@@ -82,7 +82,7 @@ pub struct CeilingRow {
 }
 
 /// An answer; the target is a wish's id, or a candidate's id for `Quit`.
-#[derive(Clone, Copy, Debug, PartialEq, Eq)]
+#[derive(Clone, Copy, Debug)]
 pub struct AnswerRow {
     pub day: u32,
     pub kind: AnswerKind,
@@ -90,7 +90,6 @@ pub struct AnswerRow {
 }
 
 /// The rows of the nine slots, in file order.
-#[derive(Debug)]
 pub struct Tables {
     pub groups: Sequence<GroupRow>,
     pub programmes: Sequence<ProgrammeRow>,

@@ -17,7 +17,7 @@ use day_state::DayState;
 use std::alloc::Global;
 
 /// The greatest bars of all schools, by place: with the present beds, and with more in one school.
-#[derive(Debug, Drop)]
+#[derive(Drop)]
 pub struct Growth {
     pub before: Vec<u32>,
     pub after: Vec<u32>,

@@ -13,14 +13,14 @@ use std::alloc::Global;
 use std::sync::ledger::Ledger;
 
 /// The minimum rates of scholars and of residents, in per cent.
-#[derive(Clone, Copy, Debug)]
+#[derive(Clone, Copy)]
 struct Rates {
     scholar_pct: u32,
     resident_pct: u32,
 }
 
 /// How many were called, and how many of them are scholars and residents.
-#[derive(Clone, Copy, Debug)]
+#[derive(Clone, Copy)]
 struct Tally {
     calls: usize,
     scholars: usize,

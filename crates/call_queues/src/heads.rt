@@ -8,7 +8,7 @@ use crate::kind::Kind;
 use admit_core::Ranked;
 
 /// The place in a list of the first of each kind who remains, or the list's length.
-#[derive(Clone, Copy, Debug)]
+#[derive(Clone, Copy)]
 pub(crate) struct Heads {
     pub neither: usize,
     pub scholar_only: usize,

@@ -12,7 +12,7 @@ use std::marker::Model;
 use std::sync::ledger::Ledger;
 
 /// Candidates who wait by rank, in one queue for each kind, and the ids of those who were taken.
-#[derive(Debug, Drop)]
+#[derive(Drop)]
 pub struct Queues {
     list: Vec<Ranked>,
     heads: Heads,

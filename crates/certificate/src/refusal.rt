@@ -3,7 +3,7 @@ use admit_core::{ChainFault, OutOfMemory};
 use std::alloc::{AllocError, AllocFailed};
 
 /// Why no chain came of a text.
-#[derive(Clone, Copy, Debug, PartialEq, Eq)]
+#[derive(Clone, Copy)]
 pub enum ChainRefusal {
     Fault(ChainFault),
     OutOfMemory,

@@ -25,13 +25,13 @@ use std::marker::Model;
 use std::rc::Rc;
 
 /// An answer that does not fit; the status is the one that was found.
-#[derive(Clone, Copy, Debug, PartialEq, Eq)]
+#[derive(Clone, Copy)]
 pub struct UnfitAnswer {
     pub status: Status,
 }
 
 /// The first answer of a list that does not fit.
-#[derive(Clone, Copy, Debug, PartialEq, Eq)]
+#[derive(Clone, Copy)]
 pub struct UnfitAt {
     pub index: u32,
     pub status: Status,

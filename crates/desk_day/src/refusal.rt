@@ -3,7 +3,7 @@
 use admit_core::{OutOfMemory, Refusal};
 
 /// Why a day does not come about.
-#[derive(Clone, Copy, Debug, PartialEq, Eq)]
+#[derive(Clone, Copy)]
 pub enum DayRefusal {
     /// An answer of the day does not fit; the row is that of the first one.
     Unfit(Refusal),

@@ -24,7 +24,7 @@ use vacancies::seats_left;
 
 /// A wish that blocks: the seats left of its programme, and the last candidate behind its own who
 /// is live there.
-#[derive(Clone, Copy, Debug, PartialEq, Eq)]
+#[derive(Clone, Copy)]
 pub struct Block {
     pub wish: u32,
     pub left: u32,
@@ -32,7 +32,7 @@ pub struct Block {
 }
 
 /// A wish whose candidate envies another with right.
-#[derive(Clone, Copy, Debug, PartialEq, Eq)]
+#[derive(Clone, Copy)]
 pub struct Envy {
     pub wish: u32,
     pub envied: u32,

@@ -6,7 +6,7 @@ use std::alloc::AllocError;
 use std::fmt;
 
 /// Why a run stops before its days.
-#[derive(Clone, Copy, Debug, PartialEq, Eq)]
+#[derive(Clone, Copy)]
 pub enum Stop {
     BadWords,
     Refused(Refusal),

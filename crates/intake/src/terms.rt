@@ -11,7 +11,7 @@ use request::Deadlines;
 use std::alloc::{AllocError, Global};
 
 /// The terms of offers, with the date of day 1.
-#[derive(Debug, Drop)]
+#[derive(Drop)]
 pub struct DatedTerms {
     pub start: Civil,
     pub terms: Terms,

@@ -6,7 +6,7 @@ use admit_core::OutOfMemory;
 use std::alloc::Global;
 
 /// A demanded rank, and the least place of a wish that demands it.
-#[derive(Clone, Copy, Debug, PartialEq, Eq)]
+#[derive(Clone, Copy)]
 pub struct Demand {
     pub rank: u32,
     pub wish: u32,

@@ -8,7 +8,7 @@ use admit_core::Slot;
 use std::fmt;
 
 /// What a run is to do, with what this needs.
-#[derive(Clone, Copy, Debug, PartialEq, Eq)]
+#[derive(Clone, Copy)]
 pub enum Mode {
     /// Writes the call orders of all groups.
     Order,
@@ -34,7 +34,7 @@ pub enum Mode {
 }
 
 /// What an option of a mode names in the dossier, by its id.
-#[derive(Clone, Copy, Debug, PartialEq, Eq)]
+#[derive(Clone, Copy)]
 pub enum Name {
     Wish(u32),
     School(u32),

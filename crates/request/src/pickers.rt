@@ -14,7 +14,7 @@ pub enum PickerName {
 }
 
 /// Which picker each day has.
-#[derive(Clone, Copy, Debug, PartialEq, Eq)]
+#[derive(Clone, Copy)]
 pub enum PickerChoice {
     /// The same on all days.
     Same(PickerName),

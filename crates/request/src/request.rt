@@ -5,7 +5,7 @@ use crate::pickers::PickerChoice;
 use calendar::Civil;
 
 /// When offers lapse.
-#[derive(Clone, Copy, Debug, PartialEq, Eq)]
+#[derive(Clone, Copy)]
 pub struct Deadlines {
     /// The date of day 1, of a year from 1901 to 2298.
     pub start: Civil,
@@ -14,7 +14,7 @@ pub struct Deadlines {
 }
 
 /// A mode, and the options that all modes share.
-#[derive(Clone, Copy, Debug, PartialEq, Eq)]
+#[derive(Clone, Copy)]
 pub struct Request {
     pub mode: Mode,
     /// How many days are run, from 1 to 366; 1 where it is not given.

@@ -6,7 +6,7 @@ use admit_core::OutOfMemory;
 use std::alloc::Global;
 
 /// A programme that a candidate chooses, with its boarding school.
-#[derive(Clone, Copy, Debug, PartialEq, Eq)]
+#[derive(Clone, Copy)]
 pub(crate) struct Choice {
     pub(crate) candidate: u32,
     /// 0 for the first of the candidate's choices.

@@ -10,7 +10,7 @@ use admit_core::{Bound, CallOrder, OutOfMemory, RankGroup, Ranked, Sequence};
 use std::alloc::Global;
 
 /// Whom a minimum rate favours.
-#[derive(Clone, Copy, Debug, PartialEq, Eq)]
+#[derive(Clone, Copy)]
 enum Favoured {
     Scholars,
     Residents,

@@ -10,7 +10,7 @@ use std::alloc::Global;
 
 /// A candidate who prefers a programme to their place, and whom it would take. Both are counted
 /// from 0.
-#[derive(Clone, Copy, Debug, PartialEq, Eq)]
+#[derive(Clone, Copy)]
 pub struct MarketBlock {
     pub candidate: u32,
     pub programme: u32,
