@@ -1,2 +1,4 @@
+pub mod Listing
+pub mod RunLaws
 pub mod OneFall
 pub mod SoFar

@@ -11,7 +11,7 @@ use Rattle.std.proofs.lemmas.Option.{slice_get-get_or}
 use Rattle.admit_core.specs.declared.records.Fall.{Fall}
 use Rattle.admit_core.specs.Falls.{FallingSystem, IsAtMost, IsLawful, is_overfilled, is_settled, fall_of, fallen}
 use Rattle.admit_core.proofs.FallsLaw.{over_in, over_rank}
-use Rattle.bar_law.specs.Overfilled.{rank_over, all_overfilled}
+use Rattle.bar_fixpoint.specs.Overfilled.{rank_over, all_overfilled}
 use Rattle.bar_fixpoint.specs.Chosen.{PickedFall, TellsAtMostOne}
 
 -- a filter that the first n pass and no other is the prefix of length n

@@ -5,8 +5,8 @@ use Rattle.std.proofs.lemmas.List.{length_push, append-nil}
 use Rattle.admit_core.specs.declared.records.Fall.{Fall}
 use Rattle.admit_core.specs.Falls.{FallingSystem, IsAtMost, IsLawful, IsGreatest, is_overfilled, is_settled, fall_of, fallen, bars_after, AreFalls, IsRun}
 use Rattle.admit_core.proofs.FallsLaw.{all_under, all_above, run_is_greatest}
-use Rattle.bar_law.specs.Overfilled.{all_overfilled}
-use Rattle.bar_law.specs.Runs.{AreAboveAllThatFit, schools_of}
+use Rattle.bar_fixpoint.specs.Overfilled.{all_overfilled}
+use Rattle.bar_fixpoint.specs.Runs.{AreAboveAllThatFit, schools_of}
 use Rattle.bar_fixpoint.specs.Chosen.{AreChosen, PickedFall, TellsAtMostOne, EndsEarly}
 use Rattle.bar_fixpoint.proofs.OneFall.{sum_falls}
 

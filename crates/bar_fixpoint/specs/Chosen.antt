@@ -2,8 +2,8 @@
 use Rattle.std.specs.Prelude.{◌≡◌, ℕ, List, [], ◌∷◌, ◌++◌, ◌⊎◌, IsTrue, ⊤}
 use Rattle.admit_core.specs.declared.records.Fall.{Fall}
 use Rattle.admit_core.specs.Falls.{FallingSystem, is_overfilled, fall_of, fallen, bars_after, AreFalls}
-use Rattle.bar_law.specs.Overfilled.{all_overfilled}
-use Rattle.bar_law.specs.Runs.{schools_of}
+use Rattle.bar_fixpoint.specs.Overfilled.{all_overfilled}
+use Rattle.bar_fixpoint.specs.Runs.{schools_of}
 
 -- from these bars on, each place that fell was chosen from all that were overfilled
 abbrev pub AreChosen : FallingSystem → (List ℕ → List ℕ → ℕ) → List ℕ → List ℕ → List Fall → Type 0

@@ -1,2 +1,4 @@
+pub mod Overfilled
+pub mod Runs
 pub mod Choices
 pub mod Chosen

@@ -1,12 +1,12 @@
 //! The engine.
 ghost use Rattle.std.specs.Prelude.{◌≡◌, ℕ, ◌+◌, ◌<◌, ◌≤◌, List, length, ◌++◌, IfOk, OnOk, OnErr, IfSome, IfNone, IsTrue, sum};
 ghost use Rattle.admit_core.specs.Falls.{IsAtMost, IsGreatest, IsRun, is_overfilled, is_settled, fall_of, fallen, bars_after};
-ghost use Rattle.bar_law.specs.Runs.{AreAboveAllThatFit, schools_of};
+ghost use Rattle.bar_fixpoint.specs.Runs.{AreAboveAllThatFit, schools_of};
 ghost use Rattle.bar_fixpoint.specs.Chosen.{AreChosen, PickedFall, TellsAtMostOne, EndsEarly};
 
+use crate::falling::Falling;
 use crate::picker::Picker;
 use admit_core::{Fall, OutOfMemory, Sequence, Steps};
-use bar_law::Falling;
 use std::alloc::Global;
 use std::sync::ledger::Ledger;
 

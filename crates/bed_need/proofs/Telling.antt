@@ -7,7 +7,7 @@ use Rattle.admit_core.specs.Days.{IsPass}
 use Rattle.admit_core.specs.Falls.{FallingSystem}
 use Rattle.admit_core.specs.State.{State}
 use Rattle.bar_fixpoint.specs.Chosen.{AreChosen}
-use Rattle.bar_law.specs.Runs.{schools_of}
+use Rattle.bar_fixpoint.specs.Runs.{schools_of}
 use Rattle.desk_day.specs.DayPasses.{TellsMore}
 use Rattle.bed_need.specs.Telling.{IsAsked, TellsOfBoth, TellsOfRun}
 

@@ -3,7 +3,7 @@ use Rattle.std.specs.Prelude.{◌≡◌, ℕ, ◌++◌, List, Result, IfOk}
 use Rattle.admit_core.specs.declared.records.Fall.{Fall}
 use Rattle.admit_core.specs.Falls.{FallingSystem, IsRun}
 use Rattle.bar_fixpoint.specs.Chosen.{AreChosen}
-use Rattle.bar_law.specs.Runs.{schools_of}
+use Rattle.bar_fixpoint.specs.Runs.{schools_of}
 use Rattle.desk_day.specs.DayPasses.{TellsMore}
 
 -- a picker told of the schools of a run of falls, each of which it chose

@@ -11,9 +11,9 @@ use Rattle.admit_core.specs.declared.ranking.Bound.TheVariants.{Free, Scholar, R
 use Rattle.admit_core.specs.CallOrder.{may_be_called}
 use Rattle.admit_core.proofs.LeastFirst.{RisesBy, found_has, rises_by_key}
 use Rattle.admit_core.proofs.OrderPermutes.{all_stay, later_key}
-use Rattle.call_queues.specs.declared.kind.Kind.TheVariants.{Neither, ScholarOnly, ResidentOnly, BothKinds}
-use Rattle.call_queues.specs.Kinds.{has_flags, kind_by, kind_of, is_of, head_of, without_first}
-use Rattle.call_queues.proofs.MovedHeads.{own_flags}
+use Rattle.call_order.specs.declared.kind.Kind.TheVariants.{Neither, ScholarOnly, ResidentOnly, BothKinds}
+use Rattle.call_order.specs.Kinds.{has_flags, kind_by, kind_of, is_of, head_of, without_first}
+use Rattle.call_order.proofs.MovedHeads.{own_flags}
 use Rattle.call_order.specs.QueuedCalls.{earlier_of}
 
 -- ---- whether someone remains, by kind

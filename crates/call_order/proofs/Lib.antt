@@ -1,3 +1,6 @@
+pub mod Firsts
+pub mod MovedHeads
+pub mod Standing
 pub mod ByKinds
 pub mod QueuedSoFar
 pub mod Zips

@@ -18,8 +18,8 @@ use Rattle.admit_core.proofs.NextCalls.{find_passes, next_none, mapped_none, map
 use Rattle.admit_core.proofs.OrderPermutes.{distinct_filter}
 use Rattle.admit_core.proofs.CalledCounts.{count_called_push, length-parts}
 use Rattle.admit_core.proofs.Calls.{CallsSoFar, calls_none, calls_push, calls_done}
-use Rattle.call_queues.specs.Kinds.{kind_of, is_of, head_of, without_head}
-use Rattle.call_queues.proofs.Firsts.{length-without_first}
+use Rattle.call_order.specs.Kinds.{kind_of, is_of, head_of, without_head}
+use Rattle.call_order.proofs.Firsts.{length-without_first}
 use Rattle.call_order.specs.declared.queued.Rates.{Rates}
 use Rattle.call_order.specs.declared.queued.Tally.{Tally}
 use Rattle.call_order.specs.QueuedCalls.{ranking_by, more_called, call_by}

@@ -1,1 +1,4 @@
+pub mod Heads
+pub mod Kinds
+pub mod QueueLists
 pub mod QueuedCalls

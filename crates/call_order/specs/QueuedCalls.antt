@@ -5,7 +5,7 @@ use Rattle.admit_core.specs.declared.ranking.Ranked.{Ranked}
 use Rattle.admit_core.specs.declared.ranking.RankGroup.{RankGroup}
 use Rattle.admit_core.specs.declared.ranking.Bound.{Bound}
 use Rattle.admit_core.specs.CallOrder.{bound_of, may_be_called}
-use Rattle.call_queues.specs.QueueLists.{QueueLists}
+use Rattle.call_order.specs.QueueLists.{QueueLists}
 use Rattle.call_order.specs.declared.queued.Rates.{Rates}
 use Rattle.call_order.specs.declared.queued.Tally.{Tally}
 

@@ -5,8 +5,8 @@ ghost use Rattle.admit_core.specs.CallOrderLaws.{KeepsOrderLaws};
 ghost use Rattle.admit_core.specs.Validity.{IsRanking};
 
 use crate::queued::call_order_queued;
+use crate::queues::Queues;
 use admit_core::{CallOrder, CallOrders, OutOfMemory, RankGroup, Sequence, Steps};
-use call_queues::Queues;
 use std::alloc::Global;
 use std::marker::Brand;
 use std::sync::ledger::{Blank, Ledger};

@@ -4,11 +4,12 @@ ghost use Rattle.std.specs.List.{list_any, IsDistinct};
 ghost use Rattle.std.specs.List.Sorted.{IsStrictlyIncreasing};
 ghost use Rattle.admit_core.specs.CallOrder.{may_be_called, IsCallOrder};
 ghost use Rattle.admit_core.specs.CallOrderLaws.{KeepsOrderLaws};
-ghost use Rattle.call_queues.specs.Kinds.{is_of};
+ghost use Rattle.call_order.specs.Kinds.{is_of};
 ghost use Rattle.call_order.specs.QueuedCalls.{ranking_in, earlier_of, more_called, too_few, bound_by, call_by};
 
+use crate::kind::Kind;
+use crate::queues::Queues;
 use admit_core::{Bound, CallOrder, OutOfMemory, Ranked, Sequence, Steps};
-use call_queues::{Kind, Queues};
 use std::alloc::Global;
 use std::sync::ledger::Ledger;
 

@@ -25,8 +25,8 @@ use Rattle.admit_core.specs.declared.dossier.School.{School}
 use Rattle.dossier_check.specs.Ids.{Ids}
 use Rattle.certificate.proofs.Cutting.{place_found}
 use Rattle.certificate.specs.Checked.{Stops, ids_in}
-use Rattle.bar_law.specs.Overfilled.{rank_over}
-use Rattle.bar_law.proofs.Listing.{overfilled_by_rank}
+use Rattle.bar_fixpoint.specs.Overfilled.{rank_over}
+use Rattle.bar_fixpoint.proofs.Listing.{overfilled_by_rank}
 use Rattle.bar_fixpoint.proofs.OneFall.{rank_is, rank_from_one, falls_below, fall_made}
 use Rattle.day_state.specs.Kept.{wish_in}
 use Rattle.certificate.proofs.Naming.{IsNamed, map_back, ranks_back, all_ranks_named}

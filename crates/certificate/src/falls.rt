@@ -10,7 +10,7 @@ ghost use Rattle.linked_demand.specs.Lineups.{IsLineupOf};
 use crate::named::{ranks_up_to, show_ranks};
 use crate::stop::Stop;
 use admit_core::{CallOrders, CheckReason, FallLine, PassChain, Steps};
-use bar_law::Falling;
+use bar_fixpoint::Falling;
 use day_state::DayState;
 use dossier_check::{Index, school_place};
 use linked_demand::{Lineup, LinkedRound};

@@ -7,7 +7,7 @@ ghost use Rattle.day_state.specs.Kept.{mark_in, wish_in};
 ghost use Rattle.certificate.specs.Checked.{ids_in};
 
 use admit_core::OutOfMemory;
-use bar_law::Falling;
+use bar_fixpoint::Falling;
 use day_state::DayState;
 use dossier_check::{Index, wish_place};
 use linked_demand::LinkedRound;

@@ -14,9 +14,11 @@ mod laws;
 mod mark;
 mod numbers;
 mod spans;
+mod vacancies;
 
 pub use counted_marks::freed_in_all;
 pub use day::{DayState, UnfitAnswer, UnfitAt};
 pub use laws::candidates_stand_apart;
 pub use mark::{lapses, offer_day};
 pub use spans::{Span, part};
+pub use vacancies::{beds_left, has_bed, needs_seat, seats_left};

@@ -12,7 +12,7 @@ use Rattle.admit_core.specs.declared.ranking.CallOrder.{CallOrder}
 use Rattle.admit_core.specs.State.{State, entries, free_beds}
 use Rattle.admit_core.specs.Proposals.{is_proposed, proposed, demanded_ranks}
 use Rattle.admit_core.specs.Boarding.{boarding, name_of}
-use Rattle.bar_law.specs.Overfilled.{rank_over}
+use Rattle.bar_fixpoint.specs.Overfilled.{rank_over}
 use Rattle.proposals.specs.declared.demands.Demand.{Demand}
 use Rattle.proposals.specs.Demands.{demands_of}
 use Rattle.demand.specs.Proposed.{proposed_flags}

@@ -3,18 +3,17 @@ ghost use Rattle.std.specs.Prelude.{◌≡◌, ◌<◌, length, map, slice_get, 
 ghost use Rattle.admit_core.specs.CallOrder.{AreCallOrders};
 ghost use Rattle.admit_core.specs.Proposals.{proposed};
 ghost use Rattle.admit_core.specs.Boarding.{boarding};
-ghost use Rattle.bar_law.specs.Overfilled.{rank_over};
+ghost use Rattle.bar_fixpoint.specs.Overfilled.{rank_over};
 ghost use Rattle.proposals.specs.Called.{AreCalled};
 
 use crate::demands::demands_of;
 use crate::walk::proposed_places;
 use admit_core::{CallOrders, OutOfMemory, Steps};
-use bar_law::Falling;
-use day_state::DayState;
+use bar_fixpoint::Falling;
+use day_state::{DayState, beds_left};
 use proposals::{Demand, call_everyone, names_up_to};
 use std::alloc::Global;
 use std::sync::ledger::Ledger;
-use vacancies::beds_left;
 
 /// The boarding schools (*internats*) of a state, with their ceilings and their present bars.
 #[derive(Drop)]

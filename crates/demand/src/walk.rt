@@ -10,10 +10,9 @@ ghost use Rattle.proposals.specs.Open.{is_open_at};
 ghost use Rattle.demand.specs.Proposed.{is_served_at, is_proposed_at, proposed_flags};
 
 use admit_core::{CallOrders, OutOfMemory};
-use day_state::DayState;
+use day_state::{DayState, seats_left};
 use proposals::{call_everyone, has_open_wish, is_open_at, limit_of, order_of, programme_count};
 use std::alloc::Global;
-use vacancies::seats_left;
 
 /// Flags those of these wishes that are open ones in a programme.
 fn flag_open(state: &DayState<'_>, bars: &[u32], programme: u32, own: &[u32], flags: &mut Vec<bool>)

@@ -9,7 +9,7 @@ use Rattle.admit_core.specs.State.{State, seats_left, free_beds}
 use Rattle.admit_core.specs.Boarding.{boarding}
 use Rattle.admit_core.specs.Proposals.{proposed}
 use Rattle.admit_core.specs.Days.{IsPassEnd, Passes, closing, offered, changes, freed_after, frees_nothing, morning, lapsed_on}
-use Rattle.bar_law.proofs.RunLaws.{unique_greatest}
+use Rattle.bar_fixpoint.proofs.RunLaws.{unique_greatest}
 use Rattle.desk_day.specs.DayLaws.{SameButFalls, OnlyFallsDiffer}
 use Rattle.desk_day.specs.DayPasses.{stamp_of}
 

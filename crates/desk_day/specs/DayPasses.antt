@@ -11,7 +11,7 @@ use Rattle.admit_core.specs.Boarding.{boarding}
 use Rattle.admit_core.specs.Days.{closing, offered}
 use Rattle.auto_answer.specs.Laws.{AreAnsweredBut}
 use Rattle.day_state.specs.Along.{change_along}
-use Rattle.bar_law.specs.Runs.{schools_of}
+use Rattle.bar_fixpoint.specs.Runs.{schools_of}
 use Rattle.bar_fixpoint.specs.Chosen.{AreChosen}
 use Rattle.round.specs.PassLaws.{KeepsPassLaws}
 

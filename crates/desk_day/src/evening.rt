@@ -5,9 +5,8 @@ ghost use Rattle.desk_day.specs.Evening.{site_count, left_at};
 ghost use Rattle.desk_day.specs.RunDay.{recorded};
 
 use admit_core::{DayRecord, Lapse, OutOfMemory, PassEnd, Sequence};
-use day_state::DayState;
+use day_state::{DayState, beds_left, seats_left};
 use std::alloc::Global;
-use vacancies::{beds_left, seats_left};
 
 /// Where something may be left in the evening.
 #[derive(Clone, Copy)]

@@ -4,7 +4,7 @@ ghost use Rattle.admit_core.specs.CallOrder.{AreCallOrders};
 ghost use Rattle.admit_core.specs.AutoAnswer.{auto_all, freed};
 ghost use Rattle.admit_core.specs.Boarding.{boarding};
 ghost use Rattle.admit_core.specs.Days.{IsPassEnd, Passes, closing, frees_nothing};
-ghost use Rattle.bar_law.specs.Runs.{schools_of};
+ghost use Rattle.bar_fixpoint.specs.Runs.{schools_of};
 ghost use Rattle.linked_demand.specs.Lineups.{IsLineupOf};
 ghost use Rattle.bar_fixpoint.specs.Chosen.{AreChosen};
 ghost use Rattle.auto_answer.specs.Laws.{AreAnsweredBut, SameOthers};

@@ -15,12 +15,11 @@ use crate::called::places_of;
 use crate::known::{best_wishes, last_live, wish_count};
 use crate::laws::laws_of_automatic_days;
 use admit_core::{CallOrders, Mark, OutOfMemory, Status, Wish};
-use day_state::DayState;
+use day_state::{DayState, seats_left};
 use indexmap::IndexMap;
 use keyed_hash::Keyed;
 use proposals::{call_everyone, mark_at, order_of, programme_count, wish_at};
 use std::alloc::Global;
-use vacancies::seats_left;
 
 /// A wish that blocks: the seats left of its programme, and the last candidate behind its own who
 /// is live there.

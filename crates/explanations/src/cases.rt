@@ -11,10 +11,9 @@ ghost use Rattle.explanations.specs.Sayings.{Explains};
 use crate::ahead::{before, count_ahead};
 use crate::closing::Closing;
 use admit_core::{BarCause, CallOrders, Explanation, Mark, Wish};
-use day_state::DayState;
+use day_state::{DayState, seats_left};
 use desk_day::Desk;
 use proposals::{is_open, limit_of, mark_at};
-use vacancies::seats_left;
 
 /// Why the wish at a place stands as it does in the evening of a desk's last day, which came
 /// about: the one case that holds. The ceilings are those of that day, and the bars those of its

@@ -13,8 +13,8 @@ use Rattle.admit_core.specs.declared.ranking.CallOrder.{CallOrder}
 use Rattle.admit_core.specs.Proposals.{is_open, is_barred, is_proposed, proposed, demanded_ranks}
 use Rattle.admit_core.specs.Boarding.{boarding}
 use Rattle.admit_core.specs.Falls.{is_overfilled}
-use Rattle.bar_law.specs.Overfilled.{rank_over, all_overfilled}
-use Rattle.bar_law.proofs.Listing.{overfilled_by_rank}
+use Rattle.bar_fixpoint.specs.Overfilled.{rank_over, all_overfilled}
+use Rattle.bar_fixpoint.proofs.Listing.{overfilled_by_rank}
 use Rattle.day_state.specs.Kept.{mark_in, wish_in}
 use Rattle.day_state.proofs.Places.{entry_in, entries_by_place}
 use Rattle.linked_demand.specs.declared.rows.RowWish.{RowWish}

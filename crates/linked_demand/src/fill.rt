@@ -11,10 +11,9 @@ use crate::boarders::Boarder;
 use crate::links::SeatLinks;
 use crate::rows::{RowWish, put_in, rows_with_room};
 use admit_core::OutOfMemory;
-use day_state::DayState;
+use day_state::{DayState, beds_left};
 use proposals::sort_by_rank;
 use std::alloc::Global;
-use vacancies::beds_left;
 
 /// How many boarders of each school are open: room is made by it, so no clause speaks of the
 /// numbers.

@@ -4,7 +4,7 @@ ghost use Rattle.admit_core.specs.State.{free_beds};
 ghost use Rattle.linked_demand.specs.Lineups.{IsLineupOf};
 ghost use Rattle.admit_core.specs.Proposals.{demanded_ranks, proposed};
 ghost use Rattle.admit_core.specs.Boarding.{boarding};
-ghost use Rattle.bar_law.specs.Overfilled.{rank_over};
+ghost use Rattle.bar_fixpoint.specs.Overfilled.{rank_over};
 ghost use Rattle.linked_demand.specs.Rounds.{bar_each, is_proposed_in};
 ghost use Rattle.linked_demand.specs.Ticks.{changes_between};
 
@@ -19,7 +19,7 @@ use crate::schools::{Schools, school_count, schools_of};
 use crate::seats::is_set;
 use crate::wishes::wish_count;
 use admit_core::{CallOrders, OutOfMemory, Steps};
-use bar_law::Falling;
+use bar_fixpoint::Falling;
 use day_state::DayState;
 use proposals::names_up_to;
 use std::alloc::Global;

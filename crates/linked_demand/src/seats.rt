@@ -7,10 +7,9 @@ ghost use Rattle.linked_demand.specs.Opens.{all_sure};
 use crate::line::reach_of;
 use crate::lineup::Lineup;
 use admit_core::{CallOrders, OutOfMemory};
-use day_state::DayState;
+use day_state::{DayState, seats_left};
 use proposals::programme_count;
 use std::alloc::Global;
-use vacancies::seats_left;
 
 /// Whether a flag is set.
 pub fn is_set(flags: &[bool], place: u32) -> bool

@@ -5,7 +5,7 @@ use Rattle.std.specs.List.{range_with_len}
 use Rattle.std.proofs.lemmas.List.Elements.{filter_passes}
 use Rattle.admit_core.specs.declared.records.Fall.{Fall}
 use Rattle.admit_core.specs.Falls.{FallingSystem, IsLawful, IsGreatest, is_overfilled, fall_of, fallen}
-use Rattle.bar_law.specs.Overfilled.{all_overfilled}
+use Rattle.bar_fixpoint.specs.Overfilled.{all_overfilled}
 use Rattle.bar_fixpoint.specs.Chosen.{PickedFall}
 use Rattle.bar_fixpoint.proofs.OneFall.{settled_from_none, sum_falls}
 use Rattle.bar_fixpoint.proofs.SoFar.{SoFar, none_so_far, one_more, under_so_far, greatest_so_far}

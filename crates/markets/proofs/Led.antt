@@ -3,8 +3,8 @@ use Rattle.std.proofs.Common.{ℕ, ◌≡◌, List, [], ◌++◌, refl, sym, sub
 use Rattle.std.proofs.lemmas.List.{append-nil}
 use Rattle.admit_core.specs.declared.records.Fall.{Fall}
 use Rattle.admit_core.specs.Falls.{FallingSystem, bars_after, IsRun}
-use Rattle.bar_law.specs.Runs.{schools_of}
-use Rattle.bar_law.proofs.RunLaws.{picks_fix}
+use Rattle.bar_fixpoint.specs.Runs.{schools_of}
+use Rattle.bar_fixpoint.proofs.RunLaws.{picks_fix}
 use Rattle.bar_fixpoint.specs.Chosen.{AreChosen, EndsEarly, TellsOfFalls}
 use Rattle.markets.specs.Solving.{IsLedTo}
 

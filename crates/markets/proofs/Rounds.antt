@@ -6,7 +6,7 @@ use Rattle.std.proofs.lemmas.Bool.{cases_Bool, cases_lt, le-leb, lt-leb, lt-ltb,
 use Rattle.std.proofs.lemmas.List.{append-nil, append_assoc, map-append, length-map, length-append, get_or-set_same, set-set}
 use Rattle.std.proofs.lemmas.List.FromFn.{filter_of_map_range_with_len_more}
 use Rattle.admit_core.specs.Falls.{is_overfilled}
-use Rattle.bar_law.specs.Overfilled.{all_overfilled}
+use Rattle.bar_fixpoint.specs.Overfilled.{all_overfilled}
 use Rattle.linked_demand.proofs.Answered.{filter_agree}
 use Rattle.markets.specs.Markets.{MarketRows, IsMarket, list_of, order_of, candidate_at}
 use Rattle.markets.specs.Matchings.{place_of, is_at}

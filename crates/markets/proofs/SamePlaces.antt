@@ -1,7 +1,7 @@
 -- Whichever programme falls first, the bars end at the greatest, and these are unique.
 use Rattle.std.proofs.Common.{ap}
 use Rattle.admit_core.proofs.FallsLaw.{run_is_greatest}
-use Rattle.bar_law.proofs.RunLaws.{unique_greatest}
+use Rattle.bar_fixpoint.proofs.RunLaws.{unique_greatest}
 use Rattle.markets.specs.Bars.{market_system, matched_under}
 use Rattle.markets.specs.Laws.{TheSameWhicheverFallsFirst}
 use Rattle.markets.specs.Lawful.{market_is_lawful}

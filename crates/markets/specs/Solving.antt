@@ -2,7 +2,7 @@
 use Rattle.std.specs.Prelude.{◌≡◌, ℕ, List, ◌++◌}
 use Rattle.admit_core.specs.declared.records.Fall.{Fall}
 use Rattle.admit_core.specs.Falls.{FallingSystem, bars_after, IsRun, Leads}
-use Rattle.bar_law.specs.Runs.{schools_of}
+use Rattle.bar_fixpoint.specs.Runs.{schools_of}
 use Rattle.bar_fixpoint.specs.Chosen.{AreChosen}
 
 -- a run of falls led to these bars: the picker chose each place that fell, and told of it; these

@@ -4,13 +4,13 @@ ghost use Rattle.markets.specs.Markets.{IsMarket, order_of, candidate_at};
 ghost use Rattle.markets.specs.Matchings.{IsMatching};
 ghost use Rattle.markets.specs.Bars.{demanded, market_system, offered, place_code};
 ghost use Rattle.markets.specs.Rounds.{IsRound, held_to};
-ghost use Rattle.bar_law.specs.Overfilled.{rank_over};
+ghost use Rattle.bar_fixpoint.specs.Overfilled.{rank_over};
 
 use crate::market::Market;
 use crate::ranked::Ranked;
 use crate::seating::{Seating, is_at, lower_to, seated_under};
 use admit_core::{OutOfMemory, Steps};
-use bar_law::Falling;
+use bar_fixpoint::Falling;
 use std::alloc::Global;
 use std::sync::ledger::Ledger;
 

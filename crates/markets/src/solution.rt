@@ -11,8 +11,7 @@ use crate::laws::laws_of_markets;
 use crate::market::Market;
 use crate::round::MarketRound;
 use admit_core::{OutOfMemory, Steps};
-use bar_fixpoint::{Picker, greatest};
-use bar_law::{Falling, law_of_runs};
+use bar_fixpoint::{Falling, Picker, greatest, law_of_runs};
 use std::alloc::Global;
 use std::sync::ledger::Ledger;
 

@@ -2,7 +2,7 @@
 ghost use Rattle.std.specs.Prelude.{◌≡◌, IfOk};
 
 use admit_core::OutOfMemory;
-use bar_law::Falling;
+use bar_fixpoint::Falling;
 use std::alloc::Global;
 
 /// The present bars of all places.

@@ -3,7 +3,7 @@ ghost use Rattle.std.specs.Prelude.{◌≡◌, ◌++◌, ◌<◌, length, IfOk, 
 ghost use Rattle.admit_core.specs.CallOrder.{AreCallOrders};
 ghost use Rattle.admit_core.specs.Boarding.{boarding};
 ghost use Rattle.admit_core.specs.Days.{IsPass, offered};
-ghost use Rattle.bar_law.specs.Runs.{schools_of};
+ghost use Rattle.bar_fixpoint.specs.Runs.{schools_of};
 ghost use Rattle.bar_fixpoint.specs.Chosen.{AreChosen, TellsOfFalls};
 ghost use Rattle.linked_demand.specs.Lineups.{IsLineupOf};
 ghost use Rattle.round.specs.PassLaws.{KeepsPassLaws};

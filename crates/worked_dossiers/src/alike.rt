@@ -5,7 +5,7 @@ ghost use Rattle.admit_core.specs.CallOrder.{AreCallOrders};
 use crate::tables::{call_orders_of, ceilings_of};
 use crate::views::push_view;
 use admit_core::{CallOrders, Dossier, OutOfMemory, Steps};
-use bar_law::Falling;
+use bar_fixpoint::Falling;
 use day_state::DayState;
 use demand::{PlainRound, proposed};
 use linked_demand::{Lineup, LinkedRound};

@@ -1,7 +1,7 @@
 //! What is seen of a system of boarding schools under its present bars, as lines.
 
 use admit_core::{Dossier, OutOfMemory};
-use bar_law::Falling;
+use bar_fixpoint::Falling;
 use std::alloc::Global;
 use std::fmt::Write;
 

@@ -1,5 +1,5 @@
 use Rattle.std.proofs.Common.{refl, rules}
-use Rattle.bar_law.specs.Runs.{schools_of}
+use Rattle.bar_fixpoint.specs.Runs.{schools_of}
 use Rattle.desk_day.proofs.PassesSoFar.{tells_of_falls, tells_still}
 use Rattle.bed_need.proofs.Telling.{run_of_pass}
 use Rattle.bed_need.proofs.need.pass_in.Goals as goal

@@ -1,4 +1,4 @@
-use Rattle.call_queues.specs.Kinds.{is_of}
+use Rattle.call_order.specs.Kinds.{is_of}
 use Rattle.call_order.proofs.ByKinds.{any_found}
 use Rattle.call_order.proofs.queued.any_remains.Goals as goal
 

@@ -1,8 +1,8 @@
 use Rattle.std.proofs.Common.{◌≡◌, ◌<◌, ℕ, List, true, false, length, arith, sym, ap, ◌∙◌, ◌++◌, ◌∷◌, []}
 use Rattle.std.specs.Option.{is_some}
 use Rattle.admit_core.specs.Boarding.{boarding}
-use Rattle.bar_law.specs.Overfilled.{rank_over}
-use Rattle.bar_law.proofs.Listing.{listed, left_out}
+use Rattle.bar_fixpoint.specs.Overfilled.{rank_over}
+use Rattle.bar_fixpoint.proofs.Listing.{listed, left_out}
 use Rattle.demand.proofs.round.PlainRoundFalling.overfilled.Goals as goal
 use Rattle.demand.proofs.round.PlainRoundFalling.overfilled.Goals.{then-is_some+in_ok-push, else-is_some}
 

@@ -1,2 +1,0 @@
-pub mod Overfilled
-pub mod Runs

@@ -1,3 +1,0 @@
-pub mod Heads
-pub mod Kinds
-pub mod QueueLists
