@@ -12,7 +12,7 @@ use crate::noted::{row_of, row_with};
 use crate::row_ids::RowIds;
 use admit_core::{
     Answer, AnswerKind, AnswerRow, CeilingChange, CeilingRow, OutOfMemory, Programme, ProgrammeRow,
-    School, StateRow, Tables, Wish, WishRow,
+    School, SchoolRow, StateRow, Tables, Wish, WishRow,
 };
 use indexmap::IndexSet;
 use keyed_hash::Keyed;
@@ -32,15 +32,24 @@ pub(crate) struct Keys {
 impl Drop for Keys {
     fn drop(self) {
         let Keys {
-            groups: _,
-            programmes: _,
+            groups,
+            programmes,
             schools: _,
-            boarding: _,
+            boarding,
             wishes: _,
-            state: _,
+            state,
         } = self;
+        give_back(groups, programmes, boarding, state);
     }
 }
+
+/// Gives back the room of keys that nothing more is found by.
+fn give_back(
+    _groups: RowIds,
+    _programmes: RowIds,
+    _boarding: IndexSet<(u32, u32), Keyed>,
+    _state: RowIds,
+) {}
 
 impl Keys {
     /// The index alone; the room of the others is given back.
@@ -49,13 +58,14 @@ impl Keys {
         ensures { result ≡ record { wishes = self.wishes.keys; schools = self.schools.keys } }
     {
         let Keys {
-            groups: _,
-            programmes: _,
+            groups,
+            programmes,
             schools,
-            boarding: _,
+            boarding,
             wishes,
-            state: _,
+            state,
         } = self;
+        give_back(groups, programmes, boarding, state);
         Index { wishes, schools }
     }
 }
@@ -77,19 +87,6 @@ fn place_in_any(ids: &RowIds, id: Option<u32>) -> Option<u32>
         Some(id) => Some(place_in(ids, id)),
         None => None,
     }
-}
-
-/// The schools.
-pub(crate) fn schools_of(alloc: Global, tables: &Tables) -> Result<Vec<School>, OutOfMemory>
-    ensures { IfOk result (λ schools. schools.items ≡ map school_of_row tables.now.schools) }
-{
-    let rows = tables.schools.as_slice().iter();
-    let schools = rows.map(|row| School {
-        id: row.id,
-        beds: row.beds,
-        ceiling: row.ceiling,
-    });
-    Ok(schools.collect(alloc)?)
 }
 
 /// A candidate's rank in a school; 0 without a school.
@@ -144,6 +141,20 @@ impl<'a> Makes<ProgrammeRow, Programme> for Places<'a> {
             group: place_in(&self.keys.groups, row.group),
             seats: row.seats,
             limit: row.limit,
+        }
+    }
+}
+
+impl<'a> Makes<SchoolRow, School> for Places<'a> {
+    ghost can_make = { λ c. Unit {0} };
+
+    ghost made = { λ c. school_of_row };
+
+    fn make(&self, row: &SchoolRow) -> School {
+        School {
+            id: row.id,
+            beds: row.beds,
+            ceiling: row.ceiling,
         }
     }
 }
@@ -208,6 +219,17 @@ pub(crate) fn programmes_of(
         &Places { tables, keys },
         tables.programmes.as_slice(),
     )
+}
+
+/// The schools.
+pub(crate) fn schools_of(
+    alloc: Global,
+    tables: &Tables,
+    keys: &Keys,
+) -> Result<Vec<School>, OutOfMemory>
+    ensures { IfOk result (λ schools. schools.items ≡ map school_of_row tables.now.schools) }
+{
+    made_of(alloc, &Places { tables, keys }, tables.schools.as_slice())
 }
 
 /// The wishes, with the places of what they name and the candidates' ranks in the schools.
