@@ -124,7 +124,7 @@ fn target_of(keys: &Keys, kind: AnswerKind, target: u32) -> u32
 }
 
 /// Fault-free tables, and what their rows are found by: of these the items are made.
-#[derive(Clone, Copy)]
+#[derive(Drop)]
 pub(crate) struct Places<'a> {
     pub(crate) tables: &'a Tables,
     pub(crate) keys: &'a Keys,
