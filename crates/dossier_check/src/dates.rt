@@ -4,7 +4,8 @@ ghost use Rattle.std.specs.List.{list_all};
 ghost use Rattle.dossier_check.specs.Dates.{date_of_wish, dates_of, is_undated};
 ghost use Rattle.dossier_check.specs.Keys.{AreKeysOf};
 
-use crate::items::{Keys, state_row_of};
+use crate::items::{Keys, Places, state_row_of};
+use crate::made::{Makes, made_of};
 use admit_core::{OutOfMemory, Since, StateRow, Tables, WishRow};
 use std::alloc::Global;
 use std::marker::Model;
@@ -79,14 +80,16 @@ fn is_undated(rows: &[StateRow]) -> bool
     rows.iter().all(|row| row.since.is_none())
 }
 
-/// Since when a wish has its status.
-fn date_of_wish(tables: &Tables, keys: &Keys, wish: &WishRow) -> Option<Since>
-    requires { AreKeysOf tables.now keys.now }
-    ensures { result ≡ date_of_wish tables.now wish.now }
-{
-    match state_row_of(tables, keys, wish) {
-        Some(row) => row.since,
-        None => None,
+impl<'a> Makes<WishRow, Option<Since>> for Places<'a> {
+    ghost can_make = { λ c. AreKeysOf c.tables.now c.keys.now };
+
+    ghost made = { λ c. date_of_wish c.tables.now };
+
+    fn make(&self, row: &WishRow) -> Option<Since> {
+        match state_row_of(self.tables, self.keys, row) {
+            Some(row) => row.since,
+            None => None,
+        }
     }
 }
 
@@ -99,12 +102,7 @@ fn list_dates(
     requires { AreKeysOf tables.now keys.now }
     ensures { IfOk result (λ dates. dates.items ≡ dates_of tables.now) }
 {
-    let rows = tables.wishes.as_slice();
-    let mut dates = Vec::with_capacity(alloc, rows.len())?;
-    for wish in rows {
-        dates.push(date_of_wish(tables, keys, wish))?;
-    }
-    Ok(dates)
+    made_of(alloc, &Places { tables, keys }, tables.wishes.as_slice())
 }
 
 /// Since when the wishes have their statuses.

@@ -7,11 +7,12 @@ ghost use Rattle.dossier_check.specs.Ids.{IsSmall};
 ghost use Rattle.dossier_check.specs.Keys.{AreKeysOf};
 
 use crate::index::Index;
+use crate::made::{Makes, made_of};
 use crate::noted::{row_of, row_with};
 use crate::row_ids::RowIds;
 use admit_core::{
-    Answer, AnswerKind, CeilingChange, OutOfMemory, Programme, School, StateRow, Tables, Wish,
-    WishRow,
+    Answer, AnswerKind, AnswerRow, CeilingChange, CeilingRow, OutOfMemory, Programme, ProgrammeRow,
+    School, SchoolRow, StateRow, Tables, Wish, WishRow,
 };
 use indexmap::IndexSet;
 use keyed_hash::Keyed;
@@ -31,15 +32,24 @@ pub(crate) struct Keys {
 impl Drop for Keys {
     fn drop(self) {
         let Keys {
-            groups: _,
-            programmes: _,
+            groups,
+            programmes,
             schools: _,
-            boarding: _,
+            boarding,
             wishes: _,
-            state: _,
+            state,
         } = self;
+        give_back(groups, programmes, boarding, state);
     }
 }
+
+/// Gives back the room of keys that nothing more is found by.
+fn give_back(
+    _groups: RowIds,
+    _programmes: RowIds,
+    _boarding: IndexSet<(u32, u32), Keyed>,
+    _state: RowIds,
+) {}
 
 impl Keys {
     /// The index alone; the room of the others is given back.
@@ -48,13 +58,14 @@ impl Keys {
         ensures { result ≡ record { wishes = self.wishes.keys; schools = self.schools.keys } }
     {
         let Keys {
-            groups: _,
-            programmes: _,
+            groups,
+            programmes,
             schools,
-            boarding: _,
+            boarding,
             wishes,
-            state: _,
+            state,
         } = self;
+        give_back(groups, programmes, boarding, state);
         Index { wishes, schools }
     }
 }
@@ -78,42 +89,6 @@ fn place_in_any(ids: &RowIds, id: Option<u32>) -> Option<u32>
     }
 }
 
-/// The programmes, with the places of their groups.
-pub(crate) fn programmes_of(
-    alloc: Global,
-    tables: &Tables,
-    keys: &Keys,
-) -> Result<Vec<Programme>, OutOfMemory>
-    requires { AreKeysOf tables.now keys.now }
-    ensures { IfOk result (λ programmes.
-        programmes.items ≡ map (programme_of_row tables.now) tables.now.programmes) }
-{
-    let rows = tables.programmes.as_slice();
-    let mut programmes = Vec::with_capacity(alloc, rows.len())?;
-    for row in rows {
-        programmes.push(Programme {
-            id: row.id,
-            group: place_in(&keys.groups, row.group),
-            seats: row.seats,
-            limit: row.limit,
-        })?;
-    }
-    Ok(programmes)
-}
-
-/// The schools.
-pub(crate) fn schools_of(alloc: Global, tables: &Tables) -> Result<Vec<School>, OutOfMemory>
-    ensures { IfOk result (λ schools. schools.items ≡ map school_of_row tables.now.schools) }
-{
-    let rows = tables.schools.as_slice().iter();
-    let schools = rows.map(|row| School {
-        id: row.id,
-        beds: row.beds,
-        ceiling: row.ceiling,
-    });
-    Ok(schools.collect(alloc)?)
-}
-
 /// A candidate's rank in a school; 0 without a school.
 fn board_rank_of(tables: &Tables, keys: &Keys, candidate: u32, school: Option<u32>) -> u32
     requires { AreKeysOf tables.now keys.now }
@@ -127,59 +102,12 @@ fn board_rank_of(tables: &Tables, keys: &Keys, candidate: u32, school: Option<u3
     }
 }
 
-/// The wishes, with the places of what they name and the candidates' ranks in the schools.
-pub(crate) fn wishes_of(
-    alloc: Global,
-    tables: &Tables,
-    keys: &Keys,
-) -> Result<Vec<Wish>, OutOfMemory>
-    requires { AreKeysOf tables.now keys.now }
-    ensures { IfOk result (λ wishes.
-        wishes.items ≡ map (wish_of_row tables.now) tables.now.wishes) }
-{
-    let rows = tables.wishes.as_slice();
-    let mut wishes = Vec::with_capacity(alloc, rows.len())?;
-    for row in rows {
-        wishes.push(Wish {
-            id: row.id,
-            candidate: row.candidate,
-            programme: place_in(&keys.programmes, row.programme),
-            school: place_in_any(&keys.schools, row.school),
-            board_rank: board_rank_of(tables, keys, row.candidate, row.school),
-            preference: row.preference,
-        })?;
-    }
-    Ok(wishes)
-}
-
 /// The row of a wish's status, where it has one.
 pub(crate) fn state_row_of(tables: &Tables, keys: &Keys, wish: &WishRow) -> Option<StateRow>
     requires { AreKeysOf tables.now keys.now }
     ensures { result ≡ find (λ s. nat_eq wish.now.id s.wish) tables.now.state }
 {
     row_of(&keys.state, tables.state.as_slice(), wish.id)
-}
-
-/// The ceilings, with the places of their schools.
-pub(crate) fn ceilings_of(
-    alloc: Global,
-    tables: &Tables,
-    keys: &Keys,
-) -> Result<Vec<CeilingChange>, OutOfMemory>
-    requires { AreKeysOf tables.now keys.now }
-    ensures { IfOk result (λ ceilings.
-        ceilings.items ≡ map (ceiling_of_row tables.now) tables.now.ceilings) }
-{
-    let rows = tables.ceilings.as_slice();
-    let mut ceilings = Vec::with_capacity(alloc, rows.len())?;
-    for row in rows {
-        ceilings.push(CeilingChange {
-            day: row.day,
-            school: place_in(&keys.schools, row.school),
-            ceiling: row.ceiling,
-        })?;
-    }
-    Ok(ceilings)
 }
 
 /// The target of an answer: a wish's place, or a candidate's id for `Quit`.
@@ -195,6 +123,141 @@ fn target_of(keys: &Keys, kind: AnswerKind, target: u32) -> u32
     }
 }
 
+/// Fault-free tables, and what their rows are found by: of these the items are made.
+#[derive(Drop)]
+pub(crate) struct Places<'a> {
+    pub(crate) tables: &'a Tables,
+    pub(crate) keys: &'a Keys,
+}
+
+impl<'a> Makes<ProgrammeRow, Programme> for Places<'a> {
+    ghost can_make = { λ c. AreKeysOf c.tables.now c.keys.now };
+
+    ghost made = { λ c. programme_of_row c.tables.now };
+
+    fn make(&self, row: &ProgrammeRow) -> Programme {
+        Programme {
+            id: row.id,
+            group: place_in(&self.keys.groups, row.group),
+            seats: row.seats,
+            limit: row.limit,
+        }
+    }
+}
+
+impl<'a> Makes<SchoolRow, School> for Places<'a> {
+    ghost can_make = { λ c. Unit {0} };
+
+    ghost made = { λ c. school_of_row };
+
+    fn make(&self, row: &SchoolRow) -> School {
+        School {
+            id: row.id,
+            beds: row.beds,
+            ceiling: row.ceiling,
+        }
+    }
+}
+
+impl<'a> Makes<WishRow, Wish> for Places<'a> {
+    ghost can_make = { λ c. AreKeysOf c.tables.now c.keys.now };
+
+    ghost made = { λ c. wish_of_row c.tables.now };
+
+    fn make(&self, row: &WishRow) -> Wish {
+        Wish {
+            id: row.id,
+            candidate: row.candidate,
+            programme: place_in(&self.keys.programmes, row.programme),
+            school: place_in_any(&self.keys.schools, row.school),
+            board_rank: board_rank_of(self.tables, self.keys, row.candidate, row.school),
+            preference: row.preference,
+        }
+    }
+}
+
+impl<'a> Makes<CeilingRow, CeilingChange> for Places<'a> {
+    ghost can_make = { λ c. AreKeysOf c.tables.now c.keys.now };
+
+    ghost made = { λ c. ceiling_of_row c.tables.now };
+
+    fn make(&self, row: &CeilingRow) -> CeilingChange {
+        CeilingChange {
+            day: row.day,
+            school: place_in(&self.keys.schools, row.school),
+            ceiling: row.ceiling,
+        }
+    }
+}
+
+impl<'a> Makes<AnswerRow, Answer> for Places<'a> {
+    ghost can_make = { λ c. AreKeysOf c.tables.now c.keys.now };
+
+    ghost made = { λ c. answer_of_row c.tables.now };
+
+    fn make(&self, row: &AnswerRow) -> Answer {
+        Answer {
+            day: row.day,
+            kind: row.kind,
+            target: target_of(self.keys, row.kind, row.target),
+        }
+    }
+}
+
+/// The programmes, with the places of their groups.
+pub(crate) fn programmes_of(
+    alloc: Global,
+    tables: &Tables,
+    keys: &Keys,
+) -> Result<Vec<Programme>, OutOfMemory>
+    requires { AreKeysOf tables.now keys.now }
+    ensures { IfOk result (λ programmes.
+        programmes.items ≡ map (programme_of_row tables.now) tables.now.programmes) }
+{
+    made_of(
+        alloc,
+        &Places { tables, keys },
+        tables.programmes.as_slice(),
+    )
+}
+
+/// The schools.
+pub(crate) fn schools_of(
+    alloc: Global,
+    tables: &Tables,
+    keys: &Keys,
+) -> Result<Vec<School>, OutOfMemory>
+    ensures { IfOk result (λ schools. schools.items ≡ map school_of_row tables.now.schools) }
+{
+    made_of(alloc, &Places { tables, keys }, tables.schools.as_slice())
+}
+
+/// The wishes, with the places of what they name and the candidates' ranks in the schools.
+pub(crate) fn wishes_of(
+    alloc: Global,
+    tables: &Tables,
+    keys: &Keys,
+) -> Result<Vec<Wish>, OutOfMemory>
+    requires { AreKeysOf tables.now keys.now }
+    ensures { IfOk result (λ wishes.
+        wishes.items ≡ map (wish_of_row tables.now) tables.now.wishes) }
+{
+    made_of(alloc, &Places { tables, keys }, tables.wishes.as_slice())
+}
+
+/// The ceilings, with the places of their schools.
+pub(crate) fn ceilings_of(
+    alloc: Global,
+    tables: &Tables,
+    keys: &Keys,
+) -> Result<Vec<CeilingChange>, OutOfMemory>
+    requires { AreKeysOf tables.now keys.now }
+    ensures { IfOk result (λ ceilings.
+        ceilings.items ≡ map (ceiling_of_row tables.now) tables.now.ceilings) }
+{
+    made_of(alloc, &Places { tables, keys }, tables.ceilings.as_slice())
+}
+
 /// The answers, with the places of their wishes.
 pub(crate) fn answers_of(
     alloc: Global,
@@ -205,14 +268,5 @@ pub(crate) fn answers_of(
     ensures { IfOk result (λ answers.
         answers.items ≡ map (answer_of_row tables.now) tables.now.answers) }
 {
-    let rows = tables.answers.as_slice();
-    let mut answers = Vec::with_capacity(alloc, rows.len())?;
-    for row in rows {
-        answers.push(Answer {
-            day: row.day,
-            kind: row.kind,
-            target: target_of(keys, row.kind, row.target),
-        })?;
-    }
-    Ok(answers)
+    made_of(alloc, &Places { tables, keys }, tables.answers.as_slice())
 }

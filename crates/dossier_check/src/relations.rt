@@ -257,7 +257,7 @@ fn make_dossier(
     ensures { IfOk result (λ dossier. dossier ≡ dossier_of tables.now) }
 {
     let programmes = programmes_of(alloc, tables, keys)?;
-    let schools = schools_of(alloc, tables)?;
+    let schools = schools_of(alloc, tables, keys)?;
     let FromWishes {
         wishes,
         statuses,

@@ -3,21 +3,29 @@ ghost use Rattle.std.specs.Prelude.{◌≡◌, AllPairs, IfOk, map, true, false}
 ghost use Rattle.admit_core.specs.Relations.{same_wish};
 ghost use Rattle.dossier_check.specs.Wished.{wished};
 
+use crate::made::{Makes, made_of};
 use admit_core::{OutOfMemory, WishRow};
 use std::alloc::Global;
 
 /// The candidate, the programme and the school of a wish, or 0 without one.
-fn wished(row: &WishRow) -> (u32, u32, u32)
-    ensures { result ≡ wished row.now }
-{
-    (row.candidate, row.programme, row.school.unwrap_or(0))
+#[derive(Drop)]
+struct Wished;
+
+impl Makes<WishRow, (u32, u32, u32)> for Wished {
+    ghost can_make = { λ c. Unit {0} };
+
+    ghost made = { λ c. wished };
+
+    fn make(&self, row: &WishRow) -> (u32, u32, u32) {
+        (row.candidate, row.programme, row.school.unwrap_or(0))
+    }
 }
 
 /// What the rows are of, in their order.
 fn all_wished(alloc: Global, rows: &[WishRow]) -> Result<Vec<(u32, u32, u32)>, OutOfMemory>
     ensures { IfOk result (λ keys. keys.items ≡ map wished rows.now) }
 {
-    Ok(rows.iter().map(|row| wished(row)).collect(alloc)?)
+    made_of(alloc, &Wished, rows)
 }
 
 /// Whether order shows that no two rows are of the same wish.

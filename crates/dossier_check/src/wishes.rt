@@ -8,6 +8,7 @@ ghost use Rattle.dossier_check.specs.Chained.{past_two};
 ghost use Rattle.dossier_check.specs.Dealt.{SaysWhoIsRanked};
 ghost use Rattle.dossier_check.specs.Outcome.{AnswersFault};
 ghost use Rattle.dossier_check.specs.Pairs.{pair_eq};
+ghost use Rattle.dossier_check.specs.WishTests.{tests_unless};
 ghost use Rattle.dossier_check.specs.Seen.{boarded_pairs, has_preference, AreFirstRows, AreFirstWishes, IsLastCandidate};
 
 use crate::apart::{Apart, shown_apart};
@@ -16,7 +17,7 @@ use crate::noted::{FirstWish, note_first, row_of};
 use crate::row_ids::RowIds;
 use crate::row_tests::{NamesUnknown, NoTest, Repeats, RepeatsId, RowTest, Shared, Then, Unless};
 use crate::rules::{ItsProgramme, ItsSchool, OwnId, WhatIsWished};
-use crate::scan::scanned;
+use crate::scan::{RowChecks, scanned};
 use crate::who_is_ranked::WhoIsRanked;
 use admit_core::{InFault, OutOfMemory, Reason, Slot, Tables, WishRow};
 use indexmap::{IndexMap, IndexSet};
@@ -322,29 +323,28 @@ fn keys_in(tests: WishTests<'_>) -> WishKeys
     }
 }
 
-/// Checks the wishes.
-pub(crate) fn check_wishes<'a>(
+/// The tests of wishes, before the first row.
+fn fresh_tests<'a>(
     alloc: Global,
     keyed: Keyed,
+    apart: Apart,
     tables: &'a Tables,
     programmes: &'a RowIds,
-    schools: &RowIds,
+    schools: &'a RowIds,
     ranked: WhoIsRanked<'a>,
     boarded: &'a IndexSet<(u32, u32), Keyed>,
-) -> Result<WishKeys, InFault>
+) -> Result<WishTests<'a>, OutOfMemory>
     requires programmes { programmes.now.keys ≡ programme_ids tables.now }
     requires schools { schools.now.keys ≡ school_ids tables.now }
     requires ranked { SaysWhoIsRanked tables.now ranked }
     requires boarded { boarded.now.keys ≡ boarded_pairs tables.now }
-    requires small { length tables.now.wishes < 2 ^ 32 }
-    ensures fault { AnswersFault result
-        (first_in slots.Wishes (wish_tests tables.now) tables.now.wishes) }
-    ensures ids { IfOk result (λ keys. keys.ids.keys ≡ wish_ids tables.now) }
-    ensures firsts { IfOk result (λ keys.
-        AreFirstWishes (get nat_eq keys.firsts) tables.now.wishes) }
+    ensures fresh { IfOk result (λ tests.
+        ⟦<WishTests<'a> as RowChecks<WishRow>>⟧.has_seen tests []) }
+    ensures tests { IfOk result (λ tests.
+        ⟦<WishTests<'a> as RowChecks<WishRow>>⟧.tests tests
+        ≡ tests_unless apart.wishes apart.preferences tables.now) }
 {
     let rows = tables.wishes.as_slice();
-    let apart = shown_apart(alloc, rows)?;
     let by_wish = hashing_by(keyed, apart, rows);
     let (own_ids, near) = wish_rooms(alloc, rows.len(), ranked.candidates.len())?;
     let ranks = Then {
@@ -374,7 +374,7 @@ pub(crate) fn check_wishes<'a>(
             rest: ranks,
         },
     };
-    let checks = Then {
+    Ok(Then {
         first: RepeatsId {
             alloc,
             keyed,
@@ -392,6 +392,34 @@ pub(crate) fn check_wishes<'a>(
             },
             rest: names,
         },
-    };
-    Ok(keys_in(scanned(Slot::Wishes, checks, rows)?))
+    })
+}
+
+/// Checks the wishes.
+pub(crate) fn check_wishes<'a>(
+    alloc: Global,
+    keyed: Keyed,
+    tables: &'a Tables,
+    programmes: &'a RowIds,
+    schools: &'a RowIds,
+    ranked: WhoIsRanked<'a>,
+    boarded: &'a IndexSet<(u32, u32), Keyed>,
+) -> Result<WishKeys, InFault>
+    requires programmes { programmes.now.keys ≡ programme_ids tables.now }
+    requires schools { schools.now.keys ≡ school_ids tables.now }
+    requires ranked { SaysWhoIsRanked tables.now ranked }
+    requires boarded { boarded.now.keys ≡ boarded_pairs tables.now }
+    requires small { length tables.now.wishes < 2 ^ 32 }
+    ensures fault { AnswersFault result
+        (first_in slots.Wishes (wish_tests tables.now) tables.now.wishes) }
+    ensures ids { IfOk result (λ keys. keys.ids.keys ≡ wish_ids tables.now) }
+    ensures firsts { IfOk result (λ keys.
+        AreFirstWishes (get nat_eq keys.firsts) tables.now.wishes) }
+{
+    let rows = tables.wishes.as_slice();
+    let apart = shown_apart(alloc, rows)?;
+    let tests = fresh_tests(
+        alloc, keyed, apart, tables, programmes, schools, ranked, boarded,
+    )?;
+    Ok(keys_in(scanned(Slot::Wishes, tests, rows)?))
 }

@@ -1,6 +1,0 @@
-use Rattle.std.proofs.Common.{◌≡◌, map, take}
-use Rattle.admit_core.specs.Standing.{wish_of_row}
-use Rattle.dossier_check.proofs.items.wishes_of.Given as goal
-
-abbrev pub invariant-loop-row : goal.invariant-loop-row
-invariant-loop-row l = l.wishes.items ≡ map (wish_of_row l.tables) (take l.row-index l.tables.wishes)

@@ -1,0 +1,21 @@
+-- The tests of wishes without those that are known to stand at no row.
+use Rattle.std.specs.Prelude.{Bool, true, nat_eq, List, [], ◌∷◌, if◌then◌else◌, None}
+use Rattle.std.specs.Option.{option_map_or}
+use Rattle.admit_core.specs.declared.tables.Tables.{Tables}
+use Rattle.admit_core.specs.declared.tables.WishRow.{WishRow}
+use Rattle.admit_core.specs.Faults.{Test, repeats, names_unknown}
+use Rattle.admit_core.specs.Lists.{is_among}
+use Rattle.admit_core.specs.Relations.{same_wish, programme_ids, school_ids, unranked, no_boarding_rank, preference_mixed, preference_taken}
+
+-- the tests of wishes, where that of the same wish and that of the same preference may be left out
+abbrev pub tests_unless : Bool → Bool → Tables → List (Test WishRow)
+tests_unless apart distinct t =
+    repeats (λ row r. nat_eq row.id r.id)
+    ∷ (λ before row. if apart then None else repeats same_wish before row)
+    ∷ names_unknown 3 (λ row. is_among row.programme (programme_ids t))
+    ∷ names_unknown 4 (λ row. option_map_or (λ h. is_among h (school_ids t)) row.school true)
+    ∷ unranked t
+    ∷ no_boarding_rank t
+    ∷ preference_mixed
+    ∷ (λ before row. if distinct then None else preference_taken before row)
+    ∷ []
