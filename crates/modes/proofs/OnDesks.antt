@@ -82,8 +82,11 @@ explains_on d orders day desk place x ceilings bars ceilings_are bars_are explai
     (subst (λ (bs : List ℕ). Explains (last_pass desk.opening orders ceilings bs) desk.present place x) bars_are explains)
 
 -- the last pass of the last day, with the ceilings and the bars that were found
-pub pass_found : (d : DossierRows) (orders : List CallOrder) (days : List DayRecord) (day : DayRecord) (desk : DeskStates) (ceilings bars : List ℕ) → IsDeskAfter d orders days desk → IsLastOf days day
-    → ceilings ≡ ceilings_of d day.day → bars ≡ last_bars day.passes → IsLastPass (last_pass desk.opening orders ceilings bars) desk.present
+pub pass_found : (d : DossierRows) (orders : List CallOrder) (days : List DayRecord) (day : DayRecord) (desk : DeskStates)
+    (ceilings bars : List ℕ) → IsDeskAfter d orders days desk → IsLastOf days day
+    → ceilings ≡ ceilings_of d day.day → bars ≡ last_bars day.passes
+    → IsLastPass (last_pass desk.opening orders ceilings bars) desk.present
 pass_found d orders days day desk ceilings bars after last ceilings_are bars_are =
     subst (λ (cs : List ℕ). IsLastPass (last_pass desk.opening orders cs bars) desk.present) (sym ceilings_are)
-    (subst (λ (bs : List ℕ). IsLastPass (last_pass desk.opening orders (ceilings_of d day.day) bs) desk.present) (sym bars_are) (after.last day last))
+    (subst (λ (bs : List ℕ). IsLastPass (last_pass desk.opening orders (ceilings_of d day.day) bs) desk.present) (sym bars_are)
+    (after.last day last))

@@ -13,19 +13,22 @@ unreachable-requires g c =
 pub figures_text-requires-clause-dossier : goal.figures_text-requires-clause-dossier
 figures_text-requires-clause-dossier g c =
     ap (λ (s : State). s.dossier) c.opening-opening.ensures
-    ∙ opening_dossier c.args.input.now.dossier c.args.input.now.index c.args.orders.now.orders c.args.days.now c.args.desk.now c.args.school c.in-Some.place c.in-Some-last.day.now (sym c.school_place.ensures ∙ c.in-Some.is)
+    ∙ opening_dossier c.args.input.now.dossier c.args.input.now.index c.args.orders.now.orders c.args.days.now c.args.desk.now
+    c.args.school c.in-Some.place c.in-Some-last.day.now (sym c.school_place.ensures ∙ c.in-Some.is)
     (sym c.in-Some-last.ensures.value) c.requires.desk
 
 pub figures_text-requires-clause-orders : goal.figures_text-requires-clause-orders
 figures_text-requires-clause-orders g c =
     subst (λ (s : State). AreCallOrders s.dossier.groups c.args.orders.now.orders) (sym c.opening-opening.ensures)
-    (opening_called c.args.input.now.dossier c.args.input.now.index c.args.orders.now.orders c.args.days.now c.args.desk.now c.args.school c.in-Some.place c.in-Some-last.day.now (sym c.school_place.ensures ∙ c.in-Some.is)
+    (opening_called c.args.input.now.dossier c.args.input.now.index c.args.orders.now.orders c.args.days.now c.args.desk.now
+    c.args.school c.in-Some.place c.in-Some-last.day.now (sym c.school_place.ensures ∙ c.in-Some.is)
     (sym c.in-Some-last.ensures.value) c.requires.desk)
 
 pub figures_text-requires-clause-ceilings : goal.figures_text-requires-clause-ceilings
 figures_text-requires-clause-ceilings g c =
     ap length (c.deref.ensures.value ∙ c.in_ok-ceilings.ensures.ceilings)
-    ∙ opening_ceilings c.args.input.now.dossier c.args.input.now.index c.args.orders.now.orders c.args.days.now c.args.desk.now c.args.school c.in-Some.place c.in-Some-last.day.now (sym c.school_place.ensures ∙ c.in-Some.is)
+    ∙ opening_ceilings c.args.input.now.dossier c.args.input.now.index c.args.orders.now.orders c.args.days.now c.args.desk.now
+    c.args.school c.in-Some.place c.in-Some-last.day.now (sym c.school_place.ensures ∙ c.in-Some.is)
     (sym c.in-Some-last.ensures.value) c.requires.desk
     ∙ ap (λ (s : State). length s.dossier.schools) (sym c.opening-opening.ensures)
 

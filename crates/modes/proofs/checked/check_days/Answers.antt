@@ -18,7 +18,8 @@ check_next-requires-clause-orders c =
 
 pub check_next-requires-clause-terms : goal.check_next-requires-clause-terms
 check_next-requires-clause-terms c =
-    subst (λ (d : DossierRows). IfSome (option_copied c.args.terms) (λ t. length t.before ≡ length d.wishes)) (sym c.loop-place.invariant.dossier) c.requires.terms
+    subst (λ (d : DossierRows). IfSome (option_copied c.args.terms) (λ t. length t.before ≡ length d.wishes))
+    (sym c.loop-place.invariant.dossier) c.requires.terms
 
 pub loop-place-preserved : goal.loop-place-preserved
 loop-place-preserved c =

@@ -14,7 +14,8 @@ check_morning-requires-clause-index c = c.requires.index ∙ ap ids_in (sym c.ma
 
 pub check_morning-requires-clause-orders : goal.check_morning-requires-clause-orders
 check_morning-requires-clause-orders c =
-    subst (λ (d : DossierRows). AreCallOrders d.groups c.args.orders.now.orders) (sym c.make_morning.ensures.dossier) c.requires.orders
+    subst (λ (d : DossierRows). AreCallOrders d.groups c.args.orders.now.orders) (sym c.make_morning.ensures.dossier)
+    c.requires.orders
 
 pub check_morning-requires-clause-ceilings : goal.check_morning-requires-clause-ceilings
 check_morning-requires-clause-ceilings c =
@@ -27,11 +28,13 @@ returns-clause-found c =
     ∙ ap (λ (d : DossierRows). ceilings_of d c.args.day) c.dossier.ensures in
     chain_tells (option_copied c.args.terms) c.args.orders.now.orders c.args.day c.args.state.now c.make_morning.new.state
     c.deref.result.now c.args.chain.now
-    c.in_ok-make_morning.ensures.fits c.in_ok-make_morning.ensures.morning under c.check_morning.result c.check_morning.ensures.found
+    c.in_ok-make_morning.ensures.fits c.in_ok-make_morning.ensures.morning under c.check_morning.result
+    c.check_morning.ensures.found
 
 pub returns-clause-school : goal.returns-clause-school
 returns-clause-school c =
-    subst (λ (d : DossierRows). IfErr c.check_morning.result (KeepsIn (length d.schools))) c.make_morning.ensures.dossier c.check_morning.ensures.school
+    subst (λ (d : DossierRows). IfErr c.check_morning.result (KeepsIn (length d.schools))) c.make_morning.ensures.dossier
+    c.check_morning.ensures.school
 
 pub returns-clause-evening : goal.returns-clause-evening
 returns-clause-evening c =

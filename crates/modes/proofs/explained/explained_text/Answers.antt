@@ -13,8 +13,9 @@ unreachable-requires c =
 pub explain_on_desk-why-requires-clause-last : goal.explain_on_desk-why-requires-clause-last
 explain_on_desk-why-requires-clause-last c =
     let day = c.in-Some-last.day.now in
-    pass_found c.args.input.now.dossier c.args.orders.now.orders c.args.days.now day c.args.desk.now _ _ c.requires.desk (sym c.in-Some-last.ensures.value)
-    (c.deref.ensures.value ∙ c.in_ok-ceilings.ensures.ceilings) (c.last_bars-bars.ensures ∙ ap last_bars c.as_slice.ensures)
+    pass_found c.args.input.now.dossier c.args.orders.now.orders c.args.days.now day c.args.desk.now _ _ c.requires.desk
+    (sym c.in-Some-last.ensures.value) (c.deref.ensures.value ∙ c.in_ok-ceilings.ensures.ceilings)
+    (c.last_bars-bars.ensures ∙ ap last_bars c.as_slice.ensures)
 
 pub returns : goal.returns
 returns c =
