@@ -11,11 +11,11 @@ use Rattle.admit_core.specs.declared.records.DayRecord.{DayRecord}
 use Rattle.admit_core.specs.declared.records.Terms.{Terms}
 use Rattle.admit_core.specs.declared.refusal.Refusal.{Refusal}
 use Rattle.desk_day.specs.DeskStates.{DeskStates}
-use Rattle.desk_day.specs.LastPasses.{last_pass}
+use Rattle.desk_day.specs.LastPasses.{IsLastPass, last_pass}
 use Rattle.explanations.specs.Sayings.{Explains}
 use Rattle.intake.specs.Dated.{terms_in}
 use Rattle.played.proofs.LastDay.{desk_played}
-use Rattle.played.specs.LastDays.{pass_on}
+use Rattle.played.specs.LastDays.{IsDeskAfter, IsLastOf, pass_on}
 use Rattle.played.specs.Lent.{Lent}
 use Rattle.played.specs.PlayedDays.{EndsAfter, Lead, Plan, Played, first_desk, plan_of}
 use Rattle.request.specs.Modes.{runs_days}
@@ -80,3 +80,13 @@ pub explains_on : (d : DossierRows) (orders : List CallOrder) (day : DayRecord) 
 explains_on d orders day desk place x ceilings bars ceilings_are bars_are explains =
     subst (λ (cs : List ℕ). Explains (last_pass desk.opening orders cs (last_bars day.passes)) desk.present place x) ceilings_are
     (subst (λ (bs : List ℕ). Explains (last_pass desk.opening orders ceilings bs) desk.present place x) bars_are explains)
+
+-- the last pass of the last day, with the ceilings and the bars that were found
+pub pass_found : (d : DossierRows) (orders : List CallOrder) (days : List DayRecord) (day : DayRecord) (desk : DeskStates)
+    (ceilings bars : List ℕ) → IsDeskAfter d orders days desk → IsLastOf days day
+    → ceilings ≡ ceilings_of d day.day → bars ≡ last_bars day.passes
+    → IsLastPass (last_pass desk.opening orders ceilings bars) desk.present
+pass_found d orders days day desk ceilings bars after last ceilings_are bars_are =
+    subst (λ (cs : List ℕ). IsLastPass (last_pass desk.opening orders cs bars) desk.present) (sym ceilings_are)
+    (subst (λ (bs : List ℕ). IsLastPass (last_pass desk.opening orders (ceilings_of d day.day) bs) desk.present) (sym bars_are)
+    (after.last day last))

@@ -1,12 +1,36 @@
-use Rattle.std.proofs.Common.{◌∙◌, nat_eq, sym}
+use Rattle.std.proofs.Common.{◌∙◌, ap, length, nat_eq, subst, sym}
+use Rattle.admit_core.specs.CallOrder.{AreCallOrders}
+use Rattle.admit_core.specs.State.{State}
 use Rattle.dossier_check.proofs.Places.{position-any}
-use Rattle.modes.proofs.Figuring.{all_only, all_picked, all_tell}
+use Rattle.modes.proofs.Figuring.{all_only, all_picked, all_tell, opening_called, opening_ceilings, opening_dossier}
 use Rattle.modes.proofs.beds.school_text.Goals as goal
 
 pub unreachable-requires : goal.unreachable-requires
 unreachable-requires g c =
     let some = position-any (nat_eq c.args.school) c.args.input.now.index.schools c.requires.named in
     cc (c.in_default.is, c.school_place.ensures, some)
+
+pub figures_text-requires-clause-dossier : goal.figures_text-requires-clause-dossier
+figures_text-requires-clause-dossier g c =
+    ap (λ (s : State). s.dossier) c.opening-opening.ensures
+    ∙ opening_dossier c.args.input.now.dossier c.args.input.now.index c.args.orders.now.orders c.args.days.now c.args.desk.now
+    c.args.school c.in-Some.place c.in-Some-last.day.now (sym c.school_place.ensures ∙ c.in-Some.is)
+    (sym c.in-Some-last.ensures.value) c.requires.desk
+
+pub figures_text-requires-clause-orders : goal.figures_text-requires-clause-orders
+figures_text-requires-clause-orders g c =
+    subst (λ (s : State). AreCallOrders s.dossier.groups c.args.orders.now.orders) (sym c.opening-opening.ensures)
+    (opening_called c.args.input.now.dossier c.args.input.now.index c.args.orders.now.orders c.args.days.now c.args.desk.now
+    c.args.school c.in-Some.place c.in-Some-last.day.now (sym c.school_place.ensures ∙ c.in-Some.is)
+    (sym c.in-Some-last.ensures.value) c.requires.desk)
+
+pub figures_text-requires-clause-ceilings : goal.figures_text-requires-clause-ceilings
+figures_text-requires-clause-ceilings g c =
+    ap length (c.deref.ensures.value ∙ c.in_ok-ceilings.ensures.ceilings)
+    ∙ opening_ceilings c.args.input.now.dossier c.args.input.now.index c.args.orders.now.orders c.args.days.now c.args.desk.now
+    c.args.school c.in-Some.place c.in-Some-last.day.now (sym c.school_place.ensures ∙ c.in-Some.is)
+    (sym c.in-Some-last.ensures.value) c.requires.desk
+    ∙ ap (λ (s : State). length s.dossier.schools) (sym c.opening-opening.ensures)
 
 pub returns-clause-text : goal.returns-clause-text
 returns-clause-text g c =
@@ -25,3 +49,9 @@ returns-clause-picks g c =
     all_picked c.args.input.now.dossier c.args.input.now.index c.args.orders.now.orders c.args.days.now c.args.desk.now c.args.school c.in-Some.place c.in-Some-last.day.now (sym c.school_place.ensures ∙ c.in-Some.is)
     (sym c.in-Some-last.ensures.value) c.requires.desk c.opening-opening.result.now c.deref.result.now _ _ _ c.opening-opening.ensures (c.deref.ensures.value ∙ c.in_ok-ceilings.ensures.ceilings)
     c.figures_text.ensures.early (λ text. text.items) c.figures_text.result c.figures_text.ensures.text
+
+pub returns-clause-early : goal.returns-clause-early
+returns-clause-early g c = c.figures_text.ensures.early
+
+pub returns-clause-choice : goal.returns-clause-choice
+returns-clause-choice g c = c.figures_text.ensures.choice

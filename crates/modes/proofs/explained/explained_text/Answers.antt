@@ -2,13 +2,20 @@ use Rattle.std.proofs.Common.{◌∙◌, ap, nat_eq, sym}
 use Rattle.std.proofs.lemmas.Result.{IfOk-weaker}
 use Rattle.admit_core.specs.EveningLaws.{last_bars}
 use Rattle.dossier_check.proofs.Places.{position-any}
-use Rattle.modes.proofs.OnDesks.{explains_on}
+use Rattle.modes.proofs.OnDesks.{explains_on, pass_found}
 use Rattle.modes.proofs.explained.explained_text.Goals as goal
 
 pub unreachable-requires : goal.unreachable-requires
 unreachable-requires c =
     let some = position-any (nat_eq c.args.wish) c.args.input.now.index.wishes c.requires.named in
     cc (c.in_default.is, c.wish_place.ensures, some)
+
+pub explain_on_desk-why-requires-clause-last : goal.explain_on_desk-why-requires-clause-last
+explain_on_desk-why-requires-clause-last c =
+    let day = c.in-Some-last.day.now in
+    pass_found c.args.input.now.dossier c.args.orders.now.orders c.args.days.now day c.args.desk.now _ _ c.requires.desk
+    (sym c.in-Some-last.ensures.value) (c.deref.ensures.value ∙ c.in_ok-ceilings.ensures.ceilings)
+    (c.last_bars-bars.ensures ∙ ap last_bars c.as_slice.ensures)
 
 pub returns : goal.returns
 returns c =
