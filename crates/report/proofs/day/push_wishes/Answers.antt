@@ -9,5 +9,10 @@ pub returns : goal.returns
 returns c =
     let wishes = c.args.wishes.now in
     let d = c.args.dossier.now in
-    rw (c.in_ok-push_str.ensures.bytes, c.loop-wish.invariant, take_all c.loop-wish.wish-index wishes (omega arith), further-map 32 (λ w. decimal (wish_id d w)) wishes)
+    rw (
+      c.in_ok-push_str.ensures.bytes,
+      c.loop-wish.invariant,
+      take_all c.loop-wish.wish-index wishes (omega arith),
+      further-map 32 (λ w. decimal (wish_id d w)) wishes,
+    )
     (append_assoc (string_bytes c.args.text.now) (flat_map (λ w. 32 ∷ decimal (wish_id d w)) wishes) (10 ∷ []))
