@@ -16,4 +16,6 @@ loop-place-preserved c =
     ∙ ap (map rank) (sym (take_more places i 0 within))
 
 pub returns : goal.returns
-returns c = c.loop-place.invariant ∙ ap (map (λ (k : ℕ). (wish_in c.args.state.now.dossier.wishes k).board_rank)) (take_all c.loop-place.place-index c.args.places.now (omega arith))
+returns c =
+    let rank : ℕ → ℕ = λ k. (wish_in c.args.state.now.dossier.wishes k).board_rank in
+    c.loop-place.invariant ∙ ap (map rank) (take_all c.loop-place.place-index c.args.places.now (omega arith))

@@ -37,7 +37,8 @@ lines-preserved c =
     let first : parts 10 c.lines.rest.now ≡ c.in-Some.text.now ∷ parts 10 c.in-Some.after.now = c.in-Some.ensures.first in
     let line : Some c.in-Some-2.line ≡ line_of c.lines.row (parts 32 c.in-Some.text.now) = sym c.in-Some-2.is ∙ c.in_ok-line.ensures in
     let ends : is_end (Some c.in-Some-2.line) ≡ false = sym c.is_end.ensures ∙ c.if-is_end.false in
-    let placed : None ≡ misplaced c.lines.reading.day c.lines.reading.pass (Some c.in-Some-2.line) = sym c.in_default-misplaced.is ∙ c.misplaced.ensures in
+    let placed : None ≡ misplaced c.lines.reading.day c.lines.reading.pass (Some c.in-Some-2.line) =
+    sym c.in_default-misplaced.is ∙ c.misplaced.ensures in
     let opens : c.add.new.self ≡ opened c.lines.row c.in-Some-2.line c.lines.reading = c.in_ok-add.ensures in
     record {
       whole =
