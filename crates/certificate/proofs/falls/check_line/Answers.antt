@@ -2,7 +2,7 @@ use Rattle.std.proofs.Common.{◌∙◌, ◌-◌, List, ℕ, Some, None, ap, sym
 use Rattle.std.specs.Prelude.{◌==◌}
 use Rattle.std.proofs.lemmas.Bool.{and_parts, eqb-true}
 use Rattle.linked_demand.proofs.BarEach.{bar_each_is}
-use Rattle.certificate.proofs.Testing.{are_shown, line_place, looked_up, over_below, over_from_one}
+use Rattle.certificate.proofs.Testing.{are_shown, looked_up, over_below, over_from_one}
 use Rattle.certificate.proofs.Testing.{passes_line, stops_not_over, stops_wrong_bar}
 use Rattle.certificate.proofs.Testing.{stops_wrong_wishes}
 use Rattle.certificate.proofs.falls.check_line.Goals as goal
@@ -91,33 +91,3 @@ returns-clause-falls c =
     let told = and_parts (line.from == c.bar-from.result) (line.to == over - 1)
     (sym c.tells_bars.ensures ∙ c.if-not-tells_bars.false) in
     omega (arith, eqb-true line.to (over - 1) told.1, over_below seen c.requires.under)
-
-pub first_over-requires : goal.first_over-requires
-first_over-requires c =
-    let place = line_place c.args.state.now c.args.index.now c.args.line.now c.in-Some.school
-    c.requires.index (sym c.school_place.ensures ∙ c.in-Some.is) in
-    omega (arith, place.0, c.requires.ceilings, c.requires.under.as_many)
-
-pub ranks_up_to-requires-clause-school : goal.ranks_up_to-requires-clause-school
-ranks_up_to-requires-clause-school c =
-    let place = line_place c.args.state.now c.args.index.now c.args.line.now c.in-Some.school
-    c.requires.index (sym c.school_place.ensures ∙ c.in-Some.is) in
-    omega (arith, place.0, c.requires.ceilings)
-
-pub bar-from-requires : goal.bar-from-requires
-bar-from-requires c =
-    let place = line_place c.args.state.now c.args.index.now c.args.line.now c.in-Some.school
-    c.requires.index (sym c.school_place.ensures ∙ c.in-Some.is) in
-    omega (arith, place.0, c.requires.ceilings)
-
-pub returns-clause-within : goal.returns-clause-within
-returns-clause-within c =
-    let place = line_place c.args.state.now c.args.index.now c.args.line.now c.in-Some.school
-    c.requires.index (sym c.school_place.ensures ∙ c.in-Some.is) in
-    omega (arith, place.0, c.requires.ceilings)
-
-pub returns-clause-school : goal.returns-clause-school
-returns-clause-school c =
-    let place = line_place c.args.state.now c.args.index.now c.args.line.now c.in-Some.school
-    c.requires.index (sym c.school_place.ensures ∙ c.in-Some.is) in
-    sym place.1

@@ -1,4 +1,4 @@
-use Rattle.std.proofs.Common.{◌∙◌, ◌<◌, ◌+◌, drop, ℕ, List, ap, sym, subst, slice_index, arith, length}
+use Rattle.std.proofs.Common.{◌∙◌, ◌<◌, ◌+◌, drop, ℕ, List, ap, sym, subst, slice_index, arith}
 use Rattle.std.proofs.lemmas.Result.{err_from_is_err_and}
 use Rattle.admit_core.specs.Chains.{bars_by, lines_fault}
 use Rattle.admit_core.specs.Falls.{IsAtMost}
@@ -49,9 +49,3 @@ lower-requires-clause-lower g c =
     subst (λ (bs : List ℕ). c.line-item.result.to < slice_index bs c.in_ok-school.school)
     (sym (bar_each_is now.ceilings now.bars c.loop-line.invariant.under.as_many))
     c.in_ok-school.ensures.falls
-
-pub check_line-requires-clause-same : goal.check_line-requires-clause-same
-check_line-requires-clause-same g c = ap (λ (r : Round). r.state) c.loop-line.invariant.round ∙ c.requires.same
-
-pub check_line-requires-clause-ceilings : goal.check_line-requires-clause-ceilings
-check_line-requires-clause-ceilings g c = ap (λ (r : Round). length r.ceilings) c.loop-line.invariant.round ∙ c.requires.ceilings
