@@ -1,6 +1,5 @@
 //! The wishes that a fall names.
-ghost use Rattle.std.specs.Prelude.{◌≡◌, ◌<◌, ◌≤◌, All, IfOk, length, filter, map, nat_le, zip};
-ghost use Rattle.std.specs.List.{list_all};
+ghost use Rattle.std.specs.Prelude.{◌≡◌, ◌<◌, All, IfOk, length, filter, map, nat_le};
 ghost use Rattle.admit_core.specs.Chains.{shows_rank, shows_ranks};
 ghost use Rattle.admit_core.specs.Proposals.{demanded_ranks, demands_bed};
 ghost use Rattle.day_state.specs.Kept.{mark_in, wish_in};
@@ -92,24 +91,6 @@ fn shows_rank(
     }
 }
 
-/// Whether each of the wishes shows the rank beside it.
-fn each_shows(
-    round: &LinkedRound<'_, '_>,
-    state: &DayState<'_>,
-    index: &Index,
-    school: u32,
-    ranks: &[u32],
-    ids: &[u32],
-) -> bool
-    requires same { round.now.state ≡ state.now }
-    requires index { index.now ≡ ids_in state.now.dossier }
-    ensures { result
-        ≡ list_all (λ x. shows_rank state.now round.now.orders round.now.bars school x.0 x.1)
-        (zip ranks.now ids.now) }
-{
-    ranks.iter().zip(ids).all(|(rank, id)| shows_rank(round, state, index, school, *rank, *id))
-}
-
 /// Whether the wishes show the ranks, each its own.
 pub(crate) fn show_ranks(
     round: &LinkedRound<'_, '_>,
@@ -124,5 +105,13 @@ pub(crate) fn show_ranks(
     ensures { result
         ≡ shows_ranks state.now round.now.orders round.now.bars school ranks.now ids.now }
 {
-    ids.len() == ranks.len() && each_shows(round, state, index, school, ranks, ids)
+    if ids.len() != ranks.len() {
+        return false;
+    }
+    for place in 0..ids.len() {
+        if !shows_rank(round, state, index, school, ranks[place], ids[place]) {
+            return false;
+        }
+    }
+    true
 }

@@ -34,3 +34,14 @@ pub lines_more_item : {X : Type 0} (lines : ℕ × X → List ℕ) (n : ℕ) (xs
     → flat_map lines (enumerate_from n (take (i + 1) xs)) ≡ flat_map lines (enumerate_from n (take i xs)) ++ lines (j, x)
 lines_more_item lines n xs i j x lt e is =
     lines_more lines n xs i j x lt e ∙ ap (λ y. flat_map lines (enumerate_from n (take i xs)) ++ lines (j, y)) (sym is)
+
+-- parts that were added one after another
+pub after_parts : (start : List ℕ) {one two three four : List ℕ} (a b c d e f : List ℕ)
+    → one ≡ start ++ a → two ≡ one ++ b → three ≡ two ++ c → four ≡ three ++ d
+    → (four ++ e) ++ f ≡ start ++ (a ++ (b ++ (c ++ (d ++ (e ++ f)))))
+after_parts start a b c d e f ones twos threes fours = rw (fours, threes, twos, ones) (simp append_assoc)
+
+-- two parts that were added, and two that follow
+pub after_two : (start : List ℕ) {one two : List ℕ} (a b c d : List ℕ)
+    → one ≡ start ++ a → two ≡ one ++ b → (two ++ c) ++ d ≡ start ++ (((a ++ b) ++ c) ++ d)
+after_two start a b c d ones twos = rw (twos, ones) (simp append_assoc)

@@ -1,13 +1,29 @@
 //! The lines of a day.
-ghost use Rattle.std.specs.Prelude.{◌≡◌, ◌<◌, ◌++◌, All, IfOk, OnOk, flat_map, length, string_bytes};
-ghost use Rattle.report.specs.DayText.{IsFallOf, IsLapseOf, IsPassOf, auto_line, dated_day_text, day_text, evening_text, fall_line, lapse_line, offer_line, pass_text, passes_text};
+ghost use Rattle.std.specs.Prelude.{◌≡◌, ◌<◌, ◌++◌, All, IfOk, OnOk, flat_map, length, map, string_bytes};
+ghost use Rattle.std.specs.Fmt.{decimal};
+ghost use Rattle.report.specs.DayText.{IsFallOf, IsLapseOf, IsPassOf, auto_line, dated_day_text, day_text, evening_text, fall_line, freed_line, lapse_line, offer_line, pass_text, passes_text};
+ghost use Rattle.report.specs.Ids.{wish_id};
+ghost use Rattle.report.specs.Words.{further};
 
 use crate::date::DateWord;
-use crate::ids::{push_numbers, school_id, wish_id};
-use crate::number::push_number;
+use crate::ids::{push_line, push_numbers, school_id, wish_id};
+use crate::number::push_after;
 use admit_core::{Change, DayRecord, Dossier, Fall, Lapse, OutOfMemory, PassEnd, Terms};
 use calendar::{Civil, deadline, on_day};
 use std::alloc::{AllocError, Global};
+
+/// Adds the id of each wish after a space, and ends the line.
+fn push_wishes(text: &mut String, dossier: &Dossier, wishes: &[u32]) -> Result<(), AllocError>
+    requires { All (λ w. w < length dossier.now.wishes) wishes.now }
+    ensures { OnOk result (string_bytes text.new ≡ string_bytes text.old
+        ++ further 32 (map (λ w. decimal (wish_id dossier.now w)) wishes.now)) }
+{
+    for wish in wishes {
+        push_after(text, " ", wish_id(dossier, *wish))?;
+    }
+    text.push_str("\n")?;
+    Ok(())
+}
 
 /// Adds the line of a fall.
 fn push_fall(text: &mut String, dossier: &Dossier, fall: &Fall) -> Result<(), AllocError>
@@ -17,11 +33,7 @@ fn push_fall(text: &mut String, dossier: &Dossier, fall: &Fall) -> Result<(), Al
 {
     let (from, to) = (fall.from, fall.to);
     write!(text, "fall {} {from} {to}", school_id(dossier, fall.school))?;
-    for wish in fall.wishes.as_slice() {
-        write!(text, " {}", wish_id(dossier, *wish))?;
-    }
-    text.push_str("\n")?;
-    Ok(())
+    push_wishes(text, dossier, fall.wishes.as_slice())
 }
 
 /// Adds the lines of falls, each with the ids of its school and wishes.
@@ -42,8 +54,7 @@ fn push_offer(text: &mut String, dossier: &Dossier, wish: u32) -> Result<(), All
     ensures { OnOk result
         (string_bytes text.new ≡ string_bytes text.old ++ offer_line dossier.now wish) }
 {
-    text.push_str("offer ")?;
-    push_number(text, wish_id(dossier, wish))?;
+    push_after(text, "offer ", wish_id(dossier, wish))?;
     text.push_str("\n")
 }
 
@@ -65,8 +76,7 @@ fn push_auto(text: &mut String, dossier: &Dossier, change: Change) -> Result<(),
     ensures { OnOk result
         (string_bytes text.new ≡ string_bytes text.old ++ auto_line dossier.now change) }
 {
-    text.push_str("auto ")?;
-    push_number(text, wish_id(dossier, change.wish))?;
+    push_after(text, "auto ", wish_id(dossier, change.wish))?;
     text.push_str(" ")?;
     text.push_str(change.status.word())?;
     text.push_str("\n")
@@ -84,6 +94,20 @@ fn push_autos(text: &mut String, dossier: &Dossier, autos: &[Change]) -> Result<
     Ok(())
 }
 
+/// Adds the last lines of a pass: the offers, the automatic answers, and what these freed.
+fn push_made(text: &mut String, dossier: &Dossier, end: &PassEnd) -> Result<(), AllocError>
+    requires { IsPassOf dossier.now end.now }
+    ensures { OnOk result (string_bytes text.new ≡ string_bytes text.old
+        ++ flat_map (offer_line dossier.now) end.now.pass.offers
+        ++ flat_map (auto_line dossier.now) end.now.autos ++ freed_line end.now.freed) }
+{
+    let pass = &end.pass;
+    let (seats, beds) = (end.freed.seats, end.freed.beds);
+    push_offers(text, dossier, pass.offers.as_slice())?;
+    push_autos(text, dossier, end.autos.as_slice())?;
+    push_line(text, "freed", seats, beds)
+}
+
 /// Adds the lines of a pass with its number.
 fn push_pass(
     text: &mut String,
@@ -96,7 +120,6 @@ fn push_pass(
         (number, end.now)) }
 {
     let pass = &end.pass;
-    let (seats, beds) = (end.freed.seats, end.freed.beds);
     writeln!(text, "pass {number}")?;
     push_falls(text, dossier, pass.falls.as_slice())?;
     push_numbers(
@@ -105,10 +128,7 @@ fn push_pass(
         dossier.schools.as_slice(),
         pass.bars.as_slice(),
     )?;
-    push_offers(text, dossier, pass.offers.as_slice())?;
-    push_autos(text, dossier, end.autos.as_slice())?;
-    writeln!(text, "freed {seats} {beds}")?;
-    Ok(())
+    push_made(text, dossier, end)
 }
 
 /// Adds the lines of a day's passes, numbered from 1.

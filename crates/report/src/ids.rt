@@ -4,7 +4,7 @@ ghost use Rattle.std.specs.Fmt.{decimal};
 ghost use Rattle.report.specs.Ids.{numbers_text, school_id, wish_id};
 ghost use Rattle.report.specs.Words.{line};
 
-use crate::number::push_number;
+use crate::number::push_after;
 use admit_core::{Dossier, Programme, School};
 use std::alloc::AllocError;
 
@@ -49,15 +49,18 @@ pub(crate) fn school_id(dossier: &Dossier, place: u32) -> u32
 }
 
 /// Adds a line of a word and two numbers.
-fn push_line(text: &mut String, word: &str, id: u32, number: u32) -> Result<(), AllocError>
+pub(crate) fn push_line(
+    text: &mut String,
+    word: &str,
+    id: u32,
+    number: u32,
+) -> Result<(), AllocError>
     ensures { OnOk result (string_bytes text.new
         ≡ string_bytes text.old ++ line (word.now ∷ decimal id ∷ decimal number ∷ [])) }
 {
     text.push_str(word)?;
-    text.push_str(" ")?;
-    push_number(text, id)?;
-    text.push_str(" ")?;
-    push_number(text, number)?;
+    push_after(text, " ", id)?;
+    push_after(text, " ", number)?;
     text.push_str("\n")
 }
 

@@ -11,3 +11,12 @@ pub(crate) fn push_number(text: &mut String, number: u32) -> Result<(), AllocErr
 {
     text.push_str(Buffer::new().format(number))
 }
+
+/// Adds some text and a number.
+pub(crate) fn push_after(text: &mut String, before: &str, number: u32) -> Result<(), AllocError>
+    ensures { OnOk result (string_bytes text.new
+        ≡ string_bytes text.old ++ before.now ++ decimal number) }
+{
+    text.push_str(before)?;
+    push_number(text, number)
+}

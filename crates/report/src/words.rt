@@ -3,7 +3,7 @@ ghost use Rattle.std.specs.Prelude.{◌≡◌, ◌++◌, List, ℕ, OnOk, map, s
 ghost use Rattle.std.specs.Fmt.{decimal};
 ghost use Rattle.report.specs.Words.{IsPrintedAs, further};
 
-use crate::number::push_number;
+use crate::number::push_after;
 use std::alloc::AllocError;
 use std::fmt::Display;
 
@@ -26,8 +26,7 @@ pub(crate) fn push_list(text: &mut String, numbers: &[u32]) -> Result<(), AllocE
         ≡ string_bytes text.old ++ further 32 (map decimal numbers.now)) }
 {
     for number in numbers {
-        text.push_str(" ")?;
-        push_number(text, *number)?;
+        push_after(text, " ", *number)?;
     }
     text.push_str("\n")?;
     Ok(())

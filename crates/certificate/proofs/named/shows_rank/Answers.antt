@@ -1,4 +1,5 @@
-use Rattle.std.proofs.Common.{◌≡◌, Some, None, List, map, length, nat_eq, ap, sym, ◌∙◌, subst, ◌&&◌}
+use Rattle.std.proofs.Common.{◌≡◌, Some, None, List, map, length, nat_eq, ap, sym, ◌∙◌, subst, ◌&&◌, arith}
+use Rattle.std.proofs.lemmas.List.{length-map}
 use Rattle.std.specs.Prelude.{position}
 use Rattle.std.specs.List.{IsDistinct}
 use Rattle.admit_core.specs.declared.dossier.Wish.{Wish}
@@ -6,6 +7,7 @@ use Rattle.admit_core.specs.declared.state.Mark.{Mark}
 use Rattle.admit_core.specs.DossierRows.{DossierRows}
 use Rattle.day_state.specs.Kept.{wish_in}
 use Rattle.dossier_check.specs.Ids.{Ids}
+use Rattle.certificate.proofs.Cutting.{place_found}
 use Rattle.certificate.proofs.Naming.{shows_none, shows_at}
 use Rattle.certificate.proofs.named.shows_rank.Goals as goal
 
@@ -54,3 +56,21 @@ returns-else-demands c =
     (shows.1
     ∙ ap (λ b. b && nat_eq c.args.rank (wish_in s.dossier.wishes c.in-Some.place).board_rank)
     (sym c.demands_bed-demands.ensures ∙ c.if-demands.false))
+
+pub demands_bed-demands-requires-clause-place : goal.demands_bed-demands-requires-clause-place
+demands_bed-demands-requires-clause-place c =
+    let s = c.args.state.now in
+    let found : position (nat_eq c.args.id) (map (λ (w : Wish). w.id) s.dossier.wishes)
+    ≡ Some c.in-Some.place = ap (λ (x : Ids). position (nat_eq c.args.id) x.wishes)
+    (sym c.requires.index) ∙ sym c.wish_place.ensures ∙ c.in-Some.is in
+    let there = place_found (nat_eq c.args.id) (map (λ (w : Wish). w.id) s.dossier.wishes) c.in-Some.place found in
+    omega (arith, there.0, length-map s.dossier.wishes (λ (w : Wish). w.id))
+
+pub wish_at-requires : goal.wish_at-requires
+wish_at-requires c =
+    let s = c.args.state.now in
+    let found : position (nat_eq c.args.id) (map (λ (w : Wish). w.id) s.dossier.wishes)
+    ≡ Some c.in-Some.place = ap (λ (x : Ids). position (nat_eq c.args.id) x.wishes)
+    (sym c.requires.index) ∙ sym c.wish_place.ensures ∙ c.in-Some.is in
+    let there = place_found (nat_eq c.args.id) (map (λ (w : Wish). w.id) s.dossier.wishes) c.in-Some.place found in
+    omega (arith, there.0, length-map s.dossier.wishes (λ (w : Wish). w.id))
