@@ -26,11 +26,11 @@ module _ (p : ℕ → Bool) (row : List RowWish) where
 
   module _ (i : ℕ) (d : RowWish) (lt : i < length row) (last : ℕ) where
     -- one who passes is the next demand
-    pub firsts_more : (found new : List Demand) → last < (get_or row i d).rank → p (get_or row i d).wish ≡ true
+    pub firsts_more : (found new : List Demand) (named : ℕ) → last < (get_or row i d).rank → p (get_or row i d).wish ≡ true
         → new ≡ found ++ record { rank = (get_or row i d).rank; wish = (get_or row i d).wish } ∷ []
-        → firsts p 0 row ≡ found ++ firsts p last (drop i row)
-        → firsts p 0 row ≡ new ++ firsts p (get_or row i d).rank (drop (i + 1) row)
-    firsts_more found new above passes new_is are =
+        → named ≡ (get_or row i d).rank → firsts p 0 row ≡ found ++ firsts p last (drop i row)
+        → firsts p 0 row ≡ new ++ firsts p named (drop (i + 1) row)
+    firsts_more found new named above passes new_is named_is are =
         let x = get_or row i d in
         let rest = drop (i + 1) row in
         let here : Demand = record { rank = x.rank; wish = x.wish } in
@@ -41,12 +41,14 @@ module _ (p : ℕ → Bool) (row : List RowWish) where
         ∙ ap (λ b. if b then (here ∷ firsts p x.rank rest) else firsts p last rest) both)
         ∙ sym (append_assoc found (here ∷ []) (firsts p x.rank rest))
         ∙ ap (λ (ys : List Demand). ys ++ firsts p x.rank rest) (sym new_is)
+        ∙ ap (λ (k : ℕ). new ++ firsts p k rest) (sym named_is)
 
     -- one who ranks too low or is not proposed is passed over
-    pub firsts_same : (found : List Demand) → (nat_lt last (get_or row i d).rank && p (get_or row i d).wish) ≡ false
+    pub firsts_same : (found new : List Demand) (named : ℕ) → new ≡ found → named ≡ last
+        → (nat_lt last (get_or row i d).rank && p (get_or row i d).wish) ≡ false
         → firsts p 0 row ≡ found ++ firsts p last (drop i row)
-        → firsts p 0 row ≡ found ++ firsts p last (drop (i + 1) row)
-    firsts_same found fails are =
+        → firsts p 0 row ≡ new ++ firsts p named (drop (i + 1) row)
+    firsts_same found new named new_is named_is fails are =
         let x = get_or row i d in
         let rest = drop (i + 1) row in
         let here : Demand = record { rank = x.rank; wish = x.wish } in
@@ -54,6 +56,8 @@ module _ (p : ℕ → Bool) (row : List RowWish) where
         ∙ ap (λ (ys : List Demand). found ++ ys)
         (at_drop_more (firsts p last) row i d lt
         ∙ ap (λ b. if b then (here ∷ firsts p x.rank rest) else firsts p last rest) fails)
+        ∙ ap (λ (ys : List Demand). ys ++ firsts p last rest) (sym new_is)
+        ∙ ap (λ (k : ℕ). new ++ firsts p k rest) (sym named_is)
 
     -- the demanded ranks are counted alike
     pub counted_more : last < (get_or row i d).rank → p (get_or row i d).wish ≡ true

@@ -1,4 +1,5 @@
-use Rattle.std.proofs.Common.{List, ◌++◌, ap, sym, ◌∙◌}
+use Rattle.std.proofs.Common.{List, Vec, ◌++◌, ap, sym, ◌∙◌}
+use Rattle.std.specs.declared.alloc.Global.{Global}
 use Rattle.proposals.specs.declared.demands.Demand.{Demand}
 use Rattle.linked_demand.specs.Demand.{firsts, is_proposed_at}
 use Rattle.linked_demand.proofs.RoundFalls.{item_open}
@@ -24,17 +25,18 @@ loop-item-preserved c =
     let found = c.loop-item.demands.items in
     elim c.if-named-item.branch [
       | then-named-item+then-proposes+in_ok-push w ↦
-          rw (w.demands-is, w.named-is)
-          (firsts_more p row i _ lt last found w.push.new.self.items w.if-named-item.true
-          (sym w.proposes.ensures ∙ w.if-proposes.true) w.in_ok-push.ensures.items c.loop-item.invariant)
+          firsts_more p row i _ lt last found c.if-named-item.demands.items c.if-named-item.named w.if-named-item.true
+          (sym w.proposes.ensures ∙ w.if-proposes.true)
+          (ap (λ (v : Vec Demand Global). v.items) w.demands-is ∙ w.in_ok-push.ensures.items) w.named-is
+          c.loop-item.invariant
       | else-named-item w ↦
-          rw (w.demands-is, w.named-is)
-          (firsts_same p row i _ lt last found
+          firsts_same p row i _ lt last found c.if-named-item.demands.items c.if-named-item.named
+          (ap (λ (v : Vec Demand Global). v.items) w.demands-is) w.named-is
           (elim w.else-named-item.branch [
             | else-named-item-via-then-named-item+else-proposes y ↦
                 not_proposed p row i _ lt last (sym y.proposes.ensures ∙ y.if-proposes.false)
             | else-named-item-via-else-named-item y ↦ not_above p row i _ lt last y.if-named-item.false
-          ]) c.loop-item.invariant)
+          ]) c.loop-item.invariant
     ]
 
 pub returns : goal.returns

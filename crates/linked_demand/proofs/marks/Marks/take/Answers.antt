@@ -17,4 +17,4 @@ invariant_of-self-2 c =
     let r = c.self.inside in
     one_taken r.flags.items r.places.items (vec_capacity r.places) c.self.invariant c.pop.new.self.items
     c.in_ok-place.place c.in_ok-place.ensures.items (vec_capacity c.pop.new.self)
-    (omega (arith, c.in_ok-place.ensures.capacity))
+    c.in_ok-place.ensures.capacity
