@@ -1,5 +1,5 @@
 -- The marked schools are asked one after another.
-use Rattle.std.proofs.Common.{ℕ, ◌<◌, ◌≡◌, Bool, true, false, not, ◌&&◌, List, length, inl, inr, refl, sym, ◌∙◌, ap, arith, get_or, Option, Some, None, Vec, unwrap_or}
+use Rattle.std.proofs.Common.{ℕ, zero, suc, ◌<◌, ◌≡◌, Bool, true, false, not, ◌&&◌, List, length, inl, inr, refl, sym, ◌∙◌, ap, arith, get_or, Option, Some, None, Vec, unwrap_or, replicate, subst}
 use Rattle.std.specs.Prelude.{slice_get, slice_index}
 use Rattle.std.specs.declared.alloc.Global.{Global}
 use Rattle.std.proofs.Math.ListN.{set}
@@ -14,6 +14,15 @@ use Rattle.linked_demand.proofs.Marked.{marked_within}
 no_more : (b : Bool) → (b && not b) ≡ false
 no_more true = refl
 no_more false = refl
+
+but_none : (a b : Bool) → b ≡ false → (a && not b) ≡ a
+but_none true b t = ap not t
+but_none false b t = refl
+
+none_set : (n h : ℕ) → get_or (replicate n false) h false ≡ false
+none_set zero h = refl
+none_set (suc n) zero = refl
+none_set (suc n) (suc h) = none_set n h
 
 -- the schools whose marks were taken away are asked
 pub record AskedSoFar (l : LinksRow) (rows : List (Vec RowWish Global)) (free : List ℕ)
@@ -61,3 +70,11 @@ module _ (l : LinksRow) (rows : List (Vec RowWish Global)) (free : List ℕ) (ol
             ];
           };
         }
+
+    -- where no mark is left, all that were marked are asked
+    pub asked_all : now ≡ replicate (length now) false → IsAsked l rows free (λ h. get_or old h false) start overs
+    asked_all none =
+        let bare : (h : ℕ) → get_or now h false ≡ false =
+        λ h. ap (λ (bs : List Bool). get_or bs h false) none ∙ none_set (length now) h in
+        let P = λ (test : ℕ → Bool). IsAsked l rows free test start overs in
+        subst P (λ i h. but_none (get_or old h false) (get_or now h false) (bare h) i) so_far.asked

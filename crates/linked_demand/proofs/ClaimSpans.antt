@@ -1,11 +1,12 @@
 -- The lists of the wishes by programme, and the claims in them.
-use Rattle.std.proofs.Common.{ℕ, ◌+◌, ◌-◌, ◌≤◌, ◌<◌, ◌≡◌, Bool, true, false, not, ◌&&◌, List, [], ◌∷◌, map, length, get_or, inl, inr, refl, sym, ◌∙◌, ap, arith, nat_lt, nat_eq, filter, subst, Vec, ltb, leb}
+use Rattle.std.proofs.Common.{ℕ, ◌+◌, ◌-◌, ◌≤◌, ◌<◌, ◌≡◌, Bool, true, false, not, ◌&&◌, List, [], ◌∷◌, map, length, get_or, inl, inr, refl, sym, ◌∙◌, ap, arith, nat_lt, nat_eq, filter, subst, Some, Vec, ltb, leb}
 use Rattle.std.specs.Prelude.{◌==◌, ◌^◌}
 use Rattle.std.specs.declared.alloc.Global.{Global}
 use Rattle.std.specs.List.Sorted.{IsNonDecreasingBy, IsPartitionPoint}
 use Rattle.std.proofs.Math.ListN.{set}
 use Rattle.std.proofs.lemmas.Bool.{and_parts, cases_lt, eqb-true, le-leb, le-ltb, lt-leb, lt-ltb, ltb-true, ltb-false, ne_eqb, or_cases, false≢true}
 use Rattle.std.proofs.lemmas.List.{get_or-map, get_or_default, length-map, length-set, map-id}
+use Rattle.std.proofs.lemmas.Option.{slice_get-get_or}
 use Rattle.std.proofs.lemmas.List.Elements.{All-filter}
 use Rattle.std.proofs.lemmas.List.Filters.{length-filter_both}
 use Rattle.std.proofs.lemmas.List.Kept.{IsNonDecreasingBy-filter}
@@ -58,6 +59,12 @@ wishes_from s order rows few index are = record {
   each = λ p row le at. wishes_in s order p row.items few index (are.each p row at ∙ map-id (filter (applies_at s p) order));
 }
 
+-- the list that is taken out for a programme is of the wishes for it
+pub wishes_taken : (s : DossierRows) (n : ℕ) (rows : List (Vec ℕ Global)) (row d : Vec ℕ Global)
+    → n < length s.programmes → row ≡ get_or rows n d → AreWishesFrom s n rows → AreWishesFor s n row.items
+wishes_taken s n rows row d lt is are =
+    are.each n row (omega arith) (slice_get-get_or rows n d (omega (arith, lt, are.one_each)) ∙ ap Some (sym is))
+
 -- once the list of a programme is taken out, the later ones are left
 pub wishes_later : (s : DossierRows) (n : ℕ) (rows : List (Vec ℕ Global)) (row : Vec ℕ Global)
     → AreWishesFrom s n rows → AreWishesFrom s (n + 1) (set rows n row)
@@ -76,6 +83,15 @@ candidates_from s order rows candidates are own = record {
       own.each p other there
       ∙ sym (ap (map (candidate_in s.wishes)) (are.each p row at ∙ map-id (filter (applies_at s p) order)));
 }
+
+pub candidates_taken : (s : DossierRows) (n : ℕ) (rows candidates : List (Vec ℕ Global)) (row own d e : Vec ℕ Global)
+    → n < length s.programmes → row ≡ get_or rows n d → own ≡ get_or candidates n e
+    → AreWishesFrom s n rows → AreCandidatesFrom s n rows candidates
+    → own.items ≡ map (candidate_in s.wishes) row.items
+candidates_taken s n rows candidates row own d e lt is own_is are beside =
+    beside.each n row own (omega arith)
+    (slice_get-get_or rows n d (omega (arith, lt, are.one_each)) ∙ ap Some (sym is))
+    (slice_get-get_or candidates n e (omega (arith, lt, beside.one_each)) ∙ ap Some (sym own_is))
 
 pub candidates_later : (s : DossierRows) (n : ℕ) (rows candidates : List (Vec ℕ Global)) (row own : Vec ℕ Global)
     → AreCandidatesFrom s n rows candidates → AreCandidatesFrom s (n + 1) (set rows n row) (set candidates n own)

@@ -1,11 +1,15 @@
 -- Rows that are filled place by place.
-use Rattle.std.proofs.Common.{ℕ, zero, suc, ◌+◌, ◌<◌, ◌≡◌, Bool, false, List, [], ◌∷◌, ◌++◌, map, length, take, get_or, inl, inr, refl, sym, ◌∙◌, ap, arith, nat_eq, filter, Some, unwrap_or, Vec}
+use Rattle.std.proofs.Common.{ℕ, zero, suc, ◌+◌, ◌<◌, ◌≡◌, Bool, false, List, [], ◌∷◌, ◌++◌, map, length, take, get_or, inl, inr, refl, sym, ◌∙◌, ap, arith, nat_eq, filter, Some, unwrap_or, Vec, subst}
 use Rattle.std.specs.Prelude.{◌⊎◌, slice_get, if◌then◌else◌}
 use Rattle.std.specs.declared.alloc.Global.{Global}
 use Rattle.std.proofs.Math.ListN.{set}
 use Rattle.std.proofs.lemmas.Bool.{cases_Bool, cases_eq, eq-eqb, ne_eqb}
 use Rattle.std.proofs.lemmas.List.{length-set, length-append}
-use Rattle.std.proofs.lemmas.Option.{slice_get_within, slice_get_read}
+use Rattle.std.proofs.lemmas.Option.{slice_get_within, slice_get_read, unwrap_or-slice_get}
+use Rattle.admit_core.specs.declared.dossier.Wish.{Wish}
+use Rattle.admit_core.specs.DossierRows.{DossierRows}
+use Rattle.admit_core.specs.Validity.{IsValid}
+use Rattle.day_state.specs.Kept.{wish_in}
 use Rattle.proposals.proofs.Picking.{picked, passed_over}
 use Rattle.linked_demand.specs.Keyed.{AreEmpty, IsPutIn, AreRowsOf}
 use Rattle.linked_demand.proofs.Keeping.{add_none}
@@ -94,3 +98,11 @@ rows_over item belongs n places i rows lt nowhere are = record {
   one_each = are.one_each;
   each = λ h row at. are.each h row at ∙ sym (passed_over (belongs h) item places i lt (nowhere h));
 }
+
+-- the programme of a wish stands in its dossier
+pub programme_at : (d : DossierRows) → IsValid d → (k : ℕ) → k < length d.wishes → (w : Wish)
+    → w ≡ wish_in d.wishes k → w.programme < length d.programmes
+programme_at d valid k lt w is =
+    let none = wish_in [] 0 in
+    let P = λ (v : Wish). v.programme < length d.programmes in
+    subst P (sym (is ∙ unwrap_or-slice_get d.wishes k none)) (valid.wishes k none lt).programme

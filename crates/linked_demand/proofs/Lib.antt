@@ -32,6 +32,7 @@ pub mod Putting
 pub mod Reach
 pub mod RoundFalls
 pub mod RowFronts
+pub mod RowSteps
 pub mod Rounding
 pub mod Seating
 pub mod Spending

@@ -64,6 +64,22 @@ module _ (flags : List Bool) (places : List ℕ) (room : ℕ) (right : MarksAreL
         room = omega (arith, length-set flags h true, right.room, le);
       }
 
+  -- the place that is listed last is marked, and the others are listed once it is taken away
+  last_listed : (new : List ℕ) (h : ℕ) → places ≡ new ++ h ∷ [] → AreMarked (h ∷ reverse new) flags
+  last_listed new h is =
+      let P = λ (hs : List ℕ). AreMarked hs flags in
+      subst P (ap reverse is ∙ reverse-append new (h ∷ [])) right.listed
+
+  pub last_marked : (new : List ℕ) (h : ℕ) → places ≡ new ++ h ∷ [] → get_or flags h false ≡ true
+  last_marked new h is = (last_listed new h is).0
+
+  pub one_taken : (new : List ℕ) (h : ℕ) → places ≡ new ++ h ∷ [] → (now_room : ℕ) → now_room ≡ room
+      → MarksAreListed (set flags h false) new now_room
+  one_taken new h is now_room same = record {
+    listed = (last_listed new h is).1;
+    room = omega (arith, length-set flags h false, right.room, same);
+  }
+
 -- the places are marked one after another
 set_next : (i m : ℕ) → set (replicate i true ++ replicate (suc m) false) i true ≡ replicate (suc i) true ++ replicate m false
 set_next zero m = refl

@@ -179,6 +179,21 @@ pub record IsBuilt (s : DossierRows) (orders : List CallOrder) (n : ℕ) (claims
 pub wish_in_is : (ws : List Wish) (i : ℕ) (w : Wish) → slice_get ws i ≡ Some w → wish_in ws i ≡ w
 wish_in_is ws i w at = ap (λ (o : Option Wish). unwrap_or o (wish_in [] 0)) at
 
+-- none yet
+pub built_none : (s : DossierRows) (orders : List CallOrder) (claims : List (List (List ℕ)))
+    (places : List ℕ) (early : List Bool) → claims ≡ []
+    → length places ≡ length s.wishes → length early ≡ length s.wishes
+    → IsBuilt s orders 0 claims places early
+built_none s orders claims places early claims_are places_each early_each = record {
+  claims_are = claims_are;
+  seated = record {
+    places_each = places_each;
+    early_each = early_each;
+    place = λ i w at t. absurd (omega (arith, ltb-true w.programme 0 t));
+    called = λ i w at t. absurd (omega (arith, ltb-true w.programme 0 t));
+  };
+}
+
 -- one more
 pub built_more : (s : DossierRows) (orders : List CallOrder) (n : ℕ) (claims : List (List (List ℕ)))
     (places : List ℕ) (early : List Bool)

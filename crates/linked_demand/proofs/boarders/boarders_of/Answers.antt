@@ -1,8 +1,8 @@
-use Rattle.std.proofs.Common.{ℕ, ◌≡◌, true, false, List, [], ◌∷◌, ◌++◌, filter, sym, ◌∙◌, ap, subst, Option}
+use Rattle.std.proofs.Common.{ℕ, ◌<◌, ◌≡◌, true, false, List, [], ◌∷◌, ◌++◌, filter, sym, ◌∙◌, ap, arith, length, subst, Option}
 use Rattle.std.specs.Prelude.{All, is_some}
 use Rattle.std.specs.List.{range_with_len}
 use Rattle.std.proofs.lemmas.List.{map-append}
-use Rattle.std.proofs.lemmas.List.Elements.{All-push}
+use Rattle.std.proofs.lemmas.List.Elements.{All-nil, All-push}
 use Rattle.linked_demand.specs.declared.boarders.Boarder.{Boarder}
 use Rattle.linked_demand.specs.Boarders.{IsBoarder, wishes_of}
 use Rattle.linked_demand.specs.Seats.{boards_at}
@@ -44,3 +44,30 @@ loop-place-preserved c =
             each = rw w.boarders-is inv.each;
           }
     ]
+
+pub loop-place-init : goal.loop-place-init
+loop-place-init c =
+    let P = λ (bs : List Boarder). All (IsBoarder c.args.state.now.dossier) bs in
+    record {
+      wishes = ap wishes_of c.in_ok-boarders.ensures.items;
+      each = subst P (sym c.in_ok-boarders.ensures.items) (All-nil (IsBoarder c.args.state.now.dossier));
+    }
+
+pub boarder_at-requires : goal.boarder_at-requires
+boarder_at-requires c =
+    let P = λ (n : ℕ). c.loop-place.place < n in
+    subst P c.wish_count-count.ensures c.loop-place-test.true
+
+pub returns : goal.returns
+returns c =
+    let d = c.args.state.now.dossier in
+    let all : c.loop-place.place ≡ length d.wishes = omega (
+      arith,
+      c.loop-place-test.false,
+      c.loop-place.auto.place-end,
+      c.wish_count-count.ensures,
+    ) in
+    record {
+      wishes = c.loop-place.invariant.wishes ∙ ap (λ n. filter (boards_at d) (range_with_len 0 n)) all;
+      each = c.loop-place.invariant.each;
+    }

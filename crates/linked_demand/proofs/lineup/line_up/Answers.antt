@@ -3,7 +3,7 @@ use Rattle.std.specs.Prelude.{◌^◌, All}
 use Rattle.std.specs.List.{IsDistinct}
 use Rattle.std.specs.List.Sorted.{IsNonDecreasingBy}
 use Rattle.std.proofs.lemmas.Bool.{eqb-true}
-use Rattle.std.proofs.lemmas.List.{length-map, length-take-le, map-append}
+use Rattle.std.proofs.lemmas.List.{length-map, length-take-le, map-append, take_all}
 use Rattle.std.proofs.lemmas.List.Elements.{All-nil, All-push}
 use Rattle.std.proofs.lemmas.List.Filters.{length-filter_both}
 use Rattle.admit_core.specs.Proposals.{order_of}
@@ -13,7 +13,7 @@ use Rattle.day_state.specs.declared.spans.Span.{Span}
 use Rattle.day_state.specs.Spans.{IsWithin, part_of}
 use Rattle.linked_demand.specs.Links.{claim_of}
 use Rattle.linked_demand.specs.Opens.{applies_in}
-use Rattle.linked_demand.specs.Seats.{PutAt}
+use Rattle.linked_demand.specs.Seats.{PutAt, AreSeated, is_passed}
 use Rattle.linked_demand.proofs.ClaimSpans.{candidates_rise, claim_there, nobody_there, claim_some, claim_none}
 use Rattle.linked_demand.proofs.Lining.{applies_claim, claim_within}
 use Rattle.linked_demand.proofs.Seating.{few_apart, seated_start, seated_over, seated_more, seated_nobody, nobody_applies}
@@ -177,3 +177,32 @@ loop-before-preserved c =
                 (seated_over d orders p order i x lt refl c.loop-before.places.items c.loop-before.early.items none inv.seated);
           }
     ]
+
+pub returns-clause-claims : goal.returns-clause-claims
+returns-clause-claims c =
+    let d = c.args.state.now.dossier in
+    let p = c.args.programme in
+    let order = c.order_of-order.result.now in
+    let all = take_all c.loop-before.before order (omega (arith, c.loop-before-test.false)) ∙ c.order_of-order.ensures in
+    c.new-claims-2.ensures ∙ c.loop-before.invariant.claims
+    ∙ ap (λ (o : List ℕ). map (claim_of d p) (filter (applies_in d p) o)) all
+
+pub returns-clause-seated : goal.returns-clause-seated
+returns-clause-seated c =
+    let d = c.args.state.now.dossier in
+    let orders = c.args.orders.now.orders in
+    let order = c.order_of-order.result.now in
+    let all = take_all c.loop-before.before order (omega (arith, c.loop-before-test.false)) ∙ c.order_of-order.ensures in
+    let P = λ (o : List ℕ). AreSeated d orders (is_passed c.args.programme o) c.loop-before.places.items c.loop-before.early.items in
+    subst P all c.loop-before.invariant.seated
+
+pub note-requires-clause-early : goal.note-requires-clause-early
+note-requires-clause-early c =
+    c.loop-before.invariant.seated.early_each ∙ sym c.loop-before.invariant.seated.places_each
+
+pub span_of-span-requires-clause-few : goal.span_of-span-requires-clause-few
+span_of-span-requires-clause-few c =
+    let are = c.deref-in-loop-before.ensures.value ∙ c.requires.candidates in
+    let P = λ (n : ℕ). n < 2 ^ 32 in
+    subst P (sym (ap length are ∙ length-map c.args.wishes.items (candidate_in c.args.state.now.dossier.wishes)))
+    c.requires.wishes.few

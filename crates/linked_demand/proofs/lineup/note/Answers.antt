@@ -1,5 +1,5 @@
-use Rattle.std.proofs.Common.{ℕ, Bool, false, arith}
-use Rattle.linked_demand.proofs.Putting.{put_none, put_all}
+use Rattle.std.proofs.Common.{ℕ, ◌<◌, Bool, false, get_or, refl, sym, arith, subst}
+use Rattle.linked_demand.proofs.Putting.{put_none, put_more, put_all}
 use Rattle.linked_demand.proofs.lineup.note.Goals as goal
 
 pub loop-wish-init : goal.loop-wish-init
@@ -15,3 +15,17 @@ returns-clause-places c = put_all ℕ 0 c.args.claim.now c.loop-wish.wish-index 
 pub returns-clause-early : goal.returns-clause-early
 returns-clause-early c = put_all Bool false c.args.claim.now c.loop-wish.wish-index c.args.is_early
     c.args.early.now.items c.loop-wish.early.items (omega arith) c.loop-wish.invariant.early
+
+pub loop-wish-preserved : goal.loop-wish-preserved
+loop-wish-preserved c =
+    let claim = c.args.claim.now in
+    let i = c.loop-wish.wish-index in
+    let lt = c.loop-wish-test.true in
+    let within = c.requires.places i 0 lt in
+    let P = λ (n : ℕ). get_or claim i 0 < n in
+    record {
+      places = put_more ℕ 0 claim i c.args.place c.args.places.now.items c.loop-wish.places.items _ lt within
+          c.loop-wish.invariant.places refl;
+      early = put_more Bool false claim i c.args.is_early c.args.early.now.items c.loop-wish.early.items _ lt
+          (subst P (sym c.requires.early) within) c.loop-wish.invariant.early refl;
+    }

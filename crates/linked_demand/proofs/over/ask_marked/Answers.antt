@@ -1,6 +1,6 @@
-use Rattle.std.proofs.Common.{◌<◌, length, arith, refl}
+use Rattle.std.proofs.Common.{◌<◌, false, length, replicate, arith, ap, refl, ◌∙◌}
 use Rattle.std.proofs.lemmas.Option.{slice_get_read}
-use Rattle.linked_demand.proofs.Asked.{asked_none, asked_more}
+use Rattle.linked_demand.proofs.Asked.{asked_none, asked_more, asked_all}
 use Rattle.linked_demand.proofs.Marked.{marked_within}
 use Rattle.linked_demand.proofs.over.ask_marked.Goals as goal
 
@@ -35,3 +35,22 @@ loop-school-preserved c =
     c.loop-school.overs c.loop-school.invariant h c.in-Some.ensures.marked lt c.requires.overs
     c.index-rows-place.result c.deref.result.now c.first_over.result c.index-rows-place.is
     c.deref.ensures.value c.first_over.ensures c.take.new.self c.put.new.self c.in-Some.ensures.cleared c.put.ensures
+
+pub returns-clause-asked : goal.returns-clause-asked
+returns-clause-asked c =
+    asked_all c.args.links.now c.args.rows.now c.args.free.now c.args.marked.now c.args.overs.now c.loop-school.marked
+    c.loop-school.overs c.loop-school.invariant c.in_default.ensures.none
+
+pub returns-clause-unmarked : goal.returns-clause-unmarked
+returns-clause-unmarked c =
+    c.in_default.ensures.same ∙ c.in_default.ensures.none ∙ ap (λ n. replicate n false) c.loop-school.invariant.as_long
+
+pub put-requires : goal.put-requires
+put-requires c = omega (
+  arith,
+  marked_within c.loop-school.marked c.in-Some.school c.in-Some.ensures.marked,
+  c.loop-school.invariant.as_long,
+  c.requires.marked,
+  c.loop-school.invariant.asked.as_long,
+  c.requires.overs,
+)

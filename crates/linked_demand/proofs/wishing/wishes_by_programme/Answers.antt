@@ -1,4 +1,4 @@
-use Rattle.std.proofs.Common.{ℕ, List, length, get_or, nat_eq, refl, sym, ◌∙◌, ap, arith, subst}
+use Rattle.std.proofs.Common.{ℕ, ◌<◌, List, length, get_or, nat_eq, refl, sym, ◌∙◌, ap, arith, subst}
 use Rattle.std.proofs.lemmas.List.{take_all}
 use Rattle.admit_core.specs.declared.dossier.Wish.{Wish}
 use Rattle.admit_core.specs.DossierRows.{DossierRows}
@@ -7,7 +7,7 @@ use Rattle.day_state.specs.Kept.{candidate_in}
 use Rattle.day_state.proofs.Places.{candidate_in as candidate_is}
 use Rattle.linked_demand.specs.Keyed.{AreEmpty, AreRowsOf}
 use Rattle.linked_demand.specs.Seats.{applies_at}
-use Rattle.linked_demand.proofs.Keyed.{rows_none, rows_more}
+use Rattle.linked_demand.proofs.Keyed.{programme_at, rows_none, rows_more}
 use Rattle.linked_demand.proofs.ClaimSpans.{candidates_from, wishes_from}
 use Rattle.linked_demand.proofs.wishing.wishes_by_programme.Goals as goal
 
@@ -61,3 +61,28 @@ returns c =
       wishes = wishes_from d places wishes (omega (arith, valid.size.wishes)) c.places_by_candidate-places.ensures are;
       candidates = candidates_from d places wishes candidates are (subst R all c.loop-place.invariant.candidates);
     }
+
+pub wish_at-wish-requires : goal.wish_at-wish-requires
+wish_at-wish-requires c = c.places_by_candidate-places.ensures.within c.loop-place.place-index 0 c.loop-place-test.true
+
+pub put_in-requires : goal.put_in-requires
+put_in-requires c =
+    let d = c.args.state.now.dossier in
+    let P : DossierRows → Type 0 = IsValid in
+    let valid = subst P (c.dossier.view_is ∙ c.dossier-dossier.ensures) c.dossier.invariant in
+    let Q = λ (n : ℕ). c.wish_at-wish.result.programme < n in
+    let k = get_or c.places_by_candidate-places.result.now c.loop-place.place-index 0 in
+    subst Q (sym c.loop-place.invariant.wishes.one_each)
+    (programme_at d valid k (c.places_by_candidate-places.ensures.within c.loop-place.place-index 0 c.loop-place-test.true)
+    c.wish_at-wish.result c.wish_at-wish.ensures.wish)
+
+pub put_in-requires-in-loop-place : goal.put_in-requires-in-loop-place
+put_in-requires-in-loop-place c =
+    let d = c.args.state.now.dossier in
+    let P : DossierRows → Type 0 = IsValid in
+    let valid = subst P (c.dossier.view_is ∙ c.dossier-dossier.ensures) c.dossier.invariant in
+    let Q = λ (n : ℕ). c.wish_at-wish.result.programme < n in
+    let k = get_or c.places_by_candidate-places.result.now c.loop-place.place-index 0 in
+    subst Q (sym c.loop-place.invariant.candidates.one_each)
+    (programme_at d valid k (c.places_by_candidate-places.ensures.within c.loop-place.place-index 0 c.loop-place-test.true)
+    c.wish_at-wish.result c.wish_at-wish.ensures.wish)

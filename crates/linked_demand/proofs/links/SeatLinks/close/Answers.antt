@@ -1,4 +1,4 @@
-use Rattle.std.proofs.Common.{rules, ◌≡◌, ℕ, ◌+◌, ◌<◌, Bool, List, arith, ap, length, drop, refl, sym, ◌∙◌, get_or, None}
+use Rattle.std.proofs.Common.{◌≡◌, ℕ, ◌+◌, ◌<◌, Bool, List, arith, ap, length, drop, refl, sym, ◌∙◌, get_or, false, slice_set, None}
 use Rattle.std.specs.List.{list_any}
 use Rattle.linked_demand.specs.Line.{next, last_new}
 use Rattle.linked_demand.specs.Links.{LinksRow}
@@ -248,9 +248,10 @@ returns-else-leaves_seat g c =
       leaves_is = c.leaves_seat.ensures;
     } in
     let stays = stays_closed reads c.if-leaves_seat.false in
+    let closed = λ (l : LinksRow). record l { opens = slice_set l.opens c.args.item.wish false } in
     let told = told_none s r.orders.now.orders r.opens.items c.args.item.wish c.args.self.now c.self.view_is
     (newly_none k None stays.fresh refl) c.args.bars.now c.args.steps.now c.args.marked.now in
-    record { value = search rules; steps = told.steps; marked = told.marked }
+    record { value = ap closed c.self.view_is; steps = told.steps; marked = told.marked }
 
 pub returns-in_default : goal.returns-in_default
 returns-in_default g c =
@@ -280,10 +281,11 @@ returns-in_default g c =
     ∙ ap (λ (fs : List Bool). before + next (drop before (wants_along s fs row))) c.deref-then-leaves_seat.ensures.value)
     (c.last_wanting.ensures.answer
     ∙ ap (λ (fs : List Bool). last_new (wants_along s fs row) before now) c.deref-then-leaves_seat-2.ensures.value) in
+    let closed = λ (l : LinksRow). record l { opens = slice_set l.opens c.args.item.wish false } in
     let told =
     told_none s r.orders.now.orders r.opens.items c.args.item.wish c.args.self.now c.self.view_is
     (newly_none k c.last_wanting.result moved.fresh c.in_default.is) c.args.bars.now c.args.steps.now c.args.marked.now in
-    record { value = search rules; steps = told.steps; marked = told.marked }
+    record { value = ap closed c.self.view_is; steps = told.steps; marked = told.marked }
 
 pub returns-in-Some : goal.returns-in-Some
 returns-in-Some g c =
@@ -319,6 +321,7 @@ returns-in-Some g c =
     let orders = r.orders.now.orders in
     let lt : c.in-Some.next < length (line_of s.dossier orders p) = omega
     (arith, within, in_claims k row c.index-claims.ensures) in
+    let closed = λ (l : LinksRow). record l { opens = slice_set l.opens c.args.item.wish false } in
     let told =
     told_some s orders r.opens.items (all_sure s r.lineup.now.early.items) c.args.item.wish p
     (get_or (line_of s.dossier orders p) c.in-Some.next 0) c.args.self.now c.self.view_is
@@ -327,4 +330,4 @@ returns-in-Some g c =
     c.deref-in-Some.result.now (all_sure s c.deref-in-Some-2.result.now) c.deref-in-Some.ensures.value
     (ap (all_sure s) c.deref-in-Some-2.ensures.value) c.args.steps.now c.note_fresh.new.steps
     c.args.marked.now c.note_fresh.new.marked c.note_fresh.ensures.steps c.note_fresh.ensures.marked in
-    record { value = search rules; steps = told.steps; marked = told.marked }
+    record { value = ap closed c.self.view_is; steps = told.steps; marked = told.marked }
