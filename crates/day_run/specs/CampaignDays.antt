@@ -1,6 +1,5 @@
 -- How far a campaign has come, and what its next day makes of it.
 use Rattle.std.specs.Prelude.{◌≡◌, ℕ, ◌+◌, Bool, true, false, List, length, map, Option, Result, IfOk, IfErr, OnErr, IsTrue}
-use Rattle.std.specs.Option.{ForSome}
 use Rattle.admit_core.specs.declared.ranking.CallOrder.{CallOrder}
 use Rattle.admit_core.specs.declared.records.DayRecord.{DayRecord}
 use Rattle.admit_core.specs.declared.records.Terms.{Terms}
@@ -10,6 +9,7 @@ use Rattle.admit_core.specs.State.{State}
 use Rattle.admit_core.specs.Days.{ceilings_of, first_evening, unfit_on}
 use Rattle.admit_core.specs.EveningLaws.{last_bars}
 use Rattle.admit_core.specs.Explanations.{LastPass}
+use Rattle.admit_core.specs.Lapses.{AreTermsFor}
 use Rattle.linked_demand.specs.declared.lineup.Lineup.{Lineup}
 use Rattle.linked_demand.specs.Lineups.{IsLineupOf}
 use Rattle.desk_day.specs.AnswersOn.{IsUnfitOf}
@@ -54,7 +54,7 @@ pass_of p = last_pass p.opening p.orders p.ceilings p.bars
 -- what every campaign keeps: after a day that came about, its last pass left the present state
 pub record IsProgress (p : Progress) : Type 0 where
   pub orders : AreCallOrders p.present.dossier.groups p.orders
-  pub before : ForSome p.terms (λ t. length t.before ≡ length p.present.dossier.wishes)
+  pub before : AreTermsFor p.present.dossier p.terms
   pub bars : length p.bars ≡ length p.present.dossier.schools
   pub last : IsTrue p.has_day → IsLastPass (pass_of p) p.present
 

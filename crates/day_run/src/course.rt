@@ -1,8 +1,8 @@
 //! How far a campaign has come.
 ghost use Rattle.std.specs.Prelude.{◌≡◌, ◌<◌, length, IfOk, IsTrue};
-ghost use Rattle.std.specs.Option.{ForSome};
 ghost use Rattle.admit_core.specs.CallOrder.{AreCallOrders};
 ghost use Rattle.admit_core.specs.EveningLaws.{last_bars};
+ghost use Rattle.admit_core.specs.Lapses.{AreTermsFor};
 ghost use Rattle.day_run.specs.CampaignDays.{EndsNextDay, IsBegun, pass_of};
 ghost use Rattle.desk_day.specs.LastPasses.{IsLastPass};
 
@@ -63,7 +63,7 @@ impl<'d> Course<'d> {
         terms: Option<Terms>,
     ) -> Result<Course<'d>, OutOfMemory>
         requires orders { AreCallOrders dossier.now.groups orders.now.orders }
-        requires before { ForSome terms (λ t. length t.before ≡ length dossier.now.wishes) }
+        requires before { AreTermsFor dossier.now terms }
         ensures { IfOk result (IsBegun dossier.now orders.now.orders terms) }
     {
         let bars = own_ceilings(alloc, dossier)?;

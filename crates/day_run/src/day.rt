@@ -1,7 +1,8 @@
 //! A day along a lineup of its own.
 ghost use Rattle.std.specs.Prelude.{◌≡◌, length, None, Some};
-ghost use Rattle.std.specs.Option.{option_copied, ForSome};
+ghost use Rattle.std.specs.Option.{option_copied};
 ghost use Rattle.admit_core.specs.CallOrder.{AreCallOrders};
+ghost use Rattle.admit_core.specs.Lapses.{AreTermsFor};
 ghost use Rattle.admit_core.specs.Ranges.{IsDay as IsDayNumber};
 ghost use Rattle.desk_day.specs.RunDay.{EndsDay};
 
@@ -66,8 +67,7 @@ fn run_alone(
 ) -> Result<DayRecord, DayRefusal>
     requires orders { AreCallOrders desk.old.present.dossier.groups orders.now.orders }
     requires ceilings { length ceilings.now ≡ length desk.old.present.dossier.schools }
-    requires before { ForSome (option_copied terms)
-        (λ t. length t.before ≡ length desk.old.present.dossier.wishes) }
+    requires before { AreTermsFor desk.old.present.dossier (option_copied terms) }
     requires day { IsDayNumber day }
 
     ensures { EndsDay (option_copied terms.entry) orders.now.orders ceilings.now day

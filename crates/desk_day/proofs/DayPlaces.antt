@@ -2,7 +2,6 @@
 use Rattle.std.proofs.Common.{◌≡◌, ◌∙◌, ℕ, ◌+◌, ◌<◌, ◌≤◌, Bool, List, [], ◌∷◌, Option, None, Some, All, IsTrue, ap, arith, filter, find, get_or, inl, inr, length, map, refl, subst, sym, take}
 use Rattle.std.specs.Prelude.{ℤ, option_map, unwrap_or, zip}
 use Rattle.std.specs.List.{enumerate_from, range_with_len}
-use Rattle.std.specs.Option.{ForSome}
 use Rattle.std.proofs.lemmas.Bool.{and_parts, cases_Bool, ltb-true}
 use Rattle.std.proofs.lemmas.List.{length-map, take_all}
 use Rattle.std.proofs.lemmas.List.Elements.{All-cons, All-filter, All-head, All-map, All-nil, All-same, All-tail}
@@ -12,7 +11,7 @@ use Rattle.admit_core.specs.Boarding.{boarding, name_of}
 use Rattle.admit_core.specs.Days.{IsDay, IsPassEnd, Passes, closing, lapsed_on, morning, offered}
 use Rattle.admit_core.specs.DossierRows.{DossierRows}
 use Rattle.admit_core.specs.Falls.{AreFalls, fall_of, fallen, first_over, is_overfilled}
-use Rattle.admit_core.specs.Lapses.{lapses, offer_day}
+use Rattle.admit_core.specs.Lapses.{AreTermsFor, lapses, offer_day}
 use Rattle.admit_core.specs.Proposals.{demanded_ranks}
 use Rattle.admit_core.specs.State.{State, entries, free_beds, seats_left}
 use Rattle.admit_core.specs.declared.dossier.Wish.{Wish}
@@ -119,19 +118,19 @@ passes_in orders ceilings day k s (pass ∷ next ∷ rest) evening same p =
     All-cons (IsPassIn s.dossier) pass (next ∷ rest) (pass_in s orders ceilings (stamp_of day k) pass same p.0)
     (passes_in orders ceilings day (k + 1) (closing s orders pass.pass.bars (stamp_of day k)) (next ∷ rest) evening same p.2)
 
-pub lapsed_in : (terms : Option Terms) (day : ℕ) (s : State) → ForSome terms (λ t. length t.before ≡ length s.dossier.wishes)
+pub lapsed_in : (terms : Option Terms) (day : ℕ) (s : State) → AreTermsFor s.dossier terms
     → All (λ (l : Lapse). l.wish < length s.dossier.wishes) (lapsed_on terms day s)
 lapsed_in None day s one_each = All-nil (λ (l : Lapse). l.wish < length s.dossier.wishes)
 lapsed_in (Some terms) day s one_each =
     let n = length s.dossier.wishes in
-    let each : length terms.before ≡ n = one_each terms refl in
+    let each : length terms.before ≡ n = one_each in
     let pairs : length (zip terms.before s.marks) ≤ n = omega (arith, length-zip terms.before s.marks, each) in
     All-map (λ (l : Lapse). l.wish < n) (λ (x : ℕ × (ℤ × Mark)). record { wish = x.0; offered = offer_day x.1.0 x.1.1 }) _
     (chosen_in n (λ (x : ℕ × (ℤ × Mark)). lapses terms.term day x.1.0 x.1.1) (zip terms.before s.marks) pairs)
 
 -- a day's record speaks of the dossier's wishes, schools and programmes
 pub day_in : (terms : Option Terms) (orders : List CallOrder) (ceilings : List ℕ) (old : State) (day : DayRecord) (evening : State)
-    → ForSome terms (λ t. length t.before ≡ length old.dossier.wishes) → length ceilings ≡ length old.dossier.schools
+    → AreTermsFor old.dossier terms → length ceilings ≡ length old.dossier.schools
     → IsDay terms orders ceilings old day evening → IsDayIn old.dossier day
 day_in terms orders ceilings old day evening before one_each is =
     let s = morning terms day.day old in

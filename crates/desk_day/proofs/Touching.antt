@@ -2,7 +2,6 @@
 use Rattle.std.proofs.Common.{ℕ, ◌+◌, ◌<◌, ◌≡◌, true, false, List, [], ◌∷◌, ◌++◌, Option, None, Some, map, length, filter, inl, inr, refl, sym, ◌∙◌, ap, subst, arith, nat_eq, zip}
 use Rattle.std.specs.Prelude.{ℤ, pos, ◌==◌, All, slice_index_or}
 use Rattle.std.specs.List.{enumerate_from, flat_map}
-use Rattle.std.specs.Option.{ForSome}
 use Rattle.std.proofs.lemmas.Bool.{cases_Bool, eqb-true, eq-eqb, false≢true, or_left}
 use Rattle.std.proofs.lemmas.List.Concat.{flat_map-cons}
 use Rattle.std.proofs.lemmas.List.Elements.{All-append, All-cons, All-head, All-map, All-nil, All-tail}
@@ -18,7 +17,7 @@ use Rattle.admit_core.specs.Answers.{after_all, candidate_at, is_own_kind, own}
 use Rattle.admit_core.specs.AutoAnswer.{auto_all}
 use Rattle.admit_core.specs.Days.{after_lapse, answers_of, lapsed_on, morning}
 use Rattle.admit_core.specs.DossierRows.{DossierRows, candidate_of}
-use Rattle.admit_core.specs.Lapses.{lapse, lapses, lapses_of}
+use Rattle.admit_core.specs.Lapses.{AreTermsFor, lapse, lapses, lapses_of}
 use Rattle.admit_core.specs.Lists.{is_among}
 use Rattle.admit_core.specs.OwnWishes.{own_places}
 use Rattle.admit_core.specs.State.{State}
@@ -62,11 +61,11 @@ named_lapse terms day s k long lt passes =
     ∙ (rw (unwrap_or-slice_get s.marks k (mark_in [] 0)) at passes)
 
 lapsed_other : (terms : Option Terms) (day c : ℕ) (s : State) → length s.marks ≡ length s.dossier.wishes
-    → ForSome terms (λ t. length t.before ≡ length s.dossier.wishes)
+    → AreTermsFor s.dossier terms
     → is_among c (map (candidate_of s.dossier) (wishes_of (lapsed_on terms day s))) ≡ false → Agrees c s (after_lapse terms day s)
 lapsed_other None day c s long each none = agrees_self c s long
 lapsed_other (Some terms) day c s long each none =
-    let before : length terms.before ≡ length s.marks = each terms refl ∙ sym long in
+    let before : length terms.before ≡ length s.marks = each ∙ sym long in
     let names = wishes_of (lapses_of terms day s) in
     record {
       dossier = refl;
@@ -118,7 +117,7 @@ none_own s c k (a ∷ rest) lt its none =
 
 -- whoever has none of the wishes that are named keeps their marks
 kept : (terms : Option Terms) (day c : ℕ) (s : State) (k : ℕ) → length s.marks ≡ length s.dossier.wishes
-    → ForSome terms (λ t. length t.before ≡ length s.dossier.wishes) → k < length s.dossier.wishes → candidate_at s k ≡ c
+    → AreTermsFor s.dossier terms → k < length s.dossier.wishes → candidate_at s k ≡ c
     → is_among c (map (candidate_of s.dossier) (touched s.dossier (lapsed_on terms day s) day)) ≡ false → Agrees c s (morning terms day s)
 kept terms day c s k long each lt its none =
     let d = s.dossier in
@@ -135,14 +134,14 @@ kept terms day c s k long each lt its none =
     joined c s l (morning terms day s) first (turned c (morning terms day s) l back)
 
 lapse_long : (terms : Option Terms) (day : ℕ) (s : State) → length s.marks ≡ length s.dossier.wishes
-    → ForSome terms (λ t. length t.before ≡ length s.dossier.wishes)
+    → AreTermsFor s.dossier terms
     → let l = after_lapse terms day s in (l.dossier ≡ s.dossier) × (length l.marks ≡ length l.dossier.wishes)
 lapse_long None day s long each = (refl, long)
-lapse_long (Some terms) day s long each = (refl, length-lapse terms day s (each terms refl ∙ sym long) ∙ long)
+lapse_long (Some terms) day s long each = (refl, length-lapse terms day s (each ∙ sym long) ∙ long)
 
 -- where nobody is named, the day begins as the evening before
 nothing_changed : (terms : Option Terms) (day : ℕ) (s : State) → length s.marks ≡ length s.dossier.wishes
-    → ForSome terms (λ t. length t.before ≡ length s.dossier.wishes) → touched s.dossier (lapsed_on terms day s) day ≡ []
+    → AreTermsFor s.dossier terms → touched s.dossier (lapsed_on terms day s) day ≡ []
     → morning terms day s ≡ s
 nothing_changed terms day s long each none =
     let m = morning terms day s in
@@ -160,7 +159,7 @@ nothing_changed terms day s long each none =
     sym (stays.same k k_in refl)))
 
 untouched : (terms : Option Terms) (day : ℕ) (s : State) → length s.marks ≡ length s.dossier.wishes
-    → ForSome terms (λ t. length t.before ≡ length s.dossier.wishes) → IsAnswered s
+    → AreTermsFor s.dossier terms → IsAnswered s
     → IsAnsweredBut (touched s.dossier (lapsed_on terms day s) day) (morning terms day s)
 untouched terms day s long each answered stamp c none =
     let m = morning terms day s in
@@ -177,7 +176,7 @@ untouched terms day s long each answered stamp c none =
 -- THE MORNING: all have been answered for but maybe those who are named
 pub morning_answered : (terms : Option Terms) (day : ℕ) (s m : State) (lapsed : List Lapse) (beside : List ℕ)
     → length s.marks ≡ length s.dossier.wishes
-    → ForSome terms (λ t. length t.before ≡ length s.dossier.wishes) → m ≡ morning terms day s → lapsed ≡ lapsed_on terms day s
+    → AreTermsFor s.dossier terms → m ≡ morning terms day s → lapsed ≡ lapsed_on terms day s
     → beside ≡ touched m.dossier lapsed day → IsAnswered s → IsAnsweredBut beside m
 morning_answered terms day s m lapsed beside long each m_is lapsed_is beside_is answered =
     let same : m.dossier ≡ s.dossier = ap (λ (t : State). t.dossier) m_is ∙ morning_dossier terms day s in
@@ -194,7 +193,7 @@ morning_is terms day s l m l_is same m_is =
 
 pub morning_alike : (terms : Option Terms) (day : ℕ) (s m : State) (lapsed : List Lapse) (beside : List ℕ)
     → length s.marks ≡ length s.dossier.wishes
-    → ForSome terms (λ t. length t.before ≡ length s.dossier.wishes) → m ≡ morning terms day s → lapsed ≡ lapsed_on terms day s
+    → AreTermsFor s.dossier terms → m ≡ morning terms day s → lapsed ≡ lapsed_on terms day s
     → beside ≡ touched m.dossier lapsed day → beside ≡ [] → m ≡ s
 morning_alike terms day s m lapsed beside long each m_is lapsed_is beside_is none =
     let same : m.dossier ≡ s.dossier = ap (λ (t : State). t.dossier) m_is ∙ morning_dossier terms day s in

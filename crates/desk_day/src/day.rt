@@ -1,9 +1,10 @@
 //! A day.
 ghost use Rattle.std.specs.Prelude.{◌≡◌, length, [], IfOk, IfErr, None, true};
-ghost use Rattle.std.specs.Option.{option_copied, ForSome};
+ghost use Rattle.std.specs.Option.{option_copied};
 ghost use Rattle.admit_core.specs.CallOrder.{AreCallOrders};
 ghost use Rattle.admit_core.specs.Ranges.{IsDay as IsDayNumber};
 ghost use Rattle.admit_core.specs.Days.{lapsed_on, morning, unfit_on};
+ghost use Rattle.admit_core.specs.Lapses.{AreTermsFor};
 ghost use Rattle.desk_day.specs.AnswersOn.{IsUnfitOf};
 ghost use Rattle.desk_day.specs.DayPasses.{IsAnswered, IsAnsweredBut};
 ghost use Rattle.desk_day.specs.DayPlaces.{AreWishesOf};
@@ -38,8 +39,7 @@ pub fn run_day_along(
     requires orders { AreCallOrders desk.old.present.dossier.groups orders.now.orders }
     requires lineup { IsLineupOf desk.old.present.dossier orders.now.orders lineup.now }
     requires ceilings { length ceilings.now ≡ length desk.old.present.dossier.schools }
-    requires before { ForSome (option_copied terms)
-        (λ t. length t.before ≡ length desk.old.present.dossier.wishes) }
+    requires before { AreTermsFor desk.old.present.dossier (option_copied terms) }
     requires day { IsDayNumber day }
 
     ensures { EndsDay (option_copied terms.entry) orders.now.orders ceilings.now day
@@ -92,8 +92,7 @@ fn play<'d>(
     requires orders { AreCallOrders state.old.dossier.groups orders.now.orders }
     requires lineup { IsLineupOf state.old.dossier orders.now.orders lineup.now }
     requires ceilings { length ceilings.now ≡ length state.old.dossier.schools }
-    requires before { ForSome (option_copied terms)
-        (λ t. length t.before ≡ length state.old.dossier.wishes) }
+    requires before { AreTermsFor state.old.dossier (option_copied terms) }
     requires day { IsDayNumber day }
     requires answered { is_answered ≡ true → IsAnswered state.old }
     requires alike { is_alike ≡ true → opening.old ≡ state.old }
@@ -148,8 +147,7 @@ fn begin_day(
     day: u32,
     beside: &mut Vec<u32>,
 ) -> Result<Vec<Lapse>, DayRefusal>
-    requires before { ForSome (option_copied terms)
-        (λ t. length t.before ≡ length state.old.dossier.wishes) }
+    requires before { AreTermsFor state.old.dossier (option_copied terms) }
     requires day { IsDayNumber day }
 
     ensures lapsed { IfOk result (λ v. v.items ≡ lapsed_on (option_copied terms.entry) day

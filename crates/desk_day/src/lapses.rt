@@ -1,8 +1,8 @@
 //! The lapse of a day.
 ghost use Rattle.std.specs.Prelude.{◌≡◌, ◌<◌, ◌≤◌, length, IfOk, pos, negsuc, ◌≤ℤ◌};
-ghost use Rattle.std.specs.Option.{option_copied, ForSome};
+ghost use Rattle.std.specs.Option.{option_copied};
 ghost use Rattle.admit_core.specs.Days.{after_lapse, lapsed_on};
-ghost use Rattle.admit_core.specs.Lapses.{lapses_of};
+ghost use Rattle.admit_core.specs.Lapses.{AreTermsFor, lapses_of};
 
 use admit_core::{Lapse, OutOfMemory, Terms};
 use day_state::{DayState, lapses, offer_day};
@@ -15,8 +15,7 @@ pub(crate) fn lapse_offers(
     terms: Option<&Terms>,
     day: u32,
 ) -> Result<Vec<Lapse>, OutOfMemory>
-    requires before { ForSome (option_copied terms)
-        (λ t. length t.before ≡ length state.old.dossier.wishes) }
+    requires before { AreTermsFor state.old.dossier (option_copied terms) }
     requires day { day ≤ 366 }
     ensures lapsed { IfOk result (λ v. v.items ≡ lapsed_on (option_copied terms.entry)
         day state.old) }

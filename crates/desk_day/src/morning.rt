@@ -1,7 +1,8 @@
 //! The state in which the passes of a day begin.
-ghost use Rattle.std.specs.Prelude.{◌≡◌, None, OnOk, IfErr, length};
-ghost use Rattle.std.specs.Option.{option_copied, ForSome, IsSomeAnd};
+ghost use Rattle.std.specs.Prelude.{◌≡◌, None, OnOk, IfErr};
+ghost use Rattle.std.specs.Option.{option_copied, IsSomeAnd};
 ghost use Rattle.admit_core.specs.Days.{after_lapse, morning, unfit_on};
+ghost use Rattle.admit_core.specs.Lapses.{AreTermsFor};
 ghost use Rattle.desk_day.specs.AnswersOn.{unfit_refusal};
 ghost use Rattle.desk_day.specs.declared.refusal.DayRefusal.TheVariants as refusals;
 
@@ -12,8 +13,7 @@ use day_state::DayState;
 
 /// Ends the offers whose deadline has passed, where terms are given.
 fn lapse(state: &mut DayState<'_>, terms: Option<&Terms>, day: u32)
-    requires { ForSome (option_copied terms)
-        (λ t. length t.before ≡ length state.old.dossier.wishes) }
+    requires { AreTermsFor state.old.dossier (option_copied terms) }
     ensures state { state.new ≡ after_lapse (option_copied terms.entry) day state.old }
     ensures dossier { state.new.dossier ≡ state.old.dossier }
 {
@@ -31,8 +31,7 @@ pub fn make_morning(
     terms: Option<&Terms>,
     day: u32,
 ) -> Result<(), DayRefusal>
-    requires { ForSome (option_copied terms)
-        (λ t. length t.before ≡ length state.old.dossier.wishes) }
+    requires { AreTermsFor state.old.dossier (option_copied terms) }
     ensures morning { OnOk result (state.new ≡ morning (option_copied terms.entry) day state.old) }
     ensures fits { OnOk result (unfit_on (option_copied terms.entry) day state.old ≡ None) }
     ensures unfit { IfErr result

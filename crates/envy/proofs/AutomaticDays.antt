@@ -23,13 +23,13 @@ use Rattle.admit_core.specs.CallOrder.{AreCallOrders}
 use Rattle.admit_core.specs.Days.{Days, IsDay, Passes, after_lapse, answers_of, ceilings_of, closing, first_evening, first_mark, morning}
 use Rattle.admit_core.specs.DossierRows.{DossierRows}
 use Rattle.admit_core.specs.EveningLaws.{IsFilled, last_bars}
-use Rattle.admit_core.specs.Lapses.{is_offered, lapses}
+use Rattle.admit_core.specs.Lapses.{AreTermsFor, is_offered, lapses}
 use Rattle.admit_core.specs.Proposals.{is_barred, is_behind_bar}
 use Rattle.admit_core.specs.State.{State, changed_to, entries, holds_seat, is_live, is_live_status, is_waiting, is_waiting_status, seats_left}
 use Rattle.admit_core.specs.Validity.{IsValid}
 use Rattle.admit_core.proofs.Evenings.{after_offers, answer, entry_wish, offer, seats_are_filled}
 use Rattle.day_state.proofs.Along.{length-with_marks}
-use Rattle.envy.specs.AutomaticDays.{AreTermsFor, DaysEndFair, FirstEveningsBlockNone, LaterEveningsBlockNone, HoldsBetter, IsFair, IsFairEvening, IsRankedPlainly, IsSettled, NobodyBehind, PassesKeepFair, QuietDaysEndFair, WaitingIsFair, is_given_up}
+use Rattle.envy.specs.AutomaticDays.{DaysEndFair, FirstEveningsBlockNone, LaterEveningsBlockNone, HoldsBetter, IsFair, IsFairEvening, IsRankedPlainly, IsSettled, NobodyBehind, PassesKeepFair, QuietDaysEndFair, WaitingIsFair, is_given_up}
 use Rattle.envy.proofs.OnePass.{closing_fair}
 
 pub passes_keep_fair : PassesKeepFair

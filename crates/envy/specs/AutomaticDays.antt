@@ -13,7 +13,7 @@ use Rattle.admit_core.specs.Blocking.{behind, blocking, has_better}
 use Rattle.admit_core.specs.CallOrder.{AreCallOrders}
 use Rattle.admit_core.specs.Days.{Days, IsDay, Passes, answers_of, closing, first_evening}
 use Rattle.admit_core.specs.DossierRows.{DossierRows}
-use Rattle.admit_core.specs.Lapses.{is_offered}
+use Rattle.admit_core.specs.Lapses.{AreTermsFor, is_offered}
 use Rattle.admit_core.specs.State.{State, entries, holds_seat, is_waiting, is_waiting_status}
 use Rattle.admit_core.specs.Validity.{IsValid}
 
@@ -81,10 +81,6 @@ DaysEndFair =
     → IsFair orders opening
     → Passes orders ceilings day k opening passes evening
     → IsFairEvening orders evening
-
--- the terms have a day for each wish, where offers lapse
-abbrev pub AreTermsFor : DossierRows → Option Terms → Type 0
-AreTermsFor d terms = IfSome terms (λ t. length t.before ≡ length d.wishes)
 
 -- and a day from a fair evening, on which nobody answers
 abbrev pub QuietDaysEndFair : Type 0

@@ -7,13 +7,15 @@ use Rattle.std.proofs.lemmas.Int.{ints}
 use Rattle.std.proofs.lemmas.List.{length-map}
 use Rattle.std.proofs.lemmas.List.Elements.{All-map}
 use Rattle.admit_core.specs.DossierRows.{DossierRows}
+use Rattle.admit_core.specs.Lapses.{AreTermsFor}
 use Rattle.admit_core.specs.declared.records.Terms.{Terms}
 use Rattle.admit_core.specs.declared.tables.Since.{Since}
 use Rattle.calendar.proofs.DateLaws.{number-range}
 use Rattle.calendar.specs.Dates.{IsRead, civil, days_in_month, is_date}
 use Rattle.request.specs.Request.{IsDeadlines, IsStart}
 use Rattle.request.specs.declared.request.Deadlines.{Deadlines}
-use Rattle.intake.specs.Dated.{AreDatedFor, date_number, dated_from, day_before, since_day, terms_from}
+use Rattle.intake.specs.Dated.{AreDatedFor, date_number, dated_from, day_before, since_day, terms_from, terms_in}
+use Rattle.intake.specs.declared.terms.DatedTerms.{DatedTerms}
 
 -- the number of the date of a day, where day 1 has the number start
 abbrev on : ℤ → ℤ → ℤ
@@ -75,3 +77,8 @@ dated_for d dates deadlines each is = record {
 pub dated_some : (d : DossierRows) (dates : List (Option Since)) (asked : Option Deadlines) (deadlines : Deadlines) (terms : Terms) → length dates ≡ length d.wishes → asked ≡ Some deadlines
     → IfSome asked IsDeadlines → terms ≡ terms_from dates deadlines → AreDatedFor d (record { start = deadlines.start; terms = terms })
 dated_some d dates asked deadlines terms each some is same = rw same (dated_for d dates deadlines each (rw some at is))
+
+-- the terms of a dossier have a day for each wish
+pub terms_known : (d : DossierRows) (dated : Option DatedTerms) → IfSome dated (AreDatedFor d) → AreTermsFor d (terms_in dated)
+terms_known d None known = tt
+terms_known d (Some dated) known = known.one_each

@@ -152,9 +152,3 @@ evening_dated d dated begun evening first same keeps known =
 -- the places of days that can be written are those that their chain names
 pub chain_written : (d : DossierRows) (dated : Option DatedTerms) (days : List DayRecord) → All (CanBeWritten d dated) days → All (IsDayOf d) days
 chain_written d dated days can = λ k x lt n y within. ((can k x lt).passes n y within).falls
-
--- the terms of a dossier have a day for each wish
-pub terms_known : (d : DossierRows) (dated : Option DatedTerms) → IfSome dated (AreDatedFor d)
-    → IfSome (terms_in dated) (λ t. length t.before ≡ length d.wishes)
-terms_known d None known = tt
-terms_known d (Some dated) known = known.one_each

@@ -3,6 +3,7 @@ ghost use Rattle.std.specs.Prelude.{◌≡◌, ◌≤◌, ◌<◌, ◌^◌, All,
 ghost use Rattle.admit_core.specs.CallOrder.{AreCallOrders};
 ghost use Rattle.admit_core.specs.Chains.{IsDayChain, day_fault};
 ghost use Rattle.admit_core.specs.Days.{first_evening};
+ghost use Rattle.admit_core.specs.Lapses.{AreTermsFor};
 ghost use Rattle.admit_core.specs.Ranges.{IsDay as IsDayNumber};
 ghost use Rattle.certificate.specs.Checked.{ids_in};
 ghost use Rattle.certificate.specs.ProvedDays.{evening_after, evening_by};
@@ -69,8 +70,7 @@ fn check_next(
 ) -> Result<(), Unproved>
     requires index { index.now ≡ ids_in state.old.dossier }
     requires orders { AreCallOrders state.old.dossier.groups orders.now.orders }
-    requires terms { IfSome (option_copied terms)
-        (λ t. length t.before ≡ length state.old.dossier.wishes) }
+    requires terms { AreTermsFor state.old.dossier (option_copied terms) }
     requires passes { length chain.now.passes < 2 ^ 32 }
 
     ensures found { TellsWhy result (why_not (option_copied terms.entry) orders.now.orders day
@@ -97,8 +97,7 @@ fn check_days(
 ) -> Result<(), Unproved>
     requires index { index.now ≡ ids_in state.old.dossier }
     requires orders { AreCallOrders state.old.dossier.groups orders.now.orders }
-    requires terms { IfSome (option_copied terms)
-        (λ t. length t.before ≡ length state.old.dossier.wishes) }
+    requires terms { AreTermsFor state.old.dossier (option_copied terms) }
     requires days { length days.now ≤ 366 }
     requires passes { All (λ day. length day.passes < 2 ^ 32) days.now }
 

@@ -1,6 +1,7 @@
 //! One day of a run.
-ghost use Rattle.std.specs.Prelude.{◌≡◌, IfSome, IsSome, length, option_copied};
+ghost use Rattle.std.specs.Prelude.{IsSome, option_copied};
 ghost use Rattle.admit_core.specs.CallOrder.{AreCallOrders};
+ghost use Rattle.admit_core.specs.Lapses.{AreTermsFor};
 ghost use Rattle.admit_core.specs.Ranges.{IsDay as IsDayNumber};
 ghost use Rattle.linked_demand.specs.Lineups.{IsLineupOf};
 ghost use Rattle.played.specs.Lent.{AreThere, choice_in, lent, told_in};
@@ -27,8 +28,7 @@ fn run_with(
 ) -> Result<DayRecord, DayRefusal>
     requires orders { AreCallOrders desk.old.present.dossier.groups orders.now.orders }
     requires lineup { IsLineupOf desk.old.present.dossier orders.now.orders lineup.now }
-    requires terms { IfSome (option_copied terms)
-        (λ t. length t.before ≡ length desk.old.present.dossier.wishes) }
+    requires terms { AreTermsFor desk.old.present.dossier (option_copied terms) }
     requires day { IsDayNumber day }
 
     ensures { EndsWith orders.now.orders (option_copied terms.entry) day
@@ -51,8 +51,7 @@ fn run_lent(
 ) -> Result<DayRecord, DayRefusal>
     requires orders { AreCallOrders desk.old.present.dossier.groups orders.now.orders }
     requires lineup { IsLineupOf desk.old.present.dossier orders.now.orders lineup.now }
-    requires terms { IfSome (option_copied terms)
-        (λ t. length t.before ≡ length desk.old.present.dossier.wishes) }
+    requires terms { AreTermsFor desk.old.present.dossier (option_copied terms) }
     requires day { IsDayNumber day }
     requires there { IsSome place.old }
 
@@ -90,8 +89,7 @@ pub(crate) fn next_day(
 ) -> Result<DayRecord, DayRefusal>
     requires orders { AreCallOrders desk.old.present.dossier.groups orders.now.orders }
     requires lineup { IsLineupOf desk.old.present.dossier orders.now.orders lineup.now }
-    requires terms { IfSome (option_copied terms)
-        (λ t. length t.before ≡ length desk.old.present.dossier.wishes) }
+    requires terms { AreTermsFor desk.old.present.dossier (option_copied terms) }
     requires day { IsDayNumber day }
     requires there { AreThere pickers.old }
 

@@ -1,6 +1,7 @@
 //! The days of a run.
-ghost use Rattle.std.specs.Prelude.{◌≡◌, ◌≤◌, [], ◌∷◌, ◌++◌, IfOk, IfSome, OnOk, length, option_copied};
+ghost use Rattle.std.specs.Prelude.{◌≡◌, ◌≤◌, [], ◌∷◌, ◌++◌, IfOk, OnOk, option_copied};
 ghost use Rattle.admit_core.specs.CallOrder.{AreCallOrders};
+ghost use Rattle.admit_core.specs.Lapses.{AreTermsFor};
 ghost use Rattle.linked_demand.specs.Lineups.{IsLineupOf};
 ghost use Rattle.played.specs.Lent.{AreBack, AreThere, Untold, lent};
 ghost use Rattle.played.specs.PlayedDays.{IsPlayed, PlaysDays, first_desk};
@@ -46,8 +47,7 @@ fn play_days(
 ) -> Result<(), DayRefusal>
     requires orders { AreCallOrders desk.old.present.dossier.groups orders.now.orders }
     requires lineup { IsLineupOf desk.old.present.dossier orders.now.orders lineup.now }
-    requires terms { IfSome (option_copied terms)
-        (λ t. length t.before ≡ length desk.old.present.dossier.wishes) }
+    requires terms { AreTermsFor desk.old.present.dossier (option_copied terms) }
     requires number { number ≤ 366 }
     requires there { AreThere pickers.old }
     requires none { days.old.items ≡ [] }
@@ -98,8 +98,7 @@ pub fn play<'d>(
     who: PickerChoice,
     pickers: &mut Pickers,
 ) -> Result<Played<'d>, OutOfMemory>
-    requires terms { IfSome (option_copied terms)
-        (λ t. length t.before ≡ length dossier.now.wishes) }
+    requires terms { AreTermsFor dossier.now (option_copied terms) }
     requires number { number ≤ 366 }
     requires there { AreThere pickers.old }
 

@@ -45,10 +45,6 @@ deadlines_known request is = elim (cases_Bool (is_some (sample_of request.mode))
 pub no_days : (request : Request) → IsTrue (not (runs_days request.mode)) → days_of request ≡ 0
 no_days request none = elim (cases_Bool (runs_days request.mode)) [ inl runs ↦ absurd (false≢true (rw runs at none)) | inr is ↦ rw is refl ]
 
-pub one_each : (d : DossierRows) (dated : Option DatedTerms) → IfSome dated (AreDatedFor d) → IfSome (terms_in dated) (λ t. length t.before ≡ length d.wishes)
-one_each d None is = tt
-one_each d (Some dated) is = is.one_each
-
 -- how a run ends, by what the modes see of its job
 pub record Ends (played : Played) (between after : Lent) (exit : Exit) (text : List ℕ) (seen : Seen) : Type 0 where
   pub ends : EndsWith played.end seen played exit text

@@ -1,15 +1,17 @@
-use Rattle.std.proofs.Common.{◌≡◌, ◌∙◌, IfSome, None, Option, ap, length, subst, sym}
+use Rattle.std.proofs.Common.{◌≡◌, ◌∙◌, None, Option, ap, length, subst, sym}
 use Rattle.std.specs.Option.{option_copied}
 use Rattle.admit_core.specs.CallOrder.{AreCallOrders}
 use Rattle.admit_core.specs.Days.{first_evening}
+use Rattle.admit_core.specs.Lapses.{AreTermsFor}
 use Rattle.admit_core.specs.State.{State}
 use Rattle.admit_core.specs.declared.records.Terms.{Terms}
 use Rattle.certificate.specs.Checked.{ids_in}
 use Rattle.certificate.specs.ProvedDays.{evening_after}
 use Rattle.intake.specs.Dated.{terms_in}
+use Rattle.intake.proofs.DatedOffers.{terms_known}
 use Rattle.modes.specs.CheckedDays.{KeepsIn}
 use Rattle.modes.specs.Checking.{proved_text, why_none}
-use Rattle.modes.proofs.CheckedDay.{evening_dated, proof_ends, terms_known}
+use Rattle.modes.proofs.CheckedDay.{evening_dated, proof_ends}
 use Rattle.modes.proofs.checked.check_chain.Goals as goal
 
 pub check_days-requires-clause-index : goal.check_days-requires-clause-index
@@ -24,9 +26,9 @@ check_days-requires-clause-orders c =
 pub check_days-requires-clause-terms : goal.check_days-requires-clause-terms
 check_days-requires-clause-terms c =
     let dated = option_copied c.args.dated in
-    subst (λ (terms : Option Terms). IfSome terms (λ t. length t.before ≡ length c.in_ok-state.state.dossier.wishes))
+    subst (AreTermsFor c.in_ok-state.state.dossier)
     (sym c.terms_in.ensures)
-    (subst (λ (s : State). IfSome (terms_in dated) (λ t. length t.before ≡ length s.dossier.wishes))
+    (subst (λ (s : State). AreTermsFor s.dossier (terms_in dated))
     (sym (c.in_ok-state.ensures ∙ c.requires.first))
     (terms_known c.args.input.now.dossier dated c.requires.dated))
 

@@ -1,7 +1,8 @@
-use Rattle.std.proofs.Common.{◌≡◌, ◌∙◌, ◌+◌, ◌≤◌, IfSome, ap, arith, drop, length, subst, sym}
+use Rattle.std.proofs.Common.{◌≡◌, ◌∙◌, ◌+◌, ◌≤◌, ap, arith, drop, length, subst, sym}
 use Rattle.std.specs.Option.{option_copied}
 use Rattle.admit_core.specs.CallOrder.{AreCallOrders}
 use Rattle.admit_core.specs.DossierRows.{DossierRows}
+use Rattle.admit_core.specs.Lapses.{AreTermsFor}
 use Rattle.certificate.proofs.Lowering.{drop_item}
 use Rattle.certificate.specs.Checked.{ids_in}
 use Rattle.certificate.specs.ProvedDays.{evening_after}
@@ -18,7 +19,7 @@ check_next-requires-clause-orders c =
 
 pub check_next-requires-clause-terms : goal.check_next-requires-clause-terms
 check_next-requires-clause-terms c =
-    subst (λ (d : DossierRows). IfSome (option_copied c.args.terms) (λ t. length t.before ≡ length d.wishes))
+    subst (λ (d : DossierRows). AreTermsFor d (option_copied c.args.terms))
     (sym c.loop-place.invariant.dossier) c.requires.terms
 
 pub loop-place-preserved : goal.loop-place-preserved

@@ -1,7 +1,8 @@
-use Rattle.std.proofs.Common.{◌≡◌, IfSome, arith, length}
+use Rattle.std.proofs.Common.{arith}
 use Rattle.std.specs.Option.{option_copied}
 use Rattle.admit_core.specs.CallOrder.{AreCallOrders}
 use Rattle.admit_core.specs.DossierRows.{DossierRows}
+use Rattle.admit_core.specs.Lapses.{AreTermsFor}
 use Rattle.linked_demand.specs.Lineups.{IsLineupOf}
 use Rattle.played.proofs.DaysSoFar.{nothing_played, played_on, plays_all, plays_out, plays_some, still}
 use Rattle.played.proofs.days.play_days.Goals as goal
@@ -21,8 +22,8 @@ next_day-requires-clause-lineup g c =
 
 pub next_day-requires-clause-terms : goal.next_day-requires-clause-terms
 next_day-requires-clause-terms g c =
-    still _ _ _ _ _ _ _ c.loop-played.invariant.so_far (λ (d : DossierRows). IfSome
-    (option_copied c.args.terms) (λ t. length t.before ≡ length d.wishes)) c.requires.terms
+    still _ _ _ _ _ _ _ c.loop-played.invariant.so_far (λ (d : DossierRows).
+    AreTermsFor d (option_copied c.args.terms)) c.requires.terms
 
 pub next_day-requires-clause-there : goal.next_day-requires-clause-there
 next_day-requires-clause-there g c = c.loop-played.invariant.there
