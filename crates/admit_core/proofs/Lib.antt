@@ -17,10 +17,12 @@ pub mod Holders
 pub mod LeastFirst
 pub mod LeastOrder
 pub mod NextCalls
+pub mod NoFaults
 pub mod OneOrder
 pub mod OrderLaws
 pub mod OrderPermutes
 pub mod RatesKept
+pub mod Plain
 pub mod Rebuilt
 pub mod Remaining
 pub mod Rows
