@@ -13,7 +13,8 @@ use Rattle.admit_core.specs.CallOrder.{remaining, bound_after, may_be_called, Is
 use Rattle.admit_core.specs.Validity.{IsRanking}
 use Rattle.admit_core.proofs.LeastFirst.{RisesBy}
 use Rattle.admit_core.proofs.NextCalls.{next_some}
-use Rattle.admit_core.proofs.OrderPermutes.{nat_eq_turn, all_by_key, take_next, call_at}
+use Rattle.admit_core.proofs.OrderPermutes.{all_by_key, take_next, call_at}
+use Rattle.admit_core.proofs.Plain.{nat_eq_sym}
 
 -- ---- rows of a list
 abbrev pub IsIn : {X : Type 0} → X → List X → Type 0
@@ -137,7 +138,7 @@ not_among_front [] (suc i) j c apart e le = absurd (cc)
 not_among_front (x ∷ xs) (suc i) zero c apart e le = absurd (omega arith)
 not_among_front (x ∷ xs) (suc i) (suc j) c apart e le =
     let other = at_place _ xs j c (IsDistinct-head nat_eq x xs apart) e in
-    rw (nat_eq_turn c x, other) (not_among_front xs i j c (IsDistinct-tail nat_eq x xs apart) e (omega arith))
+    rw (nat_eq_sym c x, other) (not_among_front xs i j c (IsDistinct-tail nat_eq x xs apart) e (omega arith))
 
 pub among_front : (xs : List ℕ) (i c : ℕ) → slice_get xs i ≡ Some c → is_among c (take (suc i) xs) ≡ true
 among_front [] i c e = absurd (cc)

@@ -17,14 +17,7 @@ use Rattle.admit_core.specs.Days.{IsPassEnd, Passes}
 use Rattle.admit_core.specs.Chains.{school_of_line, shows_ranks, tells_bars, IsFallLine, lowered, bars_by, AreFallLines, IsPassChain, closing_by, frees_nothing_by, ArePassChains, line_fault, lines_fault, first_overfilled, pass_fault, passes_fault}
 use Rattle.admit_core.specs.ChainLaws.{falls_told, pass_told, passes_told, NoFaultWhereValid, ChainsTellTheDay}
 use Rattle.admit_core.proofs.Rows.{passes_with}
-
-or_none : {X : Type 0} (a b : Option X) → option_or a b ≡ None → (a ≡ None) × (b ≡ None)
-or_none None b e = (refl, e)
-or_none (Some x) b e = absurd (cc)
-
-map_none : {X Y : Type 0} (f : X → Y) (a : Option X) → option_map f a ≡ None → a ≡ None
-map_none f None e = refl
-map_none f (Some x) e = absurd (cc)
+use Rattle.admit_core.proofs.Plain.{mapped_none, none_or}
 
 none_map : {X Y : Type 0} (f : X → Y) (a : Option X) → a ≡ None → option_map f a ≡ None
 none_map f a e = rw e refl
@@ -71,8 +64,8 @@ module _ (s : State) (orders : List CallOrder) (ceilings : List ℕ) where
   lines_valid bars [] e = tt
   lines_valid bars (line ∷ lines) e =
       let f : CheckReason → ℕ × CheckReason = λ reason. (line.row, reason) in
-      let parts = or_none (option_map f (line_fault s orders ceilings bars line)) (lines_fault s orders ceilings (lowered s bars line) lines) e in
-      (line_valid bars line (map_none f (line_fault s orders ceilings bars line) parts.0), lines_valid (lowered s bars line) lines parts.1)
+      let parts = none_or (option_map f (line_fault s orders ceilings bars line)) (lines_fault s orders ceilings (lowered s bars line) lines) e in
+      (line_valid bars line (mapped_none f (line_fault s orders ceilings bars line) parts.0), lines_valid (lowered s bars line) lines parts.1)
 
   valid_lines : (bars : List ℕ) (lines : List FallLine) → AreFallLines s orders ceilings bars lines → lines_fault s orders ceilings bars lines ≡ None
   valid_lines bars [] are = refl
@@ -83,10 +76,10 @@ module _ (s : State) (orders : List CallOrder) (ceilings : List ℕ) where
       let sys = boarding s orders ceilings in
       let last = bars_by s ceilings pass.falls in
       let f : ℕ → ℕ × CheckReason = λ h. (pass.next_row, StillOver h) in
-      let parts = or_none (lines_fault s orders ceilings ceilings pass.falls) (option_map f (first_overfilled sys last)) e in
+      let parts = none_or (lines_fault s orders ceilings ceilings pass.falls) (option_map f (first_overfilled sys last)) e in
       record {
         lines = lines_valid ceilings pass.falls parts.0;
-        settled = fail_all (is_overfilled sys last) (range_with_len 0 (length ceilings)) (map_none f (first_overfilled sys last) parts.1);
+        settled = fail_all (is_overfilled sys last) (range_with_len 0 (length ceilings)) (mapped_none f (first_overfilled sys last) parts.1);
       }
 
   valid_pass : (pass : PassChain) → IsPassChain s orders ceilings pass → pass_fault s orders ceilings pass ≡ None
@@ -126,11 +119,11 @@ passes_valid orders ceilings day end k s (pass ∷ []) e =
     let frees = frees_nothing_by s orders ceilings stamp pass in
     elim (cases_Bool frees) [
       | inl nothing ↦
-          let parts = or_none (pass_fault s orders ceilings pass) None (rw nothing at e) in
+          let parts = none_or (pass_fault s orders ceilings pass) None (rw nothing at e) in
           (closing_by s orders ceilings stamp pass, (pass_valid s orders ceilings pass parts.0, nothing, refl))
       | inr something ↦
           let fault : Option (ℕ × CheckReason) = Some (end, PassMissing) in
-          let parts = or_none (pass_fault s orders ceilings pass) fault (rw something at e) in
+          let parts = none_or (pass_fault s orders ceilings pass) fault (rw something at e) in
           absurd (some_is_none (end, PassMissing) parts.1)
     ]
 passes_valid orders ceilings day end k s (pass ∷ (next ∷ rest)) e =
@@ -139,11 +132,11 @@ passes_valid orders ceilings day end k s (pass ∷ (next ∷ rest)) e =
     elim (cases_Bool frees) [
       | inl nothing ↦
           let fault : Option (ℕ × CheckReason) = Some (next.row, PassExtra) in
-          let parts = or_none (pass_fault s orders ceilings pass) fault (rw nothing at e) in
+          let parts = none_or (pass_fault s orders ceilings pass) fault (rw nothing at e) in
           absurd (some_is_none (next.row, PassExtra) parts.1)
       | inr something ↦
           let closed = closing_by s orders ceilings stamp pass in
-          let parts = or_none (pass_fault s orders ceilings pass) (passes_fault orders ceilings day end (k + 1) closed (next ∷ rest)) (rw something at e) in
+          let parts = none_or (pass_fault s orders ceilings pass) (passes_fault orders ceilings day end (k + 1) closed (next ∷ rest)) (rw something at e) in
           let (evening, later) = passes_valid orders ceilings day end (k + 1) closed (next ∷ rest) parts.1 in
           (evening, (pass_valid s orders ceilings pass parts.0, not_from_false frees something, later))
     ]

@@ -32,10 +32,11 @@ use Rattle.admit_core.proofs.DemandLaws.{demanded, demands_at, demand_parts, not
 use Rattle.admit_core.proofs.Tests.{among-map, filter_implied, increasing-ascending}
 use Rattle.admit_core.proofs.FullBeds.{rising_distinct, full_below}
 use Rattle.admit_core.proofs.Dossiers.{HasRank, ranks_of_valid}
-use Rattle.admit_core.proofs.Holders.{lives_with, marked_by, entries_marked, any_map, holds_after, holds_kept, holder_has_wish}
+use Rattle.admit_core.proofs.Holders.{lives_with, marked_by, entries_marked, holds_after, holds_kept, holder_has_wish}
 use Rattle.admit_core.proofs.Counting.{split_count, nothing_freed}
 use Rattle.admit_core.proofs.FilledSeats.{live_stays, offered_lives, live_or_offered, waits_still, auto_waits, order_distinct, takers_fill}
 use Rattle.admit_core.proofs.Evenings.{entry_wish, same_rank, offer, after_offers, closed, answer, held_after_offers, full_in_evening, no_bed}
+use Rattle.admit_core.proofs.Plain.{any-map}
 
 -- a candidate's rank in a school, by their first wish with it
 abbrev wants_bed_of : ℕ → ℕ → Wish → Bool
@@ -219,8 +220,8 @@ module _ (o : State) (orders : List CallOrder) (bars : List ℕ) (stamp : Stamp)
       let answers = marked_by (answer o orders bars stamp) in
       demanded night orders others h r
       ∙ ap (list_any D) (entries_marked offered_state (answer o orders bars stamp) ∙ ap (map answers) (entries_marked o offers))
-      ∙ any_map D answers (map (marked_by offers) (entries o))
-      ∙ any_map (λ (e : Wish × Mark). D (answers e)) (marked_by offers) (entries o)
+      ∙ any-map D answers (map (marked_by offers) (entries o))
+      ∙ any-map (λ (e : Wish × Mark). D (answers e)) (marked_by offers) (entries o)
       ∙ list_any_at (λ (e : Wish × Mark). D (answers (marked_by offers e))) (entries o) k x lt (rw at t)
 
   -- a wish that was barred in the opening is not proposed in the evening: the bar was below its ceiling, so the school is full

@@ -9,6 +9,7 @@ use Rattle.admit_core.specs.DossierRows.{candidates_of}
 use Rattle.admit_core.specs.Lists.{is_among, distinct}
 use Rattle.admit_core.specs.State.{State, entries, with_marks, is_live}
 use Rattle.admit_core.proofs.Tests.{any_implied}
+use Rattle.admit_core.proofs.Plain.{any-map}
 
 -- an entry with the mark that f gives
 abbrev pub marked_by : (Wish → Mark → Mark) → Wish × Mark → Wish × Mark
@@ -23,10 +24,6 @@ zip_marked f (w ∷ ws) (m ∷ ms) = ap (λ l. (w, f w m) ∷ l) (zip_marked f w
 pub entries_marked : (s : State) (f : Wish → Mark → Mark) → entries (with_marks s f) ≡ map (marked_by f) (entries s)
 entries_marked s f = zip_marked f s.dossier.wishes s.marks
 
-pub any_map : {X Y : Type 0} (p : Y → Bool) (f : X → Y) (xs : List X) → list_any p (map f xs) ≡ list_any (λ x. p (f x)) xs
-any_map p f [] = refl
-any_map p f (x ∷ xs) = ap (λ b. p (f x) || b) (any_map p f xs)
-
 -- a live entry of a candidate, of which a test of the wish holds
 abbrev pub lives_with : (Wish → Bool) → ℕ → Wish × Mark → Bool
 lives_with test c e = is_live e.1 && nat_eq e.0.candidate c && test e.0
@@ -37,7 +34,7 @@ holds test s c = list_any (lives_with test c) (entries s)
 
 pub holds_after : (test : Wish → Bool) (s : State) (f : Wish → Mark → Mark) (c : ℕ)
     → holds test (with_marks s f) c ≡ list_any (λ e. lives_with test c (marked_by f e)) (entries s)
-holds_after test s f c = ap (list_any (lives_with test c)) (entries_marked s f) ∙ any_map (lives_with test c) (marked_by f) (entries s)
+holds_after test s f c = ap (list_any (lives_with test c)) (entries_marked s f) ∙ any-map (lives_with test c) (marked_by f) (entries s)
 
 live_step : (a b c d : Bool) → (a ≡ true → b ≡ true) → (a && c && d) ≡ true → (b && c && d) ≡ true
 live_step true b c d h t = rw (h refl) t

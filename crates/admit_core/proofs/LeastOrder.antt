@@ -14,10 +14,11 @@ use Rattle.admit_core.specs.Lists.{is_among}
 use Rattle.admit_core.specs.CallOrder.{called, remaining, binds, scholar_rate_binds, resident_rate_binds, bound_of, bound_after, may_be_called, IsCallOrder}
 use Rattle.admit_core.specs.CallOrderLaws.{ranked_candidates, KeepsRate, IsLeastThatKeeps, OfCallOrders, IsLeastByScholars, IsLeastByResidents}
 use Rattle.admit_core.specs.Validity.{IsRanking}
-use Rattle.admit_core.proofs.OrderPermutes.{nat_eq_turn, take_next, distinct_filter}
+use Rattle.admit_core.proofs.OrderPermutes.{take_next, distinct_filter}
 use Rattle.admit_core.proofs.CalledCounts.{count_called_push, count_remaining_push}
 use Rattle.admit_core.proofs.CallRows.{IsIn, in_list, same_row, find_own, in_remaining, call_row}
 use Rattle.admit_core.proofs.ScholarsFirst.{called_is_least}
+use Rattle.admit_core.proofs.Plain.{nat_eq_sym}
 
 count_some : {X : Type 0} (q : X → Bool) (xs : List X) → list_any q xs ≡ true → 0 < count_by q xs
 count_some q [] t = absurd (cc)
@@ -71,7 +72,7 @@ least : (rate : ℕ) (kind : Ranked → Bool) (g : RankGroup) (order : CallOrder
     → IsLeastThatKeeps rate kind g order.list
 least rate kind g order ranking calls may other moved keeps k r s same has_r has_s here there differ =
     let key = λ (x : Ranked). x.candidate in
-    let apart = IsDistinct-IsPermutation nat_eq nat_eq_turn (ranked_candidates g) other moved ranking.candidates in
+    let apart = IsDistinct-IsPermutation nat_eq nat_eq_sym (ranked_candidates g) other moved ranking.candidates in
     let row = in_list s g.list has_s in
     let (q, b, call) = call_row g order ranking calls k (slice_get_within order.list k r.candidate here) in
     let same_id : q.candidate ≡ r.candidate = (cc (call.who, here)) in

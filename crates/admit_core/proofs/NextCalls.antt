@@ -11,6 +11,7 @@ use Rattle.admit_core.specs.Lists.{is_among}
 use Rattle.admit_core.specs.CallOrder.{remaining, scholar_rate_binds, resident_rate_binds, bound_of, bound_after, may_be_called, next_after}
 use Rattle.admit_core.proofs.LeastFirst.{next_is_first}
 use Rattle.admit_core.proofs.Remaining.{among_push}
+use Rattle.admit_core.proofs.Plain.{mapped_none}
 
 -- where nothing is found, nothing passes
 pub find_none : {X : Type 0} (test : X → Bool) (xs : List X) → find test xs ≡ None → list_any test xs ≡ false
@@ -51,10 +52,6 @@ nobody rs true false both scholars residents is e = absurd (false≢true (sym (f
 nobody rs false true both scholars residents is e = absurd (false≢true (sym (find_none (λ r. r.resident) rs e) ∙ residents refl))
 nobody rs true true true scholars residents is e = absurd (false≢true (sym (find_none (λ r. r.scholar && r.resident) rs e) ∙ is))
 nobody rs true true false scholars residents is e = absurd (false≢true (sym (find_none (λ r. r.scholar) rs e) ∙ scholars refl))
-
-pub mapped_none : {X Y : Type 0} (f : X → Y) (o : Option X) → option_map f o ≡ None → o ≡ None
-mapped_none f None e = refl
-mapped_none f (Some x) e = absurd (cc)
 
 -- where there is no next one, nobody remains
 pub next_none : (g : RankGroup) (before : List ℕ) → IsStrictlyIncreasing (map (λ (r : Ranked). r.rank) g.list) → next_after g before ≡ None → remaining g before ≡ []

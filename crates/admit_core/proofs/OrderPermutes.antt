@@ -19,18 +19,12 @@ use Rattle.admit_core.specs.CallOrderLaws.{ranked_candidates, OfCallOrders}
 use Rattle.admit_core.specs.Validity.{IsRanking}
 use Rattle.admit_core.proofs.LeastFirst.{found_has, all_filter}
 use Rattle.admit_core.proofs.NextCalls.{next_none, next_some, remaining_push, remaining_first}
-
-pub nat_eq_turn : (x y : ℕ) → nat_eq x y ≡ nat_eq y x
-nat_eq_turn x y =
-    elim (cases_Bool (nat_eq x y)) [
-      | inl same ↦ same ∙ sym (eq-eqb y x (sym (eqb-true x y same)))
-      | inr other ↦ other ∙ sym (ne_eqb y x (λ e. eqb-false x y other (sym e)))
-    ]
+use Rattle.admit_core.proofs.Plain.{nat_eq_sym}
 
 -- where all keys differ from one, none goes by that key
 pub all_stay : {X : Type 0} (key : X → ℕ) (c : ℕ) (xs : List X) → AllByRecursion (λ k. nat_eq c k ≡ false) (map key xs) → filter (λ x. not (nat_eq (key x) c)) xs ≡ xs
 all_stay key c [] all = refl
-all_stay key c (x ∷ xs) all = rw (nat_eq_turn (key x) c, all.0) (ap (λ ys. x ∷ ys) (all_stay key c xs all.1))
+all_stay key c (x ∷ xs) all = rw (nat_eq_sym (key x) c, all.0) (ap (λ ys. x ∷ ys) (all_stay key c xs all.1))
 
 -- what all keys have, as a fact on the rows, and back
 pub all_by_key : {X : Type 0} (key : X → ℕ) (P : ℕ → Type 0) (xs : List X) → AllByRecursion P (map key xs) → AllByRecursion (λ x. P (key x)) xs
@@ -142,7 +136,7 @@ length-order g order ranking calls = length_permutation (ranked_candidates g) or
 
 pub distinct-order : OfCallOrders (λ g order. IsDistinct nat_eq order.list)
 distinct-order g order ranking calls =
-    IsDistinct-IsPermutation nat_eq nat_eq_turn (ranked_candidates g) order.list (order_permutes g order ranking calls) ranking.candidates
+    IsDistinct-IsPermutation nat_eq nat_eq_sym (ranked_candidates g) order.list (order_permutes g order ranking calls) ranking.candidates
 
 pub among-order : OfCallOrders (λ g order. (c : ℕ) → is_among c order.list ≡ is_among c (ranked_candidates g))
 among-order g order ranking calls c =

@@ -13,10 +13,10 @@ use Rattle.admit_core.specs.State.{State, is_live, is_live_status, changed_to, s
 use Rattle.admit_core.specs.AutoAnswer.{auto_mark, auto_status, best_live, auto_all}
 use Rattle.admit_core.proofs.Remaining.{least_passes}
 use Rattle.admit_core.proofs.Statuses.{status_of_auto}
+use Rattle.admit_core.proofs.Plain.{any-filter}
 use Rattle.day_state.specs.Kept.{mark_in, wish_in}
 use Rattle.day_state.proofs.Along.{mark_in-with_marks, length-with_marks, same_state, same_marks}
 use Rattle.day_state.proofs.OneAccepted.{who}
-use Rattle.day_state.proofs.Places.{any-filter}
 use Rattle.auto_answer.proofs.Answering.{all_mark}
 use Rattle.auto_answer.proofs.Freeing.{passing_place, place_passes}
 use Rattle.auto_answer.proofs.OwnMarks.{holds, own_best}

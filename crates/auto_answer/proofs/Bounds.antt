@@ -4,6 +4,7 @@ use Rattle.std.specs.Prelude.{◌==◌}
 use Rattle.std.specs.List.{list_any, range_with_len}
 use Rattle.std.proofs.lemmas.Bool.{cases_Bool, cases_eq, eqb-true, eq-eqb, ne_eqb, and_parts, and_right}
 use Rattle.std.proofs.lemmas.List.Sums.{sum_by-cons, sum_by-le-sum_by}
+use Rattle.admit_core.proofs.Plain.{middle_false}
 use Rattle.admit_core.specs.declared.dossier.Wish.{Wish}
 use Rattle.admit_core.specs.declared.state.Mark.{Mark}
 use Rattle.admit_core.specs.State.{State, entries, is_live, is_school, has_school, holds_seat, holds_bed}
@@ -119,9 +120,6 @@ one_school c x j k a b =
     let second = and_parts (is_live x.1 && (x.0.candidate == c)) (has_school x.0 k) b in
     same_school x.0.school j k first.1 second.1
 
-not_own : (live own test : Bool) → own ≡ false → (live && own && test) ≡ false
-not_own live own test e = rw (e, and_right live false refl) refl
-
 -- THE BOUND, for seats and for beds
 pub few_seats : (old new : State) (c : ℕ) → seats_freed old new c ≤ count_by (nat_eq c) (wishers old.dossier)
 few_seats old new c =
@@ -130,7 +128,7 @@ few_seats old new c =
     let fewer = count_fewer (λ p. holds_seat old c p && not (holds_seat new c p)) (holds_seat old c)
     (λ p. one_and (holds_seat old c p) (not (holds_seat new c p))) ks in
     let hit = few_hit (hits_seat c) (λ (x : Wish × Mark). x.0.candidate == c) n (one_programme c)
-    (λ x k e. not_own (is_live x.1) (x.0.candidate == c) (x.0.programme == k) e) (entries old) in
+    (λ x k e. middle_false (is_live x.1) (x.0.candidate == c) (x.0.programme == k) e) (entries old) in
     omega (arith, fewer, hit, own_entries c old.dossier.wishes old.marks)
 
 pub few_beds : (old new : State) (c : ℕ) → beds_freed old new c ≤ count_by (nat_eq c) (wishers old.dossier)
@@ -140,5 +138,5 @@ few_beds old new c =
     let fewer = count_fewer (λ h. holds_bed old c h && not (holds_bed new c h)) (holds_bed old c)
     (λ h. one_and (holds_bed old c h) (not (holds_bed new c h))) ks in
     let hit = few_hit (hits_bed c) (λ (x : Wish × Mark). x.0.candidate == c) n (one_school c)
-    (λ x k e. not_own (is_live x.1) (x.0.candidate == c) (has_school x.0 k) e) (entries old) in
+    (λ x k e. middle_false (is_live x.1) (x.0.candidate == c) (has_school x.0 k) e) (entries old) in
     omega (arith, fewer, hit, own_entries c old.dossier.wishes old.marks)

@@ -4,8 +4,9 @@ use Rattle.std.specs.Prelude.{if◌then◌else◌}
 use Rattle.std.specs.List.{range_with_len}
 use Rattle.std.proofs.lemmas.Bool.{cases_Bool, cases_eq, eq-eqb, ne_eqb, or_left, or_right, or_parts, false≢true}
 use Rattle.std.proofs.lemmas.List.{length-map, map-append, take_more, take_all}
-use Rattle.std.proofs.lemmas.List.Folds.{list_any-append}
+use Rattle.std.proofs.lemmas.List.Folds.{list_any-append, or-false}
 use Rattle.std.proofs.lemmas.List.Sums.{sum_by-cons}
+use Rattle.admit_core.proofs.Plain.{and_not}
 use Rattle.admit_core.specs.declared.dossier.Wish.{Wish}
 use Rattle.admit_core.specs.declared.state.Stamp.{Stamp}
 use Rattle.admit_core.specs.declared.state.Freed.{Freed}
@@ -71,17 +72,13 @@ sum_none : (f : ℕ → ℕ) → ((c : ℕ) → f c ≡ 0) → (cs : List ℕ) �
 sum_none f none [] = refl
 sum_none f none (c ∷ cs) = omega (arith, sum_by-cons (λ (x : ℕ). x) (f c) (map f cs), none c, sum_none f none cs)
 
-not_both : (b : Bool) → (b && not b) ≡ false
-not_both true = refl
-not_both false = refl
-
 -- where nothing changes nothing is freed
 same_frees : (s : State) (c : ℕ) → freed_by s s c ≡ record { seats = 0; beds = 0 }
 same_frees s c =
     same_numbers (freed_by s s c) (record { seats = 0; beds = 0 })
-    (count_none (λ p. holds_seat s c p && not (holds_seat s c p)) (λ p. not_both (holds_seat s c p))
+    (count_none (λ p. holds_seat s c p && not (holds_seat s c p)) (λ p. and_not (holds_seat s c p))
     (range_with_len 0 (length s.dossier.programmes)))
-    (count_none (λ h. holds_bed s c h && not (holds_bed s c h)) (λ h. not_both (holds_bed s c h))
+    (count_none (λ h. holds_bed s c h && not (holds_bed s c h)) (λ h. and_not (holds_bed s c h))
     (range_with_len 0 (length s.dossier.schools)))
 
 -- those in the list have been answered for, the others not yet
@@ -118,12 +115,8 @@ among_more c x cs = list_any-append (nat_eq c) cs (x ∷ [])
 among_last : (x : ℕ) (cs : List ℕ) → is_among x (cs ++ x ∷ []) ≡ true
 among_last x cs = among_more x x cs ∙ or_right (is_among x cs) (nat_eq x x || false) (or_left (nat_eq x x) false (eq-eqb x x refl))
 
-or_false : (b : Bool) → (b || false) ≡ b
-or_false true = refl
-or_false false = refl
-
 among_other : (c x : ℕ) (cs : List ℕ) → (c ≡ x → ⊥) → is_among c (cs ++ x ∷ []) ≡ is_among c cs
-among_other c x cs other = among_more c x cs ∙ rw (ne_eqb c x other) (or_false (is_among c cs))
+among_other c x cs other = among_more c x cs ∙ rw (ne_eqb c x other) (or-false (is_among c cs))
 
 -- what one more candidate does
 module _ (start now : State) (stamp : Stamp) (x : ℕ) (cs : List ℕ) (all : Freed) (so_far : AreAnswered start now stamp cs all) where

@@ -3,6 +3,7 @@ use Rattle.std.proofs.Common.{ℕ, zero, suc, ◌<◌, ◌≡◌, Bool, false, �
 use Rattle.std.specs.Prelude.{◌==◌}
 use Rattle.std.specs.List.{list_any}
 use Rattle.std.proofs.lemmas.Bool.{cases_Bool, eqb-true, and_right}
+use Rattle.admit_core.proofs.Plain.{middle_false}
 use Rattle.admit_core.specs.declared.dossier.Wish.{Wish}
 use Rattle.admit_core.specs.declared.state.Mark.{Mark}
 use Rattle.admit_core.specs.DossierRows.{DossierRows}
@@ -15,9 +16,6 @@ use Rattle.day_state.proofs.Independence.{Agrees}
 -- the candidate's wishes have the same marks in both lists
 abbrev pub SameOwn : ℕ → List Wish → List Mark → List Mark → Type 0
 SameOwn c ws ms ns = (k : ℕ) → k < length ws → (wish_in ws k).candidate ≡ c → mark_in ms k ≡ mark_in ns k
-
-not_his : (live own test : Bool) → own ≡ false → (live && own && test) ≡ false
-not_his live own test e = rw (e, and_right live false refl) refl
 
 -- the wish is live, of the candidate, and passes a test
 abbrev pub holds : (Wish → Bool) → ℕ → Wish × Mark → Bool
@@ -34,7 +32,7 @@ any_own test c (w ∷ ws) (m ∷ ms) (n ∷ ns) long long_too same =
       | inl his ↦
           let here : m ≡ n = same zero (omega arith) (eqb-true w.candidate c his) in
           rw (here, rest) refl
-      | inr other ↦ rw (not_his (is_live m) (w.candidate == c) (test w) other, not_his (is_live n) (w.candidate == c) (test w) other) rest
+      | inr other ↦ rw (middle_false (is_live m) (w.candidate == c) (test w) other, middle_false (is_live n) (w.candidate == c) (test w) other) rest
     ]
 
 filter_own : (test : Wish → Bool) (c : ℕ) (ws : List Wish) (ms ns : List Mark) → length ms ≡ length ws → length ns ≡ length ws
@@ -48,7 +46,7 @@ filter_own test c (w ∷ ws) (m ∷ ms) (n ∷ ns) long long_too same =
       | inl his ↦
           let here : m ≡ n = same zero (omega arith) (eqb-true w.candidate c his) in
           rw (here, rest) refl
-      | inr other ↦ rw (not_his (is_live m) (w.candidate == c) (test w) other, not_his (is_live n) (w.candidate == c) (test w) other) rest
+      | inr other ↦ rw (middle_false (is_live m) (w.candidate == c) (test w) other, middle_false (is_live n) (w.candidate == c) (test w) other) rest
     ]
 
 -- whether the candidate is live where a test says

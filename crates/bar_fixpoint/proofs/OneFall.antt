@@ -127,10 +127,6 @@ pub told_one : (sys : FallingSystem) (choice : List ℕ → List ℕ → ℕ) (t
 told_one sys choice told bars shown places told_after i are all over chosen told_of =
     inr (record { place = i; overfilled = over; chosen = chosen ∙ ap (choice told) (are ∙ all); told_of = told_of })
 
-pub on_err : {T E P : Type 0} (r : Result T E) → P → OnErr r P
-on_err (Ok x) p = tt
-on_err (Err e) p = p
-
 -- a fall takes at least one from the sum of the bars
 sum-slice_set : (xs : List ℕ) (i v : ℕ) → i < length xs → sum (slice_set xs i v) + slice_index xs i ≡ sum xs + v
 sum-slice_set xs i v lt = grind (arith, common_steps)

@@ -12,23 +12,8 @@ use Rattle.admit_core.specs.Lists.{ascending}
 use Rattle.admit_core.specs.Proposals.{ahead, before, demanded_ranks, demands_bed, has_open_wish, is_behind_bar, is_open, is_open_in, is_proposed, needs_no_seat, wants_seat}
 use Rattle.admit_core.specs.State.{State, bed_holders, free_beds, has_school, holds_bed, holds_seat, is_live, seats_left}
 use Rattle.admit_core.proofs.Tests.{count_implied}
+use Rattle.admit_core.proofs.Plain.{filter_same, map_same, count_same}
 use Rattle.bed_need.specs.Refitted.{AreAlike, IsAlike}
-
--- tests that agree
-any_same : {X : Type 0} (p q : X → Bool) → ((x : X) → p x ≡ q x) → (xs : List X) → list_any p xs ≡ list_any q xs
-any_same p q same [] = refl
-any_same p q same (x ∷ xs) = rw (same x, any_same p q same xs) refl
-
-filter_same : {X : Type 0} (p q : X → Bool) → ((x : X) → p x ≡ q x) → (xs : List X) → filter p xs ≡ filter q xs
-filter_same p q same [] = refl
-filter_same p q same (x ∷ xs) = rw (same x, filter_same p q same xs) refl
-
-count_same : {X : Type 0} (p q : X → Bool) → ((x : X) → p x ≡ q x) → (xs : List X) → count_by p xs ≡ count_by q xs
-count_same p q same xs = omega (arith, count_implied p q (λ x t. sym (same x) ∙ t) xs, count_implied q p (λ x t. same x ∙ t) xs)
-
-map_same : {X Y : Type 0} (f g : X → Y) → ((x : X) → f x ≡ g x) → (xs : List X) → map f xs ≡ map g xs
-map_same f g same [] = refl
-map_same f g same (x ∷ xs) = rw (same x, map_same f g same xs) refl
 
 -- two tests of a wish with its mark agree at marks that are alike
 abbrev Agree : (Wish × Mark → Bool) → (Wish × Mark → Bool) → Type 0

@@ -3,16 +3,18 @@ use Rattle.std.proofs.Common.{◌≡◌, ◌∙◌, ℕ, ◌<◌, ◌≤◌, Lis
 use Rattle.std.specs.Prelude.{slice_index}
 use Rattle.std.proofs.lemmas.Bool.{cases_eq}
 use Rattle.std.proofs.lemmas.List.{get_or_default, same_lists}
+use Rattle.admit_core.proofs.ClosedEvenings.{free_at}
 use Rattle.admit_core.specs.declared.ranking.CallOrder.{CallOrder}
 use Rattle.admit_core.specs.Boarding.{boarding}
 use Rattle.admit_core.specs.DossierRows.{beds_of}
 use Rattle.admit_core.specs.Falls.{FallingSystem, Fits, IsAtMost, IsGreatest}
 use Rattle.admit_core.specs.LeastBeds.{IsLeastBeds, with_beds}
 use Rattle.admit_core.specs.State.{State}
+use Rattle.bar_fixpoint.proofs.RunLaws.{unique_greatest}
 use Rattle.bed_need.specs.BedLaws.{GreatestBarsDoNotFall}
 use Rattle.bed_need.specs.Figures.{Figures, FiguresAreFixed, lacks}
 use Rattle.bed_need.specs.Growing.{with_more_beds}
-use Rattle.bed_need.proofs.RoomyBeds.{free_at, free_here, free_there}
+use Rattle.bed_need.proofs.RoomyBeds.{free_here, free_there}
 
 module _ (s : State) (orders : List CallOrder) (low high : List ℕ) (h n : ℕ) (long : length low
     ≡ length s.dossier.schools) (rise : IsAtMost low high) (more : beds_of s.dossier h ≤ n) where
@@ -50,22 +52,15 @@ one_need : (s : State) (orders : List CallOrder) (ceilings : List ℕ) (h n m : 
     → IsLeastBeds s orders ceilings h n → IsLeastBeds s orders ceilings h m → n ≡ m
 one_need s orders ceilings h n m one other = omega (arith, one.least m other.enough, other.least n one.enough)
 
-one_greatest : (sys : FallingSystem) (one other : List ℕ) → IsGreatest sys one → IsGreatest sys other → one ≡ other
-one_greatest sys one other is also =
-    let up = also.greatest one is.fits in
-    let down = is.greatest other also.fits in
-    same_lists one other up.as_many (λ k d lt.
-    get_or_default one k d 0 lt ∙ (omega (arith, up.each k, down.each k)) ∙ get_or_default other k 0 d (omega (arith, lt, up.as_many)))
-
 pub figures_are_fixed : FiguresAreFixed
 figures_are_fixed s orders ceilings h one other is also =
     let need : one.need ≡ other.need = one_need s orders ceilings h one.need other.need is.need also.need in
-    let before : one.before ≡ other.before = one_greatest
+    let before : one.before ≡ other.before = unique_greatest
     (boarding s orders ceilings) one.before other.before is.growth.before also.growth.before in
     let grown : IsGreatest (with_more_beds s orders ceilings h (lacks s h other.need)) one.after =
     subst (λ (n : ℕ). IsGreatest (with_more_beds s orders ceilings h (lacks s h n)) one.after) need is.growth.after in
     let after : one.after ≡ other.after =
-    one_greatest (with_more_beds s orders ceilings h (lacks s h other.need)) one.after
+    unique_greatest (with_more_beds s orders ceilings h (lacks s h other.need)) one.after
     other.after grown also.growth.after in
     let figures : ℕ → List ℕ → List ℕ → Figures = λ n b a. record { need = n; before = b; after = a } in
     λ i. figures (need i) (before i) (after i)

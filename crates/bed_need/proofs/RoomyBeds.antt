@@ -12,6 +12,7 @@ use Rattle.admit_core.specs.DossierRows.{DossierRows, beds_of}
 use Rattle.admit_core.specs.LeastBeds.{rebuilt, with_beds}
 use Rattle.admit_core.specs.State.{State, bed_holders, free_beds}
 use Rattle.admit_core.proofs.Rebuilt.{with_n}
+use Rattle.admit_core.proofs.ClosedEvenings.{free_at}
 
 beds_if : (is : Bool) (n : ℕ) (s : School) → (if is then record s { beds = n } else s).beds ≡ (if is then n else s.beds)
 beds_if true n s = refl
@@ -29,14 +30,6 @@ beds_at k (s ∷ schools) h n (suc i) lt =
 -- the school at the place has n beds, and each other one has its own
 pub beds_with : (d : DossierRows) (h n i : ℕ) → i < length d.schools → beds_of (rebuilt d h n) i ≡ (if i == h then n else beds_of d i)
 beds_with d h n i lt = let whole : 0 + i ≡ i = omega arith in rw whole at (beds_at 0 d.schools h n i lt)
-
--- the free beds by place
-pub free_at : (s : State) (orders : List CallOrder) (ceilings : List ℕ) (i : ℕ)
-    → i < length ceilings → slice_index (boarding s orders ceilings).free i ≡ free_beds s i
-free_at s orders ceilings i lt =
-    let n = length ceilings in
-    let in_range : i < length (range_with_len 0 n) = omega (arith, length-range_with_len 0 n) in
-    get_or-map (free_beds s) (range_with_len 0 n) i 0 0 in_range ∙ ap (free_beds s) (get_or-range_with_len 0 n i 0 lt ∙ (omega arith))
 
 module _ (s : State) (orders : List CallOrder) (ceilings : List ℕ) (h n i : ℕ)
     (long : length ceilings ≡ length s.dossier.schools) (lt : i < length ceilings) where

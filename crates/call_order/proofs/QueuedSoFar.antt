@@ -14,10 +14,11 @@ use Rattle.admit_core.specs.CallOrderLaws.{KeepsOrderLaws}
 use Rattle.admit_core.specs.Validity.{IsRanking}
 use Rattle.admit_core.proofs.OrderLaws.{laws_kept}
 use Rattle.admit_core.proofs.LeastFirst.{next_is_first}
-use Rattle.admit_core.proofs.NextCalls.{find_passes, next_none, mapped_none, mapped_some, remaining_push, remaining_first}
+use Rattle.admit_core.proofs.NextCalls.{find_passes, next_none, mapped_some, remaining_push, remaining_first}
 use Rattle.admit_core.proofs.OrderPermutes.{distinct_filter}
 use Rattle.admit_core.proofs.CalledCounts.{count_called_push, length-parts}
 use Rattle.admit_core.proofs.Calls.{CallsSoFar, calls_none, calls_push, calls_done}
+use Rattle.admit_core.proofs.Plain.{mapped_none}
 use Rattle.call_order.specs.Kinds.{kind_of, is_of, head_of, without_head}
 use Rattle.call_order.proofs.Firsts.{length-without_first}
 use Rattle.call_order.specs.declared.queued.Rates.{Rates}

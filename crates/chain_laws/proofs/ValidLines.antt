@@ -24,7 +24,7 @@ use Rattle.admit_core.specs.Standing.{place_of}
 use Rattle.admit_core.specs.State.{State, entries}
 use Rattle.admit_core.proofs.DemandLaws.{boarding_is_lawful, demanded, demands_at}
 use Rattle.admit_core.proofs.FallsLaw.{over_in}
-use Rattle.dossier_check.proofs.Places.{nat_eq_sym}
+use Rattle.admit_core.proofs.Plain.{nat_eq_sym}
 use Rattle.report.specs.Ids.{school_id, wish_id}
 use Rattle.certificate.proofs.Naming.{find_numbered}
 use Rattle.certificate.specs.Written.{fall_at, falls_from}

@@ -7,6 +7,7 @@ use Rattle.std.proofs.lemmas.Option.{unwrap_or-slice_get}
 use Rattle.std.proofs.lemmas.List.{length-map, length-set, get_or-set_same, get_or-set_other, at_drop_more, at_drop_all, get_or_default, same_lists, get_or-map}
 use Rattle.std.proofs.lemmas.List.Elements.{filter_passes}
 use Rattle.std.proofs.lemmas.Slice.Zip.{length-zip, get_or-zip}
+use Rattle.admit_core.proofs.Plain.{map_same, any-filter}
 use Rattle.admit_core.specs.declared.dossier.Wish.{Wish}
 use Rattle.admit_core.specs.declared.state.Mark.{Mark}
 use Rattle.admit_core.specs.Lists.{is_among}
@@ -19,7 +20,7 @@ use Rattle.admit_core.specs.OwnWishes.{own_places}
 use Rattle.day_state.specs.Kept.{mark_in, wish_in}
 use Rattle.day_state.specs.declared.mark.OwnChange.TheVariants.{RefuseLive, QuitOpen}
 use Rattle.day_state.specs.Along.{change_along, change_own, changed_by}
-use Rattle.day_state.proofs.Places.{any-filter, candidate_in}
+use Rattle.day_state.proofs.Places.{candidate_in}
 use Rattle.day_state.proofs.Change.{own_within}
 
 -- no number stands twice
@@ -195,10 +196,6 @@ on_way_place f start now own c i long is way lt =
 pub on_way_end : (f : Wish → Mark → Mark) (start now : State) (own : List ℕ) (c i : ℕ) → length start.marks ≡ length start.dossier.wishes
     → own ≡ own_places start.dossier c → IsOnWay f start now own i → length own ≤ i → now ≡ change_own f c start
 on_way_end f start now own c i long is way le = on_way_all f start now c i long (rw is at way) (rw is at le)
-
-map_same : {X Y : Type 0} (f g : X → Y) → ((x : X) → f x ≡ g x) → (xs : List X) → map f xs ≡ map g xs
-map_same f g same [] = refl
-map_same f g same (x ∷ xs) = rw (same x, map_same f g same xs) refl
 
 pub with_marks_same : (f g : Wish → Mark → Mark) (s : State) → ((w : Wish) (m : Mark) → f w m ≡ g w m) → with_marks s f ≡ with_marks s g
 with_marks_same f g s same =

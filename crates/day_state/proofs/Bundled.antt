@@ -8,9 +8,10 @@ use Rattle.std.proofs.lemmas.Bool.{cases_Bool, cases_eq, ne_eqb, eqb-true, eq-eq
 use Rattle.std.proofs.lemmas.Option.{unwrap_or-slice_get}
 use Rattle.std.proofs.lemmas.List.{length-map, length-set, length-replicate, get_or-replicate, get_or-set_same, get_or-set_other, get_or_default}
 use Rattle.std.proofs.Math.ListN.{get_or-map}
-use Rattle.std.proofs.lemmas.List.Folds.{list_any_at, Any-from_list_any}
+use Rattle.std.proofs.lemmas.List.Folds.{list_any_at, Any-from_list_any, and_assoc}
 use Rattle.std.proofs.lemmas.List.Sums.{length-filter, count_by-le-length}
 use Rattle.std.proofs.lemmas.List.FromFn.{length-range_with_len}
+use Rattle.admit_core.proofs.Plain.{any-map, any_none}
 use Rattle.admit_core.specs.declared.dossier.Wish.{Wish}
 use Rattle.admit_core.specs.declared.state.Mark.{Mark}
 use Rattle.admit_core.specs.DossierRows.{DossierRows}
@@ -25,7 +26,7 @@ use Rattle.day_state.specs.Bundles.{site_of, is_same, number_in, bundles_of, is_
 use Rattle.day_state.proofs.Counting.{here_step, there_step}
 use Rattle.day_state.proofs.Numbering.{range_at, bundles_are}
 use Rattle.day_state.proofs.Sharing.{alone_first, rank_within, rank_apart, count_parts}
-use Rattle.day_state.proofs.Places.{any-map, entry_in, entries_by_place}
+use Rattle.day_state.proofs.Places.{entry_in, entries_by_place}
 use Rattle.day_state.proofs.Along.{mark_in-set_same, mark_in-set_other}
 use Rattle.day_state.proofs.Change.{Fits, kept_changed}
 use Rattle.day_state.proofs.Filled.{kept_waiting}
@@ -72,10 +73,6 @@ any_in_range : (p q : ℕ → Bool) (a n : ℕ) → ((j : ℕ) → j < a + n →
     → list_any p (range_with_len a n) ≡ list_any q (range_with_len a n)
 any_in_range p q a zero same = refl
 any_in_range p q a (suc n) same = rw (same a (omega arith), any_in_range p q (a + 1) n (λ j lt. same j (omega arith))) refl
-
-never : {X : Type 0} (p : X → Bool) → ((x : X) → p x ≡ false) → (xs : List X) → list_any p xs ≡ false
-never p none [] = refl
-never p none (x ∷ xs) = rw (none x) (never p none xs)
 
 -- the wish at a place is a live one of a bundle
 abbrev counts_in : List Mark → List (Option ℕ) → ℕ → ℕ → Bool
@@ -298,7 +295,7 @@ bundle_any : (ms : List Mark) (bundles : List (Option ℕ)) (live : List ℕ) (k
     → has_live live (number_of bundles o) (is_live (mark_in ms k))
     ≡ list_any (λ j. is_live (mark_in ms j) && is_same o (number_in bundles j)) (range_with_len 0 (length ms))
 bundle_any ms bundles live k None are long lt is within =
-    sym (never (λ j. is_live (mark_in ms j) && false) (λ j. and_right (is_live (mark_in ms j)) false refl)
+    sym (any_none (λ j. is_live (mark_in ms j) && false) (λ j. and_right (is_live (mark_in ms j)) false refl)
     (range_with_len 0 (length ms)))
 bundle_any ms bundles live k (Some b) are long lt is within =
     elim (cases_Bool (is_shared bundles b)) [
@@ -306,10 +303,6 @@ bundle_any ms bundles live k (Some b) are long lt is within =
           ∙ any_counts (counts_in ms bundles b) (range_with_len 0 (length ms)))
       | inr none ↦ rw none (alone_any ms bundles k b lt long none is)
     ]
-
-and_turn : (live own test : Bool) → (live && (own && test)) ≡ ((live && own) && test)
-and_turn true own test = refl
-and_turn false own test = refl
 
 -- a bundle has a live wish where its candidate is live at its site
 has_live_is : (sites : Sites) (s : State) (numbers : List Number) (live : List ℕ) (k : ℕ)
@@ -335,7 +328,7 @@ has_live_is sites s numbers live k long lt bundled =
     (λ j j_lt.
     let j_in : j < length ws = omega arith in
     ap (λ t. is_live (mark_in ms j) && t) (bundles_are_so.shared k j k_in j_in)
-    ∙ and_turn (is_live (mark_in ms j)) ((wish_in ws j).candidate == w.candidate) (test (wish_in ws j)))
+    ∙ and_assoc (is_live (mark_in ms j)) ((wish_in ws j).candidate == w.candidate) (test (wish_in ws j)))
     ∙ ap (λ n. list_any (λ j. holds (entry_in s j)) (range_with_len 0 n)) long
     ∙ sym (any-map holds (entry_in s) (range_with_len 0 (length ws)))
     ∙ ap (list_any holds) (sym (entries_by_place s long))
@@ -348,7 +341,7 @@ has_seat_is {s} {numbers} {live} {k} bundled long lt = has_live_is Programmes s 
 -- a live wish at the site of another one, where that may have none
 in_its_school : (s : State) (c : ℕ) (o : Option ℕ) → holds_one (λ v. is_same o v.school) s c ≡ holds_bed_in s c o
 in_its_school s c None =
-    never (λ (e : Wish × Mark). is_live e.1 && (e.0.candidate == c) && false)
+    any_none (λ (e : Wish × Mark). is_live e.1 && (e.0.candidate == c) && false)
     (λ e. and_right (is_live e.1 && (e.0.candidate == c)) false refl) (entries s)
 in_its_school s c (Some h) = refl
 

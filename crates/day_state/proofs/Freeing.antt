@@ -3,7 +3,7 @@ use Rattle.std.proofs.Common.{ℕ, ◌+◌, ◌≤◌, ◌<◌, ◌≡◌, Bool,
 use Rattle.std.specs.Prelude.{◌==◌}
 use Rattle.std.specs.Option.{ForSome}
 use Rattle.std.specs.List.{list_any}
-use Rattle.std.proofs.lemmas.Bool.{ne_eqb, or_cases}
+use Rattle.std.proofs.lemmas.Bool.{ne_eqb, or_cases, or_right}
 use Rattle.std.proofs.lemmas.Option.{unwrap_or-slice_get}
 use Rattle.std.proofs.lemmas.Slice.Zip.{length-zip, get_or-zip}
 use Rattle.admit_core.specs.declared.dossier.Wish.{Wish}
@@ -61,10 +61,6 @@ freed_there s place m long lt programme school =
     lost_one (holds_seat s c) (holds_seat t c) (length s.dossier.programmes) w.programme programme
     (λ k other. holds_same_other (λ v. v.programme == k) s place m long lt (ne_eqb w.programme k (λ e. other (sym e))) c) in
     rw (seats, beds_freed_at s place m long lt w.school refl school) refl
-
-or_right : (a b : Bool) → b ≡ true → (a || b) ≡ true
-or_right true b e = refl
-or_right false b e = e
 
 -- a test of one element that may only fail where it passed
 pub any-set_falls : {X : Type 0} (p : X → Bool) (xs : List X) (i : ℕ) (y d : X) → i < length xs → (p y ≡ true → p (get_or xs i d) ≡ true)

@@ -11,10 +11,11 @@ use Rattle.std.proofs.lemmas.List.Folds.{list_any_at, Any-from_list_any}
 use Rattle.std.proofs.lemmas.List.FromFn.{length-range_with_len, get_or-range_with_len, length-map-range_with_len, get_or-map-range_with_len}
 use Rattle.admit_core.specs.declared.dossier.Wish.{Wish}
 use Rattle.admit_core.proofs.NextCalls.{find_passes}
+use Rattle.admit_core.proofs.Plain.{any-filter, find_same}
 use Rattle.day_state.specs.declared.bundles.Sites.{Sites}
 use Rattle.day_state.specs.Kept.{candidate_in, wish_in, IsIndex}
 use Rattle.day_state.specs.Bundles.{site_of, is_same, together, number_in, joined, bundle_there, noted, bundle_of, bundles_of, AreWithin}
-use Rattle.day_state.proofs.Places.{candidate_in as candidate_there, any-filter}
+use Rattle.day_state.proofs.Places.{candidate_in as candidate_there}
 use Rattle.day_state.proofs.Along.{among-filter}
 
 pub is_same_some : (a b : Option ℕ) → is_same a b ≡ true → (n : ℕ) × (a ≡ Some n) × (b ≡ Some n)
@@ -44,10 +45,6 @@ alike : (sites : Sites) (v w z : Wish) (n : ℕ) → w.candidate ≡ v.candidate
 alike sites v w z n same p q =
     ap (λ (c : ℕ). (z.candidate == c) && is_same (site_of sites v) (site_of sites z)) (sym same)
     ∙ ap (λ (o : Option ℕ). (z.candidate == w.candidate) && is_same o (site_of sites z)) (p ∙ sym q)
-
-find_alike : {X : Type 0} (p q : X → Bool) → ((x : X) → p x ≡ q x) → (xs : List X) → find p xs ≡ find q xs
-find_alike p q same [] = refl
-find_alike p q same (x ∷ xs) = rw (same x, find_alike p q same xs) refl
 
 find_first : (p : ℕ → Bool) (xs : List ℕ) (i : ℕ) → i < length xs → p (slice_index xs i) ≡ true
     → ((j : ℕ) → j < i → p (slice_index xs j) ≡ false) → find p xs ≡ Some (slice_index xs i)
@@ -140,7 +137,7 @@ joins sites ws order i h (Some f) index lt site last =
       | inl mine ↦
           let same : (wish_in ws x).candidate ≡ (wish_in ws m).candidate =
           sym (eqb-true (wish_in ws f).candidate (wish_in ws x).candidate mine) ∙ found.0 in
-          rw mine (find_alike p q (λ y. sym
+          rw mine (find_same p q (λ y. sym
           (alike sites (wish_in ws m) (wish_in ws x) (wish_in ws y) h same last.site site)) order ∙ last.first)
       | inr other ↦
           rw other
@@ -308,7 +305,7 @@ bundles_shared sites ws order j k place =
     let here : p (slice_index order place.0) ≡ true = rw place.2 t in
     let found = find_has p order (list_any_at p order place.0 0 place.1 here) in
     let also : find q order ≡ Some found.0 =
-    sym (find_alike p q (λ x. alike sites v w (wish_in ws x) parts.1 parts.0 parts.2 parts.3) order) ∙ found.1 in
+    sym (find_same p q (λ x. alike sites v w (wish_in ws x) parts.1 parts.0 parts.2 parts.3) order) ∙ found.1 in
     some_is_same (find p order) (find q order) found.0 found.1 also)
 
 find_among : (p q : ℕ → Bool) → ((x : ℕ) → p x ≡ true → q x ≡ true) → (xs : List ℕ) → find p (filter q xs) ≡ find p xs

@@ -11,13 +11,10 @@ use Rattle.std.proofs.lemmas.List.Elements.{filter-append}
 use Rattle.std.proofs.lemmas.List.Folds.{Any-from_list_any, drop_split}
 use Rattle.std.proofs.lemmas.List.FromFn.{length-range_with_len, get_or-range_with_len, map-range_with_len_more}
 use Rattle.std.proofs.lemmas.List.Sorted.{All-permutation, length_permutation}
+use Rattle.admit_core.proofs.Plain.{filter_same, filter_none}
 use Rattle.admit_core.specs.declared.dossier.Wish.{Wish}
 use Rattle.day_state.specs.declared.spans.Span.{Span}
 use Rattle.day_state.specs.Kept.{candidate_in, span_in, IsIndex, IsSpan, AreSpans}
-
-pub filter_none : {X : Type 0} (p : X → Bool) (xs : List X) → All (λ x. p x ≡ false) xs → filter p xs ≡ []
-filter_none p [] none = refl
-filter_none p (x ∷ xs) none = rw (none 0 x (omega arith)) (filter_none p xs (λ k d lt. none (suc k) d (omega arith)))
 
 pub filter_all : {X : Type 0} (p : X → Bool) (xs : List X) → All (λ x. p x ≡ true) xs → filter p xs ≡ xs
 filter_all p [] all = refl
@@ -38,10 +35,6 @@ tie_is a b =
       ]
     ]
 
-filter_by : {X : Type 0} (p q : X → Bool) → ((x : X) → p x ≡ q x) → (xs : List X) → filter p xs ≡ filter q xs
-filter_by p q same [] = refl
-filter_by p q same (x ∷ xs) = rw (same x, filter_by p q same xs) refl
-
 tie_with : (a c b : ℕ) → a ≡ c → (b == c) ≡ (not (is_lt (nat_cmp a b)) && not (is_lt (nat_cmp b a)))
 tie_with a c b same = rw (← same) (sym (tie_is a b))
 
@@ -56,7 +49,7 @@ stable_own {X} key xs ys moved stable c =
           let same = eqb-true (key x) c passes in
           let tie = λ (y : X). not (is_lt (nat_cmp (key x) (key y))) && not (is_lt (nat_cmp (key y) (key x))) in
           let by : (y : X) → p y ≡ tie y = λ y. tie_with (key x) c (key y) same in
-          filter_by p tie by ys ∙ stable x ∙ sym (filter_by p tie by xs)
+          filter_same p tie by ys ∙ stable x ∙ sym (filter_same p tie by xs)
       | inr none ↦
           let all = none_found p xs none in
           filter_none p ys (All-permutation (λ x. p x ≡ false) xs ys moved all) ∙ sym (filter_none p xs all)

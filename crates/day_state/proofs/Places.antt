@@ -6,6 +6,7 @@ use Rattle.std.proofs.lemmas.Option.{unwrap_or-slice_get}
 use Rattle.std.proofs.lemmas.Slice.Zip.{length-zip, get_or-zip}
 use Rattle.std.proofs.lemmas.List.FromFn.{fill_by_all}
 use Rattle.std.proofs.lemmas.Bool.{cases_Bool}
+use Rattle.admit_core.proofs.Plain.{any-map, any_same, any-filter, turn_and}
 use Rattle.admit_core.specs.declared.dossier.Wish.{Wish}
 use Rattle.admit_core.specs.declared.state.Mark.{Mark}
 use Rattle.admit_core.specs.State.{State, entries, is_live, with_mark_at}
@@ -20,22 +21,6 @@ zip-set [] ys i y d = refl
 zip-set (x ∷ xs) [] i y d = refl
 zip-set (x ∷ xs) (z ∷ ys) zero y d = refl
 zip-set (x ∷ xs) (z ∷ ys) (suc i) y d = ap (λ l. (x, z) ∷ l) (zip-set xs ys i y d)
-
-pub any_same : {X : Type 0} (p q : X → Bool) → ((x : X) → p x ≡ q x) → (xs : List X) → list_any p xs ≡ list_any q xs
-any_same p q same [] = refl
-any_same p q same (x ∷ xs) = rw (same x, any_same p q same xs) refl
-
-pub any-filter : {X : Type 0} (p q : X → Bool) (xs : List X) → list_any p (filter q xs) ≡ list_any (λ x. q x && p x) xs
-any-filter p q [] = refl
-any-filter p q (x ∷ xs) =
-    elim (cases_Bool (q x)) [
-      | inl kept ↦ rw kept (ap (λ b. p x || b) (any-filter p q xs))
-      | inr dropped ↦ rw dropped (any-filter p q xs)
-    ]
-
-pub any-map : {X Y : Type 0} (p : Y → Bool) (f : X → Y) (xs : List X) → list_any p (map f xs) ≡ list_any (λ x. p (f x)) xs
-any-map p f [] = refl
-any-map p f (x ∷ xs) = ap (λ b. p (f x) || b) (any-map p f xs)
 
 pub candidate_in : (ws : List Wish) (k : ℕ) → slice_index (map (λ w. w.candidate) ws) k ≡ (wish_in ws k).candidate
 candidate_in [] k = refl
@@ -55,12 +40,6 @@ entries_by_place s long =
     fill_by_all (entry_in s) (zip ws ms) (length ws) d (omega (arith, length-zip ws ms))
     (λ k lt. get_or-zip ws ms k d lt (omega arith)
     ∙ rw (unwrap_or-slice_get ws k (wish_in [] 0), unwrap_or-slice_get ms k (mark_in [] 0)) refl)
-
-turn_and : (own live test : Bool) → (own && (live && test)) ≡ ((live && own) && test)
-turn_and true true test = refl
-turn_and true false test = refl
-turn_and false true test = refl
-turn_and false false test = refl
 
 -- a look at a candidate's own wishes finds what a look at all finds
 pub own_any : (test : Wish → Bool) (s : State) (c : ℕ) → length s.marks ≡ length s.dossier.wishes

@@ -15,6 +15,7 @@ use Rattle.admit_core.specs.State.{State, entries, has_school, holds_bed}
 use Rattle.admit_core.specs.Proposals.{is_proposed, proposed, demands_bed, demanded_ranks}
 use Rattle.admit_core.specs.Boarding.{name_of}
 use Rattle.admit_core.proofs.Tests.{Ascends, same_members, ascends_ascending, among-ascending}
+use Rattle.admit_core.proofs.Plain.{nat_eq_sym}
 use Rattle.day_state.proofs.Ordering.{stable_own}
 use Rattle.proposals.specs.declared.demands.Demand.{Demand}
 use Rattle.day_state.specs.Kept.{wish_in}
@@ -146,16 +147,9 @@ any_first : {X : Type 0} (p : X → Bool) (xs : List X) → list_any p xs ≡ is
 any_first p [] = refl
 any_first p (x ∷ xs) = elim (cases_Bool (p x)) [ inl passes ↦ rw passes refl | inr fails ↦ rw fails (any_first p xs) ]
 
-turned : (a b : ℕ) → nat_eq a b ≡ nat_eq b a
-turned a b =
-    elim (cases_eq a b) [
-      | inl same ↦ rw (eq-eqb a b same, eq-eqb b a (sym same)) refl
-      | inr differ ↦ rw (ne_eqb a b differ, ne_eqb b a (λ e. differ (sym e))) refl
-    ]
-
 any_turned : (r : ℕ) (xs : List Demand) → is_among r (map (λ x. x.rank) xs) ≡ list_any (at_rank r) xs
 any_turned r [] = refl
-any_turned r (x ∷ xs) = rw (turned r x.rank, any_turned r xs) refl
+any_turned r (x ∷ xs) = rw (nat_eq_sym r x.rank, any_turned r xs) refl
 
 -- the demands by place
 abbrev demand_at : ℕ × (Wish × Mark) → Demand

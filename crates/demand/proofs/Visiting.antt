@@ -2,7 +2,7 @@
 use Rattle.std.proofs.Common.{subst, ℕ, ◌+◌, ◌≤◌, ◌<◌, ◌≡◌, Bool, true, false, cond, ◌&&◌, ◌||◌, List, length, take, get_or, inl, inr, refl, sym, ◌∙◌, ap, arith, nat_eq, nat_lt, nat_le, count_by}
 use Rattle.std.specs.Prelude.{◌==◌, map, replicate}
 use Rattle.std.specs.List.{range_with_len}
-use Rattle.std.proofs.lemmas.Bool.{cases_Bool, false≢true, or_cases, or_left, or_right, eqb-true, eq-eqb, ltb-true, lt-ltb, leb-true, le-leb, and_left, and_right, cases_order, le-ltb, ne_eqb}
+use Rattle.std.proofs.lemmas.Bool.{cases_Bool, false≢true, or_cases, or_left, or_right, eqb-true, eq-eqb, ltb-true, lt-ltb, leb-true, le-leb, and_left, and_right, cases_order, le-ltb, ne_eqb, or_from}
 use Rattle.std.proofs.lemmas.List.{take_all, length-take-le, length-replicate, get_or-replicate}
 use Rattle.std.proofs.lemmas.Simd.{map-map}
 use Rattle.std.proofs.lemmas.List.FromFn.{fill_by_all}
@@ -205,10 +205,6 @@ walked_all s orders bars p order i ahead old now is le long are walked =
     ]))
     walked.flags
 
-or_none : (a b : Bool) → a ≡ false → b ≡ false → (a || b) ≡ false
-or_none true b e f = e
-or_none false b e f = f
-
 -- whose open wishes are flagged at one visit
 pub visit_none : (s : State) (bars : List ℕ) (p c : ℕ) (is_called : Bool) (flags : List Bool) → length s.marks ≡ length s.dossier.wishes
     → length flags ≡ length s.dossier.wishes → has_open_wish s bars p c ≡ false → SetsAlso (is_served_at s bars p c is_called) flags flags
@@ -221,7 +217,7 @@ pub visit_not_served : (s : State) (bars : List ℕ) (p c : ℕ) (is_called : Bo
     → SetsAlso (is_served_at s bars p c is_called) flags flags
 visit_not_served s bars p c is_called flags no_seat not_called =
     sets_none (is_served_at s bars p c is_called) flags
-    (λ k lt. and_right (((wish_in s.dossier.wishes k).candidate == c) && is_open_at s bars p k) (holds_seat s c p || is_called) (or_none (holds_seat s c p) is_called no_seat not_called))
+    (λ k lt. and_right (((wish_in s.dossier.wishes k).candidate == c) && is_open_at s bars p k) (holds_seat s c p || is_called) (or_from (holds_seat s c p) is_called no_seat not_called))
 
 and_true : (a b : Bool) → b ≡ true → a ≡ (a && b)
 and_true true b t = sym t

@@ -1,7 +1,7 @@
 -- Where all have been answered for but those who have one of some wishes, only they and those with an offer are answered for, and change.
 use Rattle.std.proofs.Common.{ℕ, ◌<◌, ◌≡◌, Bool, true, false, ◌||◌, List, ◌++◌, map, length, inl, inr, refl, sym, ◌∙◌, ap, subst, nat_eq}
 use Rattle.std.specs.Prelude.{All, if◌then◌else◌}
-use Rattle.std.proofs.lemmas.Bool.{cases_Bool, false≢true}
+use Rattle.std.proofs.lemmas.Bool.{cases_Bool, false≢true, or_parts}
 use Rattle.std.proofs.lemmas.List.{map-append}
 use Rattle.std.proofs.lemmas.List.Elements.{All-append}
 use Rattle.std.proofs.lemmas.List.Folds.{list_any-append}
@@ -29,16 +29,11 @@ use Rattle.auto_answer.proofs.LawsOfAnswers.{agrees, same_own}
 use Rattle.round.proofs.Offering.{apart_places, offers_made, proposed_are_wishes}
 use Rattle.desk_day.specs.DayPasses.{IsAnswered, IsAnsweredBut, offered_along}
 
-neither : (a b : Bool) → (a || b) ≡ false → (a ≡ false) × (b ≡ false)
-neither false false none = (refl, refl)
-neither false true none = absurd (cc)
-neither true b none = absurd (cc)
-
--- who is in neither of two lists
+-- who is in or_parts of two lists
 pub in_neither : (f : ℕ → ℕ) (c : ℕ) (xs ys : List ℕ) → is_among c (map f (xs ++ ys)) ≡ false
     → (is_among c (map f xs) ≡ false) × (is_among c (map f ys) ≡ false)
 in_neither f c xs ys none =
-    neither (is_among c (map f xs)) (is_among c (map f ys))
+    or_parts (is_among c (map f xs)) (is_among c (map f ys))
     (sym (ap (is_among c) (map-append f xs ys) ∙ list_any-append (nat_eq c) (map f xs) (map f ys)) ∙ none)
 
 module _ (s : State) (orders : List CallOrder) (bars : List ℕ) (stamp : Stamp) (long : length s.marks ≡ length s.dossier.wishes) where

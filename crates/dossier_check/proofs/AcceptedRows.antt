@@ -1,6 +1,7 @@
 -- Rows of the state that accept a wish.
 use Rattle.std.proofs.Common.{◌≡◌, ℕ, Bool, true, false, ◌&&◌, nat_eq, List, [], ◌∷◌, if◌then◌else◌, option_map, Option, Some, None, refl, ap}
 use Rattle.std.specs.List.{list_any}
+use Rattle.admit_core.proofs.Plain.{and_false, nat_eq_sym}
 use Rattle.admit_core.specs.declared.refusal.Reason.TheVariants.{TwoAccepted}
 use Rattle.admit_core.specs.declared.tables.StateRow.{StateRow}
 use Rattle.admit_core.specs.declared.tables.Tables.{Tables}
@@ -8,15 +9,10 @@ use Rattle.admit_core.specs.Faults.{row_number, first_row}
 use Rattle.admit_core.specs.Relations.{is_accepted, same_candidate, candidate_with, two_accepted}
 use Rattle.dossier_check.specs.Seen.{is_accepted_of}
 use Rattle.dossier_check.proofs.Firsts.{position-none}
-use Rattle.dossier_check.proofs.Places.{nat_eq_sym}
 
 -- the candidate of an accepted row
 abbrev pub accepting : Tables → StateRow → Option ℕ
 accepting t row = if is_accepted row.status then candidate_with t row.wish else None
-
-and-false : (b : Bool) → (b && false) ≡ false
-and-false true = refl
-and-false false = refl
 
 none_any : {X : Type 0} (p : X → Bool) (xs : List X) → ((x : X) → p x ≡ false) → list_any p xs ≡ false
 none_any p [] never = refl
@@ -36,7 +32,7 @@ module _ (t : Tables) (row : StateRow) where
           let nobody : candidate_with t row.wish ≡ None = rw f at e in
           rw (f, nobody)
           (ap (λ o. option_map TwoAccepted (option_map row_number o)) (position-none (λ r. is_accepted r.status && same_candidate None (candidate_with t r.wish)) before
-          (none_any (λ r. is_accepted r.status && same_candidate None (candidate_with t r.wish)) before (λ r. and-false (is_accepted r.status)))))
+          (none_any (λ r. is_accepted r.status && same_candidate None (candidate_with t r.wish)) before (λ r. and_false (is_accepted r.status)))))
 
   pub is_accepted_of-none : (k : ℕ) → accepting t row ≡ None → is_accepted_of t k row ≡ false
   is_accepted_of-none k e = by (is_accepted row.status) refl

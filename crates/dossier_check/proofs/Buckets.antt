@@ -5,11 +5,9 @@ use Rattle.std.proofs.Math.ListN.{set}
 use Rattle.std.proofs.lemmas.Bool.Decides.{nat_tests}
 use Rattle.std.specs.List.{list_any, IsDistinct, AllByRecursion}
 use Rattle.std.proofs.lemmas.List.Quantifiers.{position-Some}
+use Rattle.admit_core.proofs.Plain.{nat_eq_sym}
 use Rattle.admit_core.specs.declared.tables.RankRow.{RankRow}
 use Rattle.admit_core.specs.Standing.{ranked_in, ranked_row}
-
-pub eq_sym : (m n : ℕ) → nat_eq m n ≡ nat_eq n m
-eq_sym m n = grind (arith, nat_tests)
 
 -- a row more is in the list of its group, and in no other
 in_own : (rows : List RankRow) (row : RankRow) (k : ℕ) → nat_eq k row.group ≡ true → ranked_in (rows ++ row ∷ []) k ≡ ranked_in rows k ++ ranked_row row ∷ []
@@ -38,7 +36,7 @@ in_none rows row (k ∷ ks) h = by (nat_eq row.group k) refl (in_none rows row k
     by : (b : Bool) → nat_eq row.group k ≡ b → (list_any (nat_eq row.group) ks ≡ false → map (ranked_in (rows ++ row ∷ [])) ks ≡ map (ranked_in rows) ks)
         → map (ranked_in (rows ++ row ∷ [])) (k ∷ ks) ≡ map (ranked_in rows) (k ∷ ks)
     by true f ih = absurd (true≢false (sym (rw f at (sym h))))
-    by false f ih = let g : list_any (nat_eq row.group) ks ≡ false = rw f at h in rw (in_other rows row k (eq_sym k row.group ∙ f), ih g) refl
+    by false f ih = let g : list_any (nat_eq row.group) ks ≡ false = rw f at h in rw (in_other rows row k (nat_eq_sym k row.group ∙ f), ih g) refl
 
 -- g stands at i, and not before
 abbrev pub IsAt : ℕ → List ℕ → ℕ → Type 0
@@ -65,9 +63,9 @@ pub lay : (rows : List RankRow) (row : RankRow) (ks : List ℕ) (i : ℕ) → Is
 unfolding IsDistinct
 lay rows row [] i apart at = absurd at
 lay rows row (k ∷ ks) zero apart at =
-    rw (in_own rows row k (eq_sym k row.group ∙ at), in_none rows row ks (none_after row.group k ks at apart.0)) refl
+    rw (in_own rows row k (nat_eq_sym k row.group ∙ at), in_none rows row ks (none_after row.group k ks at apart.0)) refl
 lay rows row (k ∷ ks) (suc i) apart (not_here, there) =
-    rw (in_other rows row k (eq_sym k row.group ∙ not_here)) (ap (λ l. ranked_in rows k ∷ l) (lay rows row ks i apart.1 there))
+    rw (in_other rows row k (nat_eq_sym k row.group ∙ not_here)) (ap (λ l. ranked_in rows k ∷ l) (lay rows row ks i apart.1 there))
 
 pub lay_none : (rows : List RankRow) (row : RankRow) (ks : List ℕ) → list_any (nat_eq row.group) ks ≡ false → map (ranked_in rows) ks ≡ map (ranked_in (rows ++ row ∷ [])) ks
 lay_none rows row ks h = sym (in_none rows row ks h)

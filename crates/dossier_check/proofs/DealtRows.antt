@@ -19,8 +19,9 @@ use Rattle.dossier_check.specs.declared.ranks.Dealt.{Dealt}
 use Rattle.dossier_check.specs.Dealt.{AreDealt, HasItsGroup}
 use Rattle.std.proofs.lemmas.Simd.{map-map}
 use Rattle.dossier_check.proofs.Faultless.{no_tests, and_then, none_in, differ, knows_all}
-use Rattle.dossier_check.proofs.Places.{nat_eq_sound, nat_eq_sym}
+use Rattle.dossier_check.proofs.Places.{nat_eq_sound}
 use Rattle.admit_core.proofs.SortedLists.{IsPermutation-sorted_by}
+use Rattle.admit_core.proofs.Plain.{nat_eq_sym}
 use Rattle.dossier_check.proofs.ValidRankings.{map-ranked_in}
 
 -- what holds of each list holds of the list that an id has

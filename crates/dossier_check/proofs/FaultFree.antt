@@ -5,18 +5,11 @@ use Rattle.std.proofs.lemmas.List.{append-nil, length-take-le, get_or-take}
 use Rattle.std.proofs.lemmas.List.Folds.{list_any_at}
 use Rattle.std.specs.List.{list_any}
 use Rattle.std.specs.Option.{option_or}
+use Rattle.admit_core.proofs.Plain.{mapped_none, none_or}
 use Rattle.admit_core.specs.declared.slot.Slot.{Slot}
 use Rattle.admit_core.specs.declared.refusal.Reason.{Reason}
 use Rattle.admit_core.specs.Faults.{Test, first_row, first_reason, first_after, first_in}
 use Rattle.dossier_check.proofs.Firsts.{position-some}
-
-pub none_or : {X : Type 0} (a b : Option X) → option_or a b ≡ None → (a ≡ None) × (b ≡ None)
-none_or None b e = (refl, e)
-none_or (Some x) b e = cc
-
-pub none_map : {X Y : Type 0} (f : X → Y) (o : Option X) → option_map f o ≡ None → o ≡ None
-none_map f None e = refl
-none_map f (Some x) e = cc
 
 -- a test stands at no row
 pub record Passes {R : Type 0} (test : Test R) (rows : List R) : Type 0 where
@@ -51,7 +44,7 @@ module _ {R : Type 0} (slot : Slot) (tests : List (Test R)) where
   unfolding first_after
   pass_after before [] e k d lt = absurd (omega arith)
   pass_after before (row ∷ rows) e zero d lt =
-      let p = none_or _ _ e in rw (append-nil before) (none_map _ _ p.0)
+      let p = none_or _ _ e in rw (append-nil before) (mapped_none _ _ p.0)
   pass_after before (row ∷ rows) e (suc k) d lt =
       rw (sym (append_assoc before (row ∷ []) (take k rows))) (pass_after (before ++ row ∷ []) rows (none_or _ _ e).1 k d (less k rows lt))
 
@@ -77,7 +70,7 @@ module _ {R : Type 0} (same : R → R → Bool) (reason : ℕ → Reason) (rows 
   apart_at : (j k : ℕ) (d : R) → j < k → k < length rows → option_map reason (first_row (same (get_or rows k d)) (take k rows)) ≡ None
       → same (get_or rows k d) (get_or rows j d) ≡ false
   apart_at j k d lt within fine =
-      let e : list_any (same (get_or rows k d)) (take k rows) ≡ false = none_passes (same (get_or rows k d)) (take k rows) (none_map reason _ fine) in
+      let e : list_any (same (get_or rows k d)) (take k rows) ≡ false = none_passes (same (get_or rows k d)) (take k rows) (mapped_none reason _ fine) in
       let f : same (get_or rows k d) (get_or (take k rows) j d) ≡ false = any_at (same (get_or rows k d)) (take k rows) j d e (omega (arith, length-take-le k rows (omega arith))) in
       rw (← get_or-take k rows j d lt) f
 

@@ -5,14 +5,14 @@ use Rattle.std.proofs.lemmas.Bool.Decides.{nat_tests}
 use Rattle.std.proofs.lemmas.List.Folds.{find-append}
 use Rattle.std.specs.List.{list_any, position_or_len, enumerate_from}
 use Rattle.std.specs.Option.{option_or}
+use Rattle.admit_core.proofs.Plain.{nat_eq_sym, any-map}
 use Rattle.admit_core.specs.declared.tables.WishRow.{WishRow}
 use Rattle.admit_core.specs.Faults.{row_number, first_row}
 use Rattle.dossier_check.specs.Pairs.{pair_eq}
 use Rattle.dossier_check.specs.Seen.{noted_wish, has_preference, AreFirstWishes}
 use Rattle.dossier_check.specs.declared.noted.FirstWish.{FirstWish}
 use Rattle.admit_core.specs.Lists.{is_among}
-use Rattle.dossier_check.proofs.Found.{list_any-map}
-use Rattle.dossier_check.proofs.Places.{nat_eq_sound, nat_eq_sym}
+use Rattle.dossier_check.proofs.Places.{nat_eq_sound}
 
 or_none : {X : Type 0} (o : Option X) → option_or o None ≡ o
 or_none None = refl
@@ -122,7 +122,7 @@ some_enumerate f p n (row ∷ rows) = by (p row) refl (some_enumerate f p (n + 1
 -- the candidates whose first wishes are kept are those of the wishes
 pub kept_candidates : (found : ℕ → Option FirstWish) (rows : List WishRow) → AreFirstWishes found rows → (candidate : ℕ) → is_some (found candidate) ≡ is_among candidate (map (λ w. w.candidate) rows)
 kept_candidates found rows firsts candidate =
-    ap is_some (firsts candidate) ∙ some_enumerate noted_wish (λ r. nat_eq candidate r.candidate) 2 rows ∙ sym (list_any-map (nat_eq candidate) (λ w. w.candidate) rows)
+    ap is_some (firsts candidate) ∙ some_enumerate noted_wish (λ r. nat_eq candidate r.candidate) 2 rows ∙ sym (any-map (nat_eq candidate) (λ w. w.candidate) rows)
 
 -- for a row with a preference, the rows with the same one
 pub same_preference : (row : WishRow) (before : List WishRow) → 0 < row.preference

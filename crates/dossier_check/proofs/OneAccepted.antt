@@ -1,6 +1,7 @@
 -- Of a candidate's wishes one at most comes in as accepted.
 use Rattle.std.proofs.Common.{◌≡◌, ℕ, ◌<◌, Bool, true, nat_eq, List, [], ◌∷◌, length, map, zip, find, get_or, option_map, unwrap_or, Option, Some, None, refl, sym, ap, ◌∙◌, subst, arith, true≢false, inl, inr, ◌⊎◌, AllPairs}
 use Rattle.std.proofs.lemmas.List.Folds.{list_any_at}
+use Rattle.std.proofs.lemmas.Bool.{and_from}
 use Rattle.admit_core.specs.declared.state.Status.{Status}
 use Rattle.admit_core.specs.declared.state.Status.TheVariants.{Waiting, Accepted}
 use Rattle.admit_core.specs.declared.tables.StateRow.{StateRow}
@@ -10,7 +11,7 @@ use Rattle.admit_core.specs.Relations.{is_accepted, same_candidate, candidate_wi
 use Rattle.admit_core.specs.Standing.{wish_of_row, status_of_row, dossier_of}
 use Rattle.admit_core.specs.Validity.{NotBothAccepted}
 use Rattle.dossier_check.proofs.NoFault.{HasNoFault}
-use Rattle.dossier_check.proofs.Pairs.{all_pairs_map, same_at, order, both_true}
+use Rattle.dossier_check.proofs.Pairs.{all_pairs_map, same_at, order}
 use Rattle.dossier_check.proofs.Places.{IsFound, found, any_some, nat_eq_sound, nat_eq_same, nat_eq_self}
 use Rattle.dossier_check.proofs.RowFacts.{wish_ids_differ, accepted_apart}
 
@@ -47,7 +48,7 @@ module _ (t : Tables) (fine : HasNoFault t) where
       → candidate_with t (get_or t.state a d).wish ≡ Some c → candidate_with t (get_or t.state b d).wish ≡ Some c → ⊥
   two_rows a b d c lt in_b at_a at_b of_a of_b =
       let same : same_candidate (candidate_with t (get_or t.state b d).wish) (candidate_with t (get_or t.state a d).wish) ≡ true = rw (of_a, of_b) (nat_eq_self c) in
-      true≢false (sym (both_true _ _ (accepted_is (get_or t.state a d).status at_a) same) ∙ accepted_apart t fine a b d lt in_b (accepted_is (get_or t.state b d).status at_b))
+      true≢false (sym (and_from _ _ (accepted_is (get_or t.state a d).status at_a) same) ∙ accepted_apart t fine a b d lt in_b (accepted_is (get_or t.state b d).status at_b))
 
   one_row : (m n : ℕ) (d : StateRow) (c : ℕ) → m < length t.state → n < length t.state → (get_or t.state m d).status ≡ Accepted → (get_or t.state n d).status ≡ Accepted
       → candidate_with t (get_or t.state m d).wish ≡ Some c → candidate_with t (get_or t.state n d).wish ≡ Some c → m ≡ n

@@ -9,11 +9,6 @@ all_pairs_map R f (x ∷ xs) pairs i j d lt within =
     let here : j < length (x ∷ xs) = omega (arith, length-map-here f (x ∷ xs)) in
     rw (get_or-map f (x ∷ xs) i x d (omega arith), get_or-map f (x ∷ xs) j x d here) (pairs i j x lt here)
 
-pub both_true : (a b : Bool) → a ≡ true → b ≡ true → (a && b) ≡ true
-both_true true true ea eb = refl
-both_true false b ea eb = cc
-both_true true false ea eb = cc
-
 pub order : (m n : ℕ) → (m < n) ⊎ ((n < m) ⊎ (m ≡ n))
 order m n = grind arith
 

@@ -18,9 +18,6 @@ nat_eq_self n = grind (arith, nat_tests)
 pub nat_eq_same : (m n : ℕ) → m ≡ n → nat_eq m n ≡ true
 nat_eq_same m n e = grind (arith, nat_tests)
 
-pub nat_eq_sym : (m n : ℕ) → nat_eq m n ≡ nat_eq n m
-nat_eq_sym m n = grind (arith, nat_tests)
-
 module _ {X : Type 0} (p : X → Bool) where
   pub position-any : (xs : List X) → list_any p xs ≡ true → position p xs ≡ Some (position_or_len p xs)
   position-any xs any =

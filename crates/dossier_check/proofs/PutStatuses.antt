@@ -3,18 +3,19 @@ use Rattle.std.proofs.Common.{◌≡◌, ℕ, ◌+◌, ◌-◌, ◌<◌, ◌≤�
 use Prim.Native.Nat.{zero}
 use Rattle.std.proofs.Math.ListN.{set, drop_of_length-le}
 use Rattle.std.specs.List.{list_any, IsDistinct}
+use Rattle.admit_core.proofs.Plain.{nat_eq_sym}
 use Rattle.admit_core.specs.declared.state.Status.TheVariants.{Waiting}
 use Rattle.admit_core.specs.declared.tables.StateRow.{StateRow}
 use Rattle.admit_core.specs.declared.tables.WishRow.{WishRow}
 use Rattle.dossier_check.specs.Statuses.{status_in}
-use Rattle.dossier_check.proofs.Buckets.{IsAt, eq_sym, none_after}
+use Rattle.dossier_check.proofs.Buckets.{IsAt, none_after}
 
 module _ (row : StateRow) (rows : List StateRow) where
   own : (w : WishRow) → nat_eq row.wish w.id ≡ true → status_in (row ∷ rows) w ≡ row.status
-  own w e = rw (eq_sym w.id row.wish ∙ e) refl
+  own w e = rw (nat_eq_sym w.id row.wish ∙ e) refl
 
   other : (w : WishRow) → nat_eq row.wish w.id ≡ false → status_in (row ∷ rows) w ≡ status_in rows w
-  other w e = rw (eq_sym w.id row.wish ∙ e) refl
+  other w e = rw (nat_eq_sym w.id row.wish ∙ e) refl
 
   -- a row that names none of the wishes
   pub put_none : (ws : List WishRow) → list_any (nat_eq row.wish) (map (λ w. w.id) ws) ≡ false

@@ -4,6 +4,7 @@ use Rattle.std.specs.List.{IsDistinct}
 use Rattle.std.specs.Option.{option_map_or}
 use Rattle.std.proofs.lemmas.List.{get_or-map}
 use Rattle.std.proofs.lemmas.Map.Keys.{IsDistinct-from_apart}
+use Rattle.admit_core.proofs.Plain.{nat_eq_sym}
 use Rattle.admit_core.specs.declared.refusal.Reason.TheVariants.{Repeat, RankTaken, Unknown, Unranked, NoBoardingRank, PreferenceTaken, TwoAccepted}
 use Rattle.admit_core.specs.declared.tables.Tables.{Tables}
 use Rattle.admit_core.specs.Lists.{is_among}
@@ -12,7 +13,6 @@ use Rattle.admit_core.specs.Relations.{group_ids, programme_ids, school_ids, wis
 use Rattle.dossier_check.proofs.FaultFree.{Passes, first_passes, second_passes, third_passes, apart, apart_when, all_known}
 use Rattle.dossier_check.proofs.Firsts.{length-map-here}
 use Rattle.dossier_check.proofs.NoFault.{HasNoFault}
-use Rattle.dossier_check.proofs.Places.{nat_eq_sym}
 
 -- where no id stands twice
 ids_apart : {R : Type 0} (id : R → ℕ) (rows : List R) → Passes (repeats (λ row r. nat_eq (id row) (id r))) rows → IsDistinct nat_eq (map id rows)

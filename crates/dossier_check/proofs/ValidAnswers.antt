@@ -13,11 +13,12 @@ use Rattle.admit_core.specs.Relations.{school_ids, wish_ids, is_target}
 use Rattle.admit_core.specs.Standing.{place_of, school_of_row, wish_of_row, target_of, ceiling_of_row, answer_of_row, dossier_of}
 use Rattle.admit_core.specs.Validity.{IsValidCeiling, NotSameDay, IsTarget, IsValidAnswer}
 use Rattle.std.proofs.lemmas.Simd.{map-map}
+use Rattle.std.proofs.lemmas.Bool.{and_from}
 use Rattle.dossier_check.proofs.FaultFree.{second_passes, third_passes}
 use Rattle.dossier_check.proofs.Firsts.{length-map-here}
 use Rattle.dossier_check.proofs.LastRow.{days_rise}
 use Rattle.dossier_check.proofs.NoFault.{HasNoFault}
-use Rattle.dossier_check.proofs.Pairs.{all_pairs_map, both_true}
+use Rattle.dossier_check.proofs.Pairs.{all_pairs_map}
 use Rattle.dossier_check.proofs.Places.{nat_eq_same, nat_eq_sound, place_within, same_place}
 use Rattle.dossier_check.proofs.RowFacts.{ceilings_apart, ceiling_schools_known, targets_known}
 
@@ -50,7 +51,7 @@ module _ (t : Tables) (ranges : AreTables t) (fine : HasNoFault t) where
       let a : CeilingRow = get_or t.ceilings i d in
       let b : CeilingRow = get_or t.ceilings j d in
       let school : a.school ≡ b.school = same_place (school_ids t) a.school b.school (ceiling_schools_known t fine i d (omega arith)) (ceiling_schools_known t fine j d in_j) schools in
-      true≢false (sym (both_true _ _ (nat_eq_same b.day a.day (sym days)) (nat_eq_same b.school a.school (sym school))) ∙ ceilings_apart t fine i j d lt in_j)
+      true≢false (sym (and_from _ _ (nat_eq_same b.day a.day (sym days)) (nat_eq_same b.school a.school (sym school))) ∙ ceilings_apart t fine i j d lt in_j)
 
   pub no_day_twice : AllPairs NotSameDay (dossier_of t).ceilings
   no_day_twice = all_pairs_map NotSameDay (ceiling_of_row t) t.ceilings not_same_day

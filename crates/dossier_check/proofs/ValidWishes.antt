@@ -20,11 +20,11 @@ use Rattle.admit_core.specs.Standing.{place_of, ranked_in, group_of_row, program
 use Rattle.admit_core.specs.Validity.{HasBoardRank, IsValidWish}
 use Rattle.std.proofs.lemmas.Simd.{map-map}
 use Rattle.dossier_check.proofs.Firsts.{length-map-here, position_or_len-map}
-use Rattle.dossier_check.proofs.Found.{list_any-map}
 use Rattle.dossier_check.proofs.NoFault.{HasNoFault}
 use Rattle.dossier_check.proofs.Places.{IsFound, found, any_some, any-find, find-any, at_place, place_within}
 use Rattle.dossier_check.proofs.RowFacts.{groups_known, programmes_known, schools_known, all_ranked, all_boarded}
 use Rattle.admit_core.proofs.SortedLists.{IsPermutation-sorted_by}
+use Rattle.admit_core.proofs.Plain.{any-map}
 
 -- an option that passes a test holds a value that passes it
 some_passing : {X : Type 0} (f : X → Bool) (o : Option X) → option_map_or f o false ≡ true → (x : X) × (o ≡ Some x) × (f x ≡ true)
@@ -54,7 +54,7 @@ module _ (t : Tables) (ranges : AreTables t) (fine : HasNoFault t) where
       let i : ℕ = position_or_len test t.programmes in
       let here : get_or t.programmes i p ≡ p = same_Some _ _ (sym (find-any test t.programmes p any) ∙ e) in
       let at : place_of (programme_ids t) programme ≡ i = position_or_len-map (nat_eq programme) (λ p. p.id) t.programmes in
-      let known : is_among programme (programme_ids t) ≡ true = list_any-map (nat_eq programme) (λ p. p.id) t.programmes ∙ any in
+      let known : is_among programme (programme_ids t) ≡ true = any-map (nat_eq programme) (λ p. p.id) t.programmes ∙ any in
       let lt : i < length t.programmes = rw (← at, ← length-map-here (λ p. p.id) t.programmes) (place_within (programme_ids t) programme known) in
       let value : get_or (map (λ q. q.group) (dossier_of t).programmes) i 0 ≡ place_of (group_ids t) (get_or t.programmes i p).group =
       ap (λ gs. get_or gs i 0) (map-map (λ q. q.group) (programme_of_row t) t.programmes) ∙ get_or-map (λ q. place_of (group_ids t) q.group) t.programmes i p 0 lt in (
@@ -83,9 +83,9 @@ module _ (t : Tables) (ranges : AreTables t) (fine : HasNoFault t) where
       let own : List Ranked = ranked_in t.rankings p.group in
       let among : is_among candidate (map (λ r. r.candidate) own) ≡ true = sym (ranked_any t.rankings candidate p.group) ∙ there in
       ap (λ l. is_among candidate (map (λ r. r.candidate) l)) (list_at programme p is)
-      ∙ list_any-map (nat_eq candidate) (λ r. r.candidate) (sorted_by (λ r. r.rank) own)
+      ∙ any-map (nat_eq candidate) (λ r. r.candidate) (sorted_by (λ r. r.rank) own)
       ∙ sym (list_any-IsPermutation (λ r. nat_eq candidate r.candidate) own (sorted_by (λ r. r.rank) own) (IsPermutation-sorted_by (λ r. r.rank) own))
-      ∙ sym (list_any-map (nat_eq candidate) (λ r. r.candidate) own)
+      ∙ sym (any-map (nat_eq candidate) (λ r. r.candidate) own)
       ∙ among
 
   rank_there : (candidate : ℕ) (school : Option ℕ) → option_map_or (λ h. is_boarded t h candidate) school true ≡ true

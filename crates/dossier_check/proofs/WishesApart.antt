@@ -3,10 +3,11 @@ use Rattle.std.proofs.Common.{◌≡◌, ◌↔◌, ℕ, ◌+◌, ◌<◌, Bool,
 use Rattle.std.specs.List.{list_any, enumerate_from}
 use Rattle.std.specs.Option.{option_map_or, option_or}
 use Rattle.std.proofs.lemmas.Bool.Decides.{nat_tests}
-use Rattle.std.proofs.lemmas.Bool.{and_parts}
+use Rattle.std.proofs.lemmas.Bool.{and_parts, and_from}
 use Rattle.std.proofs.lemmas.List.{take-append-drop}
 use Rattle.std.proofs.lemmas.List.Folds.{find-append, list_any_at}
 use Rattle.std.proofs.lemmas.Option.{same_Some}
+use Rattle.admit_core.proofs.Plain.{mapped_none}
 use Rattle.admit_core.specs.declared.tables.BoardRow.{BoardRow}
 use Rattle.admit_core.specs.declared.tables.WishRow.{WishRow}
 use Rattle.admit_core.specs.declared.tables.Tables.{Tables}
@@ -15,10 +16,10 @@ use Rattle.admit_core.specs.Lists.{is_among}
 use Rattle.admit_core.specs.Relations.{programme_ids, school_ids, same_school, is_boarded, are_mixed, mixed_with, first_wish_of, preference_mixed}
 use Rattle.admit_core.specs.Standing.{place_of, board_rank_of, wish_of_row, dossier_of}
 use Rattle.admit_core.specs.Validity.{IsApart}
-use Rattle.dossier_check.proofs.FaultFree.{Passes, none_map}
+use Rattle.dossier_check.proofs.FaultFree.{Passes}
 use Rattle.dossier_check.proofs.Found.{not_found}
 use Rattle.dossier_check.proofs.NoFault.{HasNoFault}
-use Rattle.dossier_check.proofs.Pairs.{all_pairs_map, same_at, both_true}
+use Rattle.dossier_check.proofs.Pairs.{all_pairs_map, same_at}
 use Rattle.dossier_check.proofs.Places.{IsFound, found, any_some, nat_eq_sound, nat_eq_same, nat_eq_self, same_place}
 use Rattle.dossier_check.proofs.RowFacts.{same_wish_apart, programmes_known, schools_known, all_boarded, board_ranks_apart, preferences_apart}
 
@@ -51,7 +52,7 @@ module _ (rows : List WishRow) (fine : Passes preference_mixed rows) where
       → are_mixed row first ≡ false
   unlike_first before row first e none =
       let (m, is) = find-enumerate_from (λ r. nat_eq row.candidate r.candidate) 2 before first e in
-      let at : option_map_or (mixed_with row) (first_wish_of before row.candidate) None ≡ None = none_map PreferenceMixed (option_map_or (mixed_with row) (first_wish_of before row.candidate) None) none in
+      let at : option_map_or (mixed_with row) (first_wish_of before row.candidate) None ≡ None = mapped_none PreferenceMixed (option_map_or (mixed_with row) (first_wish_of before row.candidate) None) none in
       if_unmixed (are_mixed row first) m (rw is at at)
 
   like_first : (k : ℕ) (d first : WishRow) → k < length rows → find (λ r. nat_eq (get_or rows k d).candidate r.candidate) rows ≡ Some first
@@ -116,9 +117,9 @@ module _ (t : Tables) (fine : HasNoFault t) where
       let here : get_or t.boarding at_a.place a ≡ a = at_a.is a in
       let there : get_or t.boarding at_b.place a ≡ b = at_b.is a in
       let forth : (nat_eq a.school b.school && nat_eq a.rank b.rank) ≡ true =
-      both_true _ _ (nat_eq_same a.school b.school (sym school_a ∙ school_b)) (nat_eq_same a.rank b.rank ranks) in
+      and_from _ _ (nat_eq_same a.school b.school (sym school_a ∙ school_b)) (nat_eq_same a.rank b.rank ranks) in
       let back : (nat_eq b.school a.school && nat_eq b.rank a.rank) ≡ true =
-      both_true _ _ (nat_eq_same b.school a.school (sym school_b ∙ school_a)) (nat_eq_same b.rank a.rank (sym ranks)) in
+      and_from _ _ (nat_eq_same b.school a.school (sym school_b ∙ school_a)) (nat_eq_same b.rank a.rank (sym ranks)) in
       let places : at_a.place ≡ at_b.place =
       same_at (λ row r. nat_eq row.school r.school && nat_eq row.rank r.rank) t.boarding (board_ranks_apart t fine) at_a.place at_b.place a at_a.within at_b.within
       (rw (here, there) forth) (rw (here, there) back) in
@@ -178,7 +179,7 @@ module _ (t : Tables) (fine : HasNoFault t) where
       where
         by : (b : Bool) → nat_lt 0 w.preference ≡ b → v.preference ≡ 0
         by true e =
-            absurd (true≢false (sym (both_true _ _ (nat_eq_same w.candidate v.candidate (sym candidates)) (nat_eq_same w.preference v.preference (sym same))) ∙ preferences_apart t fine i j d lt in_j e))
+            absurd (true≢false (sym (and_from _ _ (nat_eq_same w.candidate v.candidate (sym candidates)) (nat_eq_same w.preference v.preference (sym same))) ∙ preferences_apart t fine i j d lt in_j e))
         by false e = let none : w.preference ≡ 0 = grind (arith, nat_tests) in same ∙ none
 
     apart_rows : IsApart (wish_of_row t v) (wish_of_row t w)

@@ -2,7 +2,7 @@
 use Rattle.std.proofs.Common.{ℕ, ◌+◌, ◌<◌, ◌≡◌, Bool, true, false, not, ◌&&◌, ◌||◌, List, [], ◌∷◌, map, length, inl, inr, refl, sym, ◌∙◌, ap, subst, arith, nat_eq, nat_lt, get_or, filter, Option, Some, None, All}
 use Rattle.std.specs.Prelude.{ℤ, zip, if◌then◌else◌, is_some}
 use Rattle.std.specs.List.{enumerate_from}
-use Rattle.std.proofs.lemmas.Bool.{and_parts, cases_Bool, false_from_ne_true, false≢true, ltb-true}
+use Rattle.std.proofs.lemmas.Bool.{and_parts, cases_Bool, false_from_ne_true, false≢true, ltb-true, and_left, and_right}
 use Rattle.std.proofs.lemmas.List.{get_or_default, length-map}
 use Rattle.std.proofs.lemmas.List.Elements.{All-head, All-map, All-tail}
 use Rattle.std.proofs.lemmas.List.Folds.{Any-from_list_any}
@@ -28,18 +28,13 @@ use Rattle.admit_core.specs.Proposals.{is_barred, is_behind_bar}
 use Rattle.admit_core.specs.State.{State, changed_to, entries, holds_seat, is_live, is_live_status, is_waiting, is_waiting_status, seats_left}
 use Rattle.admit_core.specs.Validity.{IsValid}
 use Rattle.admit_core.proofs.Evenings.{after_offers, answer, entry_wish, offer, seats_are_filled}
+use Rattle.admit_core.proofs.Plain.{filter_none}
 use Rattle.day_state.proofs.Along.{length-with_marks}
 use Rattle.envy.specs.AutomaticDays.{DaysEndFair, FirstEveningsBlockNone, LaterEveningsBlockNone, HoldsBetter, IsFair, IsFairEvening, IsRankedPlainly, IsSettled, NobodyBehind, PassesKeepFair, QuietDaysEndFair, WaitingIsFair, is_given_up}
 use Rattle.envy.proofs.OnePass.{closing_fair}
 
 pub passes_keep_fair : PassesKeepFair
 passes_keep_fair orders s bars stamp valid called plain long fair = closing_fair orders s bars stamp valid called plain fair
-
--- nothing passes a test that nothing passes
-pub filtered_none : {X : Type 0} (test : X → Bool) (xs : List X) → All (λ x. test x ≡ false) xs → filter test xs ≡ []
-filtered_none test [] none = refl
-filtered_none test (x ∷ xs) none = rw (All-head (λ y. test y ≡ false) x xs none)
-    (filtered_none test xs (All-tail (λ y. test y ≡ false) x xs none))
 
 placed_none : {X : Type 0} (test : X → Bool) (k : ℕ) (xs : List X) → All (λ x. test x ≡ false) xs
     → filter (λ (x : ℕ × X). test x.1) (enumerate_from k xs) ≡ []
@@ -52,7 +47,7 @@ nobody_envied : (s : State) (orders : List CallOrder) (w : Wish)
     → All (λ c. holds_seat s c w.programme ≡ false) (behind s orders w)
     → has_envy s orders w ≡ false
 nobody_envied s orders w none = ap (λ (cs : List ℕ). is_some (last_of cs))
-    (filtered_none (λ c. holds_seat s c w.programme) (behind s orders w) none)
+    (filter_none (λ c. holds_seat s c w.programme) (behind s orders w) none)
 
 -- of a status that neither waits nor was given up nothing is missed
 kept_in_person : (st : Status) → is_waiting_status st ≡ false → is_given_up st ≡ false → is_missed st ≡ false
@@ -74,13 +69,6 @@ none_of false b c d is = refl
 none_last : (a b : Bool) → b ≡ true → (a && not b) ≡ false
 none_last true b is = rw is refl
 none_last false b is = refl
-
-and_first : (a b : Bool) → a ≡ false → (a && b) ≡ false
-and_first a b is = rw is refl
-
-and_second : (a b : Bool) → b ≡ false → (a && b) ≡ false
-and_second true b is = is
-and_second false b is = refl
 
 module _ (orders : List CallOrder) (s : State) (bars : List ℕ) (plain : IsRankedPlainly s.dossier)
     (fair : IsFair orders s) (filled : All (IsFilled s bars) (entries s)) where
@@ -106,16 +94,16 @@ module _ (orders : List CallOrder) (s : State) (bars : List ℕ) (plain : IsRank
             let full : IsFilled s bars x = subst (IsFilled s bars) at (filled k x lt) in
             let free : NobodyBehind orders s x = subst (NobodyBehind orders s) at (fair.behind k x lt) in
             let neither : rest ≡ false = rw (no_seat w m none waits full) (nobody_envied s orders w (free waits)) in
-            and_second (wants_more s w m) rest neither
+            and_right (wants_more s w m) rest neither
         | inr waits_not ↦ elim (cases_Bool (is_given_up m.status)) [
           | inl given ↦
               let better : HoldsBetter s x = subst (HoldsBetter s) at (fair.better k x lt) in
-              and_first (wants_more s w m) rest
+              and_left (wants_more s w m) rest
               (none_last (lacks_school w.school && nat_lt 0 w.preference && is_missed m.status
               && not (holds_seat s w.candidate w.programme)) (has_better s w) (better given))
           | inr given_not ↦
-              and_first (wants_more s w m) rest
-              (and_first (lacks_school w.school && nat_lt 0 w.preference && is_missed m.status
+              and_left (wants_more s w m) rest
+              (and_left (lacks_school w.school && nat_lt 0 w.preference && is_missed m.status
               && not (holds_seat s w.candidate w.programme)) (not (has_better s w))
               (none_of (lacks_school w.school) (nat_lt 0 w.preference) (is_missed m.status)
               (not (holds_seat s w.candidate w.programme))

@@ -12,13 +12,13 @@ use Rattle.admit_core.specs.declared.state.Mark.{Mark}
 use Rattle.admit_core.specs.Blocking.{behind, last_envied, last_of}
 use Rattle.admit_core.specs.Lists.{is_among}
 use Rattle.admit_core.proofs.Evenings.{entry_wish}
+use Rattle.admit_core.proofs.Plain.{filter_none}
 use Rattle.day_state.specs.Bundles.{number_in}
 use Rattle.day_state.specs.Kept.{wish_in}
 use Rattle.proposals.specs.Called.{AreCalled}
 use Rattle.admit_core.specs.Proposals.{order_of}
 use Rattle.admit_core.specs.State.{State, entries, holds_seat, is_live}
 use Rattle.envy.specs.Known.{AreLast, envied_at, is_live_from, place_of, reaches}
-use Rattle.envy.proofs.AutomaticDays.{filtered_none}
 use Rattle.envy.proofs.Orders.{first_there}
 
 last_more : (x : ℕ) (ys : List ℕ) (v : ℕ) → last_of ys ≡ Some v → last_of (x ∷ ys) ≡ Some v
@@ -32,7 +32,7 @@ last_passes test [] r lt passes rest = absurd (omega arith)
 last_passes test (x ∷ xs) zero lt passes rest =
     rw (
       passes,
-      filtered_none test xs (λ k d k_lt. ap test (get_or_default xs k d 0 k_lt)
+      filter_none test xs (λ k d k_lt. ap test (get_or_default xs k d 0 k_lt)
           ∙ rest (suc k) (omega arith) (omega (arith, k_lt))),
     ) refl
 last_passes test (x ∷ xs) (suc r) lt passes rest =
@@ -91,7 +91,7 @@ module _ (s : State) (orders : List CallOrder) (p : ℕ) (last : Option ℕ) (ap
       (λ held. false≢true (sym (past (n + j) (omega arith)) ∙ reached (n + j) within held))
 
   none_from : (n : ℕ) → ((k : ℕ) → n ≤ k → reaches last k ≡ false) → last_of (filter live (drop n order)) ≡ None
-  none_from n past = ap last_of (filtered_none live (drop n order) (dead_from n past))
+  none_from n past = ap last_of (filter_none live (drop n order) (dead_from n past))
 
 -- somebody is live there
 module _ (s : State) (orders : List CallOrder) (p n : ℕ) (apart : IsDistinct nat_eq (order_of s.dossier orders p))

@@ -27,13 +27,10 @@ use Rattle.admit_core.proofs.Evenings.{after_offers, answer, entry_wish, held_af
 use Rattle.admit_core.proofs.FilledSeats.{auto_waits, live_or_offered, live_stays, offer_if, order_distinct, waits_still}
 use Rattle.admit_core.proofs.Holders.{entries_marked, holds, holds_after, holds_kept, lives_with, marked_by}
 use Rattle.admit_core.proofs.Statuses.{changed_status, status_of_auto}
+use Rattle.admit_core.proofs.Plain.{and_false}
 use Rattle.envy.specs.AutomaticDays.{HoldsBetter, IsFair, IsRankedPlainly, IsSettled, NobodyBehind, is_given_up}
 use Rattle.envy.proofs.Leasts.{IsLeastOf, filtered_least, filtered_none}
 use Rattle.envy.proofs.Orders.{IsBehind, behind_at}
-
-and_none : (b : Bool) → (b && false) ≡ false
-and_none true = refl
-and_none false = refl
 
 -- what an automatic answer makes of a status
 settled_by_answer : (st : Status) (is_best is_behind : Bool) → is_offered (auto_status st is_best is_behind) ≡ false
@@ -136,7 +133,7 @@ module _ (orders : List CallOrder) (o : State) (bars : List ℕ) (stamp : Stamp)
       omega (arith, is, plain.preferences k x.0 within)
 
   never_barred : (w : Wish) (m : Mark) → w.school ≡ None → is_barred o bars w m ≡ false
-  never_barred w m none = ap (λ (h : Option ℕ). is_waiting m && is_behind_bar o bars w h) none ∙ and_none (is_waiting m)
+  never_barred w m none = ap (λ (h : Option ℕ). is_waiting m && is_behind_bar o bars w h) none ∙ and_false (is_waiting m)
 
   -- a wish is overtaken by one that stands behind it in the call order
   module _ (w : Wish) (m : Mark) (opens : is_open o bars w m ≡ true) (missed : is_proposed o orders bars w m ≡ false) where

@@ -15,6 +15,7 @@ use Rattle.admit_core.specs.Validity.{IsValid}
 use Rattle.admit_core.proofs.CallRows.{IsIn, in_list}
 use Rattle.admit_core.proofs.DemandLaws.{not_barred_step, not_over, open_under_higher, seat_stays}
 use Rattle.admit_core.proofs.FallsLaw.{at_set}
+use Rattle.admit_core.proofs.Plain.{waits_open}
 use Rattle.fairness.specs.Exchanges.{AreNeighbours, BetterBoardingRankCostsNoOffer, exchanged, exchanged_in, with_ranks_exchanged}
 use Rattle.fairness.proofs.Beds.{ranks_tell}
 use Rattle.fairness.proofs.ByRank.{contains_in}
@@ -88,9 +89,6 @@ holder_passes s bars w None h has lives = refl
 holder_passes s bars w (Some g) h has lives =
     let here : holds_bed s w.candidate g ≡ true = subst (λ (k : ℕ). holds_bed s w.candidate k ≡ true) (sym (eqb-true g h has)) lives in
     and_left (not (holds_bed s w.candidate g)) (nat_lt (slice_index bars g) w.board_rank) (not_from_true (holds_bed s w.candidate g) here)
-
-opens_from : (waits behind : Bool) → waits ≡ true → behind ≡ false → (waits && not (waits && behind)) ≡ true
-opens_from waits behind yes_waits no_bar = rw (yes_waits, no_bar) refl
 
 module _ (s : State) (orders : List CallOrder) (h better worse : ℕ) (first : 1 ≤ better) (below : better < worse) where
   abbrev moved : State
@@ -184,7 +182,7 @@ module _ (s : State) (orders : List CallOrder) (ceilings bars moved_bars : List 
   module _ (lives : holds_bed s w.candidate h ≡ true) where
     stays_open : (u : List ℕ) → is_open s u w m ≡ true
     stays_open u =
-        opens_from (is_waiting m) (is_behind_bar s u w w.school) (and_parts (is_waiting m) (not (is_barred s bars w m)) opens).0
+        waits_open (is_waiting m) (is_behind_bar s u w w.school) (and_parts (is_waiting m) (not (is_barred s bars w m)) opens).0
         (holder_passes s u w w.school h has lives)
 
     -- who has the worse rank is the candidate, who is live there

@@ -18,8 +18,8 @@ use Rattle.admit_core.specs.State.{State, entries, free_beds, has_school, holds_
 use Rattle.admit_core.proofs.CallRows.{IsIn}
 use Rattle.admit_core.proofs.DemandLaws.{demanded, demands_at}
 use Rattle.admit_core.proofs.FullBeds.{rising_distinct}
-use Rattle.admit_core.proofs.Holders.{any_map}
-use Rattle.admit_core.proofs.Tests.{any_implied, increasing-ascending}
+use Rattle.admit_core.proofs.Tests.{any_implied, increasing-ascending, among-map}
+use Rattle.admit_core.proofs.Plain.{any-map}
 use Rattle.fairness.specs.Exchanges.{exchanged, exchanged_in, with_ranks_exchanged}
 use Rattle.fairness.proofs.PassedOver.{seat_for}
 
@@ -96,10 +96,6 @@ any_related : {X : Type 0} (f : X → X) (p q : X → Bool) (xs : List X) → ((
 any_related f p q [] same = refl
 any_related f p q (x ∷ xs) same = λ i. same x (inl refl) i || any_related f p q xs (λ y has. same y (inr has)) i
 
-among-map : (g : ℕ → ℕ) (n : ℕ) (ns : List ℕ) → is_among n ns ≡ true → is_among (g n) (map g ns) ≡ true
-among-map g n ns among =
-    any_map (nat_eq (g n)) g ns ∙ any_implied (nat_eq n) (λ m. nat_eq (g n) (g m)) (λ m same. eq-eqb (g n) (g m) (ap g (eqb-true n m same))) ns among
-
 -- ---- the state with two ranks of a school exchanged
 module _ (s : State) (orders : List CallOrder) (h better worse : ℕ) (first : 1 ≤ better) (below : better < worse) where
   abbrev f : Wish → Wish
@@ -114,12 +110,12 @@ module _ (s : State) (orders : List CallOrder) (h better worse : ℕ) (first : 1
   pub same_seat : (c p : ℕ) → holds_seat t c p ≡ holds_seat s c p
   same_seat c p =
       let test : Wish × Mark → Bool = λ e. is_live e.1 && (e.0.candidate == c) && (e.0.programme == p) in
-      ap (list_any test) entries_t ∙ any_map test (with_wish f) (entries s)
+      ap (list_any test) entries_t ∙ any-map test (with_wish f) (entries s)
 
   pub same_bed : (c g : ℕ) → holds_bed t c g ≡ holds_bed s c g
   same_bed c g =
       let test : Wish × Mark → Bool = λ e. is_live e.1 && (e.0.candidate == c) && has_school e.0 g in
-      ap (list_any test) entries_t ∙ any_map test (with_wish f) (entries s)
+      ap (list_any test) entries_t ∙ any-map test (with_wish f) (entries s)
 
   same_candidates : candidates_of t.dossier ≡ candidates_of s.dossier
   same_candidates = ap distinct (map_twice f s.dossier.wishes (λ w. refl))

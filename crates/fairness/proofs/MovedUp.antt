@@ -19,8 +19,8 @@ use Rattle.admit_core.specs.Proposals.{demanded_ranks, demands_bed, is_open, ord
 use Rattle.admit_core.specs.State.{State, entries, holds_seat, seats_left}
 use Rattle.admit_core.proofs.DemandLaws.{Demands, demand_from, demand_parts, demanded, demands_at, open_under_higher, seat_stays}
 use Rattle.admit_core.proofs.FullBeds.{rising_distinct}
-use Rattle.admit_core.proofs.OrderPermutes.{nat_eq_turn}
 use Rattle.admit_core.proofs.Tests.{any_implied, increasing-ascending}
+use Rattle.admit_core.proofs.Plain.{nat_eq_sym}
 use Rattle.fairness.specs.Exchanges.{BetterPositionCostsNoOffer, IsMovedUp}
 use Rattle.fairness.proofs.PassedOver.{called_in, early_in, seat_for}
 use Rattle.fairness.proofs.Seams.{before_at, before_others, not_in_front_of}
@@ -99,7 +99,7 @@ module _ (s : State) (orders moved : List CallOrder) (p c : ℕ) (is : IsMovedUp
   c_not = or_parts (is_among c is.front) (is_among c (a ∷ [])) (sym (list_any-append (nat_eq c) is.front (a ∷ [])) ∙ c_not_in_longer)
 
   a_is_not_c : nat_eq a c ≡ false
-  a_is_not_c = nat_eq_turn a c ∙ (or_parts (nat_eq c a) false c_not.1).0
+  a_is_not_c = nat_eq_sym a c ∙ (or_parts (nat_eq c a) false c_not.1).0
 
   a_not_in_longer : is_among a (is.front ++ c ∷ []) ≡ false
   a_not_in_longer = list_any-append (nat_eq a) is.front (c ∷ []) ∙ or_from (is_among a is.front) (is_among a (c ∷ [])) a_not_in_front (or_from (nat_eq a c) false a_is_not_c refl)

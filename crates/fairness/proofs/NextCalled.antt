@@ -12,6 +12,7 @@ use Rattle.admit_core.specs.declared.ranking.Ranked.{Ranked}
 use Rattle.admit_core.specs.CallOrder.{bound_after, bound_of, called, may_be_called, remaining}
 use Rattle.admit_core.specs.Lists.{is_among}
 use Rattle.admit_core.proofs.Tests.{any_implied}
+use Rattle.admit_core.proofs.Plain.{find_same}
 
 -- ---- lists with one more
 any_insert : {X : Type 0} (t : X → Bool) (xs ys : List X) (u : X) → list_any t (xs ++ u ∷ ys) ≡ (t u || list_any t (xs ++ ys))
@@ -40,10 +41,6 @@ find_only t [] ys u none passes = rw passes refl
 find_only t (x ∷ xs) ys u none passes =
     let parts = or_parts (t x) (list_any t (xs ++ ys)) none in
     rw parts.0 (find_only t xs ys u parts.1 passes)
-
-find_same : {X : Type 0} (p q : X → Bool) → ((x : X) → p x ≡ q x) → (xs : List X) → find p xs ≡ find q xs
-find_same p q same [] = refl
-find_same p q same (x ∷ xs) = rw (same x, find_same p q same xs) refl
 
 abbrev pub id_of : Ranked → ℕ
 id_of r = r.candidate

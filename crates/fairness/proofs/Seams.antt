@@ -7,6 +7,7 @@ use Rattle.std.proofs.lemmas.List.Sums.{sum_by-cons}
 use Rattle.std.proofs.Math.Seq.{take-append_seam}
 use Rattle.admit_core.specs.Lists.{is_among}
 use Rattle.admit_core.proofs.CallRows.{not_among_front}
+use Rattle.admit_core.proofs.Plain.{get_seam}
 
 one_more : (n : ℕ) → 1 + n ≡ suc n
 one_more n = omega arith
@@ -62,11 +63,7 @@ before_others (x ∷ front) back a c e not_a not_c =
     rw (before_step e x (front ++ a ∷ c ∷ back), before_step e x (front ++ c ∷ a ∷ back))
     (alike_step (nat_eq e x) x (before_first (nat_eq e) (front ++ a ∷ c ∷ back)) (before_first (nat_eq e) (front ++ c ∷ a ∷ back)) (before_others front back a c e not_a not_c))
 
-at_seam : (front back : List ℕ) (x : ℕ) → slice_get (front ++ x ∷ back) (length front) ≡ Some x
-at_seam [] back x = refl
-at_seam (y ∷ front) back x = at_seam front back x
-
 -- in a list that has nobody twice, who stands behind a prefix is not in it
 pub not_in_front_of : (front back : List ℕ) (x : ℕ) → IsDistinct nat_eq (front ++ x ∷ back) → is_among x front ≡ false
 not_in_front_of front back x once =
-    rw take-append_seam at (not_among_front (front ++ x ∷ back) (length front) (length front) x once (at_seam front back x) (omega arith))
+    rw take-append_seam at (not_among_front (front ++ x ∷ back) (length front) (length front) x once (get_seam front back x) (omega arith))

@@ -6,14 +6,11 @@ use Rattle.std.proofs.Math.ListN.{set}
 use Rattle.std.proofs.lemmas.Bool.{cases_eq}
 use Rattle.std.proofs.lemmas.List.{get_or-set_same, get_or-set_other, length-set}
 use Rattle.std.proofs.lemmas.Option.{slice_get_read}
+use Rattle.admit_core.proofs.Plain.{and_not}
 use Rattle.linked_demand.specs.declared.rows.RowWish.{RowWish}
 use Rattle.linked_demand.specs.Links.{LinksRow}
 use Rattle.linked_demand.specs.Demand.{row_over, IsAsked}
 use Rattle.linked_demand.proofs.Marked.{marked_within}
-
-no_more : (b : Bool) → (b && not b) ≡ false
-no_more true = refl
-no_more false = refl
 
 but_none : (a b : Bool) → b ≡ false → (a && not b) ≡ a
 but_none true b t = ap not t
@@ -36,7 +33,7 @@ module _ (l : LinksRow) (rows : List (Vec RowWish Global)) (free : List ℕ) (ol
   asked_none = record {
     as_long = refl;
     fewer = λ h t. t;
-    asked = record { as_long = refl; each = λ h row at. rw (no_more (get_or old h false)) refl };
+    asked = record { as_long = refl; each = λ h row at. rw (and_not (get_or old h false)) refl };
   }
 
   module _ (now : List Bool) (overs : List (Option ℕ)) (so_far : AskedSoFar l rows free old now start overs) where

@@ -10,6 +10,7 @@ use Rattle.std.proofs.lemmas.Option.{slice_get-get_or}
 use Rattle.std.proofs.lemmas.List.Elements.{All-filter}
 use Rattle.std.proofs.lemmas.List.Filters.{length-filter_both}
 use Rattle.std.proofs.lemmas.List.Kept.{IsNonDecreasingBy-filter}
+use Rattle.admit_core.proofs.Plain.{filter_same, get_set_other}
 use Rattle.admit_core.specs.DossierRows.{DossierRows}
 use Rattle.day_state.specs.Kept.{candidate_in, IsIndex}
 use Rattle.day_state.proofs.Ordering.{between}
@@ -20,8 +21,6 @@ use Rattle.linked_demand.specs.Keyed.{AreRowsOf}
 use Rattle.linked_demand.specs.Links.{claim_of}
 use Rattle.linked_demand.specs.Seats.{applies_at}
 use Rattle.linked_demand.proofs.Lining.{filter_twice, claim_own}
-use Rattle.linked_demand.proofs.Opens.{filter_same}
-use Rattle.linked_demand.proofs.RoundFalls.{get_set_other}
 
 turn_two : (a b : Bool) → (a && b) ≡ (b && a)
 turn_two true true = refl

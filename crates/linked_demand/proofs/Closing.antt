@@ -7,6 +7,8 @@ use Rattle.std.proofs.lemmas.Bool.{cases_Bool, or_cases, or_left, or_right, eqb-
 use Rattle.std.proofs.lemmas.List.{get_or_read, length-set, get_or-map, length-map}
 use Rattle.std.proofs.lemmas.List.FromFn.{get_or-map-range_with_len, length-map-range_with_len, get_or-range_with_len, length-range_with_len}
 use Rattle.std.proofs.lemmas.Option.{slice_get_within}
+use Rattle.std.proofs.lemmas.List.Folds.{and-true, and_assoc}
+use Rattle.admit_core.proofs.Plain.{and_false, any_same}
 use Rattle.admit_core.specs.declared.dossier.Wish.{Wish}
 use Rattle.admit_core.specs.declared.state.Mark.{Mark}
 use Rattle.admit_core.specs.declared.ranking.CallOrder.{CallOrder}
@@ -17,7 +19,7 @@ use Rattle.linked_demand.specs.Line.{LineRow, is_reached}
 use Rattle.linked_demand.specs.Opens.{flagged, is_flagged_in, wants_by, ahead_by, is_proposed_by, applies_in, line_of, seat_row}
 use Rattle.linked_demand.specs.Links.{LinksRow, IsSeatPlace, claim_of, WaitsAt, IsLinked}
 use Rattle.linked_demand.specs.Demand.{is_proposed_at}
-use Rattle.linked_demand.proofs.Opens.{row_own, row_other, map_at, any_same, reached_in_line}
+use Rattle.linked_demand.proofs.Opens.{row_own, row_other, map_at, reached_in_line}
 
 -- the wish of an entry
 pub wish_of : (ws : List Wish) (ms : List Mark) (i : ℕ) (w : Wish) (m : Mark)
@@ -26,14 +28,6 @@ wish_of [] ms i w m at = cc
 wish_of (v ∷ ws) [] i w m at = cc
 wish_of (v ∷ ws) (n ∷ ms) zero w m at = ap (λ (o : Option (Wish × Mark)). option_map (λ x. x.0) o) at
 wish_of (v ∷ ws) (n ∷ ms) (suc i) w m at = wish_of ws ms i w m at
-
-and_end : (b : Bool) → (b && true) ≡ b
-and_end true = refl
-and_end false = refl
-
-and_none : (b : Bool) → (b && false) ≡ false
-and_none true = refl
-and_none false = refl
 
 -- an element read of a list by place
 pub read_range : {X : Type 0} (f : ℕ → X) (n p : ℕ) (xs : List X) (x : X) → xs ≡ map f (range_with_len 0 n)
@@ -52,13 +46,9 @@ any_of_claim t (w ∷ ws) (m ∷ ms) a opens long le =
     let front : drop a opens ≡ get_or opens a false ∷ drop (a + 1) opens =
     rw (add-one, drop-cons opens a false (omega arith)) refl in
     rw front (elim (cases_Bool (t w)) [
-      | inl passes ↦ rw (passes, and_end (get_or opens a false)) (ap (λ b. get_or opens a false || b) rest)
-      | inr fails ↦ rw (fails, and_none (get_or opens a false)) rest
+      | inl passes ↦ rw (passes, and-true (get_or opens a false)) (ap (λ b. get_or opens a false || b) rest)
+      | inr fails ↦ rw (fails, and_false (get_or opens a false)) rest
     ])
-
-pub turn : (a b c : Bool) → (a && (b && c)) ≡ ((a && b) && c)
-turn true b c = refl
-turn false b c = refl
 
 -- a claim's wishes are places of the list
 pub places_below : {X : Type 0} (t : ℕ × X → Bool) (es : List X) (a n : ℕ) → n ≡ a + length es
@@ -96,7 +86,7 @@ claim_flagged s opens p c long marks =
     let t = λ (w : Wish). (nat_eq w.candidate c) && (nat_eq w.programme p) in
     any_of_claim t s.dossier.wishes s.marks 0 opens marks (omega (arith, long))
     ∙ any_same (λ (x : (Wish × Mark) × Bool). x.1 && t x.0.0) (is_flagged_in p c)
-    (λ x. turn x.1 (nat_eq x.0.0.candidate c) (nat_eq x.0.0.programme p)) (zip (entries s) opens)
+    (λ x. and_assoc x.1 (nat_eq x.0.0.candidate c) (nat_eq x.0.0.programme p)) (zip (entries s) opens)
 
 -- what is known where a wish is closed
 pub record Closes (s : State) (orders : List CallOrder) (opens : List Bool) (lines : List LineRow)

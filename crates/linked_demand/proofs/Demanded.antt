@@ -11,6 +11,7 @@ use Rattle.admit_core.specs.State.{State, entries, is_waiting, holds_bed, has_sc
 use Rattle.admit_core.specs.Proposals.{is_open, is_barred, is_proposed, needs_no_seat, ahead, demands_bed, demanded_ranks}
 use Rattle.admit_core.proofs.Tests.{Ascends, same_members, ascends_ascending}
 use Rattle.admit_core.proofs.DemandLaws.{demanded}
+use Rattle.admit_core.proofs.Plain.{same_test}
 use Rattle.linked_demand.specs.declared.rows.RowWish.{RowWish}
 use Rattle.linked_demand.specs.Links.{LinksRow, WaitsAt}
 use Rattle.linked_demand.specs.Opens.{opens_of}
@@ -114,11 +115,6 @@ any_place q (x ∷ xs) t =
       | inr later ↦ let (k, y, at, passed) = any_place q xs later in (suc k, y, at, passed)
     ]
 
-same_bit : (a b : Bool) → (a ≡ true → b ≡ true) → (b ≡ true → a ≡ true) → a ≡ b
-same_bit true b f g = sym (f refl)
-same_bit false true f g = g refl
-same_bit false false f g = refl
-
 abbrev pub demands_at : State → List CallOrder → List ℕ → ℕ → ℕ → Wish × Mark → Bool
 demands_at s orders bars h r e = demands_bed s orders bars h e.0 e.1 && nat_eq r e.0.board_rank
 
@@ -196,6 +192,6 @@ module _ (l : LinksRow) (bars : List ℕ) (h : ℕ) (row : List RowWish) (right 
       (ascends_ascending (map (λ (e : Wish × Mark). e.0.board_rank)
       (filter (λ (e : Wish × Mark). demands_bed l.state l.orders bars h e.0 e.1) (entries l.state))))
       (λ r. among_counted (is_proposed_at l) r 0 row (rises_row row right.rises)
-      ∙ same_bit (nat_lt 0 r && list_any (passes (is_proposed_at l) r) row)
+      ∙ same_test (nat_lt 0 r && list_any (passes (is_proposed_at l) r) row)
       (list_any (demands_at l.state l.orders bars h r) (entries l.state)) (untold r) (told r)
       ∙ sym (demanded l.state l.orders bars h r))

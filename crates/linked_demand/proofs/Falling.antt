@@ -4,6 +4,7 @@ use Rattle.std.specs.Prelude.{slice_index, slice_set, slice_get}
 use Rattle.std.proofs.lemmas.Bool.{cases_Bool, false≢true, cases_lt, and_parts, and_from, or_cases, or_left, or_right, eqb-true, eq-eqb, eqb-false, ltb-true, ltb-false, lt-ltb}
 use Rattle.std.proofs.lemmas.List.{get_or-set_same, get_or-set_other, length-set, length-map}
 use Rattle.std.proofs.lemmas.Option.{slice_get_within, slice_get_cases}
+use Rattle.admit_core.proofs.Plain.{and_false, is_and_true}
 use Rattle.admit_core.specs.declared.dossier.Wish.{Wish}
 use Rattle.admit_core.specs.declared.state.Mark.{Mark}
 use Rattle.admit_core.specs.State.{State, entries, is_waiting, holds_bed, has_school, is_school}
@@ -12,14 +13,6 @@ use Rattle.linked_demand.specs.declared.rows.RowWish.{RowWish}
 use Rattle.linked_demand.specs.Opens.{opens_of, is_past}
 use Rattle.linked_demand.specs.Rows.{IsRow, closed, CutsAt}
 use Rattle.linked_demand.proofs.Opens.{opens_fallen}
-
-and_end : (b : Bool) → b ≡ (b && true)
-and_end true = refl
-and_end false = refl
-
-and_none : (b : Bool) → (b && false) ≡ false
-and_none true = refl
-and_none false = refl
 
 same_flags : (xs ys : List Bool) → length xs ≡ length ys
     → ((i : ℕ) → i < length xs → get_or xs i false ≡ get_or ys i false) → xs ≡ ys
@@ -41,7 +34,7 @@ length_closed (x ∷ xs) opens = length-set (closed xs opens) x.wish false ∙ l
 
 pub flag_closed : (xs : List RowWish) (opens : List Bool) (i : ℕ) → i < length opens
     → get_or (closed xs opens) i false ≡ (get_or opens i false && not (is_wish_of i xs))
-flag_closed [] opens i lt = and_end (get_or opens i false)
+flag_closed [] opens i lt = is_and_true (get_or opens i false)
 flag_closed (x ∷ xs) opens i lt =
     elim (cases_Bool (nat_eq i x.wish)) [
       | inl here ↦
@@ -51,7 +44,7 @@ flag_closed (x ∷ xs) opens i lt =
             same,
             get_or-set_same (closed xs opens) x.wish false false
                 (omega (arith, length_closed xs opens)),
-          ) (sym (and_none (get_or opens x.wish false)))
+          ) (sym (and_false (get_or opens x.wish false)))
       | inr other ↦ rw other
           (get_or-set_other (closed xs opens) x.wish i false false (eqb-false i x.wish other) ∙ flag_closed xs opens i lt)
     ]

@@ -20,6 +20,7 @@ use Rattle.admit_core.specs.Lists.{is_among}
 use Rattle.admit_core.specs.Proposals.{is_behind_bar, is_open}
 use Rattle.admit_core.specs.State.{State, entries, is_waiting, holds_bed, is_school}
 use Rattle.admit_core.proofs.Tests.{Ascends}
+use Rattle.admit_core.proofs.Plain.{filter_same, get_set_here, get_set_other}
 use Rattle.day_state.specs.Kept.{has_bed_there, holds_bed_in, mark_in, wish_in}
 use Rattle.day_state.proofs.Ordering.{stable_own}
 use Rattle.linked_demand.specs.declared.rows.RowWish.{RowWish}
@@ -31,9 +32,7 @@ use Rattle.linked_demand.specs.Opens.{opens_of}
 use Rattle.linked_demand.proofs.Closing.{wish_of}
 use Rattle.linked_demand.proofs.Falling.{flag_map}
 use Rattle.linked_demand.proofs.Lining.{filter_twice}
-use Rattle.linked_demand.proofs.Opens.{filter_same}
 use Rattle.linked_demand.proofs.PlaceOrder.{InPlaceOrder, in_order_from, in_place_order, ascends-filter, ascends-range}
-use Rattle.linked_demand.proofs.RoundFalls.{get_set_here, get_set_other}
 
 -- a wish stands in the row of a school where it waits for it, its candidate has no bed there, and it ranks at most at the bar
 record StandsIn (s : State) (bars : List ℕ) (h : ℕ) (w : Wish) (m : Mark) (school : Option ℕ) : Type 0 where

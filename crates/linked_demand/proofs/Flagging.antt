@@ -7,6 +7,7 @@ use Rattle.std.proofs.lemmas.List.{get_or-map, length-map, map-append, take_more
 use Rattle.std.proofs.lemmas.Simd.{map-map}
 use Rattle.std.proofs.lemmas.List.FromFn.{map-range_with_len_more, get_or-map-range_with_len, length-map-range_with_len}
 use Rattle.std.proofs.lemmas.Option.{slice_get_within}
+use Rattle.admit_core.proofs.Plain.{map_same}
 use Rattle.admit_core.specs.declared.dossier.Wish.{Wish}
 use Rattle.admit_core.specs.declared.ranking.CallOrder.{CallOrder}
 use Rattle.admit_core.specs.DossierRows.{DossierRows}
@@ -18,7 +19,6 @@ use Rattle.linked_demand.specs.Seats.{IsLineup}
 use Rattle.linked_demand.specs.Wants.{wants_along, seat_rows, reach_in, IsReached}
 use Rattle.linked_demand.proofs.Closing.{claim_flagged, read_range}
 use Rattle.linked_demand.proofs.Lining.{claim_within}
-use Rattle.linked_demand.proofs.Opens.{map_same}
 use Rattle.linked_demand.proofs.Seating.{wish_in_is}
 
 -- one more value of a function of places

@@ -4,7 +4,7 @@ use Rattle.std.specs.Prelude.{slice_get, slice_index}
 use Rattle.std.specs.List.{list_any, range_with_len}
 use Rattle.std.proofs.lemmas.Bool.{cases_Bool, cases_lt, eq-eqb, eqb-true, ne_eqb, lt-ltb, le-ltb, false≢true}
 use Rattle.std.proofs.lemmas.List.{get_or_read, get_or-map, length-map}
-use Rattle.std.proofs.lemmas.List.Folds.{list_any_more, list_any-append}
+use Rattle.std.proofs.lemmas.List.Folds.{list_any_more, list_any-append, or-false, and-true}
 use Rattle.std.proofs.lemmas.List.FromFn.{get_or-map-range_with_len}
 use Rattle.admit_core.specs.declared.dossier.Wish.{Wish}
 use Rattle.admit_core.specs.declared.state.Mark.{Mark}
@@ -13,7 +13,7 @@ use Rattle.admit_core.specs.DossierRows.{DossierRows}
 use Rattle.admit_core.specs.Lists.{is_among}
 use Rattle.admit_core.specs.State.{State, entries, is_waiting, seats_left}
 use Rattle.admit_core.specs.Proposals.{needs_no_seat}
-use Rattle.admit_core.proofs.OrderPermutes.{nat_eq_turn}
+use Rattle.admit_core.proofs.Plain.{and_false, nat_eq_sym}
 use Rattle.day_state.proofs.Ordering.{range_more}
 use Rattle.linked_demand.specs.Demand.{is_proposed_at}
 use Rattle.linked_demand.specs.Fronts.{AreFronts, claimed_open, front_of, reached_open}
@@ -22,18 +22,6 @@ use Rattle.linked_demand.specs.Opens.{ahead_by, is_proposed_by, line_of}
 use Rattle.linked_demand.specs.Wants.{AreBelow}
 use Rattle.linked_demand.proofs.Flagging.{share}
 use Rattle.linked_demand.proofs.Lining.{among_claim}
-
-or_none : (b : Bool) → (b || false) ≡ b
-or_none true = refl
-or_none false = refl
-
-and_end : (b : Bool) → (b && true) ≡ b
-and_end true = refl
-and_end false = refl
-
-and_none : (b : Bool) → (b && false) ≡ false
-and_none true = refl
-and_none false = refl
 
 -- one more claim
 pub claimed_more : (opens : List Bool) (claims : List (List ℕ)) (i : ℕ) (claim : List ℕ) (k : ℕ)
@@ -49,7 +37,7 @@ any_range_more : (g : ℕ → Bool) (n : ℕ) → list_any g (range_with_len 0 (
 any_range_more g n =
     ap (list_any g) (range_more 0 n n (omega arith))
     ∙ list_any-append g (range_with_len 0 n) (n ∷ [])
-    ∙ ap (λ b. list_any g (range_with_len 0 n) || b) (or_none (g n))
+    ∙ ap (λ b. list_any g (range_with_len 0 n) || b) (or-false (g n))
 
 module _ {n : ℕ} {lines : List (List (List ℕ))} {reached : List ℕ} (are : AreFronts n lines reached) (p : ℕ)
     (lt : p < length lines)
@@ -94,12 +82,12 @@ next_lt a n =
 
 own_line : (own before here next : Bool) → own ≡ true → (before || here) ≡ next
     → ((own && before) || (here && own)) ≡ (own && next)
-own_line true before here next t more = ap (λ b. before || b) (and_end here) ∙ more
+own_line true before here next t more = ap (λ b. before || b) (and-true here) ∙ more
 own_line false before here next t more = absurd (false≢true t)
 
 other_line : (own before here next : Bool) → own ≡ false → ((own && before) || (here && own)) ≡ (own && next)
 other_line true before here next t = absurd (false≢true (sym t))
-other_line false before here next t = and_none here
+other_line false before here next t = and_false here
 
 module _ (d : DossierRows) (orders : List CallOrder) (i : ℕ) (w : Wish) (at : slice_get d.wishes i ≡ Some w)
     (place : ℕ) (stands : IsSeatPlace d orders w place) where
@@ -119,7 +107,7 @@ module _ (d : DossierRows) (orders : List CallOrder) (i : ℕ) (w : Wish) (at : 
   -- the wish is in one of the first claims of a line where that is of its programme and it stands there
   any_taken : (p j : ℕ) → j ≤ length (line_of d orders p)
       → list_any (is_among i) (take j (map (claim_of d p) (line_of d orders p))) ≡ (nat_eq w.programme p && nat_lt place j)
-  any_taken p zero le = sym (ap (λ b. nat_eq w.programme p && b) (le-ltb place 0 (omega arith)) ∙ and_none (nat_eq w.programme p))
+  any_taken p zero le = sym (ap (λ b. nat_eq w.programme p && b) (le-ltb place 0 (omega arith)) ∙ and_false (nat_eq w.programme p))
   any_taken p (suc j) le =
       let line = line_of d orders p in
       let claims = map (claim_of d p) line in
@@ -163,10 +151,10 @@ module _ (d : DossierRows) (orders : List CallOrder) (i : ℕ) (w : Wish) (at : 
           | inl same ↦
               ap (λ b. b && nat_lt place (slice_index reached n)) same
               ∙ ap (λ (p : ℕ). nat_lt place (slice_index reached p)) (sym (eqb-true w.programme n same))
-              ∙ sym (ap (λ b. b && last) (sym (nat_eq_turn w.programme n) ∙ same))
+              ∙ sym (ap (λ b. b && last) (sym (nat_eq_sym w.programme n) ∙ same))
           | inr other ↦
               ap (λ b. b && nat_lt place (slice_index reached n)) other
-              ∙ sym (ap (λ b. b && last) (sym (nat_eq_turn w.programme n) ∙ other))
+              ∙ sym (ap (λ b. b && last) (sym (nat_eq_sym w.programme n) ∙ other))
         ] in
         ap (λ (k : ℕ). list_any g (range_with_len 0 k)) next
         ∙ any_range_more g n
@@ -205,7 +193,7 @@ pub gathered : (opened sure reached : Bool) → ((opened && sure) || (reached &&
 gathered true sure true = refl
 gathered true true false = refl
 gathered true false false = refl
-gathered false sure reached = and_none reached
+gathered false sure reached = and_false reached
 
 pub open_within : (opens : List Bool) (k : ℕ) → get_or opens k false ≡ true → k < length opens
 open_within [] k t = absurd (false≢true t)

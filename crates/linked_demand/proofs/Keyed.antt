@@ -6,6 +6,7 @@ use Rattle.std.proofs.Math.ListN.{set}
 use Rattle.std.proofs.lemmas.Bool.{cases_Bool, cases_eq, eq-eqb, ne_eqb}
 use Rattle.std.proofs.lemmas.List.{length-set, length-append}
 use Rattle.std.proofs.lemmas.Option.{slice_get_within, slice_get_read, unwrap_or-slice_get}
+use Rattle.admit_core.proofs.Plain.{get_set_here, get_set_other, get_push}
 use Rattle.admit_core.specs.declared.dossier.Wish.{Wish}
 use Rattle.admit_core.specs.DossierRows.{DossierRows}
 use Rattle.admit_core.specs.Validity.{IsValid}
@@ -13,15 +14,6 @@ use Rattle.day_state.specs.Kept.{wish_in}
 use Rattle.proposals.proofs.Picking.{picked, passed_over}
 use Rattle.linked_demand.specs.Keyed.{AreEmpty, IsPutIn, AreRowsOf}
 use Rattle.linked_demand.proofs.Keeping.{add_none}
-use Rattle.linked_demand.proofs.RoundFalls.{get_set_here, get_set_other}
-
--- empty rows, and one more
-get_push : {X : Type 0} (xs : List X) (x y : X) (h : ℕ) → slice_get (xs ++ x ∷ []) h ≡ Some y
-    → (slice_get xs h ≡ Some y) ⊎ (x ≡ y)
-get_push [] x y zero at = inr (ap (λ o. unwrap_or o x) at)
-get_push [] x y (suc h) at = absurd (omega (arith, slice_get_within (x ∷ []) (suc h) y at))
-get_push (z ∷ xs) x y zero at = inl at
-get_push (z ∷ xs) x y (suc h) at = get_push xs x y h at
 
 pub empty_none : (X : Type 0) → AreEmpty {X = X} 0 []
 empty_none X = record {

@@ -6,6 +6,7 @@ use Rattle.std.proofs.lemmas.Bool.{cases_Bool, and_parts, ltb-true, ltb-false, n
 use Rattle.std.proofs.lemmas.List.{get_or_read, set-get_or, map-set, get_or-map, length-map, length-set}
 use Rattle.std.proofs.lemmas.Simd.{map-map}
 use Rattle.std.proofs.lemmas.List.FromFn.{length-map-range_with_len, get_or-map-range_with_len}
+use Rattle.admit_core.proofs.Plain.{and_not}
 use Rattle.admit_core.specs.declared.dossier.Wish.{Wish}
 use Rattle.admit_core.specs.declared.ranking.CallOrder.{CallOrder}
 use Rattle.admit_core.specs.State.{State, entries, holds_seat, seats_left}
@@ -15,7 +16,6 @@ use Rattle.linked_demand.specs.Links.{IsSeatPlace, claim_of}
 use Rattle.linked_demand.specs.Wants.{wants_along, AreBelow, seat_rows, reach_in, IsReached}
 use Rattle.linked_demand.proofs.Closing.{Closes, fewer, row_is, links_with, lines_set, read_range, programme_within, claim_right}
 use Rattle.linked_demand.proofs.Flagging.{wants_claim, wants_right, row_within}
-use Rattle.linked_demand.proofs.Moving.{and_not_same}
 use Rattle.linked_demand.proofs.Reach.{reach_within, reach_behind, reach_moved, reached_by_count, fresh_none, fresh_some}
 
 -- one who leaves their seat wanted one, wants none any more, and was reached
@@ -146,7 +146,7 @@ module _ {s : State} {orders : List CallOrder} {opens : List Bool} {claims : Lis
   none_fresh : new k ≡ old k → (j : ℕ) → (is_reached (new k) j && not (is_reached (old k) j)) ≡ false
   none_fresh same j =
       let P = λ (r : LineRow). (is_reached r j && not (is_reached (old k) j)) ≡ false in
-      subst P (sym same) (and_not_same (is_reached (old k) j))
+      subst P (sym same) (and_not (is_reached (old k) j))
 
   stays_same : (before : ℕ) → before ≡ reach_in (old k) → new k ≡ old k → Moves before None
   stays_same before is same = record { reach = is ∙ ap reach_in (sym same); fresh = λ j lt t. none_fresh same j }

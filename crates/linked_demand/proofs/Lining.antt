@@ -7,20 +7,19 @@ use Rattle.std.proofs.lemmas.List.{length-take-le}
 use Rattle.std.proofs.lemmas.List.FromFn.{fill_by_all}
 use Rattle.std.proofs.lemmas.List.Elements.{All-from_recursion}
 use Rattle.std.proofs.lemmas.Option.{slice_get_within, unwrap_or-slice_get}
+use Rattle.admit_core.proofs.Plain.{nat_eq_sym, filter_same}
 use Rattle.admit_core.specs.declared.dossier.Wish.{Wish}
 use Rattle.admit_core.specs.declared.ranking.CallOrder.{CallOrder}
 use Rattle.admit_core.specs.DossierRows.{DossierRows, candidate_of, limit_of}
 use Rattle.admit_core.specs.Lists.{is_among}
 use Rattle.admit_core.specs.OwnWishes.{own_places}
 use Rattle.admit_core.specs.Proposals.{order_of}
-use Rattle.admit_core.proofs.OrderPermutes.{nat_eq_turn}
 use Rattle.day_state.specs.Kept.{wish_in}
 use Rattle.day_state.proofs.Places.{candidate_in}
 use Rattle.proposals.proofs.Front.{front_same}
 use Rattle.linked_demand.specs.Links.{IsPlaceOf, claim_of}
 use Rattle.linked_demand.specs.Opens.{applies_in}
 use Rattle.linked_demand.specs.Seats.{applies_at, is_early}
-use Rattle.linked_demand.proofs.Opens.{filter_same}
 use Rattle.linked_demand.proofs.Closing.{places_below}
 
 -- the wishes by place
@@ -163,7 +162,7 @@ placed f (x ∷ xs) zero c apart lt at passes =
     rw kept (first_place c x (filter f xs) at (all_kept c f xs (subst P at apart.0)))
 placed f (x ∷ xs) (suc i) c apart lt at passes =
     let later = placed f xs i c apart.1 (omega arith) at passes in
-    let not_x : nat_eq c x ≡ false = nat_eq_turn c x ∙ ap (nat_eq x) (sym at) ∙ all_at x xs apart.0 i (omega arith) in
+    let not_x : nat_eq c x ≡ false = nat_eq_sym c x ∙ ap (nat_eq x) (sym at) ∙ all_at x xs apart.0 i (omega arith) in
     elim (cases_Bool (f x)) [
       | inl kept ↦ rw kept (next_place c x (length (filter f (take i xs))) (filter f xs) not_x later)
       | inr dropped ↦ rw dropped later
@@ -175,7 +174,7 @@ unfolding IsDistinct
 fresh [] i apart lt = absurd (omega arith)
 fresh (x ∷ xs) zero apart lt = refl
 fresh (x ∷ xs) (suc i) apart lt =
-    let not_x : nat_eq (get_or xs i 0) x ≡ false = nat_eq_turn (get_or xs i 0) x ∙ all_at x xs apart.0 i (omega arith) in
+    let not_x : nat_eq (get_or xs i 0) x ≡ false = nat_eq_sym (get_or xs i 0) x ∙ all_at x xs apart.0 i (omega arith) in
     rw not_x (fresh xs i apart.1 (omega arith))
 
 le_next : (i limit : ℕ) → nat_le (i + 1) limit ≡ nat_lt i limit

@@ -6,6 +6,7 @@ use Rattle.std.specs.List.{list_any}
 use Rattle.std.proofs.lemmas.Bool.{cases_Bool, eqb-true, eq-eqb, eqb-false, ne_eqb}
 use Rattle.std.proofs.lemmas.List.{get_or-set_same, get_or-set_other, length-set, get_or-map}
 use Rattle.std.proofs.lemmas.Option.{slice_get_within, slice_get-get_or}
+use Rattle.admit_core.proofs.Plain.{and_false, and_not, is_and_true}
 use Rattle.admit_core.specs.declared.dossier.Wish.{Wish}
 use Rattle.admit_core.specs.declared.state.Mark.{Mark}
 use Rattle.admit_core.specs.declared.ranking.CallOrder.{CallOrder}
@@ -43,10 +44,6 @@ waits_here s j v n waits =
     any_at (λ (w : Wish). (nat_eq w.candidate v.candidate) && (nat_eq w.programme v.programme))
     s.dossier.wishes j v (wish_of s.dossier.wishes s.marks j v n waits.here)
     (rw (eq-eqb v.candidate v.candidate refl, eq-eqb v.programme v.programme refl) refl)
-
-and_one : (b : Bool) → b ≡ (b && true)
-and_one true = refl
-and_one false = refl
 
 no_left : (a b : Bool) → (a || b) ≡ false → a ≡ false
 no_left true b t = t
@@ -88,10 +85,6 @@ module _ {s : State} {orders : List CallOrder} {opens : List Bool} {lines : List
       (row_other s opens i w k.mark k.at.here orders v.programme apart)
       ∙ sym (by_reach opens))
 
-and_nothing : (b : Bool) → (b && false) ≡ false
-and_nothing true = refl
-and_nothing false = refl
-
 none_bits : (waits own q : Bool) → (waits && ((own && false) && q)) ≡ false
 none_bits true true q = refl
 none_bits true false q = refl
@@ -100,8 +93,8 @@ none_bits false own q = refl
 turn_bits : (waits own next cand q : Bool) → (waits ≡ true → own ≡ true → next ≡ cand)
     → (waits && ((own && next) && q)) ≡ (((waits && cand) && own) && q)
 turn_bits false own next cand q h = refl
-turn_bits true true next cand q h = rw (h refl refl) (ap (λ b. b && q) (and_one cand))
-turn_bits true false next cand q h = rw (and_nothing cand) refl
+turn_bits true true next cand q h = rw (h refl refl) (ap (λ b. b && q) (is_and_true cand))
+turn_bits true false next cand q h = rw (and_false cand) refl
 
 closed_bits : (waits seat old place : Bool) → (((waits && false) && seat) && old) ≡ (waits && (place && false))
 closed_bits true seat old true = refl
@@ -111,13 +104,9 @@ closed_bits false seat old place = refl
 newly_bits : (waits flag sure old new answer : Bool) → (sure ≡ false → flag ≡ true → (new && not old) ≡ answer)
     → (((waits && flag) && (sure || new)) && not ((waits && flag) && (sure || old))) ≡ (waits && (answer && (flag && not sure)))
 newly_bits false flag sure old new answer h = refl
-newly_bits true false sure old new answer h = sym (and_nothing answer)
-newly_bits true true true old new answer h = sym (and_nothing answer)
-newly_bits true true false old new answer h = h refl refl ∙ and_one answer
-
-pub and_not_same : (b : Bool) → (b && not b) ≡ false
-and_not_same true = refl
-and_not_same false = refl
+newly_bits true false sure old new answer h = sym (and_false answer)
+newly_bits true true true old new answer h = sym (and_false answer)
+newly_bits true true false old new answer h = h refl refl ∙ is_and_true answer
 
 module _ {s : State} {orders : List CallOrder} {opens : List Bool} {lines : List LineRow}
     {claims : List (List (List ℕ))} {places : List ℕ} {sure : List Bool} {i : ℕ} {w : Wish}
@@ -165,7 +154,7 @@ module _ {s : State} {orders : List CallOrder} {opens : List Bool} {lines : List
               stays_proposed k j v n waits place at lt other
                   (ne_eqb w.programme v.programme (λ e. eqb-false v.programme w.programme apart (sym e))),
             )
-            (and_not_same (is_proposed_by s orders opens v n (get_or opens j false)) ∙ sym (and_nothing (is_waiting n)))
+            (and_not (is_proposed_by s orders opens v n (get_or opens j false)) ∙ sym (and_false (is_waiting n)))
       ]
 
   -- the same for every wish, as the rows of the links say it

@@ -2,23 +2,17 @@
 use Rattle.std.proofs.Common.{ℕ, ◌≤◌, ◌<◌, ◌≡◌, ◌≢◌, Bool, true, false, not, ◌&&◌, refl, sym, ◌∙◌, ap, Option, Some, None, List, length, nat_lt, ◌||◌}
 use Rattle.std.specs.Prelude.{slice_index, slice_set}
 use Rattle.std.proofs.lemmas.Bool.{false≢true, and_parts, eqb-true, ne_eqb}
+use Rattle.std.proofs.lemmas.List.Folds.{and-true}
 use Rattle.admit_core.specs.declared.dossier.Wish.{Wish}
 use Rattle.admit_core.specs.declared.state.Mark.{Mark}
 use Rattle.admit_core.specs.declared.ranking.CallOrder.{CallOrder}
 use Rattle.admit_core.specs.State.{State, holds_bed, has_school, is_school, seats_left}
 use Rattle.admit_core.specs.Proposals.{is_open, is_proposed, needs_no_seat, ahead, demands_bed}
 use Rattle.admit_core.proofs.DemandLaws.{seat_stays}
+use Rattle.admit_core.proofs.Plain.{and_false}
 use Rattle.linked_demand.specs.Opens.{is_past}
 use Rattle.linked_demand.proofs.Opens.{fallen_open}
 use Rattle.linked_demand.proofs.TickLaw.{fall_at_most}
-
-and_kept : (b : Bool) → (b && true) ≡ b
-and_kept true = refl
-and_kept false = refl
-
-and_gone : (b : Bool) → (b && false) ≡ false
-and_gone true = refl
-and_gone false = refl
 
 other_school : (school : Option ℕ) (h i : ℕ) → is_school school h ≡ true → h ≢ i → is_school school i ≡ false
 other_school None h i has other = refl
@@ -46,7 +40,7 @@ module _ (s : State) (bars : List ℕ) (i to : ℕ) (within : i < length bars) (
 
   pub past_is_closed : (w : Wish) (m : Mark) → is_past s i to w ≡ true → is_open s (slice_set bars i to) w m ≡ false
   past_is_closed w m past = fallen_open s bars i to w m w.school within le
-      ∙ ap (λ b. is_open s bars w m && not b) past ∙ and_gone (is_open s bars w m)
+      ∙ ap (λ b. is_open s bars w m && not b) past ∙ and_false (is_open s bars w m)
 
   other_open : (h : ℕ) (w : Wish) (m : Mark) → has_school w h ≡ true → h ≢ i
       → is_open s (slice_set bars i to) w m ≡ is_open s bars w m
@@ -54,7 +48,7 @@ module _ (s : State) (bars : List ℕ) (i to : ℕ) (within : i < length bars) (
       fallen_open s bars i to w m w.school within le
       ∙ ap (λ b. is_open s bars w
       m && not (b && (not (holds_bed s w.candidate i) && nat_lt to w.board_rank))) (other_school w.school h i has other)
-      ∙ and_kept (is_open s bars w m)
+      ∙ and-true (is_open s bars w m)
 
   -- a wish of another school that is not new demands as before
   pub demand_stays : (orders : List CallOrder) (h : ℕ) → h ≢ i → (w : Wish) (m : Mark)

@@ -12,6 +12,7 @@ use Rattle.admit_core.specs.declared.ranking.CallOrder.{CallOrder}
 use Rattle.admit_core.specs.State.{State, entries, is_waiting, holds_seat, holds_bed, is_school, seats_left}
 use Rattle.admit_core.specs.Proposals.{is_behind_bar, is_open, wants_seat, ahead, before, order_of, is_proposed}
 use Rattle.admit_core.proofs.Tests.{Implies}
+use Rattle.admit_core.proofs.Plain.{filter_same, map_same, is_and_true, count_same}
 use Rattle.proposals.proofs.Front.{up_to, before_is}
 use Rattle.linked_demand.specs.Line.{LineRow, set_count, is_reached}
 use Rattle.linked_demand.specs.Links.{IsPlaceOf, IsSeatPlace}
@@ -28,23 +29,12 @@ pub any_zip_map : {X Y : Type 0} (q : X → Y → Bool) (f : X → Y) (xs : List
 any_zip_map q f [] = refl
 any_zip_map q f (x ∷ xs) = ap (λ b. q x (f x) || b) (any_zip_map q f xs)
 
-pub any_same : {X : Type 0} (p q : X → Bool) → ((x : X) → p x ≡ q x) → (xs : List X) → list_any p xs ≡ list_any q xs
-any_same p q h [] = refl
-any_same p q h (x ∷ xs) = rw (h x, any_same p q h xs) refl
-
 -- by the flags of bars a candidate wants a seat exactly where they do under the bars
 pub wants_by_bars : (s : State) (bars : List ℕ) (p c : ℕ) → wants_by s (opens_of s bars) p c ≡ wants_seat s bars p c
 wants_by_bars s bars p c =
     let q = λ (e : Wish × Mark) (flag : Bool). is_flagged_in p c (e, flag) in
     let f = λ (e : Wish × Mark). is_open s bars e.0 e.1 in
     ap (λ b. b && not (holds_seat s c p)) (any_zip_map q f (entries s))
-
-pub filter_same : {X : Type 0} (p q : X → Bool) → ((x : X) → p x ≡ q x) → (xs : List X) → filter p xs ≡ filter q xs
-filter_same p q h [] = refl
-filter_same p q h (x ∷ xs) = rw (h x) (ap (λ n. cond (q x) (x ∷ n) n) (filter_same p q h xs))
-
-pub count_same : {X : Type 0} (p q : X → Bool) → ((x : X) → p x ≡ q x) → (xs : List X) → count_by p xs ≡ count_by q xs
-count_same p q h xs = omega (arith, length-filter p xs, length-filter q xs, ap length (filter_same p q h xs))
 
 pub ahead_by_bars : (s : State) (orders : List CallOrder) (bars : List ℕ) (w : Wish)
     → ahead_by s orders (opens_of s bars) w ≡ ahead s orders bars w
@@ -168,10 +158,6 @@ and_middle : (a b c : Bool) → (b && c) ≡ false → ((a && b) && c) ≡ false
 and_middle true b c t = t
 and_middle false b c t = refl
 
-pub map_same : {X Y : Type 0} (f g : X → Y) → ((x : X) → f x ≡ g x) → (xs : List X) → map f xs ≡ map g xs
-map_same f g h [] = refl
-map_same f g h (x ∷ xs) = rw (h x, map_same f g h xs) refl
-
 map_all : {Y : Type 0} (f g : ℕ → Y) (xs : List ℕ)
     → ((j : ℕ) → j < length xs → g (get_or xs j 0) ≡ f (get_or xs j 0)) → map g xs ≡ map f xs
 map_all f g [] h = refl
@@ -229,16 +215,12 @@ no_longer_open true false true false past h e = rw (← e) refl
 no_longer_open true false false true past h e = absurd (false≢true (h refl))
 no_longer_open true false false false past h e = rw (← e) refl
 
-and_true : (b : Bool) → b ≡ (b && true)
-and_true true = refl
-and_true false = refl
-
 pub fallen_open : (s : State) (bars : List ℕ) (h to : ℕ) (w : Wish) (m : Mark) (school : Option ℕ)
     → h < length bars → to ≤ slice_index bars h
     → (is_waiting m && not (is_waiting m && is_behind_bar s (slice_set bars h to) w school))
     ≡ ((is_waiting m && not (is_waiting m && is_behind_bar s bars w school)) && not (is_school school
     h && (not (holds_bed s w.candidate h) && nat_lt to w.board_rank)))
-fallen_open s bars h to w m None within le = and_true (is_waiting m && not (is_waiting m && false))
+fallen_open s bars h to w m None within le = is_and_true (is_waiting m && not (is_waiting m && false))
 fallen_open s bars h to w m (Some g) within le =
     elim (cases_Bool (nat_eq g h)) [
       | inl here ↦
@@ -251,7 +233,7 @@ fallen_open s bars h to w m (Some g) within le =
       | inr other ↦
           let kept : slice_index (slice_set bars h to) g ≡ slice_index bars g = get_or-set_other bars h g to
           0 (eqb-false g h other) in
-          rw (other, kept) (and_true (is_waiting m && not (is_waiting m && is_behind_bar s bars w (Some g))))
+          rw (other, kept) (is_and_true (is_waiting m && not (is_waiting m && is_behind_bar s bars w (Some g))))
     ]
 
 -- the flags after a fall

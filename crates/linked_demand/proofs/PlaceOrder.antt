@@ -5,19 +5,12 @@ use Rattle.std.specs.List.{range_with_len, AllByRecursion}
 use Rattle.std.proofs.lemmas.Bool.{cases_Bool, eq-eqb, both_ways}
 use Rattle.std.proofs.lemmas.Option.{slice_get_within}
 use Rattle.admit_core.proofs.Tests.{Ascends}
+use Rattle.admit_core.proofs.Plain.{all-filter}
 
 -- each item stands at a lower place than the later ones of its key
 abbrev pub InPlaceOrder : {X : Type 0} → (X → ℕ) → (X → ℕ) → List X → Type 0
 InPlaceOrder key place [] = Unit {0}
 InPlaceOrder key place (x ∷ xs) = AllByRecursion (λ y. key x ≡ key y → place x < place y) xs × InPlaceOrder key place xs
-
-all-filter : (P : ℕ → Type 0) (t : ℕ → Bool) (ks : List ℕ) → AllByRecursion P ks → AllByRecursion P (filter t ks)
-all-filter P t [] all = tt
-all-filter P t (k ∷ ks) all =
-    elim (cases_Bool (t k)) [
-      | inl kept ↦ rw kept (all.0, all-filter P t ks all.1)
-      | inr dropped ↦ rw dropped (all-filter P t ks all.1)
-    ]
 
 -- the later ones that pass a test are above, where their places are
 above_later : {X : Type 0} (key place : X → ℕ) (t : X → Bool) (x : X) (xs : List X) → ((y : X) → key x ≡ key y → t y ≡ true)

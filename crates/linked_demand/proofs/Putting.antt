@@ -2,7 +2,7 @@
 use Rattle.std.proofs.Common.{ℕ, ◌+◌, ◌≤◌, ◌<◌, ◌≡◌, Bool, true, false, ◌||◌, List, length, take, get_or, inl, inr, refl, sym, ◌∙◌, ap, arith, nat_eq, subst}
 use Rattle.std.specs.Prelude.{if◌then◌else◌}
 use Rattle.std.proofs.Math.ListN.{set}
-use Rattle.std.proofs.lemmas.Bool.{cases_Bool, eqb-true, eqb-false}
+use Rattle.std.proofs.lemmas.Bool.{cases_Bool, eqb-true, eqb-false, or_right}
 use Rattle.std.proofs.lemmas.List.{length-set, get_or-set_same, get_or-set_other, take_all}
 use Rattle.admit_core.specs.Lists.{is_among}
 use Rattle.proposals.proofs.Front.{among_more}
@@ -10,10 +10,6 @@ use Rattle.linked_demand.specs.Seats.{PutAt}
 
 pub put_none : (X : Type 0) (d : X) (ks : List ℕ) (x : X) (old : List X) → PutAt X d (take 0 ks) x old old
 put_none X d ks x old = record { as_long = refl; each = λ k lt. refl }
-
-or_true : (a b : Bool) → b ≡ true → (a || b) ≡ true
-or_true true b t = refl
-or_true false b t = t
 
 or_false : (a b : Bool) → b ≡ false → (a || b) ≡ a
 or_false true b t = refl
@@ -34,7 +30,7 @@ put_more X d ks i x old now new lt within put is =
                 ap (λ (ys : List X). get_or ys k d) is
                 ∙ ap (λ j. get_or (set now p x) j d) same
                 ∙ get_or-set_same now p x d (omega (arith, within, put.as_long))
-                ∙ sym (ap (λ b. if b then x else get_or old k d) (more ∙ or_true (is_among k (take i ks)) (nat_eq k p) here))
+                ∙ sym (ap (λ b. if b then x else get_or old k d) (more ∙ or_right (is_among k (take i ks)) (nat_eq k p) here))
             | inr other ↦
                 ap (λ (ys : List X). get_or ys k d) is
                 ∙ get_or-set_other now p k x d (eqb-false k p other)

@@ -4,6 +4,7 @@ use Rattle.std.proofs.Math.ListN.{set}
 use Rattle.std.proofs.lemmas.Bool.{cases_Bool, cases_lt, false≢true, ltb-true, ltb-false, lt-ltb, le-ltb, ne_eqb, eq-eqb}
 use Rattle.std.proofs.lemmas.List.{length-set}
 use Rattle.std.proofs.lemmas.List.Sums.{length-filter}
+use Rattle.admit_core.proofs.Plain.{and_false, and_not}
 use Rattle.linked_demand.specs.Line.{LineRow, set_count, is_reached, reach, next, is_answer, last_new}
 
 -- what stands behind a place is the same after a change at it
@@ -114,10 +115,6 @@ drop_flag [] (suc n) d = refl
 drop_flag (b ∷ flags) (suc n) d = drop_flag flags n d
     ∙ ap (λ k. get_or (b ∷ flags) k false) (let e : suc (n + d) ≡ suc n + d = omega arith in e)
 
-and_none : (b : Bool) → (b && false) ≡ false
-and_none true = refl
-and_none false = refl
-
 answer_other : (flags : List Bool) (before reached j : ℕ) → (before < reached → reached - 1 ≡ j → ⊥)
     → is_answer (last_new flags before reached) j ≡ false
 answer_other flags before reached j h =
@@ -134,7 +131,7 @@ fresh_one : (flags : List Bool) (before reached j : ℕ) → reached ≡ before 
     → (nat_lt j reached && not (nat_lt j before)) ≡ is_answer (last_new flags before reached) j
 fresh_one flags before reached j is t =
     elim (cases_lt j before) [
-      | inl old ↦ rw (lt-ltb j before old, and_none (nat_lt j reached))
+      | inl old ↦ rw (lt-ltb j before old, and_false (nat_lt j reached))
           (sym (answer_other flags before reached j (λ lt e. omega (arith, lt, e, old))))
       | inr far ↦ elim (cases_lt j reached) [
         | inl here ↦
@@ -156,10 +153,6 @@ fresh_one flags before reached j is t =
             (sym (answer_other flags before reached j (λ lt e. omega (arith, lt, e, behind))))
       ]
     ]
-
-and_not : (b : Bool) → (b && not b) ≡ false
-and_not true = refl
-and_not false = refl
 
 module _ (row : LineRow) (quota : ℕ) (flags : List Bool) (k reached : ℕ)
     (same : record { flags = flags; quota = quota } ≡ row) (by : reached ≡ reach quota flags) where

@@ -6,6 +6,7 @@ use Rattle.std.proofs.Math.ListN.{set}
 use Rattle.std.proofs.lemmas.Bool.{cases_eq, eqb-true, false≢true, le-ltb}
 use Rattle.std.proofs.lemmas.List.{length-set, get_or_default}
 use Rattle.std.proofs.lemmas.Option.{slice_get_within, slice_get_read}
+use Rattle.admit_core.proofs.Plain.{waits_open, get_set_here, get_set_other}
 use Rattle.admit_core.specs.declared.dossier.Wish.{Wish}
 use Rattle.admit_core.specs.declared.state.Mark.{Mark}
 use Rattle.admit_core.specs.declared.ranking.CallOrder.{CallOrder}
@@ -20,19 +21,6 @@ use Rattle.proposals.specs.Demands.{demands_of}
 use Rattle.linked_demand.specs.Demand.{is_proposed_at, firsts}
 use Rattle.linked_demand.proofs.Naming.{demands_told}
 use Rattle.linked_demand.proofs.Falling.{flag_map, flags_fallen, in_front, row_fallen, row_stays}
-
-pub get_set_here : {X : Type 0} (xs : List X) (i : ℕ) (x y : X) → slice_get (set xs i x) i ≡ Some y → x ≡ y
-get_set_here [] i x y at = absurd (omega (arith, slice_get_within {A = _} [] i y at))
-get_set_here (z ∷ xs) zero x y at = ap (λ o. unwrap_or o x) at
-get_set_here (z ∷ xs) (suc i) x y at = get_set_here xs i x y at
-
-pub get_set_other : {X : Type 0} (xs : List X) (i j : ℕ) (x y : X) → j ≢ i
-    → slice_get (set xs i x) j ≡ Some y → slice_get xs j ≡ Some y
-get_set_other [] i j x y ne at = at
-get_set_other (z ∷ xs) zero zero x y ne at = absurd (ne refl)
-get_set_other (z ∷ xs) zero (suc j) x y ne at = at
-get_set_other (z ∷ xs) (suc i) zero x y ne at = at
-get_set_other (z ∷ xs) (suc i) (suc j) x y ne at = get_set_other xs i j x y (λ e. ne (ap suc e)) at
 
 module _ (links : LinksRow) (bars free : List ℕ) (h to : ℕ) (rows : List (Vec RowWish Global))
     (row : Vec RowWish Global) (right : IsRound links bars free rows)
@@ -100,11 +88,6 @@ not_behind s bars h w (Some g) t low =
     and_false true = refl
     and_false false = refl
 
-open_flag : (waits behind : Bool) → waits ≡ true → behind ≡ false → (waits && not (waits && behind)) ≡ true
-open_flag true false w b = refl
-open_flag true true w b = absurd (false≢true (sym b))
-open_flag false behind w b = absurd (false≢true w)
-
 -- an item that is read of a row of open ones is open
 pub item_open : (links : LinksRow) (row : List RowWish) → AreOpen links row → (i : ℕ) → i < length row → (other : RowWish)
     → IsOpenItem links (get_or row i other)
@@ -121,7 +104,7 @@ rows_open links bars free rows right h row at k x there =
     let (w, m, waits) = own.each k x there in
     let s = links.state in
     let open_now : is_open s bars w m ≡ true =
-    open_flag (is_waiting m) (is_behind_bar s bars w w.school) waits.waits.waits
+    waits_open (is_waiting m) (is_behind_bar s bars w w.school) waits.waits.waits
     (not_behind s bars h w w.school waits.has (omega (arith, waits.rank, own.below k x there))) in
     record {
       waits = (w, m, waits.waits);

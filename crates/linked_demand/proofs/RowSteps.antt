@@ -1,15 +1,11 @@
 -- A row is gone along item by item.
 use Rattle.std.proofs.Common.{ℕ, ◌+◌, ◌-◌, ◌<◌, ◌≤◌, ◌≡◌, Bool, true, false, ◌&&◌, List, ◌∷◌, ◌++◌, [], length, drop, get_or, refl, sym, ◌∙◌, ap, arith, nat_lt, Some, None, suc}
 use Rattle.std.specs.Prelude.{slice_get, if◌then◌else◌}
-use Rattle.std.proofs.lemmas.Bool.{and_from, le-ltb, lt-ltb}
+use Rattle.std.proofs.lemmas.Bool.{and_from, le-ltb, lt-ltb, and_right}
 use Rattle.std.proofs.lemmas.List.{append_assoc, append-nil, at_drop_more, at_drop_all}
 use Rattle.proposals.specs.declared.demands.Demand.{Demand}
 use Rattle.linked_demand.specs.declared.rows.RowWish.{RowWish}
 use Rattle.linked_demand.specs.Demand.{counted, firsts}
-
-and_fails : (a b : Bool) → b ≡ false → (a && b) ≡ false
-and_fails true b fails = fails
-and_fails false b fails = refl
 
 module _ (p : ℕ → Bool) (row : List RowWish) where
   -- the walk ends with the row
@@ -105,4 +101,4 @@ module _ (p : ℕ → Bool) (row : List RowWish) where
 
     pub not_proposed : p (get_or row i d).wish ≡ false
         → (nat_lt last (get_or row i d).rank && p (get_or row i d).wish) ≡ false
-    not_proposed fails = and_fails (nat_lt last (get_or row i d).rank) (p (get_or row i d).wish) fails
+    not_proposed fails = and_right (nat_lt last (get_or row i d).rank) (p (get_or row i d).wish) fails

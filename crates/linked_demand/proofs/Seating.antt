@@ -13,6 +13,7 @@ use Rattle.admit_core.specs.CallOrder.{AreCallOrders}
 use Rattle.admit_core.specs.DossierRows.{DossierRows, group_of, limit_of}
 use Rattle.admit_core.specs.Validity.{IsValid, IsValidGroup}
 use Rattle.admit_core.proofs.OrderPermutes.{distinct-order}
+use Rattle.admit_core.proofs.Plain.{filter_none}
 use Rattle.admit_core.specs.Lists.{is_among}
 use Rattle.admit_core.specs.Proposals.{order_of}
 use Rattle.day_state.specs.Kept.{wish_in}
@@ -22,7 +23,6 @@ use Rattle.linked_demand.specs.Links.{IsPlaceOf, claim_of}
 use Rattle.linked_demand.specs.Opens.{applies_in, line_of}
 use Rattle.linked_demand.specs.Seats.{PutAt, AreSeated, IsLineup, is_below, is_passed}
 use Rattle.linked_demand.proofs.Lining.{among_claim, among_some, applies_claim, placed, early_at}
-use Rattle.day_state.proofs.Ordering.{filter_none}
 
 -- what holds of those who are done holds of fewer
 pub seated_by : (s : DossierRows) (orders : List CallOrder) (old new : ℕ → ℕ → Bool) (places : List ℕ) (early : List Bool)

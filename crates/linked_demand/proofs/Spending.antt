@@ -13,6 +13,7 @@ use Rattle.admit_core.specs.declared.ranking.CallOrder.{CallOrder}
 use Rattle.admit_core.specs.State.{State, entries, is_waiting, holds_bed, is_school, seats_left}
 use Rattle.admit_core.specs.Proposals.{is_open, is_behind_bar, is_proposed, needs_no_seat, ahead}
 use Rattle.admit_core.proofs.DemandLaws.{behind_lower}
+use Rattle.admit_core.proofs.Plain.{and_false, waits_open}
 use Rattle.linked_demand.specs.declared.rows.RowWish.{RowWish}
 use Rattle.linked_demand.specs.Line.{set_count}
 use Rattle.linked_demand.specs.Links.{LinksRow}
@@ -83,21 +84,12 @@ filter_map f (x ∷ xs) =
 count_map : {X : Type 0} (f : X → Bool) (xs : List X) → set_count (map f xs) ≡ count_by f xs
 count_map f xs = omega (arith, length-filter (λ (b : Bool). b) (map f xs), length-filter f xs, filter_map f xs)
 
-open_bits : (waits behind : Bool) → waits ≡ true → behind ≡ false → (waits && not (waits && behind)) ≡ true
-open_bits true false a b = refl
-open_bits true true a b = absurd (false≢true (sym b))
-open_bits false behind a b = absurd (false≢true a)
-
-and_none : (b : Bool) → (b && false) ≡ false
-and_none true = refl
-and_none false = refl
-
 not_behind : (s : State) (bars : List ℕ) (h : ℕ) (w : Wish) (school : Option ℕ) → is_school school h ≡ true
     → w.board_rank ≤ slice_index bars h → is_behind_bar s bars w school ≡ false
 not_behind s bars h w None has low = refl
 not_behind s bars h w (Some g) has low =
     let same : g ≡ h = eqb-true g h has in
-    rw (same, le-ltb (slice_index bars h) w.board_rank low) (and_none (not (holds_bed s w.candidate h)))
+    rw (same, le-ltb (slice_index bars h) w.board_rank low) (and_false (not (holds_bed s w.candidate h)))
 
 split_bits : (waits low high : Bool) → (high ≡ true → low ≡ true)
     → cond (waits && not (waits && low)) 1 0 + cond ((waits && low) && not (waits && high)) 1 0 ≡ cond
@@ -141,7 +133,7 @@ module _ (s : State) (bars : List ℕ) (h to : ℕ) (within : h < length bars) (
     row_open k x at =
         let (w, m, waits) = right.each k x at in
         flag_map (λ (e : Wish × Mark). is_open s bars e.0 e.1) (entries s) x.wish (w, m) waits.waits.here
-        ∙ open_bits (is_waiting m) (is_behind_bar s bars w w.school) waits.waits.waits
+        ∙ waits_open (is_waiting m) (is_behind_bar s bars w w.school) waits.waits.waits
         (not_behind s bars h w w.school waits.has (omega (arith, right.below k x at, waits.rank)))
 
     row_apart : (j k : ℕ) (x y : RowWish) → j < k → slice_get row j ≡ Some x → slice_get row k ≡ Some y → x.wish ≡ y.wish → ⊥

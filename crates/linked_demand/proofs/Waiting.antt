@@ -3,10 +3,11 @@ use Rattle.std.proofs.Common.{ℕ, zero, suc, ◌<◌, ◌≡◌, Bool, true, fa
 use Rattle.std.specs.Prelude.{◌==◌, slice_get}
 use Rattle.std.specs.List.{list_any, range_with_len}
 use Rattle.std.proofs.Math.Bool.{or-false}
-use Rattle.std.proofs.lemmas.Bool.{cases_Bool, and_parts, and_from, eqb-true, eq-eqb, or_from, or_parts, false≢true}
+use Rattle.std.proofs.lemmas.Bool.{cases_Bool, and_parts, and_from, eqb-true, eq-eqb, or_from, or_parts, false≢true, and_left}
 use Rattle.std.proofs.lemmas.List.{get_or-map, length-map}
 use Rattle.std.proofs.lemmas.List.Folds.{list_any_none}
 use Rattle.std.proofs.lemmas.List.FromFn.{get_or-range_with_len, length-range_with_len}
+use Rattle.admit_core.proofs.Plain.{any-filter}
 use Rattle.admit_core.specs.declared.dossier.Wish.{Wish}
 use Rattle.admit_core.specs.declared.state.Mark.{Mark}
 use Rattle.admit_core.specs.declared.state.Status.{Status}
@@ -18,7 +19,7 @@ use Rattle.admit_core.specs.OwnWishes.{own_places}
 use Rattle.admit_core.specs.Proposals.{is_open, is_barred}
 use Rattle.admit_core.specs.State.{State, entries, is_live, is_live_status, is_waiting, is_waiting_status, holds_seat}
 use Rattle.day_state.specs.Kept.{mark_in, wish_in, lives_at, has_seat_there}
-use Rattle.day_state.proofs.Places.{any-filter, own_any, candidate_in as candidate_is}
+use Rattle.day_state.proofs.Places.{own_any, candidate_in as candidate_is}
 use Rattle.linked_demand.specs.Links.{WaitsAt, AllOpenWait, NeedsSeatAlone, claim_of}
 use Rattle.linked_demand.specs.Opens.{line_of, opens_of, wanting_at}
 use Rattle.linked_demand.specs.Seats.{is_beside, is_doubled}
@@ -41,10 +42,6 @@ waiting_is_not_live AutoRefused t = refl
 waiting_is_not_live AutoWithdrawn t = refl
 waiting_is_not_live Lapsed t = refl
 
-dead : (live own : Bool) → live ≡ false → (live && own) ≡ false
-dead false own t = refl
-dead true own t = absurd (false≢true (sym t))
-
 elsewhere : (live own other : Bool) → other ≡ true → (other && own) ≡ false → (live && own) ≡ false
 elsewhere true own true t none = none
 elsewhere false own other t none = refl
@@ -61,7 +58,7 @@ none_lives d ms k not_live (x ∷ xs) none =
     let parts = or_parts (is_beside d k x) (list_any (is_beside d k) xs) none in
     let first : (is_live (mark_in ms x) && own) ≡ false =
     elim (cases_Bool (nat_eq x k)) [
-      | inl here ↦ dead (is_live (mark_in ms x)) own (ap (λ (j : ℕ). is_live (mark_in ms j)) (eqb-true x k here) ∙ not_live)
+      | inl here ↦ and_left (is_live (mark_in ms x)) own (ap (λ (j : ℕ). is_live (mark_in ms j)) (eqb-true x k here) ∙ not_live)
       | inr other ↦ elsewhere (is_live (mark_in ms x)) own (not (nat_eq x k)) (ap not other) parts.0
     ] in
     or_from (is_live (mark_in ms x) && own)

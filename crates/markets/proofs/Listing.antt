@@ -15,25 +15,7 @@ use Rattle.markets.specs.Listers.{AreListers, ArePutIn, naming}
 use Rattle.markets.specs.Positions.{among_at}
 use Rattle.markets.proofs.BelowCount.{list_distinct, list_below, earlier, last_differs}
 use Rattle.std.proofs.lemmas.Map.Keys.{apart_from_distinct}
-
--- a row that is set, and one that is not
-get_set_here : {X : Type 0} (xs : List X) (i : ℕ) (x y : X) → slice_get (set xs i x) i ≡ Some y → x ≡ y
-get_set_here [] i x y at = absurd (omega (arith, slice_get_within {A = _} [] i y at))
-get_set_here (z ∷ xs) zero x y at = ap (λ o. unwrap_or o x) at
-get_set_here (z ∷ xs) (suc i) x y at = get_set_here xs i x y at
-
-get_set_other : {X : Type 0} (xs : List X) (i j : ℕ) (x y : X) → j ≢ i → slice_get (set xs i x) j ≡ Some y → slice_get xs j ≡ Some y
-get_set_other [] i j x y ne at = at
-get_set_other (z ∷ xs) zero zero x y ne at = absurd (ne refl)
-get_set_other (z ∷ xs) zero (suc j) x y ne at = at
-get_set_other (z ∷ xs) (suc i) zero x y ne at = at
-get_set_other (z ∷ xs) (suc i) (suc j) x y ne at = get_set_other xs i j x y (λ e. ne (ap suc e)) at
-
-get_push : {X : Type 0} (xs : List X) (x y : X) (h : ℕ) → slice_get (xs ++ x ∷ []) h ≡ Some y → (slice_get xs h ≡ Some y) ⊎ (x ≡ y)
-get_push [] x y zero at = inr (ap (λ o. unwrap_or o x) at)
-get_push [] x y (suc h) at = absurd (omega (arith, slice_get_within (x ∷ []) (suc h) y at))
-get_push (z ∷ xs) x y zero at = inl at
-get_push (z ∷ xs) x y (suc h) at = get_push xs x y h at
+use Rattle.admit_core.proofs.Plain.{get_set_here, get_set_other, get_push}
 
 -- empty rows, and one more
 pub listers_none : AreListers [] 0 0 []

@@ -22,12 +22,7 @@ use Rattle.markets.specs.Positions.{distinct_from}
 use Rattle.markets.specs.Lawful.{range_rises}
 use Rattle.markets.proofs.Listing.{row_is}
 use Rattle.std.specs.declared.alloc.Global.{Global}
-
--- two tests that follow from each other
-pub same_test : (a b : Bool) → (a ≡ true → b ≡ true) → (b ≡ true → a ≡ true) → a ≡ b
-same_test true b there back = sym (there refl)
-same_test false true there back = back refl
-same_test false false there back = refl
+use Rattle.admit_core.proofs.Plain.{same_test}
 
 -- all pass where each does
 pub all_pass : (t : ℕ → Bool) (xs : List ℕ) → ((q : ℕ) → is_among q xs ≡ true → t q ≡ true) → list_all t xs ≡ true

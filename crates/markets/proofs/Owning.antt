@@ -5,11 +5,9 @@ use Rattle.std.proofs.Math.ListN.{set}
 use Rattle.std.proofs.lemmas.Bool.Decides.{nat_tests}
 use Rattle.std.specs.List.{list_any, IsDistinct, AllByRecursion}
 use Rattle.std.proofs.lemmas.List.Quantifiers.{position-Some}
+use Rattle.admit_core.proofs.Plain.{nat_eq_sym}
 use Rattle.admit_core.specs.declared.dossier.Wish.{Wish}
 use Rattle.markets.specs.Dossiers.{own}
-
-eq_sym : (m n : ℕ) → nat_eq m n ≡ nat_eq n m
-eq_sym m n = grind (arith, nat_tests)
 
 -- a wish more is in the row of its candidate, and in no other
 in_own : (rows : List Wish) (row : Wish) (k : ℕ) → nat_eq k row.candidate ≡ true → own (rows ++ row ∷ []) k ≡ own rows k ++ row ∷ []
@@ -41,7 +39,7 @@ in_none rows row (k ∷ ks) h = by (nat_eq row.candidate k) refl (in_none rows r
         → map (own (rows ++ row ∷ [])) (k ∷ ks) ≡ map (own rows) (k ∷ ks)
     by true f ih = absurd (true≢false (sym (rw f at (sym h))))
     by false f ih = let g : list_any (nat_eq row.candidate) ks ≡ false = rw f at h in rw
-        (in_other rows row k (eq_sym k row.candidate ∙ f), ih g) refl
+        (in_other rows row k (nat_eq_sym k row.candidate ∙ f), ih g) refl
 
 -- g stands at i, and not before
 abbrev pub IsAt : ℕ → List ℕ → ℕ → Type 0
@@ -70,9 +68,9 @@ pub lay : (rows : List Wish) (row : Wish) (ks : List ℕ) (i : ℕ) → IsDistin
 unfolding IsDistinct
 lay rows row [] i apart at = absurd at
 lay rows row (k ∷ ks) zero apart at =
-    rw (in_own rows row k (eq_sym k row.candidate ∙ at), in_none rows row ks (none_after row.candidate k ks at apart.0)) refl
+    rw (in_own rows row k (nat_eq_sym k row.candidate ∙ at), in_none rows row ks (none_after row.candidate k ks at apart.0)) refl
 lay rows row (k ∷ ks) (suc i) apart (not_here, there) =
-    rw (in_other rows row k (eq_sym k row.candidate ∙ not_here)) (ap (λ l. own rows k ∷ l) (lay rows row ks i apart.1 there))
+    rw (in_other rows row k (nat_eq_sym k row.candidate ∙ not_here)) (ap (λ l. own rows k ∷ l) (lay rows row ks i apart.1 there))
 
 pub lay_none : (rows : List Wish) (row : Wish) (ks : List ℕ) → list_any (nat_eq row.candidate) ks ≡ false
     → map (own rows) ks ≡ map (own (rows ++ row ∷ [])) ks

@@ -15,9 +15,9 @@ use Rattle.admit_core.specs.DossierRows.{DossierRows}
 use Rattle.admit_core.specs.Lists.{is_among, sorted_by}
 use Rattle.admit_core.specs.Validity.{IsValid, IsValidWish, IsApart}
 use Rattle.admit_core.specs.declared.dossier.Wish.{Wish}
-use Rattle.admit_core.proofs.Holders.{any_map}
 use Rattle.admit_core.proofs.Tests.{among-map_filter}
 use Rattle.admit_core.proofs.SortedLists.{IsPermutation-sorted_by, IsDistinct-sorted_by}
+use Rattle.admit_core.proofs.Plain.{any-map}
 use Rattle.markets.specs.Markets.{is_list_below}
 use Rattle.markets.specs.Firsts.{all_of}
 use Rattle.markets.specs.Dossiers.{counts, counted, named, own, by_preference}
@@ -33,9 +33,9 @@ pub lists_wish : (ws : List Wish) (p c : ℕ) → is_among p (by_preference (own
 lists_wish ws p c =
     let key : Wish → ℕ = λ w. w.preference in
     let theirs : List Wish = own ws c in
-    any_map (nat_eq p) (λ w. w.programme) (sorted_by key theirs)
+    any-map (nat_eq p) (λ w. w.programme) (sorted_by key theirs)
     ∙ sym (list_any-IsPermutation (λ w. nat_eq p w.programme) theirs (sorted_by key theirs) (IsPermutation-sorted_by key theirs))
-    ∙ sym (any_map (nat_eq p) (λ w. w.programme) theirs)
+    ∙ sym (any-map (nat_eq p) (λ w. w.programme) theirs)
     ∙ among-map_filter (λ w. w.programme) (λ w. nat_eq c w.candidate) p ws
 
 -- who lists something is one of the market's candidates

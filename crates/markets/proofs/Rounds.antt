@@ -2,9 +2,10 @@
 use Rattle.std.proofs.Common.{ℕ, zero, suc, ◌+◌, ◌-◌, ◌≤◌, ◌<◌, ◌≡◌, Bool, true, false, cond, ◌&&◌, List, [], ◌∷◌, ◌++◌, map, length, drop, get_or, inl, inr, refl, sym, ◌∙◌, ap, arith, nat_le, nat_lt, filter, set}
 use Rattle.std.specs.Prelude.{Option, Some, None, find, slice_get, slice_index}
 use Rattle.std.specs.List.{range_with_len}
-use Rattle.std.proofs.lemmas.Bool.{cases_Bool, cases_lt, le-leb, lt-leb, lt-ltb, false_from_ne_true}
+use Rattle.std.proofs.lemmas.Bool.{cases_Bool, cases_lt, le-leb, lt-leb, lt-ltb, false_from_ne_true, and_left, and_right}
 use Rattle.std.proofs.lemmas.List.{append-nil, append_assoc, map-append, length-map, length-append, get_or-set_same, set-set}
 use Rattle.std.proofs.lemmas.List.FromFn.{filter_of_map_range_with_len_more}
+use Rattle.admit_core.proofs.Plain.{get_seam}
 use Rattle.admit_core.specs.Falls.{is_overfilled}
 use Rattle.bar_fixpoint.specs.Overfilled.{all_overfilled}
 use Rattle.linked_demand.proofs.Answered.{filter_agree}
@@ -27,11 +28,6 @@ map_fixes f fixes (x ∷ xs) (y ∷ ys) e =
     let first : x ≡ y = fixes x y (ap (λ (ns : List ℕ). get_or ns 0 0) e) in
     let rest : xs ≡ ys = map_fixes f fixes xs ys (ap (λ (ns : List ℕ). drop 1 ns) e) in
     ap (λ (z : Option ℕ). z ∷ xs) first ∙ ap (λ (zs : List (Option ℕ)). y ∷ zs) rest
-
--- what stands at the seam of two lists
-get_seam : (xs ys : List ℕ) (x : ℕ) → slice_get (xs ++ x ∷ ys) (length xs) ≡ Some x
-get_seam [] ys x = refl
-get_seam (z ∷ xs) ys x = get_seam xs ys x
 
 find_here : (t : ℕ → Bool) (xs : List ℕ) (k : ℕ) → k < length xs → ((j : ℕ) → j < k → t (get_or xs j 0) ≡ false) → t (get_or xs k 0) ≡ true
     → find t xs ≡ Some (get_or xs k 0)
@@ -102,13 +98,6 @@ filter_both t p (x ∷ xs) =
       ]
       | inr fails ↦ rw fails (filter_both t p xs)
     ]
-
-and_false : (a b : Bool) → a ≡ false → (a && b) ≡ false
-and_false a b e = rw e refl
-
-and_no : (a b : Bool) → b ≡ false → (a && b) ≡ false
-and_no true b e = e
-and_no false b e = refl
 
 and_yes : (a b : Bool) → b ≡ true → (a && b) ≡ a
 and_yes true b e = e
@@ -227,8 +216,8 @@ module _ (m : MarketRows) (is : IsMarket m) (bars stands : List ℕ) (places : L
       (λ h one le. and_yes (t h) (low h) (le-leb h upto (omega (arith, le, le_upto))))
       (λ h over le.
       elim (cases_lt upto h) [
-        | inl far ↦ and_no (t h) (low h) (lt-leb h upto far)
-        | inr near ↦ and_false (t h) (low h) (none_past h (past h over near) le)
+        | inl far ↦ and_right (t h) (low h) (lt-leb h upto far)
+        | inr near ↦ and_left (t h) (low h) (none_past h (past h over near) le)
       ])
 
   -- as many as are counted

@@ -22,9 +22,6 @@ use Rattle.played.specs.LastDays.{IsDeskAfter, IsLastOf, pass_on}
 use Rattle.modes.specs.Asking.{TellsPicks}
 use Rattle.modes.specs.Beds.{IsAsked, IsOnlyText, IsTextOf, PicksForFigures, TellsFigures}
 
-pub at_most_self : (bars : List ℕ) → IsAtMost bars bars
-at_most_self bars = record { as_many = refl; each = λ i. omega arith }
-
 -- the figures that were found, with what the picker told
 module _ (s : State) (d : DossierRows) (orders : List CallOrder) (ceilings : List ℕ) (place need more : ℕ) (before after : List ℕ) (choice choice' : List ℕ → List ℕ → ℕ) (told between told' : List ℕ)
     (same : s.dossier ≡ d) (lack : more ≡ need - beds_of d place) (least : IsLeastBeds s orders ceilings place need) (growth : IsGrowth s orders ceilings ceilings place more before after)

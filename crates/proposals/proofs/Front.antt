@@ -6,6 +6,7 @@ use Rattle.std.proofs.lemmas.List.{take_more}
 use Rattle.std.proofs.lemmas.List.Folds.{list_any-append}
 use Rattle.std.proofs.lemmas.List.Sums.{length-filter}
 use Rattle.std.specs.List as std_list
+use Rattle.admit_core.proofs.Plain.{or_last}
 use Rattle.admit_core.specs.Lists.{is_among}
 
 -- the prefix of a list before the first place of a number
@@ -62,11 +63,6 @@ front_fewer q c xs i lt at =
 pub front_same : (c : ℕ) (xs : List ℕ) (i : ℕ) → i < length xs → get_or xs i 0 ≡ c → is_among c (take i xs) ≡ false
     → before_first (nat_eq c) xs ≡ take i xs
 front_same c xs i lt at none = before_is c xs ∙ same_up_to c xs i lt at none
-
-or_last : (a b : Bool) → (a || (b || false)) ≡ (a || b)
-or_last true b = refl
-or_last false true = refl
-or_last false false = refl
 
 -- who is among one more
 pub among_more : (n : ℕ) (xs : List ℕ) (i : ℕ) → i < length xs

@@ -5,6 +5,7 @@ use Rattle.std.specs.List.{list_any, range_with_len}
 use Rattle.std.proofs.lemmas.Bool.{cases_Bool, and_left, and_from, and_right, eqb-true, eq-eqb}
 use Rattle.std.proofs.lemmas.List.Folds.{list_any_at}
 use Rattle.std.proofs.lemmas.List.FromFn.{length-range_with_len, get_or-range_with_len}
+use Rattle.admit_core.proofs.Plain.{any-map, any_same, any-filter, any_none, turn_and}
 use Rattle.admit_core.specs.declared.dossier.Wish.{Wish}
 use Rattle.admit_core.specs.declared.state.Mark.{Mark}
 use Rattle.admit_core.specs.Lists.{is_among}
@@ -13,15 +14,9 @@ use Rattle.admit_core.specs.OwnWishes.{own_places}
 use Rattle.admit_core.specs.DossierRows.{DossierRows, candidate_of}
 use Rattle.admit_core.specs.Proposals.{is_open, is_open_in, has_open_wish}
 use Rattle.day_state.specs.Kept.{wish_in, mark_in}
-use Rattle.day_state.proofs.Places.{any_same, any-filter, any-map, candidate_in, entry_in, entries_by_place}
+use Rattle.day_state.proofs.Places.{candidate_in, entry_in, entries_by_place}
 use Rattle.day_state.proofs.Ordering.{none_found}
 use Rattle.proposals.specs.Open.{is_open_at}
-
-turn_and : (own opens test : Bool) → (own && (opens && test)) ≡ ((opens && own) && test)
-turn_and true true test = refl
-turn_and true false test = refl
-turn_and false true test = refl
-turn_and false false test = refl
 
 -- an open wish in a programme by place
 in_turn : (s : State) (bars : List ℕ) (p c k : ℕ)
@@ -58,10 +53,6 @@ no_open s bars p c long none k lt =
     let at : get_or places k 0 ≡ k = get_or-range_with_len 0 (length s.dossier.wishes) k 0 lt ∙ zero-add k in
     in_turn s bars p c k ∙ sym (ap (λ j. test (entry_in s j)) at) ∙ all k 0 within
 
-none_of : {X : Type 0} (p : X → Bool) → ((x : X) → p x ≡ false) → (xs : List X) → list_any p xs ≡ false
-none_of p none [] = refl
-none_of p none (x ∷ xs) = rw (none x, none_of p none xs) refl
-
 -- a place is among a candidate's own where its wish is theirs
 pub among_own : (d : DossierRows) (c k : ℕ) → k < length d.wishes → is_among k (own_places d c) ≡ ((wish_in d.wishes k).candidate == c)
 among_own d c k lt =
@@ -76,7 +67,7 @@ among_own d c k lt =
           (ap both at ∙ and_from (is_own k) (nat_eq k k) own (eq-eqb k k refl))
           ∙ sym own
       | inr other ↦
-          none_of both (λ j. elim (cases_Bool (nat_eq k j)) [
+          any_none both (λ j. elim (cases_Bool (nat_eq k j)) [
             | inl same ↦ and_left (is_own j) (nat_eq k j) (rw (eqb-true k j same) at other)
             | inr differ ↦ and_right (is_own j) (nat_eq k j) differ
           ]) places

@@ -17,11 +17,15 @@ use Rattle.admit_core.specs.Validity.{IsValid}
 use Rattle.admit_core.specs.State.{State, entries, is_school, has_school, holds_bed, bed_holders}
 use Rattle.admit_core.specs.Proposals.{is_proposed, demands_bed, demanded_ranks}
 use Rattle.admit_core.specs.Days.{offered}
-use Rattle.admit_core.proofs.DemandLaws.{demanded}
+use Rattle.admit_core.proofs.DemandLaws.{demanded, demand_parts}
 use Rattle.admit_core.proofs.Dossiers.{ranks_of_valid}
 use Rattle.admit_core.proofs.Tests.{among-map, increasing-ascending}
+use Rattle.admit_core.proofs.Counting.{distinct_kept}
+use Rattle.admit_core.proofs.FullBeds.{rising_distinct}
+use Rattle.admit_core.proofs.ClosedEvenings.{among_filter}
+use Rattle.admit_core.proofs.Holders.{among_distinct}
 use Rattle.round.specs.PassLaws.{new_bed_holders}
-use Rattle.round.proofs.Members.{among-filter, among_filtered, distinct-filter, distinct_once, among-distinct, distinct_increasing}
+use Rattle.round.proofs.Members.{among_filtered, distinct_once}
 use Rattle.round.proofs.NewHolders.{MakesLive, becomes_live, is_live_after, entry_wish}
 
 -- what is found first is as all that might be found
@@ -46,12 +50,6 @@ pub record Demands (s : State) (orders : List CallOrder) (bars : List ℕ) (h : 
   pub has : has_school w h ≡ true
   pub no_bed : not (holds_bed s w.candidate h) ≡ true
   pub offers : is_proposed s orders bars w m ≡ true
-
-pub demand_parts : (s : State) (orders : List CallOrder) (bars : List ℕ) (h : ℕ) (w : Wish) (m : Mark) → demands_bed s orders bars h w m ≡ true → Demands s orders bars h w m
-demand_parts s orders bars h w m t =
-    let outer = and_parts (has_school w h && nat_lt 0 w.board_rank && not (holds_bed s w.candidate h)) (is_proposed s orders bars w m) t in
-    let middle = and_parts (has_school w h && nat_lt 0 w.board_rank) (not (holds_bed s w.candidate h)) outer.0 in
-    record { has = (and_parts (has_school w h) (nat_lt 0 w.board_rank) middle.0).0; no_bed = middle.1; offers = outer.1 }
 
 module _ (s : State) (valid : IsValid s.dossier) (h : ℕ) where
   -- in a school, a rank tells its candidate, and a candidate their rank
@@ -148,8 +146,8 @@ module _ (s : State) (orders : List CallOrder) (bars : List ℕ) (stamp : Stamp)
       let named : get_or candidates k 0 ≡ c = get_or-map (λ (x : Wish). x.candidate) s.dossier.wishes k w 0 listed.0 ∙ ap (λ (x : Wish). x.candidate) listed.1 in
       let stands : is_among c candidates ≡ true =
       list_any_at (nat_eq c) candidates k 0 (omega (arith, listed.0, length-map s.dossier.wishes (λ (x : Wish). x.candidate))) (eq-eqb c (get_or candidates k 0) (sym named)) in
-      let lives = among-filter (λ x. holds_bed (offered s orders bars stamp) x h) c (candidates_of s.dossier) (among-distinct c candidates ∙ stands) now in
-      let is_new = among-filter (λ x. not (holds_bed s x h)) c (bed_holders (offered s orders bars stamp) h) lives parts.no_bed in
+      let lives = among_filter (λ x. holds_bed (offered s orders bars stamp) x h) c (candidates_of s.dossier) (among_distinct c candidates ∙ stands) now in
+      let is_new = among_filter (λ x. not (holds_bed s x h)) c (bed_holders (offered s orders bars stamp) h) lives parts.no_bed in
       let own = λ (x : Wish × Mark). has_school x.0 h && nat_eq x.0.candidate c in
       let there : own (get_or (entries s) k e) ≡ true = rw here (and_from (has_school w h) (nat_eq c c) parts.has (eq-eqb c c refl)) in
       let is_r : rank_in c ≡ r =
@@ -166,8 +164,8 @@ module _ (s : State) (orders : List CallOrder) (bars : List ℕ) (stamp : Stamp)
       let holders = new_bed_holders s new h in
       let ranks = demanded_ranks s orders bars h in
       let once : IsDistinct nat_eq holders =
-      distinct-filter (λ c. not (holds_bed s c h)) (bed_holders new h) (distinct-filter (λ c. holds_bed new c h) (candidates_of s.dossier) (distinct_once (map (λ w. w.candidate) s.dossier.wishes))) in
+      distinct_kept (λ c. not (holds_bed s c h)) (bed_holders new h) (distinct_kept (λ c. holds_bed new c h) (candidates_of s.dossier) (distinct_once (map (λ w. w.candidate) s.dossier.wishes))) in
       let most = length-le_from_is_member nat_eq_equiv holders (map who ranks) once new_are_demanded in
-      let rises = distinct_increasing ranks (increasing-ascending (map (λ (e : Wish × Mark). e.0.board_rank) (filter (λ (e : Wish × Mark). demands_bed s orders bars h e.0 e.1) (entries s)))) in
+      let rises = rising_distinct ranks (increasing-ascending (map (λ (e : Wish × Mark). e.0.board_rank) (filter (λ (e : Wish × Mark). demands_bed s orders bars h e.0 e.1) (entries s)))) in
       let least = length-le_from_is_member nat_eq_equiv ranks (map rank_in holders) rises demanded_are_new in
       omega (arith, most, least, length-map ranks who, length-map holders rank_in)

@@ -16,11 +16,10 @@ use Rattle.admit_core.specs.State.{State, entries, is_waiting, is_school, holds_
 use Rattle.admit_core.specs.Proposals.{is_behind_bar, is_barred, is_open, is_proposed, needs_no_seat, ahead, demands_bed, demanded_ranks}
 use Rattle.admit_core.specs.Falls.{FallingSystem, IsAtMost, is_overfilled, fall_of, fallen, AreFalls}
 use Rattle.admit_core.specs.Boarding.{boarding}
-use Rattle.admit_core.proofs.DemandLaws.{demanded, behind_lower, boarding_is_lawful}
+use Rattle.admit_core.proofs.DemandLaws.{demanded, behind_lower, boarding_is_lawful, demand_parts}
 use Rattle.admit_core.proofs.FallsLaw.{over_in, over_rank, falls_under}
 use Rattle.admit_core.proofs.Tests.{Implies, filter_implied}
 use Rattle.round.specs.PassLaws.{waiting_boarders, FallsAreFew}
-use Rattle.round.proofs.BedLaw.{demand_parts}
 
 -- one more passes the weaker test
 filter_grows : {X : Type 0} (p q : X → Bool) → Implies p q → (xs : List X) (k : ℕ) (x : X) → k < length xs → get_or xs k x ≡ x → p x ≡ false → q x ≡ true

@@ -5,6 +5,7 @@ use Rattle.std.specs.List.{list_any}
 use Rattle.std.proofs.lemmas.Bool.{cases_Bool, and_parts, and_from, false≢true}
 use Rattle.std.proofs.lemmas.Slice.Zip.{length-zip, get_or-zip}
 use Rattle.std.proofs.lemmas.List.Folds.{Any-from_list_any, list_any_at}
+use Rattle.admit_core.proofs.Plain.{any-map}
 use Rattle.admit_core.specs.declared.dossier.Wish.{Wish}
 use Rattle.admit_core.specs.declared.state.Mark.{Mark}
 use Rattle.admit_core.specs.declared.state.Status.{Status}
@@ -15,7 +16,6 @@ use Rattle.admit_core.specs.State.{State, entries, is_live, changed_to}
 use Rattle.admit_core.specs.Proposals.{is_proposed}
 use Rattle.admit_core.specs.Days.{offered}
 use Rattle.day_state.specs.Kept.{holds_one}
-use Rattle.day_state.proofs.Places.{any-map}
 
 -- the entries of a state whose marks have changed
 zip-again : (f : Wish → Mark → Mark) (ws : List Wish) (ms : List Mark)

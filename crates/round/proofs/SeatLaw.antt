@@ -22,11 +22,14 @@ use Rattle.admit_core.specs.Validity.{IsValid, IsValidGroup}
 use Rattle.admit_core.specs.State.{State, entries, holds_seat, seats_left, seat_holders}
 use Rattle.admit_core.specs.Proposals.{is_open, wants_seat, has_open_wish, order_of, before, ahead, needs_no_seat, is_open_in}
 use Rattle.admit_core.specs.Days.{offered}
-use Rattle.admit_core.proofs.OrderPermutes.{distinct-order, nat_eq_turn}
+use Rattle.admit_core.proofs.OrderPermutes.{distinct-order}
+use Rattle.admit_core.proofs.Plain.{nat_eq_sym}
+use Rattle.admit_core.proofs.Counting.{distinct_kept}
+use Rattle.admit_core.proofs.ClosedEvenings.{among_filter}
 use Rattle.day_state.specs.Kept.{wish_in}
 use Rattle.proposals.proofs.Calling.{all_called}
 use Rattle.round.specs.PassLaws.{new_seat_holders}
-use Rattle.round.proofs.Members.{among-filter, among_filtered, distinct-filter, distinct_once, none_twice}
+use Rattle.round.proofs.Members.{among_filtered, distinct_once, none_twice}
 use Rattle.round.proofs.NewHolders.{MakesLive, becomes_live, entry_wish}
 
 -- 1 where it is true
@@ -47,7 +50,7 @@ differs : (n c : ℕ) (ns : List ℕ) → AllByRecursion (λ m. nat_eq n m ≡ f
 differs n c [] all among = absurd (cc)
 differs n c (m ∷ ms) all among =
     elim (or_cases (nat_eq c m) (is_among c ms) among) [
-      | inl here ↦ rw (eqb-true c m here) (nat_eq_turn m n ∙ all.0)
+      | inl here ↦ rw (eqb-true c m here) (nat_eq_sym m n ∙ all.0)
       | inr later ↦ differs n c ms all.1 later
     ]
 
@@ -132,12 +135,12 @@ module _ (s : State) (orders : List CallOrder) (bars : List ℕ) (stamp : Stamp)
       let order = order_of s.dossier orders p in
       let serves = λ (c : ℕ). holds_seat new c p && not (holds_seat s c p) in
       let once : IsDistinct nat_eq (new_seat_holders s new p) =
-      distinct-filter (λ c. not (holds_seat s c p)) (seat_holders new p) (distinct-filter (λ c. holds_seat new c p) (candidates_of s.dossier) (distinct_once (map (λ w. w.candidate) s.dossier.wishes))) in
+      distinct_kept (λ c. not (holds_seat s c p)) (seat_holders new p) (distinct_kept (λ c. holds_seat new c p) (candidates_of s.dossier) (distinct_once (map (λ w. w.candidate) s.dossier.wishes))) in
       let within = length-le_from_is_member nat_eq_equiv (new_seat_holders s new p) (filter serves order) once
       (λ c among.
       let is_new = new_seat p c among in
       let facts = served p c (becomes_live s orders bars stamp (λ w. w.programme == p) c is_new.0 is_new.1) is_new.1 in
-      among-filter serves c order facts.0 (and_from (holds_seat new c p) (not (holds_seat s c p)) is_new.0 (rw is_new.1 refl))) in
+      among_filter serves c order facts.0 (and_from (holds_seat new c p) (not (holds_seat s c p)) is_new.0 (rw is_new.1 refl))) in
       let few : length (filter serves order) ≤ max (seats_left s p) (limit_of s.dossier p) - 0 =
       few_served serves (wants_seat s bars p) (max (seats_left s p) (limit_of s.dossier p)) 0 order (called_once p)
       (λ c among serving.

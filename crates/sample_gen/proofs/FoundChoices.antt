@@ -6,6 +6,7 @@ use Rattle.std.specs.Option.{option_map_or}
 use Rattle.std.proofs.lemmas.Bool.{eq-eqb, eqb-true, cases_Bool, cases_eq, cond-true, cond-false, or_left, or_right, and_left, and_from, not_from_false}
 use Rattle.std.proofs.lemmas.List.Folds.{list_any_at, list_any-append, list_all-append}
 use Rattle.std.proofs.lemmas.List.FromFn.{length-range_with_len, get_or-range_with_len}
+use Rattle.admit_core.proofs.Plain.{any-map, any-filter}
 use Rattle.admit_core.specs.declared.tables.BoardRow.{BoardRow}
 use Rattle.admit_core.specs.declared.tables.ProgrammeRow.{ProgrammeRow}
 use Rattle.admit_core.specs.Relations.{is_in_group, is_ranked, is_boarded}
@@ -15,21 +16,6 @@ use Rattle.sample_gen.specs.Samples.{programme_row, rank_row, board_row, has_boa
 use Rattle.sample_gen.proofs.Lists.{range_more}
 use Rattle.sample_gen.proofs.ItemSlots.{find_row}
 use Rattle.sample_gen.proofs.ChoiceFacts.{IsChoice, programme_from_one, programme_at_most}
-
-any-map : {X Y : Type 0} (p : Y → Bool) (f : X → Y) (xs : List X) → list_any p (map f xs) ≡ list_any (λ x. p (f x)) xs
-any-map p f [] = refl
-any-map p f (x ∷ xs) = ap (λ b. p (f x) || b) (any-map p f xs)
-
-any-filter : {X : Type 0} (p q : X → Bool) (xs : List X) → list_any p (filter q xs) ≡ list_any (λ x. q x && p x) xs
-any-filter p q [] = refl
-any-filter {X} p q (x ∷ xs) =
-    let more : List X = x ∷ filter q xs in
-    ⊎_elim
-    (λ t. ap (list_any p) (cond-true (q x) more (filter q xs) t) ∙ ap (λ b. b || list_any p (filter q xs)) (sym (ap (λ b. b && p x) t))
-    ∙ ap (λ b. (q x && p x) || b) (any-filter p q xs))
-    (λ f. ap (list_any p) (cond-false (q x) more (filter q xs) f) ∙ ap (λ b. b || list_any p (filter q xs)) (sym (and_left (q x) (p x) f))
-    ∙ ap (λ b. (q x && p x) || b) (any-filter p q xs))
-    (cases_Bool (q x))
 
 any_in_range : {X : Type 0} (p : X → Bool) (f : ℕ → List X) (a n c : ℕ) → a ≤ c → c < a + n → list_any p (f c) ≡ true
     → list_any p (flat_map f (range_with_len a n)) ≡ true

@@ -1,6 +1,7 @@
 use Rattle.std.proofs.Common.{rules, ◌≡◌, []}
 use Rattle.std.proofs.lemmas.List.{nil_from_length}
-use Rattle.bar_fixpoint.proofs.OneFall.{settled_from_none, overfilled_from_list, falls_once, told_one, on_err}
+use Rattle.admit_core.proofs.Plain.{on_err}
+use Rattle.bar_fixpoint.proofs.OneFall.{settled_from_none, overfilled_from_list, falls_once, told_one}
 use Rattle.bar_fixpoint.proofs.engine.fall_once.Goals as goal
 
 pub returns-then-is_settled-clause-settled : goal.returns-then-is_settled-clause-settled

@@ -1,5 +1,5 @@
 use Rattle.std.proofs.Common.{◌∙◌, refl, inl}
-use Rattle.bar_fixpoint.proofs.OneFall.{on_err}
+use Rattle.admit_core.proofs.Plain.{on_err}
 use Rattle.bar_fixpoint.proofs.SoFar.{under_now, above_now, greatest_now, more_now, smaller_now, early_so_far}
 use Rattle.bar_fixpoint.proofs.engine.greatest.Goals as goal
 

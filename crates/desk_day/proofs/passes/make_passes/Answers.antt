@@ -3,11 +3,11 @@ use Rattle.std.specs.Prelude.{IsTrue}
 use Rattle.std.proofs.lemmas.Bool.{not_from_false}
 use Rattle.std.proofs.lemmas.List.{append-nil}
 use Rattle.std.proofs.lemmas.List.Elements.{All-nil}
+use Rattle.admit_core.proofs.Plain.{on_err}
 use Rattle.admit_core.specs.declared.state.Mark.{Mark}
 use Rattle.admit_core.specs.DossierRows.{DossierRows}
 use Rattle.admit_core.specs.State.{State}
 use Rattle.admit_core.specs.Days.{frees_nothing}
-use Rattle.bar_fixpoint.proofs.OneFall.{on_err}
 use Rattle.linked_demand.specs.Lineups.{IsLineupOf}
 use Rattle.desk_day.specs.DayPasses.{schools_of_passes, stamp_of}
 use Rattle.desk_day.specs.DayPlaces.{AreWishesOf}

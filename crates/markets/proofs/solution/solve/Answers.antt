@@ -1,5 +1,5 @@
 use Rattle.std.proofs.Common.{◌∙◌}
-use Rattle.bar_fixpoint.proofs.OneFall.{on_err}
+use Rattle.admit_core.proofs.Plain.{on_err}
 use Rattle.markets.specs.Bars.{market_system}
 use Rattle.markets.proofs.Led.{led, none_told, some_told}
 use Rattle.markets.proofs.solution.solve.Goals as goal

@@ -1,7 +1,8 @@
 use Rattle.std.proofs.Common.{◌∙◌, ◌+◌, ◌<◌, ◌≤◌, ap, arith, length, subst, sym}
 use Rattle.admit_core.specs.DossierRows.{DossierRows, beds_of}
+use Rattle.bar_fixpoint.proofs.SoFar.{IsAtMost-refl}
 use Rattle.desk_day.proofs.PassesSoFar.{tells_from}
-use Rattle.modes.proofs.Figuring.{all_figured, at_most_self}
+use Rattle.modes.proofs.Figuring.{all_figured}
 use Rattle.modes.proofs.beds.figures_text.Goals as goal
 
 pub returns-clause-text : goal.returns-clause-text
@@ -18,7 +19,7 @@ pub lacking-more-requires-clause-need : goal.lacking-more-requires-clause-need
 lacking-more-requires-clause-need g c = omega (arith, c.in_ok-need.ensures.few)
 
 pub grown_bars-requires-clause-rise : goal.grown_bars-requires-clause-rise
-grown_bars-requires-clause-rise g c = at_most_self c.args.ceilings.now
+grown_bars-requires-clause-rise g c = IsAtMost-refl c.args.ceilings.now
 
 pub grown_bars-requires-clause-beds : goal.grown_bars-requires-clause-beds
 grown_bars-requires-clause-beds g c =

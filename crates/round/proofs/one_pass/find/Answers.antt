@@ -1,6 +1,6 @@
 use Rattle.std.proofs.Common.{rules, List, ℕ, sym, ◌∙◌, ap}
+use Rattle.admit_core.proofs.Plain.{on_err}
 use Rattle.admit_core.specs.Proposals.{proposed}
-use Rattle.bar_fixpoint.proofs.OneFall.{on_err}
 use Rattle.round.proofs.EarlyEnds.{told_nothing, told_early, told_of_all}
 use Rattle.round.proofs.one_pass.find.Goals as goal
 

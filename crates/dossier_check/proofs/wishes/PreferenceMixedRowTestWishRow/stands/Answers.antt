@@ -1,7 +1,8 @@
 use Rattle.std.proofs.Common.{nat_eq, is_some, sym, ap, ◌∙◌}
+use Rattle.admit_core.proofs.Plain.{nat_eq_sym}
 use Rattle.indexmap.specs.IndexMap.{get}
 use Rattle.dossier_check.proofs.FirstRows.{first_noted, first_noted-push, firsts-kept, firsts-noted}
-use Rattle.dossier_check.proofs.Places.{nat_eq_sound, nat_eq_sym}
+use Rattle.dossier_check.proofs.Places.{nat_eq_sound}
 use Rattle.dossier_check.proofs.wishes.PreferenceMixedRowTestWishRow.stands.Goals as goal
 
 pub returns-in_default-clause-seen : goal.returns-in_default-clause-seen

@@ -2,21 +2,10 @@ use Rattle.std.proofs.Common.{◌≡◌, ℕ, ◌<◌, Bool, true, false, not, L
 use Rattle.std.proofs.Math.Bool.{beq}
 use Rattle.std.proofs.lemmas.Bool.{false≢true}
 use Rattle.std.specs.List.Sorted.{IsNonDecreasing}
+use Rattle.admit_core.proofs.Plain.{unlike, alike}
 use Rattle.linked_demand.proofs.Answered.{was_answered, listed_rises, still_listed, room_for_one, one_listed, listed_within, one_dropped}
 use Rattle.linked_demand.proofs.overs.Overs.put.Goals as goal
 use Rattle.linked_demand.proofs.overs.Overs.put.Goals.{then-is_over-was_over+then-is_over, then-is_over-was_over+else-is_over, else-is_over-was_over}
-
-turned : (a b : Bool) → not (beq a b) ≡ true → b ≡ not a
-turned true true t = absurd (false≢true t)
-turned true false t = refl
-turned false true t = refl
-turned false false t = absurd (false≢true t)
-
-kept : (a b : Bool) → not (beq a b) ≡ false → a ≡ b
-kept true true t = refl
-kept true false t = absurd (false≢true (sym t))
-kept false true t = absurd (false≢true (sym t))
-kept false false t = refl
 
 pub first_not_below-at-requires : goal.first_not_below-at-requires
 first_not_below-at-requires c =
@@ -29,7 +18,7 @@ unwrap-requires c =
     let lt : c.args.place < length ranks = omega (arith, c.requires, ap length c.self.view_is) in
     let was = was_answered ranks c.args.place c.index.result.now c.is_some-was_over.result lt
     c.index.ensures c.is_some-was_over.ensures in
-    let none = was ∙ turned c.is_some-is_over.result c.is_some-was_over.result c.if-is_over-was_over.true
+    let none = was ∙ unlike c.is_some-is_over.result c.is_some-was_over.result c.if-is_over-was_over.true
     ∙ ap not c.if-is_over.true in
     c.insert.ensures.succeeds (omega (
       arith,
@@ -46,7 +35,7 @@ remove-requires c =
     let lt : c.args.place < length ranks = omega (arith, c.requires, ap length c.self.view_is) in
     let was = was_answered ranks c.args.place c.index.result.now c.is_some-was_over.result lt
     c.index.ensures c.is_some-was_over.ensures in
-    let some = was ∙ turned c.is_some-is_over.result c.is_some-was_over.result c.if-is_over-was_over.true
+    let some = was ∙ unlike c.is_some-is_over.result c.is_some-was_over.result c.if-is_over-was_over.true
     ∙ ap not c.if-is_over.false in
     omega (
       arith,
@@ -66,7 +55,7 @@ invariant_of-self c =
     c.index.ensures c.is_some-was_over.ensures in
     elim c.if-is_over-was_over.branch [
       | then-is_over-was_over+then-is_over w ↦
-          let none = was ∙ turned c.is_some-is_over.result c.is_some-was_over.result
+          let none = was ∙ unlike c.is_some-is_over.result c.is_some-was_over.result
           w.if-is_over-was_over.true ∙ ap not w.if-is_over.true in
           rw w.self-inside-is
           (one_listed ranks places _ c.self.invariant c.args.place c.args.rank lt w.deref.result.now
@@ -75,7 +64,7 @@ invariant_of-self c =
           (sym c.is_some-is_over.ensures ∙ w.if-is_over.true) w.insert.new.self.items _
           (w.insert.ensures.items ∙ rw w.unwrap.ensures refl) w.insert.ensures.capacity)
       | then-is_over-was_over+else-is_over w ↦
-          let some = was ∙ turned c.is_some-is_over.result c.is_some-was_over.result
+          let some = was ∙ unlike c.is_some-is_over.result c.is_some-was_over.result
           w.if-is_over-was_over.true ∙ ap not w.if-is_over.false in
           rw w.self-inside-is
           (one_dropped ranks places _ c.self.invariant c.args.place c.args.rank lt w.deref.result.now
@@ -87,5 +76,5 @@ invariant_of-self c =
           rw w.self-inside-is
           (still_listed ranks places _ c.self.invariant c.args.place c.args.rank lt
           (sym c.is_some-is_over.ensures
-          ∙ kept c.is_some-is_over.result c.is_some-was_over.result w.if-is_over-was_over.false ∙ sym was))
+          ∙ alike c.is_some-is_over.result c.is_some-was_over.result w.if-is_over-was_over.false ∙ sym was))
     ]

@@ -4,22 +4,11 @@ use Rattle.std.proofs.Math.Bool.{beq}
 use Rattle.std.proofs.lemmas.Bool.{false≢true, lt-ltb, le-ltb}
 use Rattle.std.proofs.lemmas.List.{get_or_default}
 use Rattle.std.specs.List.Sorted.{IsNonDecreasing}
+use Rattle.admit_core.proofs.Plain.{unlike, alike}
 use Rattle.linked_demand.proofs.Answered.{listed_rises, still_listed, room_for_one, one_listed, listed_within, one_dropped}
 use Rattle.markets.proofs.Filled.{mark, marks, some_mark, mark_at, long, as_answers, from_answers}
 use Rattle.markets.proofs.filling.Filling.put.Goals as goal
 use Rattle.markets.proofs.filling.Filling.put.Goals.{then-is_over-was_over+then-is_over, then-is_over-was_over+else-is_over, else-is_over-was_over}
-
-turned : (a b : Bool) → not (beq a b) ≡ true → b ≡ not a
-turned true true t = absurd (false≢true t)
-turned true false t = refl
-turned false true t = refl
-turned false false t = absurd (false≢true t)
-
-kept : (a b : Bool) → not (beq a b) ≡ false → a ≡ b
-kept true true t = refl
-kept true false t = absurd (false≢true (sym t))
-kept false true t = absurd (false≢true (sym t))
-kept false false t = refl
 
 -- what is read of a programme that is marked
 was_marked : (seats counts : List ℕ) (k s n : ℕ) → k < length counts → k < length seats → s ≡ get_or seats k s → n ≡ get_or counts k n
@@ -51,7 +40,7 @@ unwrap-requires c =
     let seats_lt : k < length seats = omega (arith, c.requires.seats, ap (λ f. length f.seats) c.self.view_is) in
     let s : ℕ = c.index-seats.result.now in
     let was = was_marked seats counts k s c.index.result.now lt seats_lt c.index-seats.ensures c.index.ensures in
-    let none = was ∙ turned (nat_lt s c.args.count) (nat_lt s c.index.result.now) c.if-is_over-was_over.true
+    let none = was ∙ unlike (nat_lt s c.args.count) (nat_lt s c.index.result.now) c.if-is_over-was_over.true
     ∙ ap not (lt-ltb s c.args.count c.if-is_over.true) in
     let x : Option ℕ = mark (nat_lt (slice_index seats k) c.args.count) in
     c.insert.ensures.succeeds (omega (
@@ -73,7 +62,7 @@ remove-requires c =
     let seats_lt : k < length seats = omega (arith, c.requires.seats, ap (λ f. length f.seats) c.self.view_is) in
     let s : ℕ = c.index-seats.result.now in
     let was = was_marked seats counts k s c.index.result.now lt seats_lt c.index-seats.ensures c.index.ensures in
-    let some = was ∙ turned (nat_lt s c.args.count) (nat_lt s c.index.result.now) c.if-is_over-was_over.true
+    let some = was ∙ unlike (nat_lt s c.args.count) (nat_lt s c.index.result.now) c.if-is_over-was_over.true
     ∙ ap not (le-ltb s c.args.count c.if-is_over.false) in
     let x : Option ℕ = mark (nat_lt (slice_index seats k) c.args.count) in
     omega (
@@ -103,7 +92,7 @@ invariant_of-self c =
     let m_lt : k < length (marks seats counts) = omega (arith, lt, long seats counts) in
     elim c.if-is_over-was_over.branch [
       | then-is_over-was_over+then-is_over w ↦
-          let none = was ∙ turned now before w.if-is_over-was_over.true ∙ ap not (lt-ltb s c.args.count w.if-is_over.true) in
+          let none = was ∙ unlike now before w.if-is_over-was_over.true ∙ ap not (lt-ltb s c.args.count w.if-is_over.true) in
           rw w.self-inside-is
           (from_answers seats counts w.insert.new.self.items k c.args.count _ lt
           (one_listed (marks seats counts) places _ (as_answers seats counts places _ c.self.invariant) k x m_lt w.deref.result.now
@@ -111,7 +100,7 @@ invariant_of-self c =
           (is ∙ lt-ltb s c.args.count w.if-is_over.true) w.insert.new.self.items _ (w.insert.ensures.items ∙ rw w.unwrap.ensures refl)
           w.insert.ensures.capacity))
       | then-is_over-was_over+else-is_over w ↦
-          let some = was ∙ turned now before w.if-is_over-was_over.true ∙ ap not (le-ltb s c.args.count w.if-is_over.false) in
+          let some = was ∙ unlike now before w.if-is_over-was_over.true ∙ ap not (le-ltb s c.args.count w.if-is_over.false) in
           rw w.self-inside-is
           (from_answers seats counts w.remove.new.self.items k c.args.count _ lt
           (one_dropped (marks seats counts) places _ (as_answers seats counts places _ c.self.invariant) k x m_lt w.deref.result.now
@@ -122,5 +111,5 @@ invariant_of-self c =
           rw w.self-inside-is
           (from_answers seats counts places k c.args.count _ lt
           (still_listed (marks seats counts) places _ (as_answers seats counts places _ c.self.invariant) k x m_lt
-          (is ∙ kept now before w.if-is_over-was_over.false ∙ sym was)))
+          (is ∙ alike now before w.if-is_over-was_over.false ∙ sym was)))
     ]
