@@ -2,7 +2,6 @@
 use Rattle.std.proofs.Common.{ℕ, ◌+◌, ◌≡◌, Bool, true, false, not, List, [], ◌∷◌, map, length, inl, inr, refl, sym, ◌∙◌, ap, subst, nat_eq, Option, Some, None}
 use Rattle.std.specs.Prelude.{slice_set, option_map, find, IsTrue, if◌then◌else◌}
 use Rattle.std.specs.List.{list_all, range_with_len}
-use Rattle.std.specs.Option.{option_or}
 use Rattle.std.proofs.lemmas.Bool.{and_parts, and_from, cases_Bool, eqb-true, not-true, not_from_false}
 use Rattle.admit_core.specs.declared.chain.FallLine.{FallLine}
 use Rattle.admit_core.specs.declared.chain.PassChain.{PassChain}

@@ -65,11 +65,11 @@ rank_is d valid h k w lt at has =
     let same = same_rank d valid j k v w h j_lt lt v_at at found.0 has (eqb-true v.candidate c found.1) in
     rw (find_at test ws, slice_get-get_or ws j w j_lt) same
 
-among_filter : (test : ℕ → Bool) (c : ℕ) (xs : List ℕ) → is_among c xs ≡ true → test c ≡ true → is_among c (filter test xs) ≡ true
+pub among_filter : (test : ℕ → Bool) (c : ℕ) (xs : List ℕ) → is_among c xs ≡ true → test c ≡ true → is_among c (filter test xs) ≡ true
 among_filter test c xs t passes = is_member-filter nat_eq_equiv test c (λ x same. ap test (eqb-true c x same)) xs ∙ and_from (is_among c xs) (test c) t passes
 
 -- the free beds of a place of the boarding system
-free_at : (s : State) (orders : List CallOrder) (ceilings : List ℕ) (h : ℕ) → h < length ceilings → slice_index (boarding s orders ceilings).free h ≡ free_beds s h
+pub free_at : (s : State) (orders : List CallOrder) (ceilings : List ℕ) (h : ℕ) → h < length ceilings → slice_index (boarding s orders ceilings).free h ≡ free_beds s h
 free_at s orders ceilings h lt = get_or-map-range_with_len (free_beds s) 0 (length ceilings) h h 0 lt (zero-add h)
 
 -- a list with a member is not empty

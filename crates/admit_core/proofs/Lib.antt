@@ -12,6 +12,7 @@ pub mod Dossiers
 pub mod Evenings
 pub mod FallsLaw
 pub mod FilledSeats
+pub mod FirstPlaces
 pub mod FullBeds
 pub mod Holders
 pub mod LeastFirst

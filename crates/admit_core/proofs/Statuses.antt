@@ -100,3 +100,14 @@ pub status_of_auto : (stamp : Stamp) (best : Wish × Mark) (w : Wish) (m : Mark)
     → (auto_mark stamp (Some best) w m).status ≡ auto_status m.status (w.preference == best.0.preference) (nat_lt best.0.preference w.preference)
 status_of_auto stamp best w m =
     changed_status (auto_status m.status (w.preference == best.0.preference) (nat_lt best.0.preference w.preference)) stamp m
+
+pub waiting_is : (x : Status) → is_waiting_status x ≡ true → x ≡ Waiting
+waiting_is Waiting t = refl
+waiting_is Offered t = absurd (cc)
+waiting_is Accepted t = absurd (cc)
+waiting_is Refused t = absurd (cc)
+waiting_is Withdrawn t = absurd (cc)
+waiting_is Quit t = absurd (cc)
+waiting_is AutoRefused t = absurd (cc)
+waiting_is AutoWithdrawn t = absurd (cc)
+waiting_is Lapsed t = absurd (cc)

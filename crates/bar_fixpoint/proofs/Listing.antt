@@ -5,19 +5,15 @@ use Rattle.std.specs.Option.{is_some}
 use Rattle.std.proofs.lemmas.Bool.{lt-ltb, le-ltb}
 use Rattle.std.proofs.lemmas.Option.{slice_get_cases}
 use Rattle.std.proofs.lemmas.List.FromFn.{filter_of_map_range_with_len_more}
-use Rattle.std.proofs.lemmas.List.{append-nil}
+use Rattle.std.proofs.lemmas.List.{append-nil, map-id}
 use Rattle.admit_core.specs.Falls.{FallingSystem, is_overfilled}
 use Rattle.bar_fixpoint.specs.Overfilled.{rank_over}
 
-map_same : (xs : List ℕ) → map (λ x. x) xs ≡ xs
-map_same [] = refl
-map_same (x ∷ xs) = ap (λ ys. x ∷ ys) (map_same xs)
-
-filter_more : (p : ℕ → Bool) (n : ℕ) → filter p (range_with_len 0 (n + 1)) ≡ filter p (range_with_len 0 n) ++ cond (p n) (n ∷ []) []
+pub filter_more : (p : ℕ → Bool) (n : ℕ) → filter p (range_with_len 0 (n + 1)) ≡ filter p (range_with_len 0 n) ++ cond (p n) (n ∷ []) []
 filter_more p n =
     let more : filter p (map (λ x. x) (range_with_len 0 (n + 1))) ≡ filter p (map (λ x. x) (range_with_len 0 n)) ++ cond (p n) (n ∷ []) [] =
     filter_of_map_range_with_len_more p (λ x. x) 0 n n (omega arith) in
-    rw (map_same (range_with_len 0 (n + 1)), map_same (range_with_len 0 n)) at more
+    rw (map-id (range_with_len 0 (n + 1)), map-id (range_with_len 0 n)) at more
 
 -- a place is overfilled where a rank finds no bed
 pub overfilled_by_rank : (sys : FallingSystem) (bars : List ℕ) (i : ℕ) → i < length sys.ceilings → is_overfilled sys bars i ≡ is_some (rank_over sys bars i)

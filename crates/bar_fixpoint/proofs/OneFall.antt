@@ -1,6 +1,6 @@
 -- One fall: the list that the picker is asked with, the rank, and the names.
 use Rattle.std.proofs.Common.{◌≡◌, ℕ, zero, suc, ◌+◌, ◌-◌, ◌<◌, ◌≤◌, Bool, true, not, cond, ◌&&◌, List, [], ◌∷◌, ◌++◌, length, take, map, slice_index, slice_set, refl, sym, ap, ◌∙◌, subst, inl, inr, arith, Some}
-use Rattle.std.specs.Prelude.{Option, filter, nat_le, unwrap_or, Contains, Result, Ok, Err, OnErr, sum}
+use Rattle.std.specs.Prelude.{Option, filter, nat_le, unwrap_or, Contains, sum}
 use Rattle.std.specs.List.{list_all, range_with_len}
 use Rattle.std.specs.List.Sorted.{IsStrictlyIncreasing}
 use Rattle.std.proofs.lemmas.Bool.{cases_order, le-leb, lt-leb, cases_Bool}

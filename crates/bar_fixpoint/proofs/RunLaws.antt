@@ -1,8 +1,9 @@
 -- Runs of falls and the picks that make them.
-use Rattle.std.proofs.Common.{◌≡◌, ℕ, List, [], ◌∷◌, refl, sym, ap, ◌∙◌, subst, arith}
-use Rattle.std.proofs.lemmas.List.{ext_get_or}
+use Rattle.std.proofs.Common.{◌≡◌, ℕ, List, [], ◌∷◌, inl, refl, sym, ap, ◌∙◌, subst, arith}
+use Rattle.std.proofs.lemmas.List.{append-nil, ext_get_or}
 use Rattle.admit_core.specs.declared.records.Fall.{Fall}
 use Rattle.admit_core.specs.Falls.{FallingSystem, IsGreatest, fall_of, fallen, AreFalls, IsRun, falls_by, Leads}
+use Rattle.bar_fixpoint.specs.Chosen.{TellsOfFalls}
 use Rattle.bar_fixpoint.specs.Runs.{schools_of}
 
 -- bars that are at most each other are the same
@@ -28,3 +29,10 @@ picks_fix sys falls run =
     let same = picked sys sys.ceilings falls run.are_falls in
     let P : List Fall → Type 0 = IsRun sys in
     (subst P (sym same) run, same)
+
+-- what was told before an engine begins
+pub none_told : (sys : FallingSystem) (choice : List ℕ → List ℕ → ℕ) (told : List ℕ) → TellsOfFalls sys choice told told
+none_told sys choice told = (
+  sys.ceilings,
+  record { falls = []; are_falls = tt; chosen = tt; bars_fell = refl; told_of = inl (sym (append-nil told)) },
+)

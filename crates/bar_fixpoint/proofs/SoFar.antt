@@ -40,7 +40,7 @@ schools-push : (fs : List Fall) (f : Fall) → schools_of (fs ++ f ∷ []) ≡ s
 schools-push [] f = refl
 schools-push (e ∷ fs) f = ap (λ xs. e.school ∷ xs) (schools-push fs f)
 
-IsAtMost-refl : (bars : List ℕ) → IsAtMost bars bars
+pub IsAtMost-refl : (bars : List ℕ) → IsAtMost bars bars
 IsAtMost-refl bars = record { as_many = refl; each = λ i. omega arith }
 
 module _ (sys : FallingSystem) (lawful : IsLawful sys) (choice : List ℕ → List ℕ → ℕ) (told : List ℕ) where

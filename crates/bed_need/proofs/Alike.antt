@@ -1,6 +1,6 @@
 -- Marks that are alike make one system of bars.
-use Rattle.std.proofs.Common.{◌≡◌, ◌∙◌, ℕ, ◌+◌, Bool, ◌&&◌, List, [], ◌∷◌, Option, None, Some, ap, arith, cond, filter, find, length, map, option_map, refl, sym, true, false, zip}
-use Rattle.std.specs.Prelude.{◌==◌, count_by, unwrap_or}
+use Rattle.std.proofs.Common.{◌≡◌, ℕ, ◌+◌, Bool, ◌&&◌, List, [], ◌∷◌, Option, None, Some, ap, cond, filter, find, length, map, option_map, refl, true, false, zip}
+use Rattle.std.specs.Prelude.{◌==◌, unwrap_or}
 use Rattle.std.specs.List.{enumerate_from, list_any, range_with_len}
 use Rattle.admit_core.specs.declared.dossier.Wish.{Wish}
 use Rattle.admit_core.specs.declared.ranking.CallOrder.{CallOrder}
@@ -11,7 +11,6 @@ use Rattle.admit_core.specs.Falls.{FallingSystem}
 use Rattle.admit_core.specs.Lists.{ascending}
 use Rattle.admit_core.specs.Proposals.{ahead, before, demanded_ranks, demands_bed, has_open_wish, is_behind_bar, is_open, is_open_in, is_proposed, needs_no_seat, wants_seat}
 use Rattle.admit_core.specs.State.{State, bed_holders, free_beds, has_school, holds_bed, holds_seat, is_live, seats_left}
-use Rattle.admit_core.proofs.Tests.{count_implied}
 use Rattle.admit_core.proofs.Plain.{filter_same, map_same, count_same}
 use Rattle.bed_need.specs.Refitted.{AreAlike, IsAlike}
 

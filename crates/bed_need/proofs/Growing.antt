@@ -2,12 +2,11 @@
 use Rattle.std.proofs.Common.{◌≡◌, ◌∙◌, ℕ, ◌<◌, ◌≤◌, List, arith, inl, inr, length, subst, sym}
 use Rattle.std.specs.Prelude.{slice_index}
 use Rattle.std.proofs.lemmas.Bool.{cases_eq}
-use Rattle.std.proofs.lemmas.List.{get_or_default, same_lists}
 use Rattle.admit_core.proofs.ClosedEvenings.{free_at}
 use Rattle.admit_core.specs.declared.ranking.CallOrder.{CallOrder}
 use Rattle.admit_core.specs.Boarding.{boarding}
 use Rattle.admit_core.specs.DossierRows.{beds_of}
-use Rattle.admit_core.specs.Falls.{FallingSystem, Fits, IsAtMost, IsGreatest}
+use Rattle.admit_core.specs.Falls.{Fits, IsAtMost, IsGreatest}
 use Rattle.admit_core.specs.LeastBeds.{IsLeastBeds, with_beds}
 use Rattle.admit_core.specs.State.{State}
 use Rattle.bar_fixpoint.proofs.RunLaws.{unique_greatest}

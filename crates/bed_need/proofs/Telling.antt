@@ -1,5 +1,5 @@
 -- What a picker told.
-use Rattle.std.proofs.Common.{◌≡◌, ◌∙◌, ℕ, List, ◌++◌, Result, ap, append_assoc, subst}
+use Rattle.std.proofs.Common.{◌≡◌, ℕ, List, ◌++◌, Result, subst}
 use Rattle.admit_core.specs.declared.records.PassRecord.{PassRecord}
 use Rattle.admit_core.specs.declared.ranking.CallOrder.{CallOrder}
 use Rattle.admit_core.specs.Boarding.{boarding}
@@ -8,16 +8,7 @@ use Rattle.admit_core.specs.Falls.{FallingSystem}
 use Rattle.admit_core.specs.State.{State}
 use Rattle.bar_fixpoint.specs.Chosen.{AreChosen}
 use Rattle.bar_fixpoint.specs.Runs.{schools_of}
-use Rattle.desk_day.specs.DayPasses.{TellsMore}
 use Rattle.bed_need.specs.Telling.{IsAsked, TellsOfBoth, TellsOfRun}
-
--- more, and then more
-pub more_again : (told between after : List ℕ)
-    → TellsMore told between → TellsMore between after → TellsMore told after
-more_again told between after one two = (
-  one.0 ++ two.0,
-  two.1 ∙ ap (λ (l : List ℕ). l ++ two.0) one.1 ∙ append_assoc told one.0 two.0,
-)
 
 -- of the falls of a pass
 pub run_of_pass : (s : State) (orders : List CallOrder) (ceilings : List ℕ)

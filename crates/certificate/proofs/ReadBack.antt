@@ -61,7 +61,7 @@ pass_line_is row n few = ap (option_and_then (line_with row (codes "pass")))
 abbrev IsSmall : ℕ → Type 0
 IsSmall n = n ≤ 4294967295
 
-id_small : (ids : List ℕ) (place : ℕ) → All IsSmall ids → slice_index ids place ≤ 4294967295
+pub id_small : (ids : List ℕ) (place : ℕ) → All IsSmall ids → slice_index ids place ≤ 4294967295
 id_small ids place all =
     elim (cases_lt place (length ids)) [
       | inl within ↦ all place 0 within

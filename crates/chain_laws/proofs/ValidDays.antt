@@ -1,9 +1,9 @@
 -- The chain of days of the rules is valid for each of them.
-use Rattle.std.proofs.Common.{◌≡◌, ℕ, suc, ◌+◌, ◌-◌, ◌<◌, ◌≤◌, Bool, true, false, cond, not, List, [], ◌∷◌, All, length, map, filter, take, get_or, Option, Some, None, inl, inr, refl, sym, ap, ◌∙◌, subst, arith, nat_eq, nat_le}
-use Rattle.std.specs.Prelude.{◌&&◌, ◌==◌, option_map, slice_index, unwrap_or, zip, IsTrue}
+use Rattle.std.proofs.Common.{◌≡◌, ℕ, suc, ◌+◌, ◌-◌, ◌<◌, ◌≤◌, true, not, List, [], ◌∷◌, All, length, map, take, get_or, Option, Some, None, inl, inr, refl, sym, ap, ◌∙◌, subst, arith, nat_eq, nat_le}
+use Rattle.std.specs.Prelude.{◌&&◌, ◌==◌, option_map, slice_index, unwrap_or, IsTrue}
 use Rattle.std.specs.List.{IsDistinct, enumerate_from}
-use Rattle.std.proofs.lemmas.Bool.{cases_Bool, cases_lt}
-use Rattle.std.proofs.lemmas.List.{get_or_past, length-map, length-take-le}
+use Rattle.std.proofs.lemmas.Bool.{cases_Bool}
+use Rattle.std.proofs.lemmas.List.{length-map, length-take-le}
 use Rattle.std.proofs.lemmas.List.Elements.{All-cons, All-filter, All-head, All-map, All-nil, All-tail}
 use Rattle.std.proofs.lemmas.List.FromFn.{length-enumerate_from}
 use Rattle.admit_core.specs.declared.dossier.CeilingChange.{CeilingChange}
@@ -13,13 +13,12 @@ use Rattle.admit_core.specs.declared.records.DayRecord.{DayRecord}
 use Rattle.admit_core.specs.declared.records.Fall.{Fall}
 use Rattle.admit_core.specs.declared.records.PassEnd.{PassEnd}
 use Rattle.admit_core.specs.declared.records.Terms.{Terms}
-use Rattle.admit_core.specs.declared.state.Freed.{Freed}
 use Rattle.admit_core.specs.declared.state.Stamp.{Stamp}
 use Rattle.admit_core.specs.Boarding.{boarding, name_of}
 use Rattle.admit_core.specs.Chains.{ArePassChains, IsDayChain, IsPassChain, bars_by, closing_by, frees_nothing_by}
 use Rattle.admit_core.specs.Days.{Days, IsDay, IsPassEnd, Passes, ceiling_on, ceilings_of, changes_until, closing, first_evening, freed_after, frees_nothing, morning, unfit_on}
 use Rattle.admit_core.specs.DossierRows.{DossierRows}
-use Rattle.admit_core.specs.Falls.{AreFalls, IsAtMost, fall_of, fallen, first_over, is_overfilled, is_settled}
+use Rattle.admit_core.specs.Falls.{AreFalls, IsAtMost, fall_of, fallen, is_overfilled, is_settled}
 use Rattle.admit_core.specs.Lists.{least_by, lesser}
 use Rattle.admit_core.specs.Proposals.{demanded_ranks}
 use Rattle.admit_core.specs.State.{State}
@@ -27,12 +26,10 @@ use Rattle.admit_core.specs.Validity.{IsValid}
 use Rattle.admit_core.proofs.DemandLaws.{boarding_is_lawful}
 use Rattle.admit_core.proofs.FallsLaw.{falls_under, over_in, over_rank}
 use Rattle.desk_day.proofs.SameDossier.{evening_dossier, morning_dossier}
-use Rattle.certificate.specs.ChainText.{chain_text}
-use Rattle.certificate.specs.Grammar.{read}
 use Rattle.certificate.specs.ProvedDays.{AreProvedDays}
-use Rattle.certificate.specs.Written.{AreNumbered, CanBeTold, DayCanBeTold, HasFewPasses, PassCanBeTold, chain_of_days, day_at, days_from, falls_from, pass_at, passes_from, row_after, row_after_pass}
+use Rattle.certificate.specs.Written.{AreNumbered, CanBeTold, DayCanBeTold, HasFewPasses, PassCanBeTold, day_at, days_from, falls_from, pass_at, passes_from, row_after, row_after_pass}
 use Rattle.chain_laws.specs.WrittenLaws.{OwnChainsAreProved}
-use Rattle.certificate.proofs.ReadBack.{reads_back}
+use Rattle.certificate.proofs.ReadBack.{reads_back, id_small}
 use Rattle.chain_laws.proofs.ValidLines.{valid_lines}
 
 -- the ceilings of a day have 32 bits
@@ -73,9 +70,6 @@ module _ (d : DossierRows) (valid : IsValid d) where
   length-ceilings : (day : ℕ) → length (ceilings_of d day) ≡ length d.schools
   length-ceilings day = length-map (enumerate_from 0 d.schools) (λ (x : ℕ × School). ceiling_on d day x.0 x.1) ∙ length-enumerate_from 0 d.schools
 
-small_at : (xs : List ℕ) (i : ℕ) → All IsSmall xs → slice_index xs i ≤ 4294967295
-small_at xs i all = elim (cases_lt i (length xs)) [ inl within ↦ all i 0 within | inr past ↦ rw (get_or_past xs i 0 past) (omega arith) ]
-
 -- the falls of a run can be told
 module _ (s : State) (orders : List CallOrder) (ceilings : List ℕ) (small : All IsSmall ceilings) where
   fall_told : (bars : List ℕ) (f : Fall) → IsAtMost bars ceilings → is_overfilled (boarding s orders ceilings) bars f.school ≡ true → f ≡ fall_of (boarding s orders ceilings) bars f.school → CanBeTold f
@@ -84,7 +78,7 @@ module _ (s : State) (orders : List CallOrder) (ceilings : List ℕ) (small : Al
       let h = f.school in
       let top = over_rank sys (boarding_is_lawful s orders ceilings) bars h under over in
       let in_range = over_in sys (boarding_is_lawful s orders ceilings) bars h over in
-      let bar : slice_index bars h ≤ 4294967295 = omega (arith, under.each h, small_at ceilings h small) in
+      let bar : slice_index bars h ≤ 4294967295 = omega (arith, under.each h, id_small ceilings h small) in
       let ranks = demanded_ranks s orders bars h in
       let free = slice_index sys.free h in
       let lt : free < length ranks = in_range.1 in

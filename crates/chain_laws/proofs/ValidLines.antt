@@ -1,7 +1,7 @@
 -- The falls of a run, as lines, are valid.
-use Rattle.std.proofs.Common.{◌≡◌, ℕ, suc, ◌+◌, ◌-◌, ◌<◌, ◌≤◌, Bool, true, false, ◌&&◌, List, [], ◌∷◌, All, length, map, take, get_or, inl, inr, refl, sym, ap, ◌∙◌, subst, arith, nat_eq}
-use Rattle.std.specs.Prelude.{◌==◌, option_map, position, slice_index, slice_set, unwrap_or, zip, IsTrue}
-use Rattle.std.specs.List.{IsDistinct, enumerate_from, list_all, list_any}
+use Rattle.std.proofs.Common.{◌≡◌, ℕ, suc, ◌+◌, ◌-◌, ◌<◌, true, ◌&&◌, List, [], ◌∷◌, All, length, map, take, get_or, refl, sym, ap, ◌∙◌, subst, arith, nat_eq}
+use Rattle.std.specs.Prelude.{◌==◌, option_map, slice_index, slice_set, unwrap_or, zip}
+use Rattle.std.specs.List.{IsDistinct, list_all}
 use Rattle.std.proofs.lemmas.Bool.{and_from, and_parts, eq-eqb, eqb-true}
 use Rattle.std.proofs.lemmas.List.{get_or-map, length-map}
 use Rattle.std.proofs.lemmas.List.Elements.{All-head, All-tail, All-take}
@@ -25,7 +25,7 @@ use Rattle.admit_core.specs.State.{State, entries}
 use Rattle.admit_core.proofs.DemandLaws.{boarding_is_lawful, demanded, demands_at}
 use Rattle.admit_core.proofs.FallsLaw.{over_in}
 use Rattle.admit_core.proofs.Plain.{nat_eq_sym}
-use Rattle.report.specs.Ids.{school_id, wish_id}
+use Rattle.report.specs.Ids.{wish_id}
 use Rattle.certificate.proofs.Naming.{find_numbered}
 use Rattle.certificate.specs.Written.{fall_at, falls_from}
 

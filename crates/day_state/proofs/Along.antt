@@ -1,5 +1,5 @@
 -- Changes along a candidate's own wishes change what a change of all marks does.
-use Rattle.std.proofs.Common.{ℕ, ◌+◌, ◌≤◌, ◌<◌, ◌≡◌, Bool, true, false, cond, ◌&&◌, ◌||◌, List, [], ◌∷◌, map, length, get_or, set, drop, inl, inr, refl, sym, ◌∙◌, ap, arith, nat_eq, filter, zero, suc}
+use Rattle.std.proofs.Common.{ℕ, ◌+◌, ◌≤◌, ◌<◌, ◌≡◌, Bool, true, false, cond, ◌&&◌, ◌||◌, List, [], ◌∷◌, length, get_or, set, drop, inl, inr, refl, sym, ◌∙◌, ap, arith, nat_eq, filter, zero, suc}
 use Rattle.std.specs.Prelude.{slice_index, ◌==◌, All, if◌then◌else◌}
 use Rattle.std.specs.List.{list_any, range_with_len}
 use Rattle.std.proofs.lemmas.Bool.{cases_eq, eqb-true, eq-eqb, ne_eqb, or_from, and_right}

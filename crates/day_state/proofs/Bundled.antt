@@ -28,7 +28,7 @@ use Rattle.day_state.proofs.Numbering.{range_at, bundles_are}
 use Rattle.day_state.proofs.Sharing.{alone_first, rank_within, rank_apart, count_parts}
 use Rattle.day_state.proofs.Places.{entry_in, entries_by_place}
 use Rattle.day_state.proofs.Along.{mark_in-set_same, mark_in-set_other}
-use Rattle.day_state.proofs.Change.{Fits, kept_changed}
+use Rattle.day_state.proofs.Change.{Fits, kept_changed, one_at_most}
 use Rattle.day_state.proofs.Filled.{kept_waiting}
 
 -- two tests that agree but at k
@@ -169,10 +169,6 @@ count_most ms numbers b =
       length-range_with_len 0 (length ms),
     )
 
-one_most : (b : Bool) → one_if b ≤ 1
-one_most true = omega arith
-one_most false = omega arith
-
 -- the number of a wish's bundle
 number_is : (sites : Sites) (s : State) (numbers : List Number) (live : List ℕ) (k : ℕ) → IsBundled sites s numbers live
     → number_at numbers k ≡ number_of (bundles_of sites s.dossier.wishes) (number_in (bundles_of sites s.dossier.wishes) k)
@@ -213,7 +209,7 @@ bundle_fits sites s numbers live k m long lt short bundled n e =
     rw (← parts.3)
     (record {
       place = omega (arith, bundled.counts.as_long, rank_within bundles b parts.2 b_in);
-      comes = omega (arith, is, count_most s.marks bundles b, one_most (is_live m), long);
+      comes = omega (arith, is, count_most s.marks bundles b, one_at_most (is_live m), long);
       goes = omega (arith, is, live_here s.marks bundles b k m lt parts.1);
     })
 

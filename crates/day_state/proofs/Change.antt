@@ -26,7 +26,7 @@ own_within d c =
     All-filter (λ k. candidate_of d k == c) (λ k. k < n) (range_with_len 0 n)
     (λ k e lt. let in_range : k < n = omega (arith, length-range_with_len 0 n) in rw (get_or-range_with_len 0 n k e in_range) (omega arith))
 
-one_at_most : (b : Bool) → one_if b ≤ 1
+pub one_at_most : (b : Bool) → one_if b ≤ 1
 one_at_most true = omega arith
 one_at_most false = omega arith
 

@@ -12,7 +12,7 @@ use Rattle.day_state.specs.Applied.{refused_at, after_fitting_front}
 use Rattle.day_state.specs.Laws.{IsMarked, AreOwn, OwnFit}
 use Rattle.day_state.proofs.Independence.{some_not, answers_stay_apart, fits_apart}
 
-front_all : (k : ℕ) (s : State) (stamp : Stamp) (answers : List Answer) → first_unfit k s stamp answers ≡ None
+pub front_all : (k : ℕ) (s : State) (stamp : Stamp) (answers : List Answer) → first_unfit k s stamp answers ≡ None
     → after_fitting_front s stamp answers ≡ after_all s stamp answers
 front_all k s stamp [] e = refl
 front_all k s stamp (a ∷ rest) e =

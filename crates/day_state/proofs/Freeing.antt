@@ -1,5 +1,5 @@
 -- What changes of a candidate's marks free.
-use Rattle.std.proofs.Common.{ℕ, ◌+◌, ◌≤◌, ◌<◌, ◌≡◌, Bool, true, false, not, ◌&&◌, ◌||◌, List, [], ◌∷◌, length, set, get_or, inl, inr, refl, sym, ◌∙◌, ap, arith, Option, Some, None, zero, suc, zip}
+use Rattle.std.proofs.Common.{ℕ, ◌+◌, ◌≤◌, ◌<◌, ◌≡◌, Bool, true, false, not, ◌&&◌, List, [], ◌∷◌, length, set, get_or, inl, inr, refl, sym, ◌∙◌, ap, arith, Option, Some, None, zero, suc, zip}
 use Rattle.std.specs.Prelude.{◌==◌}
 use Rattle.std.specs.Option.{ForSome}
 use Rattle.std.specs.List.{list_any}

@@ -10,10 +10,10 @@ use Rattle.admit_core.specs.declared.state.Status.TheVariants.{Waiting, Offered,
 use Rattle.admit_core.specs.declared.state.Mark.{Mark}
 use Rattle.admit_core.specs.declared.state.Stamp.{Stamp}
 use Rattle.admit_core.specs.declared.state.Change.{Change}
-use Rattle.admit_core.specs.State.{State, is_waiting, is_waiting_status, status_number, changed_to}
+use Rattle.admit_core.specs.State.{State, is_waiting, status_number, changed_to}
 use Rattle.admit_core.specs.Proposals.{is_proposed}
 use Rattle.admit_core.specs.AutoAnswer.{auto_mark, auto_status, best_live}
-use Rattle.admit_core.proofs.Statuses.{changed_status, status_of_auto}
+use Rattle.admit_core.proofs.Statuses.{changed_status, status_of_auto, waiting_is}
 use Rattle.admit_core.specs.Days.{offered, closing, changes}
 use Rattle.desk_day.specs.Changes.{is_answered_change, answered_changes}
 
@@ -45,17 +45,6 @@ after_offer false worse = refl
 
 same_stays : (x : Status) → not (status_number x == status_number x) ≡ is_answered_change x x
 same_stays x = rw (number_same (status_number x)) refl
-
-waiting_is : (x : Status) → is_waiting_status x ≡ true → x ≡ Waiting
-waiting_is Waiting t = refl
-waiting_is Offered t = absurd (cc)
-waiting_is Accepted t = absurd (cc)
-waiting_is Refused t = absurd (cc)
-waiting_is Withdrawn t = absurd (cc)
-waiting_is Quit t = absurd (cc)
-waiting_is AutoRefused t = absurd (cc)
-waiting_is AutoWithdrawn t = absurd (cc)
-waiting_is Lapsed t = absurd (cc)
 
 -- one mark: m in the opening, then the offer, then the automatic answer
 one_change : (stamp : Stamp) (best : Option (Wish × Mark)) (w : Wish) (m : Mark) (made : Bool) → (made ≡ true → is_waiting m ≡ true)

@@ -21,6 +21,7 @@ use Rattle.day_state.specs.declared.day.UnfitAt.{UnfitAt}
 use Rattle.day_state.specs.Applied.{refused_at, after_fitting_front}
 use Rattle.day_state.proofs.Answering.{dossier_after}
 use Rattle.day_state.proofs.Ordering.{between}
+use Rattle.day_state.proofs.FittingLists.{front_all}
 use Rattle.desk_day.specs.AnswersOn.{places_on, AreAnswersOn, IsApplied, unfit_refusal, refusal_at, answers_stamp}
 use Rattle.desk_day.specs.declared.refusal.DayRefusal.{DayRefusal}
 use Rattle.desk_day.specs.declared.refusal.DayRefusal.TheVariants as refusals
@@ -131,18 +132,6 @@ unfit_applied s t day first answers u refusal are e is =
 none_refused : (o : Option (ℕ × Status)) → Ok tt ≡ refused_at o → o ≡ None
 none_refused None e = refl
 none_refused (Some x) e = absurd (cc)
-
-front_all : (k : ℕ) (s : State) (stamp : Stamp) (answers : List Answer) → first_unfit k s stamp answers ≡ None
-    → after_fitting_front s stamp answers ≡ after_all s stamp answers
-front_all k s stamp [] e = refl
-front_all k s stamp (a ∷ rest) e =
-    elim (cases_Bool (fits s a)) [
-      | inl fit ↦ rw fit (front_all (k + 1) (after s stamp a) stamp rest (rw fit at e))
-      | inr unfit ↦ absurd (some_none (rw unfit at e))
-    ]
-  where
-    some_none : {x : ℕ × Status} → Some x ≡ None → ⊥
-    some_none e = (cc)
 
 -- what fitting answers lead to
 pub fit_applied : (s t : State) (day first : ℕ) (answers : List Answer) → AreAnswersOn s.dossier day first answers

@@ -1,5 +1,5 @@
 -- Where all have been answered for but those who have one of some wishes, only they and those with an offer are answered for, and change.
-use Rattle.std.proofs.Common.{ℕ, ◌<◌, ◌≡◌, Bool, true, false, ◌||◌, List, ◌++◌, map, length, inl, inr, refl, sym, ◌∙◌, ap, subst, nat_eq}
+use Rattle.std.proofs.Common.{ℕ, ◌<◌, ◌≡◌, true, false, List, ◌++◌, map, length, inl, inr, refl, sym, ◌∙◌, ap, subst, nat_eq}
 use Rattle.std.specs.Prelude.{All, if◌then◌else◌}
 use Rattle.std.proofs.lemmas.Bool.{cases_Bool, false≢true, or_parts}
 use Rattle.std.proofs.lemmas.List.{map-append}

@@ -146,6 +146,9 @@ pub tells_from : (before mid after : List ℕ) (picks : List ℕ) → mid ≡ be
 tells_from before mid after picks first then =
     (picks ++ then.0, then.1 ∙ ap (λ (l : List ℕ). l ++ then.0) first ∙ append_assoc before picks then.0)
 
+pub tells_on : (before mid after : List ℕ) → TellsMore before mid → TellsMore mid after → TellsMore before after
+tells_on before mid after one two = tells_from before mid after one.0 one.1 two
+
 pub tells_of_falls : (sys : FallingSystem) (choice : List ℕ → List ℕ → ℕ) (before after : List ℕ) → TellsOfFalls sys choice before after
     → TellsMore before after
 tells_of_falls sys choice before after told =

@@ -1,11 +1,10 @@
 -- Rows laid into the lists of their groups.
-use Rattle.std.proofs.Common.{◌≡◌, ℕ, ◌<◌, suc, Bool, true, false, nat_eq, List, [], ◌∷◌, ◌++◌, map, length, get_or, position, Some, refl, sym, ap, ◌∙◌, true≢false, arith}
+use Rattle.std.proofs.Common.{◌≡◌, ℕ, suc, Bool, true, false, nat_eq, List, [], ◌∷◌, ◌++◌, map, get_or, refl, sym, ap, ◌∙◌, true≢false}
 use Prim.Native.Nat.{zero}
 use Rattle.std.proofs.Math.ListN.{set}
-use Rattle.std.proofs.lemmas.Bool.Decides.{nat_tests}
-use Rattle.std.specs.List.{list_any, IsDistinct, AllByRecursion}
-use Rattle.std.proofs.lemmas.List.Quantifiers.{position-Some}
+use Rattle.std.specs.List.{list_any, IsDistinct}
 use Rattle.admit_core.proofs.Plain.{nat_eq_sym}
+use Rattle.admit_core.proofs.FirstPlaces.{none_after, IsAt}
 use Rattle.admit_core.specs.declared.tables.RankRow.{RankRow}
 use Rattle.admit_core.specs.Standing.{ranked_in, ranked_row}
 
@@ -37,25 +36,6 @@ in_none rows row (k ∷ ks) h = by (nat_eq row.group k) refl (in_none rows row k
         → map (ranked_in (rows ++ row ∷ [])) (k ∷ ks) ≡ map (ranked_in rows) (k ∷ ks)
     by true f ih = absurd (true≢false (sym (rw f at (sym h))))
     by false f ih = let g : list_any (nat_eq row.group) ks ≡ false = rw f at h in rw (in_other rows row k (nat_eq_sym k row.group ∙ f), ih g) refl
-
--- g stands at i, and not before
-abbrev pub IsAt : ℕ → List ℕ → ℕ → Type 0
-IsAt g [] i = ⊥
-IsAt g (k ∷ ks) zero = nat_eq g k ≡ true
-IsAt g (k ∷ ks) (suc i) = (nat_eq g k ≡ false) × IsAt g ks i
-
-at_from : (g : ℕ) (ks : List ℕ) (i : ℕ) → i < length ks → nat_eq g (get_or ks i 0) ≡ true → ((k : ℕ) → k < i → nat_eq g (get_or ks k 0) ≡ false) → IsAt g ks i
-at_from g [] i lt at before = absurd (omega arith)
-at_from g (k ∷ ks) zero lt at before = at
-at_from g (k ∷ ks) (suc i) lt at before = (before 0 (omega arith), at_from g ks i (omega arith) at (λ j below. before (suc j) (omega arith)))
-
-pub is_at : (g : ℕ) (ks : List ℕ) (i : ℕ) → position (nat_eq g) ks ≡ Some i → IsAt g ks i
-is_at g ks i e = let p = position-Some (nat_eq g) ks i 0 e in at_from g ks i p.0 p.1 p.2
-
-pub none_after : (g k : ℕ) (ks : List ℕ) → nat_eq g k ≡ true → AllByRecursion (λ y. nat_eq k y ≡ false) ks → list_any (nat_eq g) ks ≡ false
-none_after g k [] e h = refl
-none_after g k (y ∷ ys) e (here, rest) =
-    let f : nat_eq g y ≡ false = grind (arith, nat_tests) in rw f (none_after g k ys e rest)
 
 -- the row's group gets the row, and no other list changes
 pub lay : (rows : List RankRow) (row : RankRow) (ks : List ℕ) (i : ℕ) → IsDistinct nat_eq ks → IsAt row.group ks i

@@ -18,10 +18,10 @@ use Rattle.admit_core.specs.Standing.{group_of_row, ranked_in, ranked_row}
 use Rattle.dossier_check.specs.declared.ranks.Dealt.{Dealt}
 use Rattle.dossier_check.specs.Dealt.{AreDealt, HasItsGroup}
 use Rattle.std.proofs.lemmas.Simd.{map-map}
-use Rattle.dossier_check.proofs.Faultless.{no_tests, and_then, none_in, differ, knows_all}
 use Rattle.dossier_check.proofs.Places.{nat_eq_sound}
 use Rattle.admit_core.proofs.SortedLists.{IsPermutation-sorted_by}
 use Rattle.admit_core.proofs.Plain.{nat_eq_sym}
+use Rattle.admit_core.proofs.NoFaults.{no_tests, and_then, none_in, differ, all_known}
 use Rattle.dossier_check.proofs.ValidRankings.{map-ranked_in}
 
 -- what holds of each list holds of the list that an id has
@@ -124,5 +124,5 @@ no_rank_fault t dealt is known candidates ranks =
     (list_with (λ g. g.list) ordered (λ l. IsDistinct nat_eq (map (λ r. r.rank) l)) dealt.rankings.items ids lists ranks group there)) in
     none_in slots.Rankings (ranking_tests t) t.rankings
     (and_then (differ (λ row r. nat_eq row.group r.group && nat_eq row.candidate r.candidate) Repeat t.rankings people)
-    (and_then (knows_all (λ row. is_among row.group ids) (Unknown 1) t.rankings known)
+    (and_then (all_known (λ row. is_among row.group ids) (Unknown 1) t.rankings known)
     (and_then (differ (λ row r. nat_eq row.group r.group && nat_eq row.rank r.rank) RankTaken t.rankings places) no_tests)))

@@ -1,23 +1,15 @@
 -- What holds of rows at which no test stands.
-use Rattle.std.proofs.Common.{◌≡◌, ℕ, ◌<◌, suc, Bool, true, false, List, ◌∷◌, [], ◌++◌, if◌then◌else◌, length, get_or, take, option_map, Option, Some, None, refl, sym, ◌∙◌, arith, true≢false, append_assoc, All, AllPairs}
+use Rattle.std.proofs.Common.{◌≡◌, ℕ, ◌<◌, suc, Bool, true, false, List, ◌∷◌, [], ◌++◌, if◌then◌else◌, length, get_or, take, option_map, Some, None, refl, sym, ◌∙◌, arith, true≢false, append_assoc, All, AllPairs}
 use Prim.Native.Nat.{zero}
 use Rattle.std.proofs.lemmas.List.{append-nil, length-take-le, get_or-take}
 use Rattle.std.proofs.lemmas.List.Folds.{list_any_at}
 use Rattle.std.specs.List.{list_any}
-use Rattle.std.specs.Option.{option_or}
 use Rattle.admit_core.proofs.Plain.{mapped_none, none_or}
+use Rattle.admit_core.proofs.NoFaults.{Passes, PassesAll}
 use Rattle.admit_core.specs.declared.slot.Slot.{Slot}
 use Rattle.admit_core.specs.declared.refusal.Reason.{Reason}
 use Rattle.admit_core.specs.Faults.{Test, first_row, first_reason, first_after, first_in}
 use Rattle.dossier_check.proofs.Firsts.{position-some}
-
--- a test stands at no row
-pub record Passes {R : Type 0} (test : Test R) (rows : List R) : Type 0 where
-  pub at : (k : ℕ) (d : R) → k < length rows → test (take k rows) (get_or rows k d) ≡ None
-
--- none of the tests stands at a row
-pub record PassesAll {R : Type 0} (tests : List (Test R)) (rows : List R) : Type 0 where
-  pub at : (k : ℕ) (d : R) → k < length rows → first_reason tests (take k rows) (get_or rows k d) ≡ None
 
 pub first_passes : {R : Type 0} {test : Test R} {tests : List (Test R)} {rows : List R} → PassesAll (test ∷ tests) rows → Passes test rows
 first_passes {R} {test} {tests} {rows} all =

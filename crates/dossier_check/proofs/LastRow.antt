@@ -5,9 +5,9 @@ use Rattle.std.specs.Option.{option_map_or}
 use Rattle.std.proofs.lemmas.Bool.Decides.{nat_tests}
 use Rattle.std.proofs.lemmas.List.{take_more, get_or-map}
 use Rattle.std.proofs.lemmas.List.Sorted.{IsNonDecreasingBy-from_all_adjacent}
+use Rattle.admit_core.proofs.NoFaults.{Passes}
 use Rattle.admit_core.specs.declared.refusal.Reason.TheVariants.{DayFalls}
 use Rattle.admit_core.specs.Relations.{last_row, day_falls}
-use Rattle.dossier_check.proofs.FaultFree.{Passes}
 use Rattle.dossier_check.proofs.Firsts.{length-map-here}
 
 pub last_row-push : {R : Type 0} (rows : List R) (row : R) → last_row (rows ++ row ∷ []) ≡ Some row

@@ -2,6 +2,7 @@
 use Rattle.std.proofs.Common.{◌≡◌, true, nat_eq, Option, None}
 use Rattle.std.specs.Option.{option_or, option_map_or}
 use Rattle.admit_core.proofs.Plain.{none_or}
+use Rattle.admit_core.proofs.NoFaults.{Passes, PassesAll}
 use Rattle.admit_core.specs.declared.slot.Slot.TheVariants as slots
 use Rattle.admit_core.specs.declared.refusal.Refusal.{Refusal}
 use Rattle.admit_core.specs.declared.tables.Tables.{Tables}
@@ -9,7 +10,7 @@ use Rattle.admit_core.specs.Faults.{first_in, repeats, names_unknown}
 use Rattle.admit_core.specs.Lists.{is_among}
 use Rattle.admit_core.specs.Relations.{group_tests, programme_tests, school_tests, ranking_tests, boarding_tests, wish_tests, state_tests, ceiling_tests, answer_tests, first_fault}
 use Rattle.admit_core.specs.Relations.{programme_ids, school_ids, same_wish, unranked, no_boarding_rank, preference_mixed, preference_taken}
-use Rattle.dossier_check.proofs.FaultFree.{Passes, PassesAll, first_passes, rest_pass, pass_all}
+use Rattle.dossier_check.proofs.FaultFree.{first_passes, rest_pass, pass_all}
 
 -- each test of the wishes, none of which stands at a row
 pub record WishesPass (t : Tables) : Type 0 where

@@ -1,5 +1,5 @@
 -- Pairs of rows.
-use Rattle.std.proofs.Common.{◌≡◌, ℕ, ◌<◌, Bool, true, false, ◌&&◌, List, [], ◌∷◌, length, map, get_or, refl, sym, ◌∙◌, arith, true≢false, inl, inr, ◌⊎◌, AllPairs}
+use Rattle.std.proofs.Common.{◌≡◌, ℕ, ◌<◌, Bool, true, false, List, [], ◌∷◌, length, map, get_or, sym, ◌∙◌, arith, true≢false, inl, inr, ◌⊎◌, AllPairs}
 use Rattle.std.proofs.lemmas.List.{get_or-map}
 use Rattle.dossier_check.proofs.Firsts.{length-map-here}
 

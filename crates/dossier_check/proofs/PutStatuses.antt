@@ -4,11 +4,11 @@ use Prim.Native.Nat.{zero}
 use Rattle.std.proofs.Math.ListN.{set, drop_of_length-le}
 use Rattle.std.specs.List.{list_any, IsDistinct}
 use Rattle.admit_core.proofs.Plain.{nat_eq_sym}
+use Rattle.admit_core.proofs.FirstPlaces.{none_after, IsAt}
 use Rattle.admit_core.specs.declared.state.Status.TheVariants.{Waiting}
 use Rattle.admit_core.specs.declared.tables.StateRow.{StateRow}
 use Rattle.admit_core.specs.declared.tables.WishRow.{WishRow}
 use Rattle.dossier_check.specs.Statuses.{status_in}
-use Rattle.dossier_check.proofs.Buckets.{IsAt, none_after}
 
 module _ (row : StateRow) (rows : List StateRow) where
   own : (w : WishRow) → nat_eq row.wish w.id ≡ true → status_in (row ∷ rows) w ≡ row.status

@@ -13,7 +13,7 @@ use Rattle.dossier_check.proofs.Firsts.{length-map-here}
 less : (m n : ℕ) → true ≡ nat_lt m n → nat_cmp m n ≡ Less
 less m n lt = rw (sym lt) refl
 
-differs : (m n : ℕ) → m < n → nat_eq m n ≡ false
+pub differs : (m n : ℕ) → m < n → nat_eq m n ≡ false
 differs m n lt = grind (arith, nat_tests)
 
 pub rising : (xs : List ℕ) (r : Bool) → IsAllAdjacentAnswer (λ x y b. b ≡ nat_lt x y) xs r → r ≡ true → IsDistinct nat_eq xs

@@ -14,9 +14,7 @@ use Rattle.indexmap.specs.IndexSet.{insert_key}
 use Rattle.dossier_check.specs.RowIds.{Rises}
 use Rattle.dossier_check.proofs.Firsts.{position-none}
 use Rattle.dossier_check.proofs.Places.{nat_eq_same, position-any}
-
-differs : (m n : ℕ) → m < n → nat_eq m n ≡ false
-differs m n lt = grind (arith, nat_tests)
+use Rattle.dossier_check.proofs.Rising.{differs}
 
 differs_above : (m n : ℕ) → m < n → nat_eq n m ≡ false
 differs_above m n lt = grind (arith, nat_tests)

@@ -5,12 +5,13 @@ use Rattle.std.specs.Option.{option_map_or}
 use Rattle.std.proofs.lemmas.List.{get_or-map}
 use Rattle.std.proofs.lemmas.Map.Keys.{IsDistinct-from_apart}
 use Rattle.admit_core.proofs.Plain.{nat_eq_sym}
+use Rattle.admit_core.proofs.NoFaults.{Passes}
 use Rattle.admit_core.specs.declared.refusal.Reason.TheVariants.{Repeat, RankTaken, Unknown, Unranked, NoBoardingRank, PreferenceTaken, TwoAccepted}
 use Rattle.admit_core.specs.declared.tables.Tables.{Tables}
 use Rattle.admit_core.specs.Lists.{is_among}
 use Rattle.admit_core.specs.Faults.{repeats}
 use Rattle.admit_core.specs.Relations.{group_ids, programme_ids, school_ids, wish_ids, same_wish, is_ranked, is_boarded, is_accepted, same_candidate, candidate_with, is_target}
-use Rattle.dossier_check.proofs.FaultFree.{Passes, first_passes, second_passes, third_passes, apart, apart_when, all_known}
+use Rattle.dossier_check.proofs.FaultFree.{first_passes, second_passes, third_passes, apart, apart_when, all_known}
 use Rattle.dossier_check.proofs.Firsts.{length-map-here}
 use Rattle.dossier_check.proofs.NoFault.{HasNoFault}
 

@@ -15,8 +15,9 @@ use Rattle.admit_core.specs.Standing.{ranked_row, ranked_in, group_of_row}
 use Rattle.admit_core.specs.Validity.{IsRanking}
 use Rattle.std.proofs.lemmas.Simd.{map-map}
 use Rattle.dossier_check.proofs.Firsts.{length-map-here}
-use Rattle.dossier_check.proofs.FaultFree.{PassesAll, first_passes, third_passes, apart}
+use Rattle.dossier_check.proofs.FaultFree.{first_passes, third_passes, apart}
 use Rattle.admit_core.proofs.SortedLists.{length-sorted_by, IsDistinct-sorted_by, IsStrictlyIncreasing-sorted_by}
+use Rattle.admit_core.proofs.NoFaults.{PassesAll}
 
 module _ {R : Type 0} (p : R → Bool) (key : R → ℕ) where
   -- of two that pass the keys differ

@@ -1,6 +1,7 @@
 -- What wishes are refused for without the tests that are known to stand at no row.
 use Rattle.std.proofs.Common.{◌≡◌, Bool, true, false, ◌&&◌, nat_eq, List, [], ◌∷◌, AllPairs, get_or, take, ap, subst, ◌∙◌}
 use Rattle.std.specs.Option.{option_map_or}
+use Rattle.admit_core.proofs.NoFaults.{Passes, differ, differ_when}
 use Rattle.admit_core.specs.declared.refusal.Reason.TheVariants.{Repeat, PreferenceTaken}
 use Rattle.admit_core.specs.declared.slot.Slot.TheVariants as slots
 use Rattle.admit_core.specs.declared.tables.Tables.{Tables}
@@ -10,8 +11,7 @@ use Rattle.admit_core.specs.Lists.{is_among}
 use Rattle.admit_core.specs.Relations.{same_wish, wish_tests, programme_ids, school_ids, unranked, no_boarding_rank, preference_mixed, preference_taken}
 use Rattle.dossier_check.specs.Wished.{has_preference}
 use Rattle.dossier_check.specs.WishTests.{tests_unless}
-use Rattle.dossier_check.proofs.FaultFree.{Passes}
-use Rattle.dossier_check.proofs.Faultless.{differ, differ_when, left_out, same_in}
+use Rattle.dossier_check.proofs.Faultless.{left_out, same_in}
 
 -- where those are known to stand at no row, the fault is the same
 pub same_fault : (t : Tables) (apart distinct : Bool) → (apart ≡ true → Passes (repeats same_wish) t.wishes) → (distinct ≡ true → Passes preference_taken t.wishes)

@@ -8,6 +8,7 @@ use Rattle.std.proofs.lemmas.List.{take-append-drop}
 use Rattle.std.proofs.lemmas.List.Folds.{find-append, list_any_at}
 use Rattle.std.proofs.lemmas.Option.{same_Some}
 use Rattle.admit_core.proofs.Plain.{mapped_none}
+use Rattle.admit_core.proofs.NoFaults.{Passes}
 use Rattle.admit_core.specs.declared.tables.BoardRow.{BoardRow}
 use Rattle.admit_core.specs.declared.tables.WishRow.{WishRow}
 use Rattle.admit_core.specs.declared.tables.Tables.{Tables}
@@ -16,7 +17,6 @@ use Rattle.admit_core.specs.Lists.{is_among}
 use Rattle.admit_core.specs.Relations.{programme_ids, school_ids, same_school, is_boarded, are_mixed, mixed_with, first_wish_of, preference_mixed}
 use Rattle.admit_core.specs.Standing.{place_of, board_rank_of, wish_of_row, dossier_of}
 use Rattle.admit_core.specs.Validity.{IsApart}
-use Rattle.dossier_check.proofs.FaultFree.{Passes}
 use Rattle.dossier_check.proofs.Found.{not_found}
 use Rattle.dossier_check.proofs.NoFault.{HasNoFault}
 use Rattle.dossier_check.proofs.Pairs.{all_pairs_map, same_at}

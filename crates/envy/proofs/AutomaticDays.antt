@@ -29,6 +29,7 @@ use Rattle.admit_core.specs.State.{State, changed_to, entries, holds_seat, is_li
 use Rattle.admit_core.specs.Validity.{IsValid}
 use Rattle.admit_core.proofs.Evenings.{after_offers, answer, entry_wish, offer, seats_are_filled}
 use Rattle.admit_core.proofs.Plain.{filter_none}
+use Rattle.admit_core.proofs.Statuses.{waiting_is}
 use Rattle.day_state.proofs.Along.{length-with_marks}
 use Rattle.envy.specs.AutomaticDays.{DaysEndFair, FirstEveningsBlockNone, LaterEveningsBlockNone, HoldsBetter, IsFair, IsFairEvening, IsRankedPlainly, IsSettled, NobodyBehind, PassesKeepFair, QuietDaysEndFair, WaitingIsFair, is_given_up}
 use Rattle.envy.proofs.OnePass.{closing_fair}
@@ -166,18 +167,6 @@ days_end_fair orders ceilings day k opening passes evening valid called plain lo
           (seats_are_filled orders ceilings day k opening passes evening valid called are);
     }
 
--- a wish that waits has the one status of those that wait
-waits_is : (st : Status) → is_waiting_status st ≡ true → st ≡ Waiting
-waits_is Waiting waits = refl
-waits_is Offered waits = absurd (cc)
-waits_is Accepted waits = absurd (cc)
-waits_is Refused waits = absurd (cc)
-waits_is Withdrawn waits = absurd (cc)
-waits_is Quit waits = absurd (cc)
-waits_is AutoRefused waits = absurd (cc)
-waits_is AutoWithdrawn waits = absurd (cc)
-waits_is Lapsed waits = absurd (cc)
-
 -- the mark of an entry
 entry_mark : (s : State) (k : ℕ) (x : Wish × Mark) → k < length (entries s)
     → get_or (entries s) k x ≡ x → (k < length s.marks) × (x.1 ≡ get_or s.marks k x.1)
@@ -201,7 +190,7 @@ module _ (orders : List CallOrder) (s : State) (waiting : All (λ m. is_waiting 
       let (j, e, lt, at, lives) = Any-from_list_any (λ (e : Wish × Mark). is_live e.1
       && nat_eq e.0.candidate c && nat_eq e.0.programme p) (entries s) held in
       let outer = and_parts (is_live e.1 && nat_eq e.0.candidate c) (nat_eq e.0.programme p) lives in
-      false≢true (sym (ap is_live_status (waits_is e.1.status (waits_at j e lt at)))
+      false≢true (sym (ap is_live_status (waiting_is e.1.status (waits_at j e lt at)))
       ∙ (and_parts (is_live e.1) (nat_eq e.0.candidate c) outer.0).0))
 
   at_entry : (P : Wish × Mark → Type 0) → ((k : ℕ) (x : Wish × Mark) → k < length (entries s)
@@ -212,8 +201,8 @@ module _ (orders : List CallOrder) (s : State) (waiting : All (λ m. is_waiting 
   waiting_fair = record {
     behind = at_entry (NobodyBehind orders s) (λ k x lt at waits j d j_lt. nobody_live (get_or (behind s orders x.0) j d) x.0.programme);
     better = at_entry (HoldsBetter s) (λ k x lt at given. absurd
-        (false≢true (sym (ap is_given_up (waits_is x.1.status (waits_at k x lt at))) ∙ given)));
-    settled = λ k d lt. ap is_offered (waits_is (get_or s.marks k d).status (waiting k d lt));
+        (false≢true (sym (ap is_given_up (waiting_is x.1.status (waits_at k x lt at))) ∙ given)));
+    settled = λ k d lt. ap is_offered (waiting_is (get_or s.marks k d).status (waiting k d lt));
   }
 
 pub waiting_is_fair : WaitingIsFair

@@ -1,6 +1,6 @@
 -- Where a wish is barred below the ceiling, the free beds of its school go to better ranks.
-use Rattle.std.proofs.Common.{ℕ, ◌<◌, ◌≡◌, true, not, List, inl, inr, refl, sym, ◌∙◌, ap, arith, nat_lt, get_or, Option, Some, None}
-use Rattle.std.specs.Prelude.{◌↔◌, Contains, IsSome, slice_index}
+use Rattle.std.proofs.Common.{ℕ, ◌<◌, ◌≡◌, true, not, List, inl, inr, sym, ◌∙◌, ap, arith, nat_lt, get_or, Option, Some, None}
+use Rattle.std.specs.Prelude.{◌↔◌, Contains, slice_index}
 use Rattle.std.proofs.lemmas.Bool.{and_parts, cases_order, eqb-true, false≢true, ltb-true, not-true}
 use Rattle.std.proofs.lemmas.List.{get_or_default}
 use Rattle.admit_core.specs.declared.dossier.Wish.{Wish}
@@ -13,13 +13,8 @@ use Rattle.admit_core.proofs.DemandLaws.{not_barred_step, not_over}
 use Rattle.round.proofs.Members.{among_filtered}
 use Rattle.round.proofs.NewHolders.{becomes_live, entry_wish}
 use Rattle.round.proofs.OfferLaws.{lowered_for_beds}
+use Rattle.round.proofs.BedLaw.{one_school}
 use Rattle.fairness.specs.PassPromises.{NoBedGoesToWorseRank}
-
--- two wishes with one school
-same_school : (a b : Option ℕ) (h : ℕ) → is_school a h ≡ true → is_school b h ≡ true → IsSome a × (a ≡ b)
-same_school None b h is also = absurd (false≢true is)
-same_school (Some g) None h is also = absurd (false≢true also)
-same_school (Some g) (Some f) h is also = (refl, ap (λ (n : ℕ). Some n) (eqb-true g h is ∙ sym (eqb-true f h also)))
 
 -- in a school a rank tells its candidate, and a candidate their rank
 pub ranks_tell : (d : DossierRows) (h : ℕ) (v w : Wish) → IsValid d → Contains d.wishes v → Contains d.wishes w → is_school v.school h ≡ true → is_school w.school h ≡ true
@@ -37,11 +32,11 @@ ranks_tell d h v w valid has also v_has w_has =
       | inr differ ↦ elim differ [
         | inl below ↦
             let apart = rw (at_k, there) at (valid.wishes_apart k j v below j_lt) in
-            let school = same_school v.school w.school h v_has w_has in
+            let school = one_school v.school w.school h v_has w_has in
             apart.ranks school.0 school.1
         | inr above ↦
             let apart = rw (at_j, here) at (valid.wishes_apart j k w above k_lt) in
-            let school = same_school w.school v.school h w_has v_has in
+            let school = one_school w.school v.school h w_has v_has in
             let both = apart.ranks school.0 school.1 in
             (λ e. sym (both.0 (sym e)), λ e. sym (both.1 (sym e)))
       ]

@@ -20,6 +20,7 @@ use Rattle.admit_core.proofs.LeastFirst.{next_is_first}
 use Rattle.fairness.specs.OrderPromises.{BetterIsNeverLater, IsBetterFor, IsCalledNoLater, others_than, place_in, unranked}
 use Rattle.fairness.proofs.NextCalled.{id_of, next_or_them, who}
 use Rattle.fairness.proofs.PassedOver.{among_taken, place_at_most}
+use Rattle.fairness.proofs.Seams.{one_more}
 
 -- ---- ranks do not tell who is next, but by their order
 filter_unranked : (t : Ranked → Bool) → ((x : Ranked) → t (unranked x) ≡ t x) → (xs : List Ranked) → filter t (map unranked xs) ≡ map unranked (filter t xs)
@@ -85,9 +86,6 @@ module _ (g : RankGroup) (before : List ℕ) where
 all_others : (c : ℕ) (xs : List Ranked) → AllByRecursion (λ k. nat_eq c k ≡ false) (map id_of xs) → filter (λ r. not (nat_eq c r.candidate)) xs ≡ xs
 all_others c [] all = refl
 all_others c (x ∷ xs) all = rw all.0 (ap (λ ys. x ∷ ys) (all_others c xs all.1))
-
-one_more : (n : ℕ) → 1 + n ≡ suc n
-one_more n = omega arith
 
 later_split : (y u : Ranked) (ys os : List Ranked) (n : ℕ) → ys ≡ take n os ++ u ∷ drop n os → y ∷ ys ≡ take (1 + n) (y ∷ os) ++ u ∷ drop (1 + n) (y ∷ os)
 later_split y u ys os n e = rw (one_more n) (ap (λ l. y ∷ l) e)

@@ -1,5 +1,5 @@
 -- A better boarding rank costs no offer with that school.
-use Rattle.std.proofs.Common.{ℕ, ◌-◌, ◌≤◌, ◌<◌, ◌≡◌, ◌⊎◌, Bool, true, false, not, ◌&&◌, List, length, inl, inr, refl, sym, ◌∙◌, ap, subst, arith, nat_lt, set, Option, Some, None}
+use Rattle.std.proofs.Common.{ℕ, ◌-◌, ◌≤◌, ◌<◌, ◌≡◌, ◌⊎◌, true, false, not, ◌&&◌, List, length, inl, inr, refl, sym, ◌∙◌, ap, subst, arith, nat_lt, set, Option, Some, None}
 use Rattle.std.specs.Prelude.{◌≢◌, slice_index, if◌then◌else◌, Contains}
 use Rattle.std.proofs.lemmas.Bool.{and_from, and_left, and_parts, cases_Bool, cases_eq, cases_lt, eq-eqb, eqb-true, le-ltb, lt-ltb, ne_eqb, not_from_false, not_from_true}
 use Rattle.std.proofs.lemmas.List.{get_or-set_other, get_or_past, length-set}

@@ -18,7 +18,7 @@ use Rattle.admit_core.specs.State.{State, entries, free_beds, has_school, holds_
 use Rattle.admit_core.proofs.CallRows.{IsIn}
 use Rattle.admit_core.proofs.DemandLaws.{demanded, demands_at}
 use Rattle.admit_core.proofs.FullBeds.{rising_distinct}
-use Rattle.admit_core.proofs.Tests.{any_implied, increasing-ascending, among-map}
+use Rattle.admit_core.proofs.Tests.{increasing-ascending, among-map}
 use Rattle.admit_core.proofs.Plain.{any-map}
 use Rattle.fairness.specs.Exchanges.{exchanged, exchanged_in, with_ranks_exchanged}
 use Rattle.fairness.proofs.PassedOver.{seat_for}

@@ -1,6 +1,5 @@
 -- Who stands before a candidate in a list, and before others when two neighbours change places.
-use Rattle.std.proofs.Common.{ℕ, suc, ◌+◌, ◌≡◌, Bool, true, false, cond, List, [], ◌∷◌, ◌++◌, length, take, inl, inr, refl, ◌∙◌, ap, arith, nat_eq, count_by, Some}
-use Rattle.std.specs.Prelude.{slice_get}
+use Rattle.std.proofs.Common.{ℕ, suc, ◌+◌, ◌≡◌, Bool, true, false, cond, List, [], ◌∷◌, ◌++◌, length, take, inl, inr, refl, ◌∙◌, ap, arith, nat_eq, count_by}
 use Rattle.std.specs.List.{IsDistinct, before_first, position_or_len}
 use Rattle.std.proofs.lemmas.Bool.{cases_Bool, eq-eqb, or_parts}
 use Rattle.std.proofs.lemmas.List.Sums.{sum_by-cons}
@@ -9,7 +8,7 @@ use Rattle.admit_core.specs.Lists.{is_among}
 use Rattle.admit_core.proofs.CallRows.{not_among_front}
 use Rattle.admit_core.proofs.Plain.{get_seam}
 
-one_more : (n : ℕ) → 1 + n ≡ suc n
+pub one_more : (n : ℕ) → 1 + n ≡ suc n
 one_more n = omega arith
 
 -- those before a candidate, one after another

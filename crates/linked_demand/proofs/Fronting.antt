@@ -194,8 +194,3 @@ gathered true sure true = refl
 gathered true true false = refl
 gathered true false false = refl
 gathered false sure reached = and_false reached
-
-pub open_within : (opens : List Bool) (k : ℕ) → get_or opens k false ≡ true → k < length opens
-open_within [] k t = absurd (false≢true t)
-open_within (b ∷ opens) zero t = omega arith
-open_within (b ∷ opens) (suc k) t = omega (arith, open_within opens k t)

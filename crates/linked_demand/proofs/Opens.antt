@@ -1,5 +1,5 @@
 -- What the flags of open wishes say is what the bars say, and how it changes where a bar falls or one wish is closed.
-use Rattle.std.proofs.Common.{ℕ, ◌≤◌, ◌<◌, ◌≡◌, Bool, true, false, not, ◌&&◌, ◌||◌, List, [], ◌∷◌, map, length, inl, inr, refl, sym, ◌∙◌, ap, arith, nat_eq, nat_lt, count_by, filter, zero, suc, get_or, take, Option, Some, None, cond, zip}
+use Rattle.std.proofs.Common.{ℕ, ◌≤◌, ◌<◌, ◌≡◌, Bool, true, false, not, ◌&&◌, ◌||◌, List, [], ◌∷◌, map, length, inl, inr, refl, sym, ◌∙◌, ap, arith, nat_eq, nat_lt, filter, zero, suc, get_or, take, Option, Some, None, zip}
 use Rattle.std.proofs.Math.ListN.{set}
 use Rattle.std.specs.Prelude.{slice_index, slice_set, slice_get}
 use Rattle.std.specs.List.{list_any, before_first}
@@ -12,7 +12,7 @@ use Rattle.admit_core.specs.declared.ranking.CallOrder.{CallOrder}
 use Rattle.admit_core.specs.State.{State, entries, is_waiting, holds_seat, holds_bed, is_school, seats_left}
 use Rattle.admit_core.specs.Proposals.{is_behind_bar, is_open, wants_seat, ahead, before, order_of, is_proposed}
 use Rattle.admit_core.proofs.Tests.{Implies}
-use Rattle.admit_core.proofs.Plain.{filter_same, map_same, is_and_true, count_same}
+use Rattle.admit_core.proofs.Plain.{map_same, is_and_true, count_same}
 use Rattle.proposals.proofs.Front.{up_to, before_is}
 use Rattle.linked_demand.specs.Line.{LineRow, set_count, is_reached}
 use Rattle.linked_demand.specs.Links.{IsPlaceOf, IsSeatPlace}

@@ -1,11 +1,10 @@
 -- A round stays right where a bar falls.
-use Rattle.std.proofs.Common.{ℕ, ◌≤◌, ◌<◌, ◌≡◌, ◌≢◌, Bool, true, false, not, ◌&&◌, Option, None, List, [], ◌∷◌, length, inl, inr, refl, sym, ◌∙◌, ap, arith, zero, suc, get_or, Some, subst, unwrap_or, Vec}
+use Rattle.std.proofs.Common.{ℕ, ◌≤◌, ◌<◌, ◌≡◌, Bool, true, false, not, ◌&&◌, Option, None, List, length, inl, inr, refl, sym, ◌∙◌, ap, arith, zero, suc, get_or, Some, subst, Vec}
 use Rattle.std.specs.declared.alloc.Global.{Global}
 use Rattle.std.specs.Prelude.{slice_index, slice_set, slice_get}
-use Rattle.std.proofs.Math.ListN.{set}
-use Rattle.std.proofs.lemmas.Bool.{cases_eq, eqb-true, false≢true, le-ltb}
+use Rattle.std.proofs.lemmas.Bool.{cases_eq, eqb-true, le-ltb}
 use Rattle.std.proofs.lemmas.List.{length-set, get_or_default}
-use Rattle.std.proofs.lemmas.Option.{slice_get_within, slice_get_read}
+use Rattle.std.proofs.lemmas.Option.{slice_get_read}
 use Rattle.admit_core.proofs.Plain.{waits_open, get_set_here, get_set_other}
 use Rattle.admit_core.specs.declared.dossier.Wish.{Wish}
 use Rattle.admit_core.specs.declared.state.Mark.{Mark}
@@ -74,7 +73,7 @@ module _ (links : LinksRow) (bars free : List ℕ) (h to : ℕ) (rows : List (Ve
       }
 
 -- a wish that ranks at most at the bar of its school is not behind it
-not_behind : (s : State) (bars : List ℕ) (h : ℕ) (w : Wish) (school : Option ℕ) → is_school school h ≡ true
+pub not_behind : (s : State) (bars : List ℕ) (h : ℕ) (w : Wish) (school : Option ℕ) → is_school school h ≡ true
     → w.board_rank ≤ slice_index bars h → is_behind_bar s bars w school ≡ false
 not_behind s bars h w None t low = refl
 not_behind s bars h w (Some g) t low =

@@ -1,19 +1,19 @@
 -- The steps of a fall: one for each wish that becomes barred, and one for each that becomes proposed.
-use Rattle.std.proofs.Common.{ℕ, ◌+◌, ◌≤◌, ◌<◌, ◌≡◌, Bool, true, false, not, ◌&&◌, ◌||◌, List, [], ◌∷◌, map, length, filter, inl, inr, refl, sym, ◌∙◌, ap, arith, nat_lt, zero, suc, get_or, drop, Option, Some, None, cond, count_by, subst, unwrap_or}
+use Rattle.std.proofs.Common.{ℕ, ◌+◌, ◌≤◌, ◌<◌, ◌≡◌, Bool, true, false, not, ◌&&◌, ◌||◌, List, [], ◌∷◌, map, length, filter, inl, inr, refl, sym, ◌∙◌, ap, arith, nat_lt, zero, suc, get_or, drop, Option, Some, cond, count_by, subst, unwrap_or}
 use Rattle.std.specs.Prelude.{slice_get, slice_index, slice_set}
 use Rattle.std.specs.List.{enumerate_from}
 use Rattle.std.proofs.Math.ListN.{set}
-use Rattle.std.proofs.lemmas.Bool.{cases_Bool, cases_lt, false≢true, eqb-true, le-ltb}
+use Rattle.std.proofs.lemmas.Bool.{cases_Bool, cases_lt, false≢true}
 use Rattle.std.proofs.lemmas.List.{length-take-le, length-drop, get_or_past}
 use Rattle.std.proofs.lemmas.List.Sums.{length-filter}
 use Rattle.std.proofs.lemmas.Option.{slice_get_within}
 use Rattle.admit_core.specs.declared.dossier.Wish.{Wish}
 use Rattle.admit_core.specs.declared.state.Mark.{Mark}
 use Rattle.admit_core.specs.declared.ranking.CallOrder.{CallOrder}
-use Rattle.admit_core.specs.State.{State, entries, is_waiting, holds_bed, is_school, seats_left}
+use Rattle.admit_core.specs.State.{State, entries, is_waiting, seats_left}
 use Rattle.admit_core.specs.Proposals.{is_open, is_behind_bar, is_proposed, needs_no_seat, ahead}
 use Rattle.admit_core.proofs.DemandLaws.{behind_lower}
-use Rattle.admit_core.proofs.Plain.{and_false, waits_open}
+use Rattle.admit_core.proofs.Plain.{waits_open}
 use Rattle.linked_demand.specs.declared.rows.RowWish.{RowWish}
 use Rattle.linked_demand.specs.Line.{set_count}
 use Rattle.linked_demand.specs.Links.{LinksRow}
@@ -27,6 +27,7 @@ use Rattle.linked_demand.proofs.Counting.{count_sum, count_alike, count_places}
 use Rattle.linked_demand.proofs.Falling.{is_wish_of, flag_closed, found_behind, flag_map}
 use Rattle.linked_demand.proofs.Reach.{count_true, count_false}
 use Rattle.linked_demand.proofs.TickLaw.{fall_at_most}
+use Rattle.linked_demand.proofs.RoundFalls.{not_behind}
 
 -- one flag that is taken away
 set_one : (opens : List Bool) (i : ℕ) → get_or opens i false ≡ true → set_count (set opens i false) + 1 ≡ set_count opens
@@ -83,13 +84,6 @@ filter_map f (x ∷ xs) =
 
 count_map : {X : Type 0} (f : X → Bool) (xs : List X) → set_count (map f xs) ≡ count_by f xs
 count_map f xs = omega (arith, length-filter (λ (b : Bool). b) (map f xs), length-filter f xs, filter_map f xs)
-
-not_behind : (s : State) (bars : List ℕ) (h : ℕ) (w : Wish) (school : Option ℕ) → is_school school h ≡ true
-    → w.board_rank ≤ slice_index bars h → is_behind_bar s bars w school ≡ false
-not_behind s bars h w None has low = refl
-not_behind s bars h w (Some g) has low =
-    let same : g ≡ h = eqb-true g h has in
-    rw (same, le-ltb (slice_index bars h) w.board_rank low) (and_false (not (holds_bed s w.candidate h)))
 
 split_bits : (waits low high : Bool) → (high ≡ true → low ≡ true)
     → cond (waits && not (waits && low)) 1 0 + cond ((waits && low) && not (waits && high)) 1 0 ≡ cond

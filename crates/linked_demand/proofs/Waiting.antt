@@ -27,9 +27,9 @@ use Rattle.linked_demand.specs.Wants.{AllNeedSeatAlone}
 use Rattle.linked_demand.proofs.Closing.{length_entries, wish_of}
 use Rattle.linked_demand.proofs.Falling.{flag_map}
 use Rattle.linked_demand.proofs.Filling.{entry_is, entry_there}
-use Rattle.linked_demand.proofs.Fronting.{open_within}
 use Rattle.linked_demand.proofs.Lining.{among_claim}
 use Rattle.linked_demand.proofs.Seating.{wish_in_is}
+use Rattle.linked_demand.proofs.Marked.{marked_within}
 
 waiting_is_not_live : (status : Status) → is_waiting_status status ≡ true → is_live_status status ≡ false
 waiting_is_not_live Waiting t = refl
@@ -161,7 +161,7 @@ all_open_wait s long bars opens is k opened =
     let ws = s.dossier.wishes in
     let f = λ (e : Wish × Mark). is_open s bars e.0 e.1 in
     let lt : k < length ws =
-    omega (arith, open_within opens k opened, ap length is, length-map (entries s) f, length_entries ws s.marks long) in
+    omega (arith, marked_within opens k opened, ap length is, length-map (entries s) f, length_entries ws s.marks long) in
     let w = wish_in ws k in
     let m = mark_in s.marks k in
     let here = entry_there ws s.marks k long lt in

@@ -18,7 +18,7 @@ use Rattle.markets.specs.Positions.{order_distinct, is_candidate, in_order}
 use Rattle.markets.specs.Lawful.{range_rises, best_is_listed}
 
 -- nobody past the end of the lists has a programme within reach
-past_lists : (m : MarketRows) (bars : List ℕ) (x : ℕ) → length m.lists ≤ x → best_within m bars x ≡ None
+pub past_lists : (m : MarketRows) (bars : List ℕ) (x : ℕ) → length m.lists ≤ x → best_within m bars x ≡ None
 past_lists m bars x past = ap (find (is_within m bars x)) (get_or_past m.lists x [] past)
 
 -- the place of each candidate under bars

@@ -1,6 +1,5 @@
 -- What the engine's answer says of a market that is solved.
-use Rattle.std.proofs.Common.{ℕ, ◌≡◌, List, [], ◌++◌, refl, sym, subst, inl}
-use Rattle.std.proofs.lemmas.List.{append-nil}
+use Rattle.std.proofs.Common.{ℕ, ◌≡◌, List, ◌++◌, refl, subst, inl}
 use Rattle.admit_core.specs.declared.records.Fall.{Fall}
 use Rattle.admit_core.specs.Falls.{FallingSystem, bars_after, IsRun}
 use Rattle.bar_fixpoint.specs.Runs.{schools_of}
@@ -22,11 +21,6 @@ led seen sys choice told told_after bars falls same run chosen told_of bars_fell
       told_of = told_of;
       bars_fell = bars_fell;
     })
-
--- nothing is told
-pub none_told : (sys : FallingSystem) (choice : List ℕ → List ℕ → ℕ) (told : List ℕ) → TellsOfFalls sys choice told told
-none_told sys choice told =
-    (sys.ceilings, record { falls = []; are_falls = tt; chosen = tt; bars_fell = refl; told_of = inl (sym (append-nil told)) })
 
 -- some falls are told of, at an early end of the engine
 pub some_told : (seen sys : FallingSystem) (choice : List ℕ → List ℕ → ℕ) (told told_after bars : List ℕ) → seen ≡ sys

@@ -1,11 +1,11 @@
 -- Rows that are filled list by list.
-use Rattle.std.proofs.Common.{ℕ, zero, suc, ◌+◌, ◌≤◌, ◌<◌, ◌≡◌, ◌≢◌, ◌⊎◌, Bool, true, false, cond, ◌||◌, List, [], ◌∷◌, ◌++◌, map, length, take, get_or, inl, inr, refl, sym, ◌∙◌, ap, subst, arith, nat_eq, filter, Some, unwrap_or, Vec}
+use Rattle.std.proofs.Common.{ℕ, zero, suc, ◌+◌, ◌≤◌, ◌<◌, ◌≡◌, ◌≢◌, Bool, true, false, cond, ◌||◌, List, [], ◌∷◌, ◌++◌, map, length, take, get_or, inl, inr, refl, sym, ◌∙◌, ap, subst, arith, nat_eq, filter, Some, Vec}
 use Rattle.std.specs.Prelude.{slice_get, if◌then◌else◌}
 use Rattle.std.specs.List.{range_with_len}
 use Rattle.std.specs.declared.alloc.Global.{Global}
 use Rattle.std.proofs.Math.ListN.{set}
 use Rattle.std.proofs.lemmas.Bool.{cases_eq, eq-eqb, ne_eqb, or_left, or_right, false≢true, false_from_ne_true}
-use Rattle.std.proofs.lemmas.List.{length-set, length-append, append-nil, take_more, take_all}
+use Rattle.std.proofs.lemmas.List.{length-set, length-append, append-nil, take_more, take_all, map-id}
 use Rattle.std.proofs.lemmas.List.Folds.{list_any-append}
 use Rattle.std.proofs.lemmas.List.FromFn.{filter_of_map_range_with_len_more}
 use Rattle.std.proofs.lemmas.Option.{slice_get_within, slice_get_read}
@@ -90,17 +90,13 @@ put_whole item xs k old rows past are =
     let P : List ℕ → Type 0 = λ ys. ArePutIn (λ p. is_among p ys) item old rows in
     subst P (take_all k xs past) are
 
-pub map_same : (xs : List ℕ) → map (λ x. x) xs ≡ xs
-map_same [] = refl
-map_same (x ∷ xs) = ap (λ ys. x ∷ ys) (map_same xs)
-
 pub naming_more : (lists : List (List ℕ)) (p k : ℕ)
     → naming lists p (k + 1) ≡ naming lists p k ++ cond (is_among p (get_or lists k [])) (k ∷ []) []
 naming_more lists p k =
     let t : ℕ → Bool = λ x. is_among p (get_or lists x []) in
     let more : filter t (map (λ x. x) (range_with_len 0 (k + 1))) ≡ filter t (map (λ x. x) (range_with_len 0 k)) ++ cond (t k) (k ∷ []) [] =
     filter_of_map_range_with_len_more t (λ x. x) 0 k k (omega arith) in
-    rw (map_same (range_with_len 0 (k + 1)), map_same (range_with_len 0 k)) at more
+    rw (map-id (range_with_len 0 (k + 1)), map-id (range_with_len 0 k)) at more
 
 -- one more list
 pub listers_more : (lists : List (List ℕ)) (n k : ℕ) (rows new : List (Vec ℕ Global)) → AreListers lists n k rows

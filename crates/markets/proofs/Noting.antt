@@ -6,12 +6,12 @@ use Rattle.std.proofs.lemmas.Bool.{cases_eq, eq-eqb, ne_eqb}
 use Rattle.std.proofs.lemmas.List.{length-set, length-append, length-replicate, get_or-replicate, get_or-set_same, get_or-set_other}
 use Rattle.std.proofs.lemmas.List.FromFn.{length-range_with_len}
 use Rattle.std.proofs.lemmas.List.Sums.{length-filter, count_by-le-length}
+use Rattle.bar_fixpoint.proofs.Listing.{filter_more}
 use Rattle.day_state.specs.Kept.{one_if}
 use Rattle.day_state.proofs.Bundled.{count_turned}
 use Rattle.markets.specs.Matchings.{place_of, is_at, holders}
 use Rattle.markets.specs.Fillings.{counted_in}
 use Rattle.markets.specs.Rounds.{AreCounts}
-use Rattle.markets.proofs.OneMore.{kept_more}
 
 -- those of the first k candidates who have a place in a programme
 abbrev pub holders_to : List (Option ℕ) → ℕ → ℕ → List ℕ
@@ -70,7 +70,7 @@ counts_more n places k counts new o is within are new_is =
       each = λ p lt.
           let t : ℕ → Bool = λ y. is_at p (place_of places y) in
           let grown : length (holders_to places p (k + 1)) ≡ length (holders_to places p k) + one_if (t k) =
-          ap length (kept_more t k) ∙ one_more (t k) (holders_to places p k) k in
+          ap length (filter_more t k) ∙ one_more (t k) (holders_to places p k) k in
           omega (
             arith,
             ap (λ (xs : List ℕ). get_or xs p 0) new_is,

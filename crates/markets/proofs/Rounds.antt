@@ -3,7 +3,7 @@ use Rattle.std.proofs.Common.{ℕ, zero, suc, ◌+◌, ◌-◌, ◌≤◌, ◌<�
 use Rattle.std.specs.Prelude.{Option, Some, None, find, slice_get, slice_index}
 use Rattle.std.specs.List.{range_with_len}
 use Rattle.std.proofs.lemmas.Bool.{cases_Bool, cases_lt, le-leb, lt-leb, lt-ltb, false_from_ne_true, and_left, and_right}
-use Rattle.std.proofs.lemmas.List.{append-nil, append_assoc, map-append, length-map, length-append, get_or-set_same, set-set}
+use Rattle.std.proofs.lemmas.List.{append-nil, append_assoc, map-append, length-map, length-append, get_or-set_same, set-set, map-id}
 use Rattle.std.proofs.lemmas.List.FromFn.{filter_of_map_range_with_len_more}
 use Rattle.admit_core.proofs.Plain.{get_seam}
 use Rattle.admit_core.specs.Falls.{is_overfilled}
@@ -53,10 +53,6 @@ pub best_nowhere : (m : MarketRows) (bars : List ℕ) (x k : ℕ) (list : List �
     → ((j : ℕ) → j < k → is_within m bars x (get_or list j 0) ≡ false) → None ≡ best_within m bars x
 best_nowhere m bars x k list is past fails =
     sym (ap (find (is_within m bars x)) (sym is) ∙ find_nowhere (is_within m bars x) list (λ j lt. fails j (omega (arith, lt, past))))
-
-map_same : (xs : List ℕ) → map (λ x. x) xs ≡ xs
-map_same [] = refl
-map_same (x ∷ xs) = ap (λ ys. x ∷ ys) (map_same xs)
 
 -- a filter in two parts
 pub filter_split : (t : ℕ → Bool) (a k m n : ℕ) → n ≡ k + m
@@ -111,7 +107,7 @@ held_more m places p k =
     let more : filter t (map (λ r. r) (range_with_len 1 (k + 1))) ≡ filter t (map (λ r. r) (range_with_len 1 k)) ++ cond (t (k + 1))
     ((k + 1) ∷ []) [] =
     filter_of_map_range_with_len_more t (λ r. r) 1 k (k + 1) (omega arith) in
-    rw (map_same (range_with_len 1 (k + 1)), map_same (range_with_len 1 k)) at more
+    rw (map-id (range_with_len 1 (k + 1)), map-id (range_with_len 1 k)) at more
 
 pub who_is : (m : MarketRows) (p k y : ℕ) (order : List ℕ) → order ≡ order_of m p → y ≡ get_or order k 0 → y ≡ candidate_at m p (k + 1)
 who_is m p k y order order_is y_is =

@@ -1,6 +1,6 @@
 -- Where candidates stand under bars, and who moves on as a bar falls by one position.
 use Rattle.std.proofs.Common.{ℕ, ◌+◌, ◌-◌, ◌≤◌, ◌<◌, ◌≡◌, ◌≢◌, ◌⊎◌, true, false, List, [], ◌∷◌, ◌++◌, length, get_or, inl, inr, refl, sym, ◌∙◌, ap, subst, arith, nat_eq, nat_le, Option, Some, None, set}
-use Rattle.std.specs.Prelude.{find, slice_get, slice_index}
+use Rattle.std.specs.Prelude.{slice_get, slice_index}
 use Rattle.std.specs.List.{position_or_len}
 use Rattle.std.proofs.lemmas.Bool.{cases_eq, cases_lt, eqb-true, eq-eqb, leb-false, le-leb, lt-leb, false≢true}
 use Rattle.std.proofs.lemmas.List.{length-set, length-append, get_or-set_same, get_or-set_other, get_or_append_left, get_or-append_right, get_or_past}
@@ -16,7 +16,7 @@ use Rattle.markets.specs.Lawful.{best_is_within}
 use Rattle.markets.specs.Standing.{AreBeyond, IsStand, AreStands}
 use Rattle.markets.specs.Fillings.{Fill}
 use Rattle.markets.specs.Rounds.{AreCounts, IsRound}
-use Rattle.markets.proofs.Held.{place_under}
+use Rattle.markets.proofs.Held.{place_under, past_lists}
 use Rattle.markets.proofs.Rounds.{best_found, best_nowhere}
 
 -- one entry more is beyond reach
@@ -178,16 +178,13 @@ module _ (m : MarketRows) (is : IsMarket m) (bars : List ℕ) (p : ℕ) (p_lt : 
       let stand = are.each x lt in
       sym (others_stand x (slice_index stands x) other stand).best ∙ stand.best
 
-past_best : (m : MarketRows) (bars : List ℕ) (x : ℕ) → length m.lists ≤ x → best_within m bars x ≡ None
-past_best m bars x past = ap (find (is_within m bars x)) (get_or_past m.lists x [] past)
-
 -- the places are those of the best within reach, for all or up to the end of the lists
 pub places_from : (m : MarketRows) (bars : List ℕ) (places : List (Option ℕ)) → length places ≡ length m.lists
     → ((x : ℕ) → x < length m.lists → place_of places x ≡ best_within m bars x) → (x : ℕ) → place_of places x ≡ best_within m bars x
 places_from m bars places each are x =
     elim (cases_lt x (length m.lists)) [
       | inl lt ↦ are x lt
-      | inr past ↦ get_or_past places x None (omega (arith, past, each)) ∙ sym (past_best m bars x past)
+      | inr past ↦ get_or_past places x None (omega (arith, past, each)) ∙ sym (past_lists m bars x past)
     ]
 
 pub are_matched : (m : MarketRows) (bars : List ℕ) (places : List (Option ℕ)) → length places ≡ length m.lists

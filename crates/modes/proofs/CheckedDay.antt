@@ -24,7 +24,7 @@ use Rattle.desk_day.specs.AnswersOn.{unfit_refusal}
 use Rattle.desk_day.specs.RunDay.{IsStampedBy, KeepsStamps}
 use Rattle.desk_day.specs.declared.refusal.DayRefusal.{DayRefusal}
 use Rattle.desk_day.specs.declared.refusal.DayRefusal.TheVariants as refusals
-use Rattle.intake.specs.Dated.{AreDatedFor, terms_in}
+use Rattle.intake.specs.Dated.{AreDatedFor}
 use Rattle.intake.specs.declared.terms.DatedTerms.{DatedTerms}
 use Rattle.modes.proofs.Writable.{finals_dated, first_known}
 use Rattle.modes.specs.CheckedDays.{StopsBy, TellsWhy, why_of}

@@ -1,10 +1,9 @@
 -- The figures of a school, and what the picker told as they were found.
-use Rattle.std.proofs.Common.{◌≡◌, ◌∙◌, ℕ, ◌-◌, List, Option, Some, Result, Ok, Err, IfOk, ap, arith, length, nat_eq, position, refl, subst, sym}
+use Rattle.std.proofs.Common.{◌≡◌, ◌∙◌, ℕ, ◌-◌, List, Option, Some, Result, Ok, Err, IfOk, ap, length, nat_eq, position, refl, subst, sym}
 use Rattle.admit_core.specs.Boarding.{boarding}
 use Rattle.admit_core.specs.CallOrder.{AreCallOrders}
 use Rattle.admit_core.specs.DossierRows.{DossierRows, beds_of}
 use Rattle.admit_core.specs.Explanations.{LastPass}
-use Rattle.admit_core.specs.Falls.{IsAtMost}
 use Rattle.admit_core.specs.LeastBeds.{IsLeastBeds}
 use Rattle.admit_core.specs.State.{State}
 use Rattle.admit_core.specs.declared.ranking.CallOrder.{CallOrder}

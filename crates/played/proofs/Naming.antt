@@ -5,7 +5,8 @@ use Rattle.std.proofs.lemmas.Grind.{flat_map-append}
 use Rattle.std.proofs.lemmas.List.{append-nil}
 use Rattle.std.proofs.lemmas.List.Elements.{filter-append}
 use Rattle.admit_core.specs.declared.records.DayRecord.{DayRecord}
-use Rattle.desk_day.specs.DayPasses.{TellsMore, schools_of_passes}
+use Rattle.desk_day.proofs.PassesSoFar.{tells_on}
+use Rattle.desk_day.specs.DayPasses.{schools_of_passes}
 use Rattle.request.specs.Pickers.{picker_on}
 use Rattle.request.specs.declared.pickers.PickerChoice.{PickerChoice}
 use Rattle.request.specs.declared.pickers.PickerName.{PickerName}
@@ -50,14 +51,10 @@ picked_by-append who name xs ys =
     let schools : DayRecord → List ℕ = λ day. schools_of_passes day.passes in
     ap (flat_map schools) (filter-append on xs ys) ∙ flat_map-append schools (filter on xs) (filter on ys)
 
--- pickers that are back after one part of a run and after the next
-more_more : (a b c : List ℕ) → TellsMore a b → TellsMore b c → TellsMore a c
-more_more a b c one two = (one.0 ++ two.0, two.1 ∙ ap (λ x. x ++ two.0) one.1 ∙ append_assoc a one.0 two.0)
-
 pub back_again : (before between after : Lent) → AreBack before between → AreBack between after → AreBack before after
 back_again before between after one two = record {
   choice = λ name. two.choice name ∙ one.choice name;
-  told = λ name. more_more (before.told name) (between.told name) (after.told name) (one.told name) (two.told name);
+  told = λ name. tells_on (before.told name) (between.told name) (after.told name) (one.told name) (two.told name);
 }
 
 pub back_untouched : (before : Lent) → AreBack before before

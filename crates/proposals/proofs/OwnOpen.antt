@@ -1,5 +1,5 @@
 -- A candidate's own open wishes.
-use Rattle.std.proofs.Common.{ℕ, ◌<◌, ◌≡◌, Bool, true, false, ◌&&◌, List, [], ◌∷◌, length, get_or, inl, inr, refl, sym, ◌∙◌, ap, arith, nat_eq, zero-add}
+use Rattle.std.proofs.Common.{ℕ, ◌<◌, ◌≡◌, false, ◌&&◌, List, length, get_or, inl, inr, refl, sym, ◌∙◌, ap, arith, nat_eq, zero-add}
 use Rattle.std.specs.Prelude.{◌==◌}
 use Rattle.std.specs.List.{list_any, range_with_len}
 use Rattle.std.proofs.lemmas.Bool.{cases_Bool, and_left, and_from, and_right, eqb-true, eq-eqb}

@@ -1,19 +1,17 @@
 -- A job's days, and how the run ends after them.
-use Rattle.std.proofs.Common.{◌≡◌, ◌∙◌, ℕ, ◌+◌, ◌<◌, ◌≤◌, ◌⊎◌, List, [], ◌∷◌, Option, None, Some, Result, Ok, Err, All, IfOk, IfSome, IsSomeAnd, IsTrue, ap, arith, inl, inr, length, option_map, refl, subst, sym}
+use Rattle.std.proofs.Common.{◌≡◌, ◌∙◌, ℕ, ◌+◌, List, [], ◌∷◌, Option, None, Some, Result, Ok, Err, IfOk, IfSome, IsSomeAnd, IsTrue, ap, inl, inr, option_map, refl, subst, sym}
 use Rattle.std.specs.Prelude.{is_some, not}
 use Rattle.std.proofs.lemmas.Bool.{cases_Bool, false≢true}
 use Rattle.admit_core.specs.CallOrder.{AreCallOrders}
-use Rattle.admit_core.specs.Days.{Days, first_evening, unfit_on}
+use Rattle.admit_core.specs.Days.{Days}
 use Rattle.admit_core.specs.DossierRows.{DossierRows}
 use Rattle.admit_core.specs.Standing.{dossier_of}
-use Rattle.admit_core.specs.State.{State}
 use Rattle.admit_core.specs.declared.records.DayRecord.{DayRecord}
 use Rattle.admit_core.specs.declared.records.Terms.{Terms}
 use Rattle.admit_core.specs.declared.refusal.Refusal.{Refusal}
 use Rattle.admit_core.specs.declared.state.Status.{Status}
 use Rattle.admit_core.specs.declared.tables.Since.{Since}
 use Rattle.certificate.specs.Checked.{ids_in}
-use Rattle.desk_day.specs.AnswersOn.{unfit_refusal}
 use Rattle.desk_day.specs.DeskStates.{DeskStates}
 use Rattle.dossier_check.specs.Dates.{dates_of}
 use Rattle.dossier_check.specs.Ids.{Ids, ids_of}
@@ -22,7 +20,7 @@ use Rattle.intake.specs.Input.{IsInputOf, IsJobOf, Job, NamesIn}
 use Rattle.intake.specs.declared.input.Input.{Input}
 use Rattle.intake.specs.declared.terms.DatedTerms.{DatedTerms}
 use Rattle.modes.specs.Asking.{AsksNoOther, IsLent, TellsAfter}
-use Rattle.modes.specs.Endings.{AreDaysOf, CanEnd, EndsAfter, EndsWith, IsEndOf, IsEnding}
+use Rattle.modes.specs.Endings.{CanEnd, EndsAfter, EndsWith, IsEndOf, IsEnding}
 use Rattle.modes.proofs.CheckedExits.{IsAfterDays, check_done, check_exit, is_after}
 use Rattle.modes.specs.Checking.{CanBeDone, HandsInProof}
 use Rattle.modes.specs.Jobs.{AreDays, IsIdle, Seen, dated_of, days_of, deadlines_of, dossier, picker_after, seen_by, seen_of, terms_of}

@@ -1,5 +1,5 @@
 -- As many candidates become live in a school as there are demanded ranks.
-use Rattle.std.proofs.Common.{ℕ, ◌≤◌, ◌<◌, ◌≡◌, Bool, true, false, not, ◌&&◌, List, [], ◌∷◌, map, length, get_or, inl, inr, refl, sym, ◌∙◌, ap, arith, filter, find, nat_eq, nat_lt, suc, Option, Some, None}
+use Rattle.std.proofs.Common.{ℕ, ◌≤◌, ◌<◌, ◌≡◌, Bool, true, false, not, ◌&&◌, List, [], ◌∷◌, map, length, get_or, inl, inr, refl, sym, ◌∙◌, ap, arith, filter, find, nat_eq, suc, Option, Some, None}
 use Rattle.std.specs.Prelude.{◌↔◌, IsSome, option_map, unwrap_or}
 use Rattle.std.specs.List.{list_any, IsDistinct}
 use Rattle.std.proofs.lemmas.Bool.{cases_Bool, cases_order, and_parts, and_from, not-true, eqb-true, eq-eqb, lt-ltb, false≢true}
@@ -40,7 +40,7 @@ found_value f test v (x ∷ xs) some each =
     ]
 
 -- two wishes with one school
-one_school : (a b : Option ℕ) (h : ℕ) → is_school a h ≡ true → is_school b h ≡ true → IsSome a × (a ≡ b)
+pub one_school : (a b : Option ℕ) (h : ℕ) → is_school a h ≡ true → is_school b h ≡ true → IsSome a × (a ≡ b)
 one_school None b h is also = absurd (false≢true is)
 one_school (Some g) None h is also = absurd (false≢true also)
 one_school (Some g) (Some f) h is also = (refl, ap (λ (n : ℕ). Some n) (eqb-true g h is ∙ sym (eqb-true f h also)))

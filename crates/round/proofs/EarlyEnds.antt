@@ -1,17 +1,9 @@
 -- What a picker told where memory ran out in a pass.
-use Rattle.std.proofs.Common.{ℕ, ◌≡◌, List, [], ◌++◌, refl, sym, inl, subst}
-use Rattle.std.proofs.lemmas.List.{append-nil}
+use Rattle.std.proofs.Common.{ℕ, ◌≡◌, List, ◌++◌, refl, inl, subst}
 use Rattle.admit_core.specs.declared.records.Fall.{Fall}
 use Rattle.admit_core.specs.Falls.{FallingSystem, IsRun, bars_after}
 use Rattle.bar_fixpoint.specs.Runs.{schools_of}
 use Rattle.bar_fixpoint.specs.Chosen.{AreChosen, EndsEarly, TellsOfFalls}
-
--- nothing, where no bar had fallen
-pub told_nothing : (sys : FallingSystem) (choice : List ℕ → List ℕ → ℕ) (told : List ℕ) → TellsOfFalls sys choice told told
-told_nothing sys choice told = (
-  sys.ceilings,
-  record { falls = []; are_falls = tt; chosen = tt; bars_fell = refl; told_of = inl (sym (append-nil told)) },
-)
 
 -- what the engine says, by the system's name
 pub told_early : (sys now : FallingSystem) (choice : List ℕ → List ℕ → ℕ) (told told_after bars : List ℕ) → now ≡ sys

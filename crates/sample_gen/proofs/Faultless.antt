@@ -1,9 +1,10 @@
 -- A sample has no fault.
 use Rattle.std.proofs.Common.{refl, ◌≡◌, ℕ, ◌≤◌, [], None, arith}
+use Rattle.admit_core.proofs.Plain.{none_or_none}
+use Rattle.admit_core.proofs.NoFaults.{none_in}
 use Rattle.admit_core.specs.declared.slot.Slot.TheVariants as slots
 use Rattle.admit_core.specs.Relations.{state_tests, ceiling_tests, answer_tests, first_fault}
 use Rattle.sample_gen.specs.Samples.{sample_tables}
-use Rattle.sample_gen.proofs.NoFaults.{none_or_none, none_in}
 use Rattle.sample_gen.proofs.ItemSlots.{groups_fine, programmes_fine, schools_fine}
 use Rattle.sample_gen.proofs.RankSlots.{rankings_fine, boarding_fine}
 use Rattle.sample_gen.proofs.WishSlot.{wishes_fine}

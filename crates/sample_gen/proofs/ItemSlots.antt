@@ -6,6 +6,7 @@ use Rattle.std.proofs.lemmas.Bool.{ne_eqb, eq-eqb, eqb-true, eqb-false, cases_Bo
 use Rattle.std.proofs.lemmas.List.Folds.{list_any_at}
 use Rattle.std.proofs.lemmas.List.Elements.{All-map}
 use Rattle.std.proofs.lemmas.List.FromFn.{length-range_with_len, get_or-range_with_len}
+use Rattle.admit_core.proofs.NoFaults.{no_tests, and_then, none_in, differ, all_known}
 use Rattle.admit_core.specs.declared.slot.Slot.TheVariants as slots
 use Rattle.admit_core.specs.declared.refusal.Reason.TheVariants.{Repeat, Unknown}
 use Rattle.admit_core.specs.Lists.{is_among}
@@ -14,7 +15,6 @@ use Rattle.admit_core.specs.Relations.{group_ids, programme_ids, school_ids, gro
 use Rattle.sample_gen.specs.Choices.{numbers, programmes_of, school_of}
 use Rattle.sample_gen.specs.Samples.{group_row, programme_row, school_row, sample_tables}
 use Rattle.sample_gen.proofs.Pairs.{All-range, AllPairs-map, AllPairs-range}
-use Rattle.sample_gen.proofs.NoFaults.{no_tests, and_then, none_in, differ, all_known}
 
 among_numbers : (n i : ℕ) → 1 ≤ i → i ≤ n → is_among i (numbers n) ≡ true
 among_numbers n i low high =

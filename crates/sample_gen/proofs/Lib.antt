@@ -3,7 +3,6 @@ pub mod Faultless
 pub mod FoundChoices
 pub mod ItemSlots
 pub mod Lists
-pub mod NoFaults
 pub mod OddMultiples
 pub mod Pairs
 pub mod Ranks

@@ -6,6 +6,7 @@ use Rattle.std.proofs.lemmas.List.Elements.{All-map, All-weaker, All-filter, fil
 use Rattle.std.proofs.lemmas.List.Kept.{AllPairs-filter}
 use Rattle.std.proofs.lemmas.List.Folds.{list_all_at}
 use Rattle.std.proofs.lemmas.List.FromFn.{length-range_with_len, get_or-range_with_len}
+use Rattle.admit_core.proofs.NoFaults.{no_tests, and_then, none_in, differ, all_known}
 use Rattle.admit_core.specs.declared.slot.Slot.TheVariants as slots
 use Rattle.admit_core.specs.declared.refusal.Reason.TheVariants.{Repeat, RankTaken, Unknown}
 use Rattle.admit_core.specs.Lists.{is_among}
@@ -18,7 +19,6 @@ use Rattle.sample_gen.proofs.Pairs.{AllPairs-map, AllPairs-from}
 use Rattle.sample_gen.proofs.Ranks.{same_candidate}
 use Rattle.sample_gen.proofs.ChoiceFacts.{IsChoice, Precedes, are_choices, choices_precede, other_programme, programme_from_one, programme_at_most, school_from_one, school_at_most}
 use Rattle.sample_gen.proofs.ItemSlots.{group_known, school_known}
-use Rattle.sample_gen.proofs.NoFaults.{no_tests, and_then, none_in, differ, all_known}
 
 pub not_both : (a b c d : ℕ) → (a ≡ b → c ≡ d → ⊥) → (nat_eq a b && nat_eq c d) ≡ false
 not_both a b c d never =

@@ -5,6 +5,7 @@ use Rattle.std.specs.Option.{option_map_or}
 use Rattle.std.proofs.lemmas.Bool.{ne_eqb, eqb-true, ltb-true, and_left, and_right, or_from, cases_Bool, cond_both, cond-true, cond-false}
 use Rattle.std.proofs.lemmas.List.Elements.{All-nil, All-cons, All-weaker}
 use Rattle.std.proofs.lemmas.List.Kept.{AllPairs-cons}
+use Rattle.admit_core.proofs.NoFaults.{Passes, no_tests, and_then, none_in, before_row, differ, differ_when, all_known}
 use Rattle.admit_core.specs.declared.slot.Slot.TheVariants as slots
 use Rattle.admit_core.specs.declared.refusal.Reason.TheVariants.{Repeat, Unknown, Unranked, NoBoardingRank, PreferenceMixed, PreferenceTaken}
 use Rattle.admit_core.specs.declared.tables.WishRow.{WishRow}
@@ -20,7 +21,6 @@ use Rattle.sample_gen.proofs.SampleRanges.{All-wish}
 use Rattle.sample_gen.proofs.ItemSlots.{programme_known, school_known}
 use Rattle.sample_gen.proofs.FoundChoices.{choice_is_ranked, choice_is_boarded}
 use Rattle.sample_gen.proofs.RankSlots.{not_both}
-use Rattle.sample_gen.proofs.NoFaults.{Passes, no_tests, and_then, none_in, before_row, differ, differ_when, all_known}
 
 -- no first wish of a candidate is mixed with a row, where none before it is
 module _ (row : WishRow) where

@@ -5,11 +5,11 @@ use Rattle.std.specs.List.{list_any}
 use Rattle.std.proofs.lemmas.Bool.{cases_eq, cases_lt, eq-eqb, ne_eqb, lt-ltb, le-ltb}
 use Rattle.std.proofs.lemmas.List.{length-set, append-nil, length-replicate, get_or-replicate, get_or-set_same, get_or-set_other}
 use Rattle.std.proofs.lemmas.List.Folds.{list_any-append, or-false}
+use Rattle.bar_fixpoint.proofs.Listing.{filter_more}
 use Rattle.markets.specs.Markets.{MarketRows, position_of}
 use Rattle.markets.specs.Matchings.{place_of, is_at}
 use Rattle.stable_market.specs.Blocks.{AreLasts, noted}
 use Rattle.markets.proofs.Noting.{holders_to}
-use Rattle.markets.proofs.OneMore.{kept_more}
 
 -- the last position at which one is
 pub record AreLastsTo (m : MarketRows) (places : List (Option ℕ)) (k : ℕ) (lasts : List ℕ) : Type 0 where
@@ -46,10 +46,10 @@ lasts_more m places k lasts new o is within are new_is = by o is within new_is
     held p y = is_at p (place_of places y)
 
     over : (p : ℕ) → held p k ≡ false → holders_to places p (k + 1) ≡ holders_to places p k
-    over p out = kept_more (held p) k ∙ ap (λ b. holders_to places p k ++ cond b (k ∷ []) []) out ∙ append-nil (holders_to places p k)
+    over p out = filter_more (held p) k ∙ ap (λ b. holders_to places p k ++ cond b (k ∷ []) []) out ∙ append-nil (holders_to places p k)
 
     grown : (p : ℕ) → held p k ≡ true → holders_to places p (k + 1) ≡ holders_to places p k ++ k ∷ []
-    grown p here = kept_more (held p) k ∙ ap (λ b. holders_to places p k ++ cond b (k ∷ []) []) here
+    grown p here = filter_more (held p) k ∙ ap (λ b. holders_to places p k ++ cond b (k ∷ []) []) here
 
     by : (o : Option ℕ) → place_of places k ≡ o → ((p : ℕ) → o ≡ Some p → p < length m.orders) → new ≡ noted m k lasts o
         → AreLastsTo m places (k + 1) new

@@ -1,9 +1,10 @@
 use Rattle.std.proofs.Common.{◌≡◌, ◌∙◌, ℕ, ◌+◌, ap, arith, subst}
 use Rattle.admit_core.specs.DossierRows.{DossierRows, beds_of}
 use Rattle.admit_core.specs.Falls.{IsGreatest}
+use Rattle.desk_day.proofs.PassesSoFar.{tells_on}
 use Rattle.bed_need.specs.Growing.{with_more_beds, with_n_beds}
 use Rattle.bed_need.proofs.Growing.{bars_do_not_fall}
-use Rattle.bed_need.proofs.Telling.{more_again, run_again}
+use Rattle.bed_need.proofs.Telling.{run_again}
 use Rattle.bed_need.proofs.growth.grown_bars.Goals as goal
 
 pub returns-clause-growth : goal.returns-clause-growth
@@ -43,4 +44,4 @@ returns-clause-told g c =
 
 pub returns-clause-early : goal.returns-clause-early
 returns-clause-early g c =
-    more_again _ _ _ c.in_ok-before.ensures.asked.early c.in_ok-after.ensures.asked.early
+    tells_on _ _ _ c.in_ok-before.ensures.asked.early c.in_ok-after.ensures.asked.early

@@ -1,5 +1,6 @@
 use Rattle.std.proofs.Common.{sym, ap, ◌∙◌, is_some}
-use Rattle.dossier_check.proofs.Buckets.{lay, lay_none, is_at}
+use Rattle.admit_core.proofs.FirstPlaces.{is_at}
+use Rattle.dossier_check.proofs.Buckets.{lay, lay_none}
 use Rattle.dossier_check.proofs.groups.lay_row.Goals as goal
 
 pub returns-in-Some-clause-laid : goal.returns-in-Some-clause-laid

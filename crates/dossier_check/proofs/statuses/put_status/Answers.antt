@@ -1,6 +1,6 @@
 use Rattle.std.proofs.Common.{◌≡◌, false, nat_eq, is_some, slice_set, subst, sym, ap, ◌∙◌}
 use Rattle.std.specs.List.{IsDistinct, list_any}
-use Rattle.dossier_check.proofs.Buckets.{IsAt, is_at}
+use Rattle.admit_core.proofs.FirstPlaces.{is_at, IsAt}
 use Rattle.dossier_check.proofs.PutStatuses.{put_own, put_none}
 use Rattle.dossier_check.proofs.statuses.put_status.Goals as goal
 

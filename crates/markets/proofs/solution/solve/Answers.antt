@@ -1,7 +1,8 @@
 use Rattle.std.proofs.Common.{◌∙◌}
 use Rattle.admit_core.proofs.Plain.{on_err}
+use Rattle.bar_fixpoint.proofs.RunLaws.{none_told}
 use Rattle.markets.specs.Bars.{market_system}
-use Rattle.markets.proofs.Led.{led, none_told, some_told}
+use Rattle.markets.proofs.Led.{led, some_told}
 use Rattle.markets.proofs.solution.solve.Goals as goal
 
 pub returns-clause-led : goal.returns-clause-led

@@ -1,7 +1,8 @@
 use Rattle.std.proofs.Common.{rules, List, ℕ, sym, ◌∙◌, ap}
 use Rattle.admit_core.proofs.Plain.{on_err}
 use Rattle.admit_core.specs.Proposals.{proposed}
-use Rattle.round.proofs.EarlyEnds.{told_nothing, told_early, told_of_all}
+use Rattle.bar_fixpoint.proofs.RunLaws.{none_told}
+use Rattle.round.proofs.EarlyEnds.{told_early, told_of_all}
 use Rattle.round.proofs.one_pass.find.Goals as goal
 
 pub returns-clause-pass : goal.returns-clause-pass
@@ -19,7 +20,7 @@ returns-clause-pass g c =
     }
 
 pub returns-in_err-round-clause-early : goal.returns-in_err-round-clause-early
-returns-in_err-round-clause-early g c = on_err _ (told_nothing _ _ _)
+returns-in_err-round-clause-early g c = on_err _ (none_told _ _ _)
 
 pub returns-in_err-falls-clause-early : goal.returns-in_err-falls-clause-early
 returns-in_err-falls-clause-early g c = on_err _ (told_early _ _ _ _ _ _ c.in_ok-round.ensures.system c.in_err-falls.ensures.early)

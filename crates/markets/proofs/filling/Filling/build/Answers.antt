@@ -4,8 +4,8 @@ use Rattle.std.specs.List.{range_with_len}
 use Rattle.std.specs.declared.alloc.Global.{Global}
 use Rattle.std.proofs.lemmas.Bool.{lt-ltb, le-ltb}
 use Rattle.std.proofs.lemmas.List.{append-nil, get_or_default}
+use Rattle.bar_fixpoint.proofs.Listing.{filter_more}
 use Rattle.markets.specs.Fillings.{is_over}
-use Rattle.markets.proofs.OneMore.{kept_more}
 use Rattle.markets.proofs.filling.Filling.build.Goals as goal
 use Rattle.markets.proofs.filling.Filling.build.Goals.{then-index+in_ok-push, else-index}
 
@@ -27,14 +27,14 @@ loop-programme-preserved c =
           (omega (arith, w.if-index.true, count_is, seats_is)) in (
             ap (λ (v : Vec ℕ Global). v.items) w.overfilled-is ∙ w.in_ok-push.ensures.items
                 ∙ ap (λ (xs : List ℕ). xs ++ k ∷ []) c.loop-programme.invariant.0
-                ∙ sym (kept_more t k ∙ ap (λ b. front ++ cond b (k ∷ []) []) passes),
+                ∙ sym (filter_more t k ∙ ap (λ b. front ++ cond b (k ∷ []) []) passes),
             rw w.overfilled-is (omega (arith, c.loop-programme.invariant.1, w.in_ok-push.ensures.capacity)),
           )
       | else-index w ↦
           let fails : t k ≡ false = le-ltb (slice_index seats k) (slice_index counts k)
           (omega (arith, w.if-index.false, count_is, seats_is)) in (
             ap (λ (v : Vec ℕ Global). v.items) w.overfilled-is ∙ c.loop-programme.invariant.0
-                ∙ sym (kept_more t k ∙ ap (λ b. front ++ cond b (k ∷ []) []) fails ∙ append-nil front),
+                ∙ sym (filter_more t k ∙ ap (λ b. front ++ cond b (k ∷ []) []) fails ∙ append-nil front),
             rw w.overfilled-is c.loop-programme.invariant.1,
           )
     ]

@@ -1,7 +1,6 @@
 use Rattle.std.proofs.Common.{◌≡◌, ℕ, ◌<◌, Bool, true, false, not, List, length, arith, refl, sym, ◌∙◌, ap, subst, nat_lt, get_or, None, Option}
 use Rattle.std.specs.Prelude.{slice_index, is_some}
-use Rattle.std.proofs.Math.Bool.{beq}
-use Rattle.std.proofs.lemmas.Bool.{false≢true, lt-ltb, le-ltb}
+use Rattle.std.proofs.lemmas.Bool.{lt-ltb, le-ltb}
 use Rattle.std.proofs.lemmas.List.{get_or_default}
 use Rattle.std.specs.List.Sorted.{IsNonDecreasing}
 use Rattle.admit_core.proofs.Plain.{unlike, alike}
