@@ -1,5 +1,5 @@
 -- Where a number stands first in a list.
-use Rattle.std.proofs.Common.{◌≡◌, ℕ, ◌<◌, suc, true, false, List, [], ◌∷◌, Some, length, get_or, position, arith, nat_eq}
+use Rattle.std.proofs.Common.{◌≡◌, ℕ, ◌<◌, suc, true, false, List, [], ◌∷◌, Some, length, get_or, position, refl, arith, nat_eq}
 use Prim.Native.Nat.{zero}
 use Rattle.std.specs.List.{AllByRecursion, list_any}
 use Rattle.std.proofs.lemmas.Bool.Decides.{nat_tests}
