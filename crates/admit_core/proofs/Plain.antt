@@ -14,6 +14,10 @@ pub and_false : (b : Bool) → (b && false) ≡ false
 and_false true = refl
 and_false false = refl
 
+pub and_true : (b : Bool) → (b && true) ≡ b
+and_true true = refl
+and_true false = refl
+
 pub is_and_true : (b : Bool) → b ≡ (b && true)
 is_and_true true = refl
 is_and_true false = refl
@@ -21,6 +25,10 @@ is_and_true false = refl
 pub and_not : (b : Bool) → (b && not b) ≡ false
 and_not true = refl
 and_not false = refl
+
+pub or_false : (b : Bool) → (b || false) ≡ b
+or_false true = refl
+or_false false = refl
 
 pub or_true : (b : Bool) → (b || true) ≡ true
 or_true true = refl
@@ -30,6 +38,10 @@ pub or_last : (a b : Bool) → (a || (b || false)) ≡ (a || b)
 or_last true b = refl
 or_last false true = refl
 or_last false false = refl
+
+pub and_assoc : (a b c : Bool) → (a && (b && c)) ≡ ((a && b) && c)
+and_assoc true b c = refl
+and_assoc false b c = refl
 
 pub turn_and : (a b c : Bool) → (a && (b && c)) ≡ ((b && a) && c)
 turn_and true true c = refl

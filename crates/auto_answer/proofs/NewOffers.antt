@@ -4,9 +4,9 @@ use Rattle.std.specs.Prelude.{if◌then◌else◌}
 use Rattle.std.specs.List.{range_with_len}
 use Rattle.std.proofs.lemmas.Bool.{cases_Bool, cases_eq, eq-eqb, ne_eqb, or_left, or_right, or_parts, false≢true}
 use Rattle.std.proofs.lemmas.List.{length-map, map-append, take_more, take_all}
-use Rattle.std.proofs.lemmas.List.Folds.{list_any-append, or-false}
+use Rattle.std.proofs.lemmas.List.Folds.{list_any-append}
 use Rattle.std.proofs.lemmas.List.Sums.{sum_by-cons}
-use Rattle.admit_core.proofs.Plain.{and_not}
+use Rattle.admit_core.proofs.Plain.{and_not, or_false}
 use Rattle.admit_core.specs.declared.dossier.Wish.{Wish}
 use Rattle.admit_core.specs.declared.state.Stamp.{Stamp}
 use Rattle.admit_core.specs.declared.state.Freed.{Freed}
@@ -116,7 +116,7 @@ among_last : (x : ℕ) (cs : List ℕ) → is_among x (cs ++ x ∷ []) ≡ true
 among_last x cs = among_more x x cs ∙ or_right (is_among x cs) (nat_eq x x || false) (or_left (nat_eq x x) false (eq-eqb x x refl))
 
 among_other : (c x : ℕ) (cs : List ℕ) → (c ≡ x → ⊥) → is_among c (cs ++ x ∷ []) ≡ is_among c cs
-among_other c x cs other = among_more c x cs ∙ rw (ne_eqb c x other) (or-false (is_among c cs))
+among_other c x cs other = among_more c x cs ∙ rw (ne_eqb c x other) (or_false (is_among c cs))
 
 -- what one more candidate does
 module _ (start now : State) (stamp : Stamp) (x : ℕ) (cs : List ℕ) (all : Freed) (so_far : AreAnswered start now stamp cs all) where

@@ -8,9 +8,9 @@ use Rattle.std.proofs.lemmas.Option.{unwrap_or-slice_get}
 use Rattle.std.proofs.lemmas.List.{length-set, length-take-le, length-replicate, get_or-replicate, get_or-set_same, get_or-set_other, ext_get_or}
 use Rattle.std.proofs.lemmas.List.Filters.{length-filter_more}
 use Rattle.std.proofs.lemmas.List.Sums.{length-filter, count_by-le-length}
-use Rattle.std.proofs.lemmas.List.Folds.{list_any_at, list_any-append, or-false}
+use Rattle.std.proofs.lemmas.List.Folds.{list_any_at, list_any-append}
 use Rattle.std.proofs.lemmas.List.FromFn.{length-range_with_len, length-map-range_with_len, get_or-map-range_with_len, map-range_with_len_more}
-use Rattle.admit_core.proofs.Plain.{or_true}
+use Rattle.admit_core.proofs.Plain.{or_true, or_false}
 use Rattle.day_state.specs.Kept.{one_if}
 use Rattle.day_state.specs.Bundles.{is_same, number_in, is_later, is_shared, shared_flags, true_before, all_ranks, rank_of, with_later, number_of, numbered, count_of, flag_in}
 use Rattle.day_state.proofs.Numbering.{range_at}
@@ -108,7 +108,7 @@ later_long flags (Some c) k =
     ]
 
 later_none : (x : Bool) (i b : ℕ) → (x || ((not (i == b) && is_same (Some b) None) || false)) ≡ x
-later_none x i b = rw (and_right (not (i == b)) false refl) (or-false x)
+later_none x i b = rw (and_right (not (i == b)) false refl) (or_false x)
 
 -- one more wish
 later_more : (flags : List Bool) (o : Option ℕ) (i b : ℕ) (x : Bool) → ForSome o (λ c. c < length flags) → get_or flags b false ≡ x
@@ -119,8 +119,8 @@ later_more flags (Some c) i b x within are =
       | inl own ↦
           rw (eq-eqb c i own)
           (elim (cases_eq c b) [
-            | inl same ↦ rw (eq-eqb i b (sym own ∙ same)) (are ∙ sym (or-false x))
-            | inr other ↦ rw (ne_eqb c b other, and_right (not (i == b)) false refl) (are ∙ sym (or-false x))
+            | inl same ↦ rw (eq-eqb i b (sym own ∙ same)) (are ∙ sym (or_false x))
+            | inr other ↦ rw (ne_eqb c b other, and_right (not (i == b)) false refl) (are ∙ sym (or_false x))
           ])
       | inr later ↦
           rw (ne_eqb c i later)
@@ -130,7 +130,7 @@ later_more flags (Some c) i b x within are =
                 here ∙ rw (ne_eqb i b (λ e. later (same ∙ sym e)), eq-eqb c b same) (sym (or_true x))
             | inr other ↦
                 rw (ne_eqb c b other, and_right (not (i == b)) false refl)
-                (get_or-set_other flags c b true false (λ e. other (sym e)) ∙ are ∙ sym (or-false x))
+                (get_or-set_other flags c b true false (λ e. other (sym e)) ∙ are ∙ sym (or_false x))
           ])
     ]
 

@@ -6,8 +6,7 @@ use Rattle.std.proofs.lemmas.Bool.{cases_Bool, eqb-true, eqb-false}
 use Rattle.std.proofs.lemmas.List.{ext_get_or, get_or-map, get_or-set_same, get_or-set_other, length-map}
 use Rattle.std.proofs.lemmas.List.FromFn.{get_or-map-range_with_len, length-map-range_with_len}
 use Rattle.std.proofs.lemmas.Option.{unwrap_or-slice_get}
-use Rattle.std.proofs.lemmas.List.Folds.{or-false}
-use Rattle.admit_core.proofs.Plain.{or_true}
+use Rattle.admit_core.proofs.Plain.{or_true, or_false}
 use Rattle.admit_core.specs.declared.dossier.Wish.{Wish}
 use Rattle.admit_core.specs.Lists.{is_among}
 use Rattle.admit_core.specs.Proposals.{is_behind_bar, is_barred, is_open}
@@ -82,7 +81,7 @@ asked_more s bars places i p flags flag lt p_is within flag_is asked =
                 ∙ ap (open_if s bars k) (sym among)
             | inr other ↦
                 let among : is_among k (take (i + 1) places) ≡ is_among k (take i places) = more
-                ∙ ap (λ b. is_among k (take i places) || b) other ∙ or-false (is_among k (take i places)) in
+                ∙ ap (λ b. is_among k (take i places) || b) other ∙ or_false (is_among k (take i places)) in
                 get_or-set_other flags p k flag false (eqb-false k p other)
                 ∙ asked.each k k_lt
                 ∙ ap (open_if s bars k) (sym among)

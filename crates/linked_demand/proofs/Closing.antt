@@ -7,8 +7,7 @@ use Rattle.std.proofs.lemmas.Bool.{cases_Bool, or_cases, or_left, or_right, eqb-
 use Rattle.std.proofs.lemmas.List.{get_or_read, length-set, get_or-map, length-map}
 use Rattle.std.proofs.lemmas.List.FromFn.{get_or-map-range_with_len, length-map-range_with_len, get_or-range_with_len, length-range_with_len}
 use Rattle.std.proofs.lemmas.Option.{slice_get_within}
-use Rattle.std.proofs.lemmas.List.Folds.{and-true, and_assoc}
-use Rattle.admit_core.proofs.Plain.{and_false, any_same}
+use Rattle.admit_core.proofs.Plain.{and_false, any_same, and_true, and_assoc}
 use Rattle.admit_core.specs.declared.dossier.Wish.{Wish}
 use Rattle.admit_core.specs.declared.state.Mark.{Mark}
 use Rattle.admit_core.specs.declared.ranking.CallOrder.{CallOrder}
@@ -46,7 +45,7 @@ any_of_claim t (w ∷ ws) (m ∷ ms) a opens long le =
     let front : drop a opens ≡ get_or opens a false ∷ drop (a + 1) opens =
     rw (add-one, drop-cons opens a false (omega arith)) refl in
     rw front (elim (cases_Bool (t w)) [
-      | inl passes ↦ rw (passes, and-true (get_or opens a false)) (ap (λ b. get_or opens a false || b) rest)
+      | inl passes ↦ rw (passes, and_true (get_or opens a false)) (ap (λ b. get_or opens a false || b) rest)
       | inr fails ↦ rw (fails, and_false (get_or opens a false)) rest
     ])
 

@@ -4,7 +4,7 @@ use Rattle.std.specs.Prelude.{slice_get, slice_index}
 use Rattle.std.specs.List.{list_any, range_with_len}
 use Rattle.std.proofs.lemmas.Bool.{cases_Bool, cases_lt, eq-eqb, eqb-true, ne_eqb, lt-ltb, le-ltb, false≢true}
 use Rattle.std.proofs.lemmas.List.{get_or_read, get_or-map, length-map}
-use Rattle.std.proofs.lemmas.List.Folds.{list_any_more, list_any-append, or-false, and-true}
+use Rattle.std.proofs.lemmas.List.Folds.{list_any_more, list_any-append}
 use Rattle.std.proofs.lemmas.List.FromFn.{get_or-map-range_with_len}
 use Rattle.admit_core.specs.declared.dossier.Wish.{Wish}
 use Rattle.admit_core.specs.declared.state.Mark.{Mark}
@@ -13,7 +13,7 @@ use Rattle.admit_core.specs.DossierRows.{DossierRows}
 use Rattle.admit_core.specs.Lists.{is_among}
 use Rattle.admit_core.specs.State.{State, entries, is_waiting, seats_left}
 use Rattle.admit_core.specs.Proposals.{needs_no_seat}
-use Rattle.admit_core.proofs.Plain.{and_false, nat_eq_sym}
+use Rattle.admit_core.proofs.Plain.{and_false, nat_eq_sym, or_false, and_true}
 use Rattle.day_state.proofs.Ordering.{range_more}
 use Rattle.linked_demand.specs.Demand.{is_proposed_at}
 use Rattle.linked_demand.specs.Fronts.{AreFronts, claimed_open, front_of, reached_open}
@@ -37,7 +37,7 @@ any_range_more : (g : ℕ → Bool) (n : ℕ) → list_any g (range_with_len 0 (
 any_range_more g n =
     ap (list_any g) (range_more 0 n n (omega arith))
     ∙ list_any-append g (range_with_len 0 n) (n ∷ [])
-    ∙ ap (λ b. list_any g (range_with_len 0 n) || b) (or-false (g n))
+    ∙ ap (λ b. list_any g (range_with_len 0 n) || b) (or_false (g n))
 
 module _ {n : ℕ} {lines : List (List (List ℕ))} {reached : List ℕ} (are : AreFronts n lines reached) (p : ℕ)
     (lt : p < length lines)
@@ -82,7 +82,7 @@ next_lt a n =
 
 own_line : (own before here next : Bool) → own ≡ true → (before || here) ≡ next
     → ((own && before) || (here && own)) ≡ (own && next)
-own_line true before here next t more = ap (λ b. before || b) (and-true here) ∙ more
+own_line true before here next t more = ap (λ b. before || b) (and_true here) ∙ more
 own_line false before here next t more = absurd (false≢true t)
 
 other_line : (own before here next : Bool) → own ≡ false → ((own && before) || (here && own)) ≡ (own && next)

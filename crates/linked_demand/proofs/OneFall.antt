@@ -2,14 +2,13 @@
 use Rattle.std.proofs.Common.{ℕ, ◌≤◌, ◌<◌, ◌≡◌, ◌≢◌, Bool, true, false, not, ◌&&◌, refl, sym, ◌∙◌, ap, Option, Some, None, List, length, nat_lt, ◌||◌}
 use Rattle.std.specs.Prelude.{slice_index, slice_set}
 use Rattle.std.proofs.lemmas.Bool.{false≢true, and_parts, eqb-true, ne_eqb}
-use Rattle.std.proofs.lemmas.List.Folds.{and-true}
 use Rattle.admit_core.specs.declared.dossier.Wish.{Wish}
 use Rattle.admit_core.specs.declared.state.Mark.{Mark}
 use Rattle.admit_core.specs.declared.ranking.CallOrder.{CallOrder}
 use Rattle.admit_core.specs.State.{State, holds_bed, has_school, is_school, seats_left}
 use Rattle.admit_core.specs.Proposals.{is_open, is_proposed, needs_no_seat, ahead, demands_bed}
 use Rattle.admit_core.proofs.DemandLaws.{seat_stays}
-use Rattle.admit_core.proofs.Plain.{and_false}
+use Rattle.admit_core.proofs.Plain.{and_false, and_true}
 use Rattle.linked_demand.specs.Opens.{is_past}
 use Rattle.linked_demand.proofs.Opens.{fallen_open}
 use Rattle.linked_demand.proofs.TickLaw.{fall_at_most}
@@ -48,7 +47,7 @@ module _ (s : State) (bars : List ℕ) (i to : ℕ) (within : i < length bars) (
       fallen_open s bars i to w m w.school within le
       ∙ ap (λ b. is_open s bars w
       m && not (b && (not (holds_bed s w.candidate i) && nat_lt to w.board_rank))) (other_school w.school h i has other)
-      ∙ and-true (is_open s bars w m)
+      ∙ and_true (is_open s bars w m)
 
   -- a wish of another school that is not new demands as before
   pub demand_stays : (orders : List CallOrder) (h : ℕ) → h ≢ i → (w : Wish) (m : Mark)

@@ -4,7 +4,8 @@ use Rattle.std.specs.Prelude.{slice_index, replicate, max}
 use Rattle.std.specs.List.{list_any}
 use Rattle.std.proofs.lemmas.Bool.{cases_eq, cases_lt, eq-eqb, ne_eqb, lt-ltb, le-ltb}
 use Rattle.std.proofs.lemmas.List.{length-set, append-nil, length-replicate, get_or-replicate, get_or-set_same, get_or-set_other}
-use Rattle.std.proofs.lemmas.List.Folds.{list_any-append, or-false}
+use Rattle.std.proofs.lemmas.List.Folds.{list_any-append}
+use Rattle.admit_core.proofs.Plain.{or_false}
 use Rattle.bar_fixpoint.proofs.Listing.{filter_more}
 use Rattle.markets.specs.Markets.{MarketRows, position_of}
 use Rattle.markets.specs.Matchings.{place_of, is_at}
@@ -75,7 +76,7 @@ lasts_more m places k lasts new o is within are new_is = by o is within new_is
                     let t : ℕ → Bool = λ y. nat_lt j (position_of m p y) in
                     ap (nat_lt j) now ∙ past_max j (slice_index lasts p) (position_of m p k)
                     ∙ ap (λ b. b || t k) (are.each p j lt)
-                    ∙ ap (λ b. list_any t (holders_to places p k) || b) (sym (or-false (t k)))
+                    ∙ ap (λ b. list_any t (holders_to places p k) || b) (sym (or_false (t k)))
                     ∙ sym (list_any-append t (holders_to places p k) (k ∷ []))
                     ∙ ap (list_any t) (sym (grown p (ap (is_at p) is ∙ eq-eqb p q here)))
                 | inr other ↦

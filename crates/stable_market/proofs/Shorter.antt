@@ -4,10 +4,9 @@ use Rattle.std.specs.List.{list_all, position_or_len, range_with_len, IsDistinct
 use Rattle.std.proofs.lemmas.Bool.{cases_Bool, cases_eq, cases_lt, and_parts, and_from, eq-eqb, ne_eqb, lt-ltb, le-ltb, false≢true}
 use Rattle.std.proofs.lemmas.List.{length-set, get_or-set_same, get_or-set_other}
 use Rattle.std.proofs.lemmas.List.FromFn.{length-map-range_with_len, get_or-map-range_with_len}
-use Rattle.std.proofs.lemmas.List.Folds.{or-false, and-true}
 use Rattle.admit_core.specs.Lists.{is_among}
 use Rattle.admit_core.proofs.Counting.{distinct_kept}
-use Rattle.admit_core.proofs.Plain.{or_true}
+use Rattle.admit_core.proofs.Plain.{or_true, or_false, and_true}
 use Rattle.markets.specs.Markets.{MarketRows, IsMarket, list_of, order_of, lists_it, listers, is_distinct, is_list_below, is_order, position_of}
 use Rattle.stable_market.specs.Truth.{DifferAtMostIn}
 use Rattle.markets.specs.Firsts.{all_of, among_filter}
@@ -112,11 +111,11 @@ module _ (m : MarketRows) (is : IsMarket m) (x : ℕ) (x_lt : x < length m.lists
   lists_there p y = elim (cases_eq y x) [
     | inl here ↦
         let own : lists_it short p x ≡ (lists_it m p x && keep p) = ap (is_among p) own_list ∙ among_filter keep p (list_of m x) in
-        let kept : stays keep x p y ≡ keep p = ap (λ b. keep p || not b) (eq-eqb y x here) ∙ or-false (keep p) in
+        let kept : stays keep x p y ≡ keep p = ap (λ b. keep p || not b) (eq-eqb y x here) ∙ or_false (keep p) in
         ap (lists_it short p) here ∙ own ∙ ap (λ z. lists_it m p z && keep p) (sym here) ∙ ap (λ b. lists_it m p y && b) (sym kept)
     | inr other ↦
         let kept : stays keep x p y ≡ true = ap (λ b. keep p || not b) (ne_eqb y x other) ∙ or_true (keep p) in
-        ap (is_among p) (other_list y other) ∙ sym (and-true (lists_it m p y)) ∙ ap (λ b. lists_it m p y && b) (sym kept)
+        ap (is_among p) (other_list y other) ∙ sym (and_true (lists_it m p y)) ∙ ap (λ b. lists_it m p y && b) (sym kept)
   ]
 
   pub listed_before : (p y : ℕ) → lists_it short p y ≡ true → (lists_it m p y ≡ true) × (stays keep x p y ≡ true)
