@@ -1,5 +1,5 @@
 -- How many wishes of a bundle are live, and what that tells of its candidate.
-use Rattle.std.proofs.Common.{ℕ, ◌+◌, ◌-◌, ◌≤◌, ◌<◌, ◌≡◌, Bool, true, false, ◌&&◌, List, [], ◌∷◌, length, map, set, replicate, inl, inr, refl, sym, ◌∙◌, ap, arith, filter, Option, Some, None, zero, suc}
+use Rattle.std.proofs.Common.{ℕ, ◌+◌, ◌-◌, ◌≤◌, ◌<◌, ◌≡◌, Bool, true, false, ◌&&◌, List, [], ◌∷◌, length, map, set, replicate, inl, inr, refl, sym, ◌∙◌, ap, subst, arith, filter, Option, Some, None, zero, suc}
 use Rattle.std.specs.Prelude.{slice_index, ◌==◌, nat_lt}
 use Rattle.std.specs.Option.{ForSome}
 use Rattle.std.specs.List.{list_any, range_with_len}
@@ -16,7 +16,7 @@ use Rattle.admit_core.specs.declared.dossier.Wish.{Wish}
 use Rattle.admit_core.specs.declared.state.Mark.{Mark}
 use Rattle.admit_core.specs.DossierRows.{DossierRows}
 use Rattle.admit_core.specs.State.{State, entries, is_live, with_mark_at}
-use Rattle.admit_core.specs.Validity.{IsValid}
+use Rattle.admit_core.specs.Validity.{IsValid, IsValidWish}
 use Rattle.day_state.specs.declared.bundles.Sites.{Sites}
 use Rattle.day_state.specs.declared.bundles.Sites.TheVariants.{Programmes, Schools}
 use Rattle.day_state.specs.declared.numbers.Number.{Number}
@@ -376,16 +376,46 @@ bundled_waiting sites d =
       };
     }
 
-pub keeps_waiting : (d : DossierRows)
+all_waiting : (d : DossierRows)
     → let n = length d.wishes in
     KeepsCounts (state_of d (replicate n waiting_mark)) (replicate (length d.programmes) 0)
     (replicate (length d.schools) 0) (all_numbers Programmes d.wishes)
     (replicate (shared_in_all Programmes d.wishes) 0) (all_numbers Schools d.wishes) (replicate (shared_in_all Schools d.wishes) 0)
-keeps_waiting d = record {
+all_waiting d = record {
   kept = kept_waiting d;
   programmes = bundled_waiting Programmes d;
   schools = bundled_waiting Schools d;
 }
+
+-- all wishes of a valid dossier wait, whose wishes, programmes and schools were read
+module _ (d : DossierRows) (ws : List Wish) (wishes : ws ≡ d.wishes) where
+  pub keeps_waiting : {marks : List Mark} {seats beds in_programmes in_schools : List ℕ} {of_programmes of_schools : List Number}
+      {p h : ℕ} → p ≡ length d.programmes → h ≡ length d.schools → marks ≡ replicate (length ws) waiting_mark
+      → seats ≡ replicate p 0 → beds ≡ replicate h 0 → of_programmes ≡ all_numbers Programmes ws
+      → in_programmes ≡ replicate (shared_in_all Programmes ws) 0 → of_schools ≡ all_numbers Schools ws
+      → in_schools ≡ replicate (shared_in_all Schools ws) 0
+      → KeepsCounts (state_of d marks) seats beds of_programmes in_programmes of_schools in_schools
+  keeps_waiting p_is h_is marks_are seats_are beds_are of_p in_p of_h in_h =
+      rw (marks_are, seats_are, beds_are, of_p, in_p, of_h, in_h, p_is, h_is, wishes) (all_waiting d)
+
+  module _ (valid : IsValid d) where
+    valid_wish : (k : ℕ) → k < length ws → IsValidWish d (wish_in ws k)
+    valid_wish k lt =
+        let b = wish_in [] 0 in
+        subst (IsValidWish d) (sym (ap (λ vs. wish_in vs k) wishes ∙ unwrap_or-slice_get d.wishes k b))
+        (valid.wishes k b (subst (λ vs. k < length vs) wishes lt))
+
+    pub programme_in : {p : ℕ} → p ≡ length d.programmes → (k : ℕ) → k < length ws
+        → ForSome (site_of Programmes (wish_in ws k)) (λ h. h < p)
+    programme_in same k lt h e = let is : (wish_in ws k).programme ≡ h = (cc) in
+        omega (arith, (valid_wish k lt).programme, is, same)
+
+    pub school_in : {n : ℕ} → n ≡ length d.schools → (k : ℕ) → k < length ws
+        → ForSome (site_of Schools (wish_in ws k)) (λ h. h < n)
+    school_in same k lt h e = subst (λ n. h < n) (sym same) ((valid_wish k lt).school h e)
+
+    pub few_wishes : length ws < 2147483648
+    few_wishes = omega (arith, valid.size.wishes, ap (λ (vs : List Wish). length vs) wishes)
 
 -- what the counts of a bundle tell of its candidate in a state
 abbrev Tells : Sites → (State → ℕ → Bool) → List Number → ℕ → Type 0

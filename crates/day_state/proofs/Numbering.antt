@@ -1,5 +1,5 @@
 -- The first wishes of bundles, as a walk in the order of the candidates finds them.
-use Rattle.std.proofs.Common.{ℕ, ◌+◌, ◌≤◌, ◌<◌, ◌≡◌, Bool, true, false, ◌&&◌, List, [], ◌∷◌, length, get_or, set, replicate, inl, inr, refl, sym, ◌∙◌, ap, arith, nat_eq, filter, Option, Some, None, zero, suc}
+use Rattle.std.proofs.Common.{ℕ, ◌+◌, ◌≤◌, ◌<◌, ◌≡◌, Bool, true, false, ◌&&◌, List, [], ◌∷◌, length, get_or, set, replicate, inl, inr, refl, sym, ◌∙◌, ap, subst, arith, nat_eq, filter, Option, Some, None, zero, suc}
 use Rattle.std.specs.Prelude.{slice_index, ◌==◌, All}
 use Rattle.std.specs.Option.{ForSome}
 use Rattle.std.specs.List.{find, list_any, range_with_len}
@@ -221,13 +221,13 @@ noted_long last None number = refl
 noted_long last (Some h) number = length-set last h number
 
 -- one more wish on the way
-pub walked_more : (sites : Sites) (ws : List Wish) (order : List ℕ) (count : ℕ) (last numbers : List (Option ℕ))
+more_walked : (sites : Sites) (ws : List Wish) (order : List ℕ) (count : ℕ) (last numbers : List (Option ℕ))
     (i : ℕ) → IsIndex ws order → i < length order
     → ForSome (site_of sites (wish_in ws (slice_index order i))) (λ h. h < count) → IsWalked sites ws order count last numbers i
     → let x = slice_index order i in
     let site = site_of sites (wish_in ws x) in
     IsWalked sites ws order count (noted last site (bundle_there ws last site x)) (set numbers x (bundle_there ws last site x)) (i + 1)
-walked_more sites ws order count last numbers i index lt within walk =
+more_walked sites ws order count last numbers i index lt within walk =
     let x = slice_index order i in
     let site = site_of sites (wish_in ws x) in
     let number = bundle_there ws last site x in
@@ -247,6 +247,17 @@ walked_more sites ws order count last numbers i index lt within walk =
             ]
       ];
     }
+
+-- the same, where its site and its number were found
+pub walked_more : (sites : Sites) (ws : List Wish) (order : List ℕ) (count : ℕ) (last numbers new_last new_numbers seen : List (Option ℕ))
+    (i : ℕ) (o b : Option ℕ) → IsIndex ws order → i < length order → ForSome o (λ h. h < count)
+    → let x = slice_index order i in
+    o ≡ site_of sites (wish_in ws x) → seen ≡ last → b ≡ bundle_there ws seen o x → new_last ≡ noted last o b
+    → new_numbers ≡ set numbers x b → IsWalked sites ws order count last numbers i
+    → IsWalked sites ws order count new_last new_numbers (i + 1)
+walked_more sites ws order count last numbers new_last new_numbers seen i o b index lt within site same number last_is numbers_is walk =
+    let P = λ (o : Option ℕ). ForSome o (λ h. h < count) in
+    rw (last_is, numbers_is, number, same, site) (more_walked sites ws order count last numbers i index lt (subst P site within) walk)
 
 last_within : (sites : Sites) (ws : List Wish) (order : List ℕ) (i h : ℕ) (found : Option ℕ) → IsIndex ws order
     → LastAt sites ws order i h found → ForSome found (λ b. b < length ws)

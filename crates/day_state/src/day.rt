@@ -66,16 +66,12 @@ impl<'d> DayState<'d> {
     pub fn begin(alloc: Global, dossier: &'d Dossier) -> Result<DayState<'d>, OutOfMemory>
         ensures { IfOk result (λ s. s ≡ first_evening dossier.now) }
     {
-        let index = CandidateIndex::build(alloc, dossier)?;
+        let index = Rc::new(alloc, CandidateIndex::build(alloc, dossier)?)?;
         let mut live = CountedMarks::waiting(alloc, dossier, index.order())?;
         for (place, status) in dossier.statuses.as_slice().iter().enumerate() {
             live.set_mark(place as u32, first_mark(*status));
         }
-        let shared = Rc::new(alloc, index)?;
-        Ok(DayState {
-            index: shared,
-            live,
-        })
+        Ok(DayState { index, live })
     }
 
     /// An equal state.

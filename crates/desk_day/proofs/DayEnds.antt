@@ -1,6 +1,6 @@
 -- A day on a desk from the day that is played on its states.
-use Rattle.std.proofs.Common.{ℕ, ◌≡◌, Bool, false, List, sym, subst, ◌∙◌, Option, Result, Ok, Err, IfOk, IfErr}
-use Rattle.std.specs.Prelude.{OnErr, is_err}
+use Rattle.std.proofs.Common.{ℕ, ◌≡◌, ◌++◌, Bool, false, List, sym, subst, ◌∙◌, Option, Result, Ok, Err, IfOk, IfErr}
+use Rattle.std.specs.Prelude.{OnErr, IsErr, IsErrAnd, is_err}
 use Rattle.std.proofs.lemmas.Bool.{false≢true}
 use Rattle.admit_core.specs.declared.ranking.CallOrder.{CallOrder}
 use Rattle.admit_core.specs.declared.records.DayRecord.{DayRecord}
@@ -8,13 +8,30 @@ use Rattle.admit_core.specs.declared.records.Terms.{Terms}
 use Rattle.admit_core.specs.State.{State}
 use Rattle.admit_core.specs.Days.{unfit_on}
 use Rattle.desk_day.specs.AnswersOn.{IsUnfitOf}
+use Rattle.desk_day.specs.DayPasses.{TellsMore}
 use Rattle.desk_day.specs.DeskStates.{DeskStates}
 use Rattle.desk_day.specs.RunDay.{Moment, IsDayDone, EndsDay, KeepsOpening, TellsNoneUnfit}
 use Rattle.desk_day.specs.declared.refusal.DayRefusal.{DayRefusal}
+use Rattle.desk_day.specs.declared.refusal.DayRefusal.TheVariants as refusals
 
 pub no_refusal : {T E : Type 0} (P : Type 0) (r : Result T E) {b : Bool} → b ≡ is_err r → b ≡ false → OnErr r P
 no_refusal P (Ok x) is none = tt
 no_refusal P (Err e) is none = absurd (false≢true (sym none ∙ is))
+
+-- of an error nothing is said that holds of days, and where memory ran out all that is said of that
+pub no_day : {T E : Type 0} (P : T → Type 0) (r : Result T E) → IsErr r → IfOk r P
+no_day P (Ok x) is = absurd (false≢true is)
+no_day P (Err e) is = tt
+
+pub ran_out : {T : Type 0} (P : DayRefusal → Type 0) (r : Result T DayRefusal) → IsErrAnd r (λ e. e ≡ refusals.OutOfMemory)
+    → P refusals.OutOfMemory → IfErr r P
+ran_out P (Ok x) is p = tt
+ran_out P (Err e) is p = subst P (sym is) p
+
+-- a picker that ran out of memory told more
+pub tells_on : {T E : Type 0} (r : Result T E) (before after picks : List ℕ) → after ≡ before ++ picks → OnErr r (TellsMore before after)
+tells_on (Ok x) before after picks more = tt
+tells_on (Err e) before after picks more = (picks, more)
 
 -- a day that is recorded so came about
 pub done_so : (terms : Option Terms) (orders : List CallOrder) (ceilings : List ℕ) (day : ℕ) (before after : Moment)

@@ -1,10 +1,12 @@
-use Rattle.std.proofs.Common.{◌≡◌, ◌∙◌, ap, sym, subst, List, length}
+use Rattle.std.proofs.Common.{ℕ, ◌≡◌, ◌∙◌, ◌++◌, ap, sym, subst, List, length}
 use Rattle.admit_core.specs.declared.state.Mark.{Mark}
 use Rattle.admit_core.specs.AutoAnswer.{auto_all}
 use Rattle.admit_core.specs.State.{State}
 use Rattle.desk_day.specs.DayPasses.{IsAnswered}
+use Rattle.desk_day.proofs.DayEnds.{no_day, tells_on}
 use Rattle.desk_day.proofs.LaterPasses.{answered_but, asked_within, closing_answered, same_but}
-use Rattle.desk_day.proofs.OnePass.{closed, pass_ended, fewer_open, closed_long}
+use Rattle.desk_day.proofs.OnePass.{closed, closed_dossier, pass_ended, fewer_open, closed_long}
+use Rattle.desk_day.proofs.PassesSoFar.{tells_of_falls}
 use Rattle.desk_day.proofs.passes.make_pass.Goals as goal
 
 pub returns-clause-end : goal.returns-clause-end
@@ -90,3 +92,113 @@ returns-clause-answered g c =
     let end = closed s c.pass.new.state c.answer_after-freed.new.state orders bars c.args.stamp c.in_ok-pass.ensures.state
     c.answer_after-freed.ensures.state in
     subst IsAnswered (sym end) (closing_answered s orders bars c.args.stamp long)
+
+pub returns-in_err-pass-clause-end : goal.returns-in_err-pass-clause-end
+returns-in_err-pass-clause-end g c = no_day _ _ c.from_residual.ensures.0
+
+pub returns-in_err-pass-clause-state : goal.returns-in_err-pass-clause-state
+returns-in_err-pass-clause-state g c = no_day _ _ c.from_residual.ensures.0
+
+pub returns-in_err-pass-clause-fewer : goal.returns-in_err-pass-clause-fewer
+returns-in_err-pass-clause-fewer g c = no_day _ _ c.from_residual.ensures.0
+
+pub returns-in_err-pass-clause-marks : goal.returns-in_err-pass-clause-marks
+returns-in_err-pass-clause-marks g c = no_day _ _ c.from_residual.ensures.0
+
+pub returns-in_err-pass-clause-answered : goal.returns-in_err-pass-clause-answered
+returns-in_err-pass-clause-answered g c = no_day _ _ c.from_residual.ensures.0
+
+pub returns-in_err-pass-clause-asked : goal.returns-in_err-pass-clause-asked
+returns-in_err-pass-clause-asked g c = no_day _ _ c.from_residual.ensures.0
+
+pub returns-in_err-pass-clause-told : goal.returns-in_err-pass-clause-told
+returns-in_err-pass-clause-told g c = no_day _ _ c.from_residual.ensures.0
+
+pub returns-in_err-pass-clause-chosen : goal.returns-in_err-pass-clause-chosen
+returns-in_err-pass-clause-chosen g c = no_day _ _ c.from_residual.ensures.0
+
+pub returns-in_err-pass-clause-early : goal.returns-in_err-pass-clause-early
+returns-in_err-pass-clause-early g c =
+    let more = tells_of_falls _ _ _ _ c.in_err-pass.ensures.early in tells_on c.from_residual.result _ _ more.0 more.1
+
+pub returns-in_err-extend_from_slice-clause-end : goal.returns-in_err-extend_from_slice-clause-end
+returns-in_err-extend_from_slice-clause-end g c = no_day _ _ c.from_residual-in_err-extend_from_slice.ensures.0
+
+pub returns-in_err-extend_from_slice-clause-state : goal.returns-in_err-extend_from_slice-clause-state
+returns-in_err-extend_from_slice-clause-state g c = no_day _ _ c.from_residual-in_err-extend_from_slice.ensures.0
+
+pub returns-in_err-extend_from_slice-clause-fewer : goal.returns-in_err-extend_from_slice-clause-fewer
+returns-in_err-extend_from_slice-clause-fewer g c = no_day _ _ c.from_residual-in_err-extend_from_slice.ensures.0
+
+pub returns-in_err-extend_from_slice-clause-marks : goal.returns-in_err-extend_from_slice-clause-marks
+returns-in_err-extend_from_slice-clause-marks g c = no_day _ _ c.from_residual-in_err-extend_from_slice.ensures.0
+
+pub returns-in_err-extend_from_slice-clause-answered : goal.returns-in_err-extend_from_slice-clause-answered
+returns-in_err-extend_from_slice-clause-answered g c = no_day _ _ c.from_residual-in_err-extend_from_slice.ensures.0
+
+pub returns-in_err-extend_from_slice-clause-asked : goal.returns-in_err-extend_from_slice-clause-asked
+returns-in_err-extend_from_slice-clause-asked g c = no_day _ _ c.from_residual-in_err-extend_from_slice.ensures.0
+
+pub returns-in_err-extend_from_slice-clause-told : goal.returns-in_err-extend_from_slice-clause-told
+returns-in_err-extend_from_slice-clause-told g c = no_day _ _ c.from_residual-in_err-extend_from_slice.ensures.0
+
+pub returns-in_err-extend_from_slice-clause-chosen : goal.returns-in_err-extend_from_slice-clause-chosen
+returns-in_err-extend_from_slice-clause-chosen g c = no_day _ _ c.from_residual-in_err-extend_from_slice.ensures.0
+
+pub returns-in_err-extend_from_slice-clause-early : goal.returns-in_err-extend_from_slice-clause-early
+returns-in_err-extend_from_slice-clause-early g c =
+    tells_on c.from_residual-in_err-extend_from_slice.result _ _ _ c.in_ok-pass.ensures.told
+
+pub returns-in_err-autos-clause-end : goal.returns-in_err-autos-clause-end
+returns-in_err-autos-clause-end g c = no_day _ _ c.from_residual-in_err-autos.ensures.0
+
+pub returns-in_err-autos-clause-state : goal.returns-in_err-autos-clause-state
+returns-in_err-autos-clause-state g c = no_day _ _ c.from_residual-in_err-autos.ensures.0
+
+pub returns-in_err-autos-clause-fewer : goal.returns-in_err-autos-clause-fewer
+returns-in_err-autos-clause-fewer g c = no_day _ _ c.from_residual-in_err-autos.ensures.0
+
+pub returns-in_err-autos-clause-marks : goal.returns-in_err-autos-clause-marks
+returns-in_err-autos-clause-marks g c = no_day _ _ c.from_residual-in_err-autos.ensures.0
+
+pub returns-in_err-autos-clause-answered : goal.returns-in_err-autos-clause-answered
+returns-in_err-autos-clause-answered g c = no_day _ _ c.from_residual-in_err-autos.ensures.0
+
+pub returns-in_err-autos-clause-asked : goal.returns-in_err-autos-clause-asked
+returns-in_err-autos-clause-asked g c = no_day _ _ c.from_residual-in_err-autos.ensures.0
+
+pub returns-in_err-autos-clause-told : goal.returns-in_err-autos-clause-told
+returns-in_err-autos-clause-told g c = no_day _ _ c.from_residual-in_err-autos.ensures.0
+
+pub returns-in_err-autos-clause-chosen : goal.returns-in_err-autos-clause-chosen
+returns-in_err-autos-clause-chosen g c = no_day _ _ c.from_residual-in_err-autos.ensures.0
+
+pub returns-in_err-autos-clause-early : goal.returns-in_err-autos-clause-early
+returns-in_err-autos-clause-early g c =
+    tells_on c.from_residual-in_err-autos.result _ _ _ c.in_ok-pass.ensures.told
+
+pub returns-in_err-autos-clause-dossier : goal.returns-in_err-autos-clause-dossier
+returns-in_err-autos-clause-dossier g c =
+    closed_dossier c.args.state.now c.pass.new.state c.answer_after-freed.new.state c.args.orders.now.orders c.in_ok-pass.pass.bars
+    c.args.stamp c.in_ok-pass.ensures.state c.answer_after-freed.ensures.state
+
+pub returns-in_err-extend_from_slice-clause-dossier : goal.returns-in_err-extend_from_slice-clause-dossier
+returns-in_err-extend_from_slice-clause-dossier g c = ap (λ (t : State). t.dossier) c.in_ok-pass.ensures.state
+
+pub returns-clause-dossier : goal.returns-clause-dossier
+returns-clause-dossier g c =
+    closed_dossier c.args.state.now c.pass.new.state c.answer_after-freed.new.state c.args.orders.now.orders c.in_ok-pass.pass.bars
+    c.args.stamp c.in_ok-pass.ensures.state c.answer_after-freed.ensures.state
+
+pub returns-clause-asked : goal.returns-clause-asked
+returns-clause-asked g c =
+    c.in_ok-extend_from_slice.ensures.items ∙ ap (λ (l : List ℕ). c.args.beside.now.items ++ l) c.as_slice.ensures
+
+pub returns-clause-told : goal.returns-clause-told
+returns-clause-told g c = c.in_ok-pass.ensures.told
+
+pub returns-clause-chosen : goal.returns-clause-chosen
+returns-clause-chosen g c = c.in_ok-pass.ensures.chosen
+
+pub returns-clause-choice : goal.returns-clause-choice
+returns-clause-choice g c = c.pass.ensures.choice

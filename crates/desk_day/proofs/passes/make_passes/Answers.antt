@@ -5,12 +5,14 @@ use Rattle.std.proofs.lemmas.List.{append-nil}
 use Rattle.std.proofs.lemmas.List.Elements.{All-nil}
 use Rattle.admit_core.proofs.Plain.{on_err}
 use Rattle.admit_core.specs.declared.state.Mark.{Mark}
+use Rattle.admit_core.specs.CallOrder.{AreCallOrders}
 use Rattle.admit_core.specs.DossierRows.{DossierRows}
 use Rattle.admit_core.specs.State.{State}
 use Rattle.admit_core.specs.Days.{frees_nothing}
 use Rattle.linked_demand.specs.Lineups.{IsLineupOf}
 use Rattle.desk_day.specs.DayPasses.{schools_of_passes, stamp_of}
 use Rattle.desk_day.specs.DayPlaces.{AreWishesOf}
+use Rattle.desk_day.proofs.DayEnds.{no_day}
 use Rattle.desk_day.proofs.LaterPasses.{answered_all, answered_along, asked_within, offers_within, steps_taken}
 use Rattle.desk_day.proofs.OnePass.{open_at_most}
 use Rattle.desk_day.proofs.PassesSoFar.{so_far_none, so_far_more, so_far_end, chosen_none, chosen_more, told_more, tells_from}
@@ -144,3 +146,116 @@ follow-requires g c =
       others = λ known. answered_along s opening orders bars beside offers asked stamp long opens are asked_are
           (c.passes.invariant.answered known stamp);
     }
+
+pub returns-in_err-end-clause-passes : goal.returns-in_err-end-clause-passes
+returns-in_err-end-clause-passes g c = no_day _ _ c.from_residual.ensures.0
+
+pub returns-in_err-end-clause-opening : goal.returns-in_err-end-clause-opening
+returns-in_err-end-clause-opening g c = no_day _ _ c.from_residual.ensures.0
+
+pub returns-in_err-end-clause-few : goal.returns-in_err-end-clause-few
+returns-in_err-end-clause-few g c = no_day _ _ c.from_residual.ensures.0
+
+pub returns-in_err-end-clause-answered : goal.returns-in_err-end-clause-answered
+returns-in_err-end-clause-answered g c = no_day _ _ c.from_residual.ensures.0
+
+pub returns-in_err-end-clause-told : goal.returns-in_err-end-clause-told
+returns-in_err-end-clause-told g c = no_day _ _ c.from_residual.ensures.0
+
+pub returns-in_err-end-clause-chosen : goal.returns-in_err-end-clause-chosen
+returns-in_err-end-clause-chosen g c = no_day _ _ c.from_residual.ensures.0
+
+pub returns-in_err-push-clause-passes : goal.returns-in_err-push-clause-passes
+returns-in_err-push-clause-passes g c = no_day _ _ c.from_residual-in_err-push.ensures.0
+
+pub returns-in_err-push-clause-opening : goal.returns-in_err-push-clause-opening
+returns-in_err-push-clause-opening g c = no_day _ _ c.from_residual-in_err-push.ensures.0
+
+pub returns-in_err-push-clause-few : goal.returns-in_err-push-clause-few
+returns-in_err-push-clause-few g c = no_day _ _ c.from_residual-in_err-push.ensures.0
+
+pub returns-in_err-push-clause-answered : goal.returns-in_err-push-clause-answered
+returns-in_err-push-clause-answered g c = no_day _ _ c.from_residual-in_err-push.ensures.0
+
+pub returns-in_err-push-clause-told : goal.returns-in_err-push-clause-told
+returns-in_err-push-clause-told g c = no_day _ _ c.from_residual-in_err-push.ensures.0
+
+pub returns-in_err-push-clause-chosen : goal.returns-in_err-push-clause-chosen
+returns-in_err-push-clause-chosen g c = no_day _ _ c.from_residual-in_err-push.ensures.0
+
+pub returns-in_err-push-2-clause-passes : goal.returns-in_err-push-2-clause-passes
+returns-in_err-push-2-clause-passes g c = no_day _ _ c.from_residual-in_err-push-2.ensures.0
+
+pub returns-in_err-push-2-clause-opening : goal.returns-in_err-push-2-clause-opening
+returns-in_err-push-2-clause-opening g c = no_day _ _ c.from_residual-in_err-push-2.ensures.0
+
+pub returns-in_err-push-2-clause-few : goal.returns-in_err-push-2-clause-few
+returns-in_err-push-2-clause-few g c = no_day _ _ c.from_residual-in_err-push-2.ensures.0
+
+pub returns-in_err-push-2-clause-answered : goal.returns-in_err-push-2-clause-answered
+returns-in_err-push-2-clause-answered g c = no_day _ _ c.from_residual-in_err-push-2.ensures.0
+
+pub returns-in_err-push-2-clause-told : goal.returns-in_err-push-2-clause-told
+returns-in_err-push-2-clause-told g c = no_day _ _ c.from_residual-in_err-push-2.ensures.0
+
+pub returns-in_err-push-2-clause-chosen : goal.returns-in_err-push-2-clause-chosen
+returns-in_err-push-2-clause-chosen g c = no_day _ _ c.from_residual-in_err-push-2.ensures.0
+
+pub returns-in_err-push-2-clause-early : goal.returns-in_err-push-2-clause-early
+returns-in_err-push-2-clause-early g c = on_err _ (tells_from _ _ _ _ c.passes.invariant.told (_, c.in_ok-end.ensures.told))
+
+pub returns-in_err-end-clause-choice : goal.returns-in_err-end-clause-choice
+returns-in_err-end-clause-choice g c = c.make_pass.ensures.choice ∙ c.passes.invariant.choice
+
+pub returns-in_err-end-clause-dossier : goal.returns-in_err-end-clause-dossier
+returns-in_err-end-clause-dossier g c = c.make_pass.ensures.dossier ∙ c.passes.invariant.so_far.dossier
+
+pub returns-in_err-end-clause-opening_dossier : goal.returns-in_err-end-clause-opening_dossier
+returns-in_err-end-clause-opening_dossier g c = ap (λ (t : State). t.dossier) c.passes.invariant.opening ∙ c.passes.invariant.so_far.dossier
+
+pub returns-in_err-push-clause-choice : goal.returns-in_err-push-clause-choice
+returns-in_err-push-clause-choice g c = c.make_pass.ensures.choice ∙ c.passes.invariant.choice
+
+pub returns-in_err-push-clause-dossier : goal.returns-in_err-push-clause-dossier
+returns-in_err-push-clause-dossier g c = c.make_pass.ensures.dossier ∙ c.passes.invariant.so_far.dossier
+
+pub returns-in_err-push-clause-opening_dossier : goal.returns-in_err-push-clause-opening_dossier
+returns-in_err-push-clause-opening_dossier g c =
+    ap (λ (t : State). t.dossier) c.passes.invariant.opening ∙ c.passes.invariant.so_far.dossier
+
+pub returns-in_err-push-2-clause-choice : goal.returns-in_err-push-2-clause-choice
+returns-in_err-push-2-clause-choice g c = c.make_pass.ensures.choice ∙ c.passes.invariant.choice
+
+pub returns-in_err-push-2-clause-dossier : goal.returns-in_err-push-2-clause-dossier
+returns-in_err-push-2-clause-dossier g c = c.make_pass.ensures.dossier ∙ c.passes.invariant.so_far.dossier
+
+pub returns-in_err-push-2-clause-opening_dossier : goal.returns-in_err-push-2-clause-opening_dossier
+returns-in_err-push-2-clause-opening_dossier g c =
+    ap (λ (t : State). t.dossier) c.follow.ensures ∙ c.make_pass.ensures.dossier ∙ c.passes.invariant.so_far.dossier
+
+pub returns-then-frees_nothing-clause-choice : goal.returns-then-frees_nothing-clause-choice
+returns-then-frees_nothing-clause-choice g c = c.make_pass.ensures.choice ∙ c.passes.invariant.choice
+
+pub returns-then-frees_nothing-clause-dossier : goal.returns-then-frees_nothing-clause-dossier
+returns-then-frees_nothing-clause-dossier g c = c.make_pass.ensures.dossier ∙ c.passes.invariant.so_far.dossier
+
+pub returns-then-frees_nothing-clause-opening_dossier : goal.returns-then-frees_nothing-clause-opening_dossier
+returns-then-frees_nothing-clause-opening_dossier g c =
+    ap (λ (t : State). t.dossier) c.passes.invariant.opening ∙ c.passes.invariant.so_far.dossier
+
+pub returns-then-frees_nothing-clause-answered : goal.returns-then-frees_nothing-clause-answered
+returns-then-frees_nothing-clause-answered g c = c.in_ok-end.ensures.answered
+
+pub open_first-requires-clause-alike : goal.open_first-requires-clause-alike
+open_first-requires-clause-alike g c = λ alike none. c.requires.alike alike (sym c.as_slice.ensures.value ∙ none)
+
+pub make_pass-requires-clause-opening : goal.make_pass-requires-clause-opening
+make_pass-requires-clause-opening g c = c.passes.invariant.opening
+
+pub make_pass-requires-clause-orders : goal.make_pass-requires-clause-orders
+make_pass-requires-clause-orders g c =
+    subst (λ (d : DossierRows). AreCallOrders d.groups c.args.orders.now.orders) (sym c.passes.invariant.so_far.dossier) c.requires.orders
+
+pub make_pass-requires-clause-ceilings : goal.make_pass-requires-clause-ceilings
+make_pass-requires-clause-ceilings g c =
+    c.requires.ceilings ∙ sym (ap (λ (d : DossierRows). length d.schools) c.passes.invariant.so_far.dossier)
