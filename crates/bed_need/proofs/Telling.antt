@@ -1,5 +1,7 @@
 -- What a picker told.
-use Rattle.std.proofs.Common.{◌≡◌, ℕ, List, ◌++◌, Result, subst}
+use Rattle.std.proofs.Common.{◌≡◌, ℕ, List, ◌++◌, Result, Ok, IfOk, subst, sym}
+use Rattle.std.specs.Result.{IsErrAnd}
+use Rattle.std.proofs.lemmas.Result.{err_from_is_err_and}
 use Rattle.admit_core.specs.declared.records.PassRecord.{PassRecord}
 use Rattle.admit_core.specs.declared.ranking.CallOrder.{CallOrder}
 use Rattle.admit_core.specs.Boarding.{boarding}
@@ -26,6 +28,21 @@ pub asked_named : {T E : Type 0} (one other : FallingSystem) (result : Result T 
     → IsAsked other result chooses chooses_now before now
 asked_named one other result chooses chooses_now before now same is =
     subst (λ (sys : FallingSystem). IsAsked sys result chooses chooses_now before now) same is
+
+-- of a run by which something else is answered
+module _ {T E U F : Type 0} {sys : FallingSystem} {chooses chooses_now : List ℕ → List ℕ → ℕ}
+    {before now : List ℕ} where
+  pub asked_found : {found : T} {told : U} → IsAsked {T = T} {E = E} sys (Ok found) chooses chooses_now before now
+      → IsAsked {T = U} {E = F} sys (Ok told) chooses chooses_now before now
+  asked_found asked = record { told = asked.told; early = asked.early; choice = asked.choice }
+
+  -- or nothing, where it stopped
+  pub asked_in_vain : {one : Result T E} {other : Result U F} (Q : F → Type 0) → IsErrAnd other Q
+      → IsAsked sys one chooses chooses_now before now → IsAsked sys other chooses chooses_now before now
+  asked_in_vain {other = other} Q stops asked =
+      let stopped = err_from_is_err_and other stops in
+      let P : Result U F → Type 0 = λ r. IfOk r (λ _. TellsOfRun sys chooses before now) in
+      record { told = subst P (sym stopped.1) tt; early = asked.early; choice = asked.choice }
 
 -- of a run, and then of one whose system and choice have other names
 pub run_again : (one other named : FallingSystem) (choice then : List ℕ → List ℕ → ℕ)

@@ -23,7 +23,9 @@ use Rattle.admit_core.proofs.DemandLaws.{demanded, demands_at}
 use Rattle.day_state.specs.Kept.{wish_in, mark_in, holds_bed_in}
 use Rattle.linked_demand.specs.Rounds.{bar_each}
 use Rattle.linked_demand.proofs.BarEach.{bar_each_is}
-use Rattle.certificate.proofs.Cutting.{no_place}
+use Rattle.dossier_check.specs.Ids.{Ids}
+use Rattle.certificate.specs.Checked.{ids_in}
+use Rattle.certificate.proofs.Cutting.{no_place, place_found}
 
 -- where at most one place passes, whether one does is its own test
 any_only : {X : Type 0} (f : X → Bool) (xs : List X) (k : ℕ) (d : X) → k < length xs
@@ -135,6 +137,27 @@ module _ (s : State) (long : length s.marks ≡ length s.dossier.wishes) where
               ∙ ap test (entry_at k (w, m) k_in)
               ∙ ap (λ b. b && demands_bed s orders bars h w m && nat_eq r w.board_rank) own,
         )
+
+-- what an index tells of the place of the wish with an id
+pub place_told : (s : State) (index : Ids) (id : ℕ) {found : Option ℕ} → index ≡ ids_in s.dossier
+    → position (nat_eq id) index.wishes ≡ found → position (nat_eq id) (ids s) ≡ found
+place_told s index id are told = ap (λ (x : Ids). position (nat_eq id) x.wishes) (sym are) ∙ told
+
+pub place_within : (s : State) (index : Ids) (id k : ℕ) → index ≡ ids_in s.dossier
+    → position (nat_eq id) index.wishes ≡ Some k → k < length s.dossier.wishes
+place_within s index id k are told =
+    omega (arith, (place_found (nat_eq id) (ids s) k (place_told s index id are told)).0,
+    length-map s.dossier.wishes (λ (w : Wish). w.id))
+
+-- the wish there shows the rank or not, by whether it demands a bed
+pub shows_there : (s : State) (orders : List CallOrder) (bars : List ℕ) (h r id k : ℕ) (demands : Bool)
+    → length s.marks ≡ length s.dossier.wishes → IsDistinct nat_eq (ids s)
+    → position (nat_eq id) (ids s) ≡ Some k
+    → demands_bed s orders bars h (wish_in s.dossier.wishes k) (mark_in s.marks k) ≡ demands
+    → (demands && nat_eq r (wish_in s.dossier.wishes k).board_rank) ≡ shows_rank s orders bars h r id
+shows_there s orders bars h r id k demands long distinct found is =
+    sym ((shows_at s long orders bars h r id k distinct found).1
+    ∙ ap (λ b. b && nat_eq r (wish_in s.dossier.wishes k).board_rank) is)
 
 -- the first that passes, with its number
 pub find_numbered : {X : Type 0} (t : X → Bool) (n : ℕ) (xs : List X) → list_any t xs ≡ true

@@ -1,8 +1,9 @@
 -- Lines of falls, tested at the present bars.
 use Rattle.std.proofs.Common.{◌≡◌, ℕ, suc, ◌+◌, ◌-◌, ◌<◌, ◌≤◌, Bool, true, false, cond, not, ◌&&◌, List, length, map, filter, Option, Some, None, refl, sym, ap, ◌∙◌, arith, nat_le, slice_index, zero-add, inl, inr}
-use Rattle.std.specs.Prelude.{◌==◌, find, option_map, position, nat_eq, slice_get, slice_set, if◌then◌else◌}
+use Rattle.std.specs.Prelude.{◌==◌, find, nat_lt, option_map, position, nat_eq, slice_get, slice_set, if◌then◌else◌}
 use Rattle.std.specs.Option.{is_some, option_or}
 use Rattle.std.specs.List.{range_with_len}
+use Rattle.std.proofs.lemmas.Bool.{le-ltb}
 use Rattle.std.proofs.lemmas.List.{length-set, length-map}
 use Rattle.std.proofs.lemmas.List.Elements.{All-take}
 use Rattle.std.proofs.lemmas.List.FromFn.{get_or-map-range_with_len}
@@ -23,12 +24,14 @@ use Rattle.certificate.specs.declared.stop.Stop.{Stop}
 use Rattle.certificate.specs.declared.stop.Stop.TheVariants as stop
 use Rattle.admit_core.specs.declared.dossier.School.{School}
 use Rattle.dossier_check.specs.Ids.{Ids}
-use Rattle.certificate.proofs.Cutting.{place_found}
+use Rattle.certificate.proofs.Cutting.{no_place, place_found}
 use Rattle.certificate.specs.Checked.{Stops, ids_in}
 use Rattle.bar_fixpoint.specs.Overfilled.{rank_over}
 use Rattle.bar_fixpoint.proofs.Listing.{overfilled_by_rank}
 use Rattle.bar_fixpoint.proofs.OneFall.{rank_is, rank_from_one, falls_below, fall_made}
 use Rattle.day_state.specs.Kept.{wish_in}
+use Rattle.linked_demand.specs.Rounds.{Round, bar_each}
+use Rattle.linked_demand.proofs.BarEach.{bar_each_is}
 use Rattle.certificate.proofs.Naming.{IsNamed, map_back, ranks_back, all_ranks_named}
 
 -- what three tests say of a line
@@ -197,18 +200,17 @@ pub record IsLookedUp (s : State) (orders : List CallOrder) (ceilings bars : Lis
   pub lt : h < length ceilings
   pub told : found ≡ slice_get (demanded_ranks s orders bars h) (free_beds s h)
 
-pub looked_up : (s told : State) (orders : List CallOrder) (ceilings bars : List ℕ) (index : Ids)
-    (line : FallLine) (h : ℕ) (found : Option ℕ)
-    → told ≡ s → index ≡ ids_in s.dossier → length ceilings ≡ length s.dossier.schools
+pub looked_up : {s : State} {index : Ids} {h : ℕ} {found : Option ℕ} (r : Round) (line : FallLine)
+    → r.state ≡ s → index ≡ ids_in s.dossier → length r.ceilings ≡ length s.dossier.schools
     → position (nat_eq line.school) index.schools ≡ Some h
-    → found ≡ slice_get (demanded_ranks told orders bars h) (free_beds told h)
-    → IsLookedUp s orders ceilings bars line h found
-looked_up s told orders ceilings bars index line h found same are as_many there answered =
+    → found ≡ slice_get (demanded_ranks r.state r.orders r.bars h) (free_beds r.state h)
+    → IsLookedUp s r.orders r.ceilings r.bars line h found
+looked_up {s = s} {index = index} {h = h} {found = found} r line same are as_many there answered =
     let place = line_place s index line h are there in
     record {
       is = place.1;
       lt = omega (arith, place.0, as_many);
-      told = top_told told s orders bars h found same answered;
+      told = top_told r.state s r.orders r.bars h found same answered;
     }
 
 -- what it has found then: the ranks up to that one, and whether the wishes of the line show them
@@ -218,17 +220,17 @@ pub record AreShown (s : State) (orders : List CallOrder) (bars : List ℕ) (lin
   pub are : ranks ≡ filter (λ rank. nat_le rank over) (demanded_ranks s orders bars h)
   pub shown : shows ≡ shows_ranks s orders bars h ranks line.wishes
 
-pub are_shown : (s : State) (orders : List CallOrder) (bars : List ℕ) (line : FallLine)
-    (h over : ℕ) (marks : List Mark) (ranks wishes : List ℕ) (shows : Bool)
+pub are_shown : {marks : List Mark} {ranks wishes : List ℕ} {shows : Bool} (s : State) (r : Round)
+    (line : FallLine) (h over : ℕ)
     → marks ≡ s.marks → length marks ≡ length s.dossier.wishes
-    → ranks ≡ filter (λ rank. nat_le rank over) (demanded_ranks s orders bars h)
-    → wishes ≡ line.wishes → shows ≡ shows_ranks s orders bars h ranks wishes
-    → AreShown s orders bars line h over ranks shows
-are_shown s orders bars line h over marks ranks wishes shows marks_are long are named shown =
+    → ranks ≡ filter (λ rank. nat_le rank over) (demanded_ranks s r.orders r.bars h)
+    → wishes ≡ line.wishes → shows ≡ shows_ranks s r.orders r.bars h ranks wishes
+    → AreShown s r.orders r.bars line h over ranks shows
+are_shown {ranks = ranks} s r line h over marks_are long are named shown =
     record {
       long = ap (λ (ms : List Mark). length ms) (sym marks_are) ∙ long;
       are = are;
-      shown = shown ∙ ap (λ (ws : List ℕ). shows_ranks s orders bars h ranks ws) named;
+      shown = shown ∙ ap (λ (ws : List ℕ). shows_ranks s r.orders r.bars h ranks ws) named;
     }
 
 -- the fault of a line, with its row
@@ -261,20 +263,43 @@ module _ {s : State} {orders : List CallOrder} {ceilings bars : List ℕ} {line 
           (has_wrong_wishes s orders ceilings bars line h seen.is seen.lt under over seen.told
           shown.long ranks shown.are shows shown.shown fails)
 
-      module _ (from : ℕ) (tells : Bool) (from_is : from ≡ slice_index bars h)
+      module _ {from : ℕ} {tells : Bool} (from_is : from ≡ slice_index (bar_each ceilings bars) h)
           (told : tells ≡ ((line.from == from) && (line.to == over - 1))) (good : shows ≡ true) where
+        from_there : from ≡ slice_index bars h
+        from_there = from_is ∙ ap (λ (bs : List ℕ). slice_index bs h) (bar_each_is ceilings bars under.as_many)
+
         pub stops_wrong_bar : tells ≡ false
             → fault_there s orders ceilings bars line ≡ Some (line.row, WrongBar)
         stops_wrong_bar fails =
             ap (option_map (λ (reason : CheckReason). (line.row, reason)))
             (has_wrong_bar s orders ceilings bars line h seen.is seen.lt under over seen.told
-            shown.long ranks shown.are shows shown.shown from tells from_is told good fails)
+            shown.long ranks shown.are shows shown.shown from tells from_there told good fails)
 
         pub passes_line : tells ≡ true → fault_there s orders ceilings bars line ≡ None
         passes_line holds =
             ap (option_map (λ (reason : CheckReason). (line.row, reason)))
             (has_none s orders ceilings bars line h seen.is seen.lt under over seen.told
-            shown.long ranks shown.are shows shown.shown from tells from_is told good holds)
+            shown.long ranks shown.are shows shown.shown from tells from_there told good holds)
+
+-- no school has the id of the line
+pub stops_unknown : (s : State) (orders : List CallOrder) (ceilings bars : List ℕ) (index : Ids)
+    (line : FallLine) → index ≡ ids_in s.dossier → length ceilings ≡ length s.dossier.schools
+    → position (nat_eq line.school) index.schools ≡ None
+    → fault_there s orders ceilings bars line ≡ Some (line.row, NotOver)
+unfolding line_tests
+stops_unknown s orders ceilings bars index line are as_many none =
+    let sys = boarding s orders ceilings in
+    let h = school_of_line s line in
+    let past = no_place (nat_eq line.school) (map (λ (x : School). x.id) s.dossier.schools)
+    (ap (λ (i : Ids). position (nat_eq line.school) i.schools) (sym are) ∙ none) in
+    let beyond : length ceilings ≤ h =
+    omega (arith, past, as_many, length-map s.dossier.schools (λ (x : School). x.id)) in
+    let idle : is_overfilled sys bars h ≡ false =
+    ap (λ (b : Bool). b && nat_lt (slice_index sys.free h) (length (sys.ranks bars h)))
+    (le-ltb h (length ceilings) beyond) in
+    ap (λ (b : Bool). option_map (λ (reason : CheckReason). (line.row, reason))
+    (line_tests b (shows_ranks s orders bars h (first_over sys bars h) line.wishes)
+    (tells_bars line (fall_of sys bars h)))) idle
 
 -- a fault at a line, or none there
 pub stops_at : (found : Stop) (fault rest all : Option (ℕ × CheckReason)) → all ≡ option_or fault rest → Stops found fault → Stops found all

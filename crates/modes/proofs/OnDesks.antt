@@ -1,7 +1,8 @@
 -- What an ending rests on, and what it gives for a desk.
-use Rattle.std.proofs.Common.{◌≡◌, ◌∙◌, ◌≤◌, ℕ, List, [], ◌∷◌, Option, Result, Ok, Err, All, arith, ap, inl, inr, length, subst, sym}
+use Rattle.std.proofs.Common.{◌≡◌, ◌∙◌, ◌<◌, ◌≤◌, ℕ, List, [], ◌∷◌, Option, Some, Result, Ok, Err, All, arith, ap, inl, inr, length, nat_eq, position, subst, sym}
 use Rattle.std.specs.Result.{ForOk}
 use Rattle.std.proofs.lemmas.Bool.{cases_Bool}
+use Rattle.std.proofs.lemmas.List.Quantifiers.{position-Some}
 use Rattle.admit_core.specs.Days.{ceilings_of}
 use Rattle.admit_core.specs.DossierRows.{DossierRows}
 use Rattle.admit_core.specs.EveningLaws.{last_bars}
@@ -73,6 +74,10 @@ ends_on seen played desk can same =
 pub ends_led : (seen : Seen) (played : Played) (desk : DeskStates) → CanEnd seen played → played.end ≡ Ok desk → CanBeEnded seen (record { orders = played.orders; days = played.days; end = Ok desk }) desk
 ends_led seen played desk can same =
     subst (λ (end : Result DeskStates Refusal). CanBeEnded seen (record { orders = played.orders; days = played.days; end = end }) desk) same (ends_on seen played desk can same)
+
+-- what is found by its id is one of so many
+pub found_within : (ids : List ℕ) (n id place : ℕ) → length ids ≡ n → position (nat_eq id) ids ≡ Some place → place < n
+found_within ids n id place long found = omega (arith, (position-Some (nat_eq id) ids place 0 found).0, long)
 
 -- an explanation under the ceilings of the last day and the bars of its last pass
 pub explains_on : (d : DossierRows) (orders : List CallOrder) (day : DayRecord) (desk : DeskStates) (place : ℕ) (x : Explanation) (ceilings bars : List ℕ) → ceilings ≡ ceilings_of d day.day

@@ -1,8 +1,9 @@
-use Rattle.std.proofs.Common.{◌≡◌, ◌∙◌, ◌+◌, ap, length, refl, rules, subst}
+use Rattle.std.proofs.Common.{◌≡◌, ◌∙◌, ◌+◌, ap, length, refl, subst}
 use Rattle.admit_core.specs.Proposals.{demanded_ranks}
 use Rattle.admit_core.specs.State.{State, bed_holders}
 use Rattle.admit_core.specs.Validity.{IsValid}
 use Rattle.bed_need.proofs.Least.{holders_after}
+use Rattle.bed_need.proofs.Telling.{asked_found, asked_in_vain}
 use Rattle.bed_need.proofs.need.need_in.Goals as goal
 
 pub returns-clause-need : goal.returns-clause-need
@@ -25,11 +26,7 @@ returns-clause-need g c =
     }
 
 pub returns-clause-asked : goal.returns-clause-asked
-returns-clause-asked g c =
-    let asked = c.in_ok-pass_in.ensures.asked in
-    record { told = asked.told; early = asked.early; choice = asked.choice }
+returns-clause-asked g c = asked_found c.in_ok-pass_in.ensures.asked
 
 pub returns-in_err-pass_in-clause-asked : goal.returns-in_err-pass_in-clause-asked
-returns-in_err-pass_in-clause-asked g c =
-    let asked = c.in_err-pass_in.ensures.asked in
-    record { told = search rules; early = asked.early; choice = asked.choice }
+returns-in_err-pass_in-clause-asked g c = asked_in_vain _ c.from_residual.ensures.1 c.in_err-pass_in.ensures.asked

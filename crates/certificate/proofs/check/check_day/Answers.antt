@@ -1,6 +1,6 @@
 use Rattle.std.proofs.Common.{◌≡◌, ◌∙◌, None, ap, length, subst, sym}
 use Rattle.admit_core.specs.State.{State}
-use Rattle.admit_core.specs.Chains.{IsDayChain, day_fault}
+use Rattle.admit_core.specs.Chains.{day_fault}
 use Rattle.certificate.specs.Checked.{Stops, state_after}
 use Rattle.certificate.specs.Verdicts.{KeepsSchool}
 use Rattle.certificate.specs.declared.check.Verdict.TheVariants as verdict
@@ -22,16 +22,8 @@ returns-in-Ok-clause-valid c =
 
 pub returns-in-Ok-clause-greatest : goal.returns-in-Ok-clause-greatest
 returns-in-Ok-clause-greatest c =
-    let orders = c.args.orders.now.orders in
-    let ceilings = c.args.ceilings.now in
-    let chain = c.args.chain.now in
-    let none : day_fault orders ceilings c.args.day c.args.morning.now chain ≡ None =
-    ap (λ (t : State). day_fault orders ceilings c.args.day t chain)
-    (sym c.in_ok-evening.ensures) ∙ c.in-Ok.ensures.found in
-    let valid : IsDayChain orders ceilings c.args.day c.args.morning.now chain c.check_passes.new.state =
-    is_valid c.laws_of_chains.ensures.no_fault orders ceilings c.args.day c.args.morning.now chain c.check_passes.new.state none
-    (c.in-Ok.ensures.state ∙ ap (λ (t : State). state_after orders ceilings c.args.day 1 t chain.passes) c.in_ok-evening.ensures) in
-    c.laws_of_chains.ensures.tells orders ceilings c.args.day c.args.morning.now chain c.check_passes.new.state valid
+    c.laws_of_chains.ensures.tells c.args.orders.now.orders c.args.ceilings.now c.args.day c.args.morning.now
+    c.args.chain.now c.check_passes.new.state (returns-in-Ok-clause-valid c)
 
 pub returns-in-Err-Rejected-clause-school : goal.returns-in-Err-Rejected-clause-school
 returns-in-Err-Rejected-clause-school c =
