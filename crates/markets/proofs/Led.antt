@@ -1,7 +1,7 @@
 -- What the engine's answer says of a market that is solved.
-use Rattle.std.proofs.Common.{ℕ, ◌≡◌, List, ◌++◌, refl, subst, inl}
+use Rattle.std.proofs.Common.{ℕ, ◌≡◌, List, ◌++◌, refl, sym, subst, inl}
 use Rattle.admit_core.specs.declared.records.Fall.{Fall}
-use Rattle.admit_core.specs.Falls.{FallingSystem, bars_after, IsRun}
+use Rattle.admit_core.specs.Falls.{FallingSystem, bars_after, IsGreatest, IsRun}
 use Rattle.bar_fixpoint.specs.Runs.{schools_of}
 use Rattle.bar_fixpoint.proofs.RunLaws.{picks_fix}
 use Rattle.bar_fixpoint.specs.Chosen.{AreChosen, EndsEarly, TellsOfFalls}
@@ -21,6 +21,11 @@ led seen sys choice told told_after bars falls same run chosen told_of bars_fell
       told_of = told_of;
       bars_fell = bars_fell;
     })
+
+-- the greatest bars of the system that the engine sees
+pub greatest_here : (seen sys : FallingSystem) (low bars : List ℕ) → seen ≡ sys → IsGreatest seen low → bars ≡ low → IsGreatest sys bars
+greatest_here seen sys low bars same greatest bars_are =
+    subst (IsGreatest sys) (sym bars_are) (subst (λ s. IsGreatest s low) same greatest)
 
 -- some falls are told of, at an early end of the engine
 pub some_told : (seen sys : FallingSystem) (choice : List ℕ → List ℕ → ℕ) (told told_after bars : List ℕ) → seen ≡ sys

@@ -4,7 +4,7 @@ use Rattle.std.specs.Prelude.{◌==◌, Option, Some, None, find, position, slic
 use Rattle.std.specs.List.{list_all, position_or_len, range_with_len, IsDistinct, AllByRecursion}
 use Rattle.std.proofs.lemmas.Bool.{cases_Bool, cases_eq, cases_lt, and_parts, or_parts, and_from, or_cases, or_left, or_right, eqb-true, eq-eqb, lt-ltb, false≢true, false_from_ne_true, not-false}
 use Rattle.std.proofs.lemmas.Cmp.{nat_eq_equiv}
-use Rattle.std.proofs.lemmas.List.{get_or_past, get_or_default}
+use Rattle.std.proofs.lemmas.List.{get_or_past}
 use Rattle.std.proofs.lemmas.List.Folds.{list_any_at}
 use Rattle.std.proofs.lemmas.List.Sums.{fails_before_first}
 use Rattle.admit_core.proofs.NextCalls.{find_none}
@@ -198,10 +198,6 @@ pub row_read : (m : MarketRows) (k stamp : ℕ) (rows : List (Vec ℕ Global)) (
 row_read m k stamp rows row slice same lt are read is =
     is ∙ row_is m.lists (length m.orders) (length m.lists) stamp rows row are (omega (arith, same, lt)) read ∙ ap (listers m) same
 
-pub order_read : (m : MarketRows) (k : ℕ) (item slice : List ℕ) → k < length m.orders → item ≡ get_or m.orders k item → slice ≡ item
-    → slice ≡ order_of m k
-order_read m k item slice lt read is = is ∙ read ∙ get_or_default m.orders k item [] lt
-
 pub told_now : (m : MarketRows) (n k : ℕ) (row order : List ℕ) (result : Bool) → row ≡ listers m k → order ≡ order_of m k
     → result ≡ has_all_of n row order
     → result ≡ has_all_of n (listers m k) (order_of m k)
@@ -242,13 +238,13 @@ market_stands m seats lists orders =
     record { one_seat_each = seats; lists = lists_stand (length m.orders) m.lists lists; orders = orders_stand m orders }
 
 -- the answers of both tests, on lists and orders as they are read
-pub no_bad_list : (n : ℕ) (lists xs : List (List ℕ)) (orders : List (List ℕ)) (seats : List ℕ) → n ≡ length orders → xs ≡ lists
-    → position (λ list. not (is_list_below n list)) xs ≡ None
-    → first_bad_list (record { lists = lists; orders = orders; seats = seats }) ≡ None
-no_bad_list n lists xs orders seats n_is xs_is none =
-    let P : List (List ℕ) → Type 0 = λ ys. position (λ list. not (is_list_below n list)) ys ≡ None in
-    let Q : ℕ → Type 0 = λ k. position (λ list. not (is_list_below k list)) lists ≡ None in
-    subst Q n_is (subst P xs_is none)
+pub bad_list_is : (answer : Option ℕ) (n : ℕ) (lists xs : List (List ℕ)) (orders : List (List ℕ)) (seats : List ℕ)
+    → n ≡ length orders → xs ≡ lists → position (λ list. not (is_list_below n list)) xs ≡ answer
+    → first_bad_list (record { lists = lists; orders = orders; seats = seats }) ≡ answer
+bad_list_is answer n lists xs orders seats n_is xs_is e =
+    let P : List (List ℕ) → Type 0 = λ ys. position (λ list. not (is_list_below n list)) ys ≡ answer in
+    let Q : ℕ → Type 0 = λ k. position (λ list. not (is_list_below k list)) lists ≡ answer in
+    subst Q n_is (subst P xs_is e)
 
 pub bad_order_is : (answer : Option ℕ) (lists ys orders zs : List (List ℕ)) (seats : List ℕ) → ys ≡ lists → zs ≡ orders
     → first_bad_order (record { lists = ys; orders = zs; seats = [] }) ≡ answer
@@ -260,4 +256,4 @@ bad_order_is answer lists ys orders zs seats ys_is zs_is e =
 
 pub lists_ready : (n : ℕ) (xs ys zs : List (List ℕ)) → n ≡ length zs → xs ≡ ys → position (λ list. not (is_list_below n list)) xs ≡ None
     → AreLists (length zs) ys
-lists_ready n xs ys zs n_is same none = lists_stand (length zs) ys (no_bad_list n ys xs zs [] n_is same none)
+lists_ready n xs ys zs n_is same none = lists_stand (length zs) ys (bad_list_is None n ys xs zs [] n_is same none)

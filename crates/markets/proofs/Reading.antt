@@ -17,6 +17,11 @@ use Rattle.markets.specs.Positions.{distinct_from, is_candidate, order_lists, or
 pub among_place : (xs : List ℕ) (k d : ℕ) → k < length xs → is_among (get_or xs k d) xs ≡ true
 among_place xs k d lt = list_any_at (nat_eq (get_or xs k d)) xs k d lt (eq-eqb (get_or xs k d) (get_or xs k d) refl)
 
+-- an item of a list of lists, as it is read
+pub list_read : (lists : List (List ℕ)) (k : ℕ) (item slice : List ℕ) → k < length lists → item ≡ get_or lists k item → slice ≡ item
+    → slice ≡ get_or lists k []
+list_read lists k item slice lt item_is slice_is = slice_is ∙ item_is ∙ get_or_default lists k item [] lt
+
 pub list_within : (m : MarketRows) → IsMarket m → (x : ℕ) → x < length m.lists → All (λ p. p < length m.orders) (list_of m x)
 list_within m is x x_lt k d lt =
     let both = and_parts (is_distinct (list_of m x)) (list_all (λ q. nat_lt q (length m.orders)) (list_of m x)) (is.lists x x_lt) in

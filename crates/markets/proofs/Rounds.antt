@@ -1,9 +1,9 @@
 -- A market as a falling system, for its round.
 use Rattle.std.proofs.Common.{ℕ, zero, suc, ◌+◌, ◌-◌, ◌≤◌, ◌<◌, ◌≡◌, Bool, true, false, cond, ◌&&◌, List, [], ◌∷◌, ◌++◌, map, length, drop, get_or, inl, inr, refl, sym, ◌∙◌, ap, arith, nat_le, nat_lt, filter, set}
-use Rattle.std.specs.Prelude.{Option, Some, None, find, slice_get, slice_index}
+use Rattle.std.specs.Prelude.{All, Option, Some, None, find, slice_get, slice_index}
 use Rattle.std.specs.List.{range_with_len}
 use Rattle.std.proofs.lemmas.Bool.{cases_Bool, cases_lt, le-leb, lt-leb, lt-ltb, false_from_ne_true, and_left, and_right}
-use Rattle.std.proofs.lemmas.List.{append-nil, append_assoc, map-append, length-map, length-append, get_or-set_same, set-set, map-id}
+use Rattle.std.proofs.lemmas.List.{append-nil, append_assoc, map-append, length-map, length-append, get_or_default, get_or-set_same, set-set, map-id}
 use Rattle.std.proofs.lemmas.List.FromFn.{filter_of_map_range_with_len_more}
 use Rattle.admit_core.proofs.Plain.{get_seam}
 use Rattle.admit_core.specs.Falls.{is_overfilled}
@@ -149,12 +149,29 @@ pub named_over : (m : MarketRows) (places : List (Option ℕ)) (p k : ℕ) → i
     → map (candidate_at m p) (held_to m places p (k + 1)) ≡ map (candidate_at m p) (held_to m places p k)
 named_over m places p k out = ap (map (candidate_at m p)) (none_put m places p k out)
 
+-- who stands at a position before the bar, as they are read
+pub held_before : (m : MarketRows) (places : List (Option ℕ)) (p bar passed : ℕ) (order : List ℕ) (place : Option ℕ) → order ≡ order_of m p
+    → All (λ x. x < length m.lists) order → length places ≡ length m.lists → bar ≤ length (order_of m p) → passed < bar
+    → place ≡ get_or places (get_or order (bar - passed - 1) 0) place
+    → is_held m places p (bar - (passed + 1) + 1) ≡ is_at p place
+held_before m places p bar passed order place order_is within each le lt place_is =
+    let k : ℕ = bar - (passed + 1) in
+    let y : ℕ = get_or order (bar - passed - 1) 0 in
+    let at : bar - passed - 1 ≡ k = omega (arith, lt) in
+    let y_is : y ≡ get_or order k 0 = ap (λ i. get_or order i 0) at in
+    let y_lt : y < length m.lists = omega (arith, y_is, within k 0 (omega (arith, le, lt, ap length order_is))) in
+    held_is m places p k y order place order_is y_is (place_is ∙ get_or_default places y place None (omega (arith, y_lt, each)))
+
+-- what is put at a place is read there
+pub put_here : (old new : List ℕ) (x s : ℕ) → x < length old → new ≡ set old x s → slice_index new x ≡ s
+put_here old new x s lt is = ap (λ (xs : List ℕ). slice_index xs x) is ∙ get_or-set_same old x s 0 lt
+
 -- a bar that is lowered again
 pub set_again : (bars now new : List ℕ) (p v w : ℕ) → p < length bars → now ≡ set bars p v → new ≡ set now p (slice_index now p - 1)
     → w ≡ v - 1 → new ≡ set bars p w
 set_again bars now new p v w lt now_is new_is w_is =
-    let read : slice_index now p ≡ v = ap (λ (xs : List ℕ). get_or xs p 0) now_is ∙ get_or-set_same bars p v 0 lt in
-    new_is ∙ ap (λ n. set now p (n - 1)) read ∙ ap (λ (xs : List ℕ). set xs p (v - 1)) now_is ∙ set-set bars p v (v - 1)
+    new_is ∙ ap (λ n. set now p (n - 1)) (put_here bars now p v lt now_is) ∙ ap (λ (xs : List ℕ). set xs p (v - 1)) now_is
+    ∙ set-set bars p v (v - 1)
     ∙ ap (set bars p) (sym w_is)
 
 -- a held position is the first past those before it

@@ -1,9 +1,9 @@
 -- Where candidates stand under bars, and who moves on as a bar falls by one position.
 use Rattle.std.proofs.Common.{ℕ, ◌+◌, ◌-◌, ◌≤◌, ◌<◌, ◌≡◌, ◌≢◌, ◌⊎◌, true, false, List, [], ◌∷◌, ◌++◌, length, get_or, inl, inr, refl, sym, ◌∙◌, ap, subst, arith, nat_eq, nat_le, Option, Some, None, set}
-use Rattle.std.specs.Prelude.{slice_get, slice_index}
+use Rattle.std.specs.Prelude.{All, slice_get, slice_index}
 use Rattle.std.specs.List.{position_or_len}
 use Rattle.std.proofs.lemmas.Bool.{cases_eq, cases_lt, eqb-true, eq-eqb, leb-false, le-leb, lt-leb, false≢true}
-use Rattle.std.proofs.lemmas.List.{length-set, length-append, get_or-set_same, get_or-set_other, get_or_append_left, get_or-append_right, get_or_past}
+use Rattle.std.proofs.lemmas.List.{length-set, length-append, get_or-set_same, get_or-set_other, get_or_append_left, get_or-append_right, get_or_default, get_or_past}
 use Rattle.std.proofs.lemmas.List.FromFn.{fill_by_all, length-map-range_with_len}
 use Rattle.std.proofs.lemmas.List.Sums.{passes_at_first}
 use Rattle.std.proofs.lemmas.Option.{slice_get-get_or, slice_get_past, slice_get_within, get_or_from_slice_get}
@@ -282,41 +282,81 @@ module _ (m : MarketRows) (bars stands : List ℕ) (places : List (Option ℕ)) 
         counts = counts;
       }
 
-  module _ (lower_bars : List ℕ) (lower_is : lower_bars ≡ low) (y : ℕ) (y_is : y ≡ next) (y_lt : y < length m.lists) where
-    next_lt : next < length m.lists
-    next_lt = omega (arith, y_lt, y_is)
+-- what is read of a market, of its bars and of the places, as a bar falls
+module _ {m : MarketRows} {bars stands : List ℕ} {places : List (Option ℕ)} {f : Fill} (round : IsRound m bars stands places f)
+    (p : ℕ) (p_lt : p < length m.orders) (above : 0 < slice_index bars p)
+    {r : MarketRows} (same : r ≡ m) {order : List ℕ} (order_is : order ≡ order_of r p) (within : All (λ x. x < length r.lists) order)
+    {height : ℕ} (height_is : height ≡ get_or bars p height) where
+  abbrev who_is_there : ℕ
+  who_is_there = get_or order (height - 1) 0
 
-    pub nobody_moves : is_at p (place_of places y) ≡ false → IsRound m lower_bars stands places f
-    nobody_moves away =
-        let P : List ℕ → Type 0 = λ bs. IsRound m bs stands places f in
-        subst P (sym lower_is) (stays next_lt (ap (λ z. is_at p (place_of places z)) (sym y_is) ∙ away))
+  pub bar_read : height ≡ slice_index bars p
+  bar_read = height_is ∙ get_or_default bars p height 0 (omega (arith, p_lt, round.seated.one_bar_each))
 
-    -- what it takes to move on
-    pub had_place : is_at p (place_of places y) ≡ true → place_of places y ≡ Some p
-    had_place holds = at_place p (place_of places y) holds
+  order_read : order ≡ order_of m p
+  order_read = order_is ∙ ap (λ (rows : MarketRows). order_of rows p) same
 
-    pub entry_left : is_at p (place_of places y) ≡ true
-        → (slice_index stands y < length (list_of m y)) × AreBeyond m lower_bars y (slice_index stands y + 1)
-    entry_left holds =
-        let best : best_within m bars next ≡ Some p = sym (round.seated.placed next) ∙ ap (place_of places) (sym y_is)
-        ∙ at_place p (place_of places y) holds in
-        let P : ℕ → List ℕ → Type 0 = λ z bs. (slice_index stands z < length (list_of m z)) × AreBeyond m bs z (slice_index stands z + 1) in
-        let here : P next low =
-        now_beyond m round.valid bars p p_lt round.seated.one_bar_each above (round.seated.under p) (slice_index stands next) best
-        (round.seated.stood.each next next_lt) in
-        subst (P y) (sym lower_is) (subst (λ z. P z low) (sym y_is) here)
+  pub position_within : height - 1 < length order
+  position_within = omega (arith, bar_read, above, round.seated.under p, ap length order_read)
 
-    pub moves_on : (new : List ℕ) (now : List (Option ℕ)) (g : Fill) → IsStand m lower_bars y (slice_index new y)
-        → new ≡ set stands y (slice_index new y) → now ≡ set places y (best_within m lower_bars y) → g.seats ≡ f.seats
+  pub who_within : who_is_there < length m.lists
+  who_within = omega (arith, within (height - 1) 0 position_within, ap (λ (rows : MarketRows). length rows.lists) same)
+
+  next_is : who_is_there ≡ next m bars stands places f round p p_lt above
+  next_is = ap (λ n. get_or order (n - 1) 0) bar_read ∙ ap (λ (xs : List ℕ). get_or xs (slice_index bars p - 1) 0) order_read
+
+  next_within : next m bars stands places f round p p_lt above < length m.lists
+  next_within = omega (arith, who_within, next_is)
+
+  module _ {lower_bars : List ℕ} (lower_is : lower_bars ≡ set bars p (height - 1)) where
+    pub lowered : lower_bars ≡ low m bars stands places f round p p_lt above
+    lowered = lower_is ∙ ap (λ n. set bars p (n - 1)) bar_read
+
+    pub bars_each : length lower_bars ≡ length m.orders
+    bars_each = ap length lowered ∙ low_each m bars stands places f round p p_lt above
+
+    module _ {place : Option ℕ} (place_is : place ≡ get_or places who_is_there place) where
+      place_read : place ≡ place_of places who_is_there
+      place_read = place_is ∙ get_or_default places who_is_there place None (omega (arith, who_within, round.seated.one_place_each))
+
+      pub nobody_moves : is_at p place ≡ false → IsRound m lower_bars stands places f
+      nobody_moves away =
+          let P : List ℕ → Type 0 = λ bs. IsRound m bs stands places f in
+          subst P (sym lowered)
+          (stays m bars stands places f round p p_lt above next_within
+          (ap (λ z. is_at p (place_of places z)) (sym next_is) ∙ ap (is_at p) (sym place_read) ∙ away))
+
+      -- what it takes to move on
+      pub had_place : is_at p place ≡ true → place_of places who_is_there ≡ Some p
+      had_place holds = sym place_read ∙ at_place p place holds
+
+      pub entry_left : is_at p place ≡ true → (slice_index stands who_is_there < length (list_of m who_is_there))
+          × AreBeyond m lower_bars who_is_there (slice_index stands who_is_there + 1)
+      entry_left holds =
+          let x : ℕ = next m bars stands places f round p p_lt above in
+          let best : best_within m bars x ≡ Some p = sym (round.seated.placed x) ∙ ap (place_of places) (sym next_is)
+          ∙ had_place holds in
+          let P : ℕ → List ℕ → Type 0 =
+          λ z bs. (slice_index stands z < length (list_of m z)) × AreBeyond m bs z (slice_index stands z + 1) in
+          let here : P x (low m bars stands places f round p p_lt above) =
+          now_beyond m round.valid bars p p_lt round.seated.one_bar_each above (round.seated.under p) (slice_index stands x) best
+          (round.seated.stood.each x next_within) in
+          subst (P who_is_there) (sym lowered) (subst (λ z. P z (low m bars stands places f round p p_lt above)) (sym next_is) here)
+
+    pub moves_on : (new : List ℕ) (now : List (Option ℕ)) (g : Fill) → IsStand m lower_bars who_is_there (slice_index new who_is_there)
+        → new ≡ set stands who_is_there (slice_index new who_is_there)
+        → now ≡ set places who_is_there (best_within m lower_bars who_is_there) → g.seats ≡ f.seats
         → AreCounts (length m.orders) now g.counts → IsRound m lower_bars new now g
     moves_on new now g stand new_is now_is seats counts =
+        let lower : List ℕ = low m bars stands places f round p p_lt above in
         let P : List ℕ → Type 0 = λ bs. IsRound m bs new now g in
         let S : ℕ → List ℕ → Type 0 = λ z bs. IsStand m bs z (slice_index new z) in
         let N : ℕ → List ℕ → Type 0 = λ z bs. now ≡ set places z (best_within m bs z) in
         let M : ℕ → Type 0 = λ z. new ≡ set stands z (slice_index new z) in
-        subst P (sym lower_is)
-        (moves new now g next_lt (subst (λ z. S z low) y_is (subst (S y) lower_is stand)) (subst M y_is new_is)
-        (subst (λ z. N z low) y_is (subst (N y) lower_is now_is)) seats counts)
+        subst P (sym lowered)
+        (moves m bars stands places f round p p_lt above new now g next_within
+        (subst (λ z. S z lower) next_is (subst (S who_is_there) lowered stand)) (subst M next_is new_is)
+        (subst (λ z. N z lower) next_is (subst (N who_is_there) lowered now_is)) seats counts)
 
 -- a round, as it begins
 pub round_from : (m : MarketRows) → IsMarket m → (bars stands : List ℕ) (places : List (Option ℕ)) (f : Fill) (counts seats : List ℕ)

@@ -1,11 +1,11 @@
 -- Stamps along a list.
-use Rattle.std.proofs.Common.{ℕ, ◌+◌, ◌≤◌, ◌<◌, ◌≡◌, true, false, not, List, [], ◌∷◌, ◌++◌, length, take, get_or, inl, inr, refl, sym, ◌∙◌, ap, subst, arith, nat_eq, nat_lt}
+use Rattle.std.proofs.Common.{ℕ, ◌+◌, ◌≤◌, ◌<◌, ◌≡◌, Bool, true, false, not, List, [], ◌∷◌, ◌++◌, length, take, drop, get_or, inl, inr, refl, sym, ◌∙◌, ap, subst, arith, nat_eq, nat_lt}
 use Rattle.std.specs.Prelude.{slice_index}
 use Rattle.std.specs.List.{list_all}
 use Rattle.std.proofs.Math.ListN.{set}
 use Rattle.std.proofs.lemmas.Bool.{cases_eq, and_parts, and_from, eq-eqb, ne_eqb, lt-ltb, false≢true, false_from_ne_true, or_left, or_right}
 use Rattle.std.proofs.lemmas.Cmp.{nat_eq_equiv}
-use Rattle.std.proofs.lemmas.List.{length-set, take_more}
+use Rattle.std.proofs.lemmas.List.{append-nil, drop_all, length-set, take_all, take_more}
 use Rattle.std.proofs.lemmas.List.Folds.{list_all-append, list_any-append}
 use Rattle.std.proofs.lemmas.Grind.{get_or-set_at}
 use Rattle.std.proofs.lemmas.Map.Keys.{IsDistinct-push, apart_from_distinct}
@@ -14,6 +14,7 @@ use Rattle.admit_core.proofs.FallsLaw.{at_set}
 use Rattle.markets.specs.Markets.{is_distinct, is_list_below}
 use Rattle.markets.specs.Stamps.{AreOlder, AreUpTo, BearStamp}
 use Rattle.markets.specs.Positions.{distinct_from, among_at}
+use Rattle.markets.proofs.Reading.{list_read}
 use Rattle.markets.proofs.BelowCount.{last_differs, earlier, list_below, list_distinct, is_distinct_from}
 
 -- what the stamps say after the first k of a list
@@ -92,3 +93,32 @@ pub record AllStood (n : ℕ) (lists : List (List ℕ)) (k stamp : ℕ) (stamps 
   pub as_many : length stamps ≡ n
   pub up_to : AreUpTo stamp stamps
   pub stood : (i : ℕ) → i < k → not (is_list_below n (get_or lists i [])) ≡ false
+
+-- whether a list stands the test, as it is read
+pub told_list : (n : ℕ) (lists : List (List ℕ)) (k : ℕ) (item slice stamps now : List ℕ) (result : Bool) → k < length lists
+    → item ≡ get_or lists k item → slice ≡ item → now ≡ stamps → length stamps ≡ n → result ≡ is_list_below (length now) slice
+    → result ≡ is_list_below n (get_or lists k [])
+told_list n lists k item slice stamps now result lt item_is slice_is now_is as_many told =
+    told ∙ ap (λ m. is_list_below m slice) (ap length now_is ∙ as_many)
+    ∙ ap (is_list_below n) (list_read lists k item slice lt item_is slice_is)
+
+pub stood_more : (n : ℕ) (lists : List (List ℕ)) (k stamp : ℕ) (stamps after : List ℕ) → AllStood n lists k stamp stamps
+    → length after ≡ length stamps → AreUpTo (stamp + 1) after → is_list_below n (get_or lists k []) ≡ true
+    → AllStood n lists (k + 1) (stamp + 1) after
+stood_more n lists k stamp stamps after so long up_to told =
+    record {
+      stamp_is = omega (arith, so.stamp_is);
+      as_many = long ∙ so.as_many;
+      up_to = up_to;
+      stood = λ i i_lt.
+          elim (cases_eq i k) [
+            | inl here ↦ ap (λ j. not (is_list_below n (get_or lists j []))) here ∙ ap not told
+            | inr other ↦ so.stood i (omega (arith, i_lt, other))
+          ];
+    }
+
+-- what is written back of a slice of a whole list
+pub put_back : (new old : List ℕ) (n : ℕ) → length new ≡ length old → n ≡ length old → take n (new ++ drop (length new) old) ≡ new
+put_back new old n long n_is =
+    let bare : drop (length new) old ≡ [] = drop_all (length new) old (omega (arith, long)) in
+    ap (λ ys. take n (new ++ ys)) bare ∙ ap (take n) (append-nil new) ∙ take_all n new (omega (arith, long, n_is))

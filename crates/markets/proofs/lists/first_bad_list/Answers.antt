@@ -1,24 +1,46 @@
-use Rattle.std.proofs.Common.{ℕ, List, [], ◌+◌, ◌-◌, ◌≡◌, Bool, true, false, not, arith, length, get_or, sym, ◌∙◌, ap, Some}
-use Rattle.std.proofs.lemmas.List.{get_or_default}
+use Rattle.std.proofs.Common.{ℕ, List, [], ◌+◌, ◌-◌, ◌≡◌, Bool, not, arith, length, sym, ◌∙◌, ap, subst, Some}
 use Rattle.markets.specs.Markets.{is_list_below}
+use Rattle.markets.specs.Stamps.{AreOlder}
 use Rattle.markets.specs.Firsts.{position_found, position_none}
+use Rattle.markets.proofs.Stamping.{AllStood, told_list, stood_more, put_back}
 use Rattle.markets.proofs.lists.first_bad_list.Goals as goal
+
+pub overflow_add-stamp : goal.overflow_add-stamp
+overflow_add-stamp c = omega (arith, c.loop-list.invariant.stamp_is, c.loop-list-test.true, c.requires)
+
+pub stamp_list-requires : goal.stamp_list-requires
+stamp_list-requires c =
+    let P : List ℕ → Type 0 = AreOlder (c.loop-list.stamp + 1) in
+    subst P (sym c.deref_mut.ensures.value) (λ q lt. omega (arith, c.loop-list.invariant.up_to q lt))
 
 pub returns-then-not-stamp_list : goal.returns-then-not-stamp_list
 returns-then-not-stamp_list c =
     let k : ℕ = c.loop-list.list-index in
     let xs : List (List ℕ) = c.args.lists.now in
     let test : List ℕ → Bool = λ list. not (is_list_below c.args.count list) in
-    let read : get_or xs k [] ≡ c.as_slice.result.now = get_or_default xs k [] c.list-item.result c.loop-list-test.true
-    ∙ sym c.list-item.is ∙ sym c.as_slice.ensures in
-    let as_many : c.args.count ≡ length c.deref_mut.result.now = sym (ap length c.deref_mut.ensures.value ∙ c.loop-list.invariant.as_many)
-    in
-    let told : is_list_below c.args.count (get_or xs k []) ≡ false =
-    ap (is_list_below c.args.count) read ∙ ap (λ n. is_list_below n c.as_slice.result.now) as_many ∙ sym c.stamp_list.ensures.listed
-    ∙ c.if-not-stamp_list.true in
-    let fails : test (get_or xs k []) ≡ true = ap not told in
+    let told = told_list c.args.count xs k c.list-item.result c.as_slice.result.now c.loop-list.stamps.items
+    c.deref_mut.result.now c.stamp_list.result c.loop-list-test.true c.list-item.is c.as_slice.ensures
+    c.deref_mut.ensures.value c.loop-list.invariant.as_many c.stamp_list.ensures.listed in
     let at : k ≡ c.loop-list.stamp + 1 - 1 = omega (arith, c.loop-list.invariant.stamp_is) in
-    ap Some (sym at) ∙ sym (position_found test xs k [] c.loop-list-test.true c.loop-list.invariant.stood fails)
+    ap Some (sym at)
+    ∙ sym (position_found test xs k [] c.loop-list-test.true c.loop-list.invariant.stood
+    (ap not (sym told ∙ c.if-not-stamp_list.true)))
+
+pub loop-list-preserved : goal.loop-list-preserved
+loop-list-preserved c =
+    let k : ℕ = c.loop-list.list-index in
+    let n : ℕ = c.args.count in
+    let xs : List (List ℕ) = c.args.lists.now in
+    let stamps : List ℕ = c.loop-list.stamps.items in
+    let new : List ℕ = c.stamp_list.new.stamps in
+    let told = told_list n xs k c.list-item.result c.as_slice.result.now stamps
+    c.deref_mut.result.now c.stamp_list.result c.loop-list-test.true c.list-item.is c.as_slice.ensures
+    c.deref_mut.ensures.value c.loop-list.invariant.as_many c.stamp_list.ensures.listed in
+    let long : length new ≡ length stamps = c.stamp_list.ensures.as_many ∙ ap length c.deref_mut.ensures.value in
+    let P : List ℕ → Type 0 = AllStood n xs (k + 1) (c.loop-list.stamp + 1) in
+    subst P (sym (put_back new stamps c.loop-list.stamps.len long c.loop-list.stamps.ok.0))
+    (stood_more n xs k c.loop-list.stamp stamps new c.loop-list.invariant long c.stamp_list.ensures.up_to
+    (sym told ∙ c.if-not-stamp_list.false))
 
 pub returns : goal.returns
 returns c =

@@ -2,7 +2,7 @@ use Rattle.std.proofs.Common.{◌≡◌, ℕ, ◌+◌, Bool, List, [], ◌∷◌
 use Rattle.std.specs.List.{position_or_len}
 use Rattle.std.specs.declared.alloc.Global.{Global}
 use Rattle.std.proofs.lemmas.Bool.{eqb-true}
-use Rattle.std.proofs.lemmas.List.{append-nil}
+use Rattle.std.proofs.lemmas.List.{append-nil, take_all}
 use Rattle.admit_core.specs.Lists.{is_among}
 use Rattle.markets.proofs.Called.{called_more, none_called}
 use Rattle.markets.proofs.named.called.Goals as goal
@@ -35,3 +35,17 @@ returns-then-is_empty c =
     c.new.ensures
     ∙ none_called c.args.listers.now (map (λ k. position_or_len (nat_eq k) c.args.names.now.keys) c.args.order.now)
     (eqb-true (length c.args.listers.now) 0 (sym c.is_empty.ensures ∙ c.if-is_empty.true))
+
+pub number_of-number-requires : goal.number_of-number-requires
+number_of-number-requires c = c.requires.few
+
+pub is_in-requires : goal.is_in-requires
+is_in-requires c = c.requires.rises
+
+pub returns : goal.returns
+returns c =
+    let listers : List ℕ = c.args.listers.now in
+    let names : List ℕ = c.args.names.now.keys in
+    let all = take_all c.loop-candidate.candidate-index c.args.order.now c.loop-candidate-test.false in
+    c.from_vec.ensures ∙ c.loop-candidate.invariant
+    ∙ ap (λ (xs : List ℕ). filter (λ x. is_among x listers) (map (λ k. position_or_len (nat_eq k) names) xs)) all

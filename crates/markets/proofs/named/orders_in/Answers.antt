@@ -1,11 +1,11 @@
-use Rattle.std.proofs.Common.{◌≡◌, ℕ, List, [], ◌∷◌, ◌++◌, filter, map, nat_eq, length, sym, ap, subst, ◌∙◌, arith}
+use Rattle.std.proofs.Common.{◌≡◌, ◌<◌, ℕ, List, filter, map, nat_eq, length, sym, ap, subst, ◌∙◌, arith}
 use Rattle.std.specs.List.{position_or_len, range_with_len}
 use Rattle.std.specs.List.Sorted.{IsStrictlyIncreasing}
-use Rattle.std.proofs.lemmas.List.FromFn.{map-range_with_len_more}
 use Rattle.admit_core.specs.DossierRows.{DossierRows}
 use Rattle.admit_core.specs.Lists.{is_among}
 use Rattle.admit_core.specs.Proposals.{order_of}
 use Rattle.admit_core.specs.Validity.{IsValid}
+use Rattle.linked_demand.proofs.Flagging.{more_of}
 use Rattle.markets.specs.Dossiers.{called_in, counted, lists_in, named}
 use Rattle.markets.specs.Listers.{AreLists, naming}
 use Rattle.markets.proofs.Called.{are_lists, called_by_listers, listers_rise, market_small, named_few, orders_each}
@@ -70,6 +70,24 @@ loop-programme-preserved c =
     ∙ ap (λ (o : List ℕ). filter (λ x. is_among x c.as_slice-listers.result.now) (map (λ k. position_or_len (nat_eq k) (named ws)) o))
     c.order_of-order.ensures
     ∙ called_by_listers ws p (order_of d orders p) c.as_slice-listers.result.now listers in
-    c.in_ok-push.ensures.items ∙ ap (λ (xs : List (List ℕ)). xs ++ c.in_ok-numbers.numbers ∷ []) c.loop-programme.invariant
-    ∙ ap (λ (xs : List ℕ). map called (range_with_len 0 p) ++ xs ∷ []) numbers
-    ∙ sym (map-range_with_len_more called 0 p p (omega arith))
+    more_of called p c.loop-programme.done.items c.push.new.self.items c.in_ok-numbers.numbers c.in_ok-push.ensures.items
+    c.loop-programme.invariant numbers
+
+pub order_of-order-requires-clause-programme : goal.order_of-order-requires-clause-programme
+order_of-order-requires-clause-programme c =
+    let n_is = c.len-count.ensures ∙ ap (λ (e : DossierRows). length e.programmes) c.dossier.view_is in
+    let P = λ (n : ℕ). c.loop-programme.programme < n in
+    subst P n_is c.loop-programme-test.true
+
+pub index-requires : goal.index-requires
+index-requires c = omega (arith, c.loop-programme-test.true, c.in_ok-rows.ensures.one_each)
+
+pub returns : goal.returns
+returns c =
+    let d = c.args.dossier.now in
+    let orders = c.args.orders.now.orders in
+    let called : ℕ → List ℕ = λ q. called_in (counted d) q (order_of d orders q) in
+    let n_is = c.len-count.ensures ∙ ap (λ (e : DossierRows). length e.programmes) c.dossier.view_is in
+    let all : c.loop-programme.programme ≡ length d.programmes =
+    omega (arith, c.loop-programme-test.false, c.loop-programme.auto.programme-end, n_is) in
+    c.loop-programme.invariant ∙ ap (λ n. map called (range_with_len 0 n)) all

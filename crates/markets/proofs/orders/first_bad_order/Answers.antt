@@ -1,6 +1,7 @@
 use Rattle.std.proofs.Common.{ℕ, [], sym, length, arith}
 use Rattle.markets.specs.Markets.{MarketRows}
-use Rattle.markets.proofs.Ordering.{orders_more, orders_found, orders_none, row_read, order_read, told_now, row_within}
+use Rattle.markets.proofs.Ordering.{orders_more, orders_found, orders_none, row_read, told_now, row_within}
+use Rattle.markets.proofs.Reading.{list_read}
 use Rattle.markets.proofs.orders.first_bad_order.Goals as goal
 
 pub has_all_of-requires-clause-within : goal.has_all_of-requires-clause-within
@@ -17,7 +18,7 @@ returns-then-not-has_all_of c =
     let k : ℕ = c.loop-order.order-index in
     let row = row_read m k c.loop-order.stamp c.in_ok-rows.rows.items c.index.result.now c.as_slice-listers.result.now
     c.loop-order.invariant.stamp_is c.loop-order-test.true c.in_ok-rows.ensures c.index.ensures c.as_slice-listers.ensures.value in
-    let order = order_read m k c.order-item.result c.as_slice.result.now c.loop-order-test.true c.order-item.is c.as_slice.ensures in
+    let order = list_read m.orders k c.order-item.result c.as_slice.result.now c.loop-order-test.true c.order-item.is c.as_slice.ensures in
     let told = told_now m (length c.loop-order.stamps) k c.as_slice-listers.result.now c.as_slice.result.now c.has_all_of.result row order
     c.has_all_of.ensures.all in
     sym (orders_found m k c.loop-order.stamp c.loop-order.stamps c.has_all_of.result c.loop-order-test.true c.loop-order.invariant told
@@ -29,7 +30,7 @@ loop-order-preserved c =
     let k : ℕ = c.loop-order.order-index in
     let row = row_read m k c.loop-order.stamp c.in_ok-rows.rows.items c.index.result.now c.as_slice-listers.result.now
     c.loop-order.invariant.stamp_is c.loop-order-test.true c.in_ok-rows.ensures c.index.ensures c.as_slice-listers.ensures.value in
-    let order = order_read m k c.order-item.result c.as_slice.result.now c.loop-order-test.true c.order-item.is c.as_slice.ensures in
+    let order = list_read m.orders k c.order-item.result c.as_slice.result.now c.loop-order-test.true c.order-item.is c.as_slice.ensures in
     let told = told_now m (length c.loop-order.stamps) k c.as_slice-listers.result.now c.as_slice.result.now c.has_all_of.result row order
     c.has_all_of.ensures.all in
     orders_more m k c.loop-order.stamp c.loop-order.stamps c.has_all_of.new.stamps c.has_all_of.result c.loop-order-test.true
@@ -41,3 +42,10 @@ returns c =
     let m : MarketRows = record { lists = c.args.lists.now; orders = c.args.orders.now; seats = [] } in
     sym (orders_none m c.loop-order.order-index c.loop-order.stamp c.loop-order.stamps (omega (arith, c.loop-order-test.false))
     c.loop-order.invariant)
+
+pub overflow_add-stamp : goal.overflow_add-stamp
+overflow_add-stamp c = omega (arith, c.loop-order.invariant.stamp_is, c.loop-order-test.true, c.requires.programmes)
+
+pub index-requires : goal.index-requires
+index-requires c =
+    omega (arith, c.loop-order.invariant.stamp_is, c.loop-order-test.true, c.in_ok-rows.ensures.one_each)

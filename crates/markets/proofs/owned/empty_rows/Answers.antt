@@ -1,5 +1,5 @@
-use Rattle.std.proofs.Common.{◌∷◌, [], map, take, get_or, sym, ap, ◌∙◌, arith}
-use Rattle.std.proofs.lemmas.List.{take_more, map-append}
+use Rattle.std.proofs.Common.{◌∷◌, [], map, take, get_or, length, sym, ap, ◌≤◌, ◌∙◌, arith}
+use Rattle.std.proofs.lemmas.List.{take_all, take_more, map-append}
 use Rattle.markets.specs.Dossiers.{own}
 use Rattle.markets.proofs.owned.empty_rows.Goals as goal
 
@@ -11,3 +11,9 @@ loop-name-preserved c =
     ∙ map-append (λ r. r.items) c.loop-name.rows.items (c.new.result ∷ [])
     ∙ rw (c.loop-name.invariant, c.new.ensures.items, take_more ks i 0 (omega arith))
     (sym (map-append (own []) (take i ks) (get_or ks i 0 ∷ [])))
+
+pub returns : goal.returns
+returns c =
+    let ks = c.args.names.now.keys in
+    let past : length ks ≤ c.loop-name.name = omega (arith, c.loop-name-test.false, c.len-name-end.ensures) in
+    c.loop-name.invariant ∙ ap (map (own [])) (take_all c.loop-name.name ks past)

@@ -1,5 +1,6 @@
-use Rattle.std.proofs.Common.{ℕ, ◌<◌, ◌∙◌, ap, arith, length}
+use Rattle.std.proofs.Common.{ℕ, ◌≡◌, ◌<◌, ◌∙◌, ap, arith, length, subst}
 use Rattle.markets.specs.Markets.{is_list_below}
+use Rattle.markets.specs.Ranked.{ArePositions}
 use Rattle.markets.proofs.Ranking.{orders_are_lists, positions_more}
 use Rattle.markets.proofs.ranked.positions_in.Goals as goal
 
@@ -17,3 +18,19 @@ loop-programme-preserved c =
     positions_more c.args.market.now c.loop-programme.programme c.order.result.now c.loop-programme.rows.items
     c.put_positions.new.rows.items c.order.ensures.order
     c.loop-programme.invariant c.in_ok-put_positions.ensures
+
+pub order-requires : goal.order-requires
+order-requires c =
+    let P = λ (n : ℕ). c.loop-programme.programme < n in
+    subst P c.programmes-programme-end.ensures c.loop-programme-test.true
+
+pub put_positions-requires-clause-short : goal.put_positions-requires-clause-short
+put_positions-requires-clause-short c = c.order.ensures.short
+
+pub returns : goal.returns
+returns c =
+    let n : ℕ = length c.args.market.now.orders in
+    let all : c.loop-programme.programme ≡ n =
+    omega (arith, c.loop-programme-test.false, c.loop-programme.auto.programme-end, c.programmes-programme-end.ensures) in
+    let P = λ (k : ℕ). ArePositions c.args.market.now k c.loop-programme.rows.items in
+    subst P all c.loop-programme.invariant

@@ -1,9 +1,7 @@
-use Rattle.std.proofs.Common.{ℕ, List, Option, Some, None, ◌≡◌, ◌<◌, ◌+◌, ◌-◌, ◌∙◌, sym, ap, arith, length, get_or, true}
+use Rattle.std.proofs.Common.{ℕ, List, Option, Some, ◌≡◌, ◌+◌, ◌-◌, ◌∙◌, sym, ap, arith, length}
 use Rattle.std.specs.Prelude.{slice_index}
-use Rattle.std.proofs.lemmas.List.{get_or_default}
-use Rattle.markets.specs.Matchings.{place_of}
-use Rattle.markets.specs.Rounds.{is_held, held_to}
-use Rattle.markets.proofs.Rounds.{held_is, one_less, none_less, first_past}
+use Rattle.markets.specs.Rounds.{held_to}
+use Rattle.markets.proofs.Rounds.{held_before, one_less, none_less, first_past}
 use Rattle.markets.proofs.round.first_over.Goals as goal
 use Rattle.markets.proofs.round.first_over.Goals.{then-is_at+else-left-seats-2, else-is_at}
 
@@ -13,17 +11,11 @@ returns-then-left-seats-2 c =
     let places : List (Option ℕ) = c.args.seating.now.places.items in
     let p : ℕ = c.args.programme in
     let bar : ℕ = c.args.bar in
-    let order : List ℕ = c.order-order.result.now in
     let k : ℕ = bar - (c.loop-passed.passed + 1) in
     let here : bar - c.loop-passed.passed ≡ k + 1 = omega (arith, c.loop-passed-test.true) in
-    let y : ℕ = get_or order (bar - c.loop-passed.passed - 1) 0 in
-    let y_is : y ≡ get_or order k 0 = (let e : bar - c.loop-passed.passed - 1 ≡ k = omega (arith, here) in ap (λ i. get_or order i 0) e) in
-    let k_lt : k < length order = omega (arith, here, c.requires.bar, ap length c.order-order.ensures.order, c.loop-passed-test.true) in
-    let y_lt : y < length m.lists = omega (arith, y_is, c.order-order.ensures.within k 0 k_lt) in
-    let place_is : c.index.result.now ≡ place_of places y = c.index.ensures
-    ∙ get_or_default places y c.index.result.now None (omega (arith, y_lt, c.requires.places)) in
-    let held : is_held m places p (k + 1) ≡ true = held_is m places p k y order c.index.result.now c.order-order.ensures.order y_is
-    place_is ∙ sym c.is_at.ensures ∙ c.if-is_at.true in
+    let held = held_before m places p bar c.loop-passed.passed c.order-order.result.now c.index.result.now c.order-order.ensures.order
+    c.order-order.ensures.within c.requires.places c.requires.bar c.loop-passed-test.true c.index.ensures
+    ∙ sym c.is_at.ensures ∙ c.if-is_at.true in
     let long : length (held_to m places p k) ≡ slice_index c.args.seating.now.filling.seats p =
     omega (
       arith,
@@ -40,18 +32,11 @@ loop-passed-preserved c =
     let m = c.args.market.now in
     let places : List (Option ℕ) = c.args.seating.now.places.items in
     let p : ℕ = c.args.programme in
-    let bar : ℕ = c.args.bar in
-    let order : List ℕ = c.order-order.result.now in
-    let k : ℕ = bar - (c.loop-passed.passed + 1) in
-    let here : bar - c.loop-passed.passed ≡ k + 1 = omega (arith, c.loop-passed-test.true) in
-    let y : ℕ = get_or order (bar - c.loop-passed.passed - 1) 0 in
-    let y_is : y ≡ get_or order k 0 = (let e : bar - c.loop-passed.passed - 1 ≡ k = omega (arith, here) in ap (λ i. get_or order i 0) e) in
-    let k_lt : k < length order = omega (arith, here, c.requires.bar, ap length c.order-order.ensures.order, c.loop-passed-test.true) in
-    let y_lt : y < length m.lists = omega (arith, y_is, c.order-order.ensures.within k 0 k_lt) in
-    let place_is : c.index.result.now ≡ place_of places y = c.index.ensures
-    ∙ get_or_default places y c.index.result.now None (omega (arith, y_lt, c.requires.places)) in
-    let asked : is_held m places p (k + 1) ≡ c.is_at.result = held_is m places p k y order c.index.result.now c.order-order.ensures.order
-    y_is place_is ∙ sym c.is_at.ensures in
+    let k : ℕ = c.args.bar - (c.loop-passed.passed + 1) in
+    let here : c.args.bar - c.loop-passed.passed ≡ k + 1 = omega (arith, c.loop-passed-test.true) in
+    let asked = held_before m places p c.args.bar c.loop-passed.passed c.order-order.result.now c.index.result.now
+    c.order-order.ensures.order c.order-order.ensures.within c.requires.places c.requires.bar c.loop-passed-test.true c.index.ensures
+    ∙ sym c.is_at.ensures in
     let was : c.loop-passed.left ≡ length (held_to m places p (k + 1)) = c.loop-passed.invariant.0
     ∙ ap (λ i. length (held_to m places p i)) here in
     elim c.if-is_at.branch [

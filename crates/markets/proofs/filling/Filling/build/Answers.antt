@@ -5,7 +5,7 @@ use Rattle.std.specs.declared.alloc.Global.{Global}
 use Rattle.std.proofs.lemmas.Bool.{lt-ltb, le-ltb}
 use Rattle.std.proofs.lemmas.List.{append-nil, get_or_default}
 use Rattle.bar_fixpoint.proofs.Listing.{filter_more}
-use Rattle.markets.specs.Fillings.{is_over}
+use Rattle.markets.specs.Fillings.{Fill, is_over}
 use Rattle.markets.proofs.filling.Filling.build.Goals as goal
 use Rattle.markets.proofs.filling.Filling.build.Goals.{then-index+in_ok-push, else-index}
 
@@ -38,3 +38,26 @@ loop-programme-preserved c =
             rw w.overfilled-is c.loop-programme.invariant.1,
           )
     ]
+
+pub loop-programme-init : goal.loop-programme-init
+loop-programme-init c =
+    (c.in_ok-overfilled.ensures.items, omega (arith, c.in_ok-overfilled.ensures.capacity, c.len.ensures))
+
+pub index-requires-in-loop-programme : goal.index-requires-in-loop-programme
+index-requires-in-loop-programme c =
+    omega (arith, c.loop-programme-test.true, c.len-programme-end.ensures, c.in_ok-seats.ensures.len, c.requires.seats)
+
+pub invariant_of-result : goal.invariant_of-result
+invariant_of-result c =
+    let test : ℕ → Bool = is_over c.in_ok-seats.seats.items c.args.counts.items in
+    let end : c.loop-programme.programme ≡ length c.args.counts.items =
+    omega (arith, c.loop-programme-test.false, c.loop-programme.auto.programme-end, c.len-programme-end.ensures) in
+    record {
+      listed = c.loop-programme.invariant.0 ∙ ap (λ n. filter test (range_with_len 0 n)) end;
+      room = c.loop-programme.invariant.1;
+    }
+
+pub returns : goal.returns
+returns c =
+    let filling : List ℕ → Fill = λ seats. record { seats = seats; counts = c.args.counts.items } in
+    ap filling (c.in_ok-seats.ensures.items_if_clones_equal (λ x y e. e))
