@@ -1,8 +1,7 @@
 -- A market in which one candidate lists some of their programmes alone.
-use Rattle.std.proofs.Common.{ℕ, ◌+◌, ◌≤◌, ◌<◌, ◌≡◌, ◌≢◌, Bool, true, false, cond, not, ◌&&◌, ◌||◌, List, [], ◌∷◌, map, length, refl, sym, ◌∙◌, ap, subst, arith, nat_eq, nat_lt, filter, set, inl, inr}
-use Rattle.std.specs.Prelude.{slice_index_or}
-use Rattle.std.specs.List.{list_all, before_first, position_or_len, range_with_len, IsDistinct}
-use Rattle.std.proofs.lemmas.Bool.{cases_Bool, cases_eq, cases_lt, and_parts, and_from, eq-eqb, ne_eqb, eqb-true, lt-ltb, le-ltb, ltb-true, false≢true}
+use Rattle.std.proofs.Common.{ℕ, ◌+◌, ◌<◌, ◌≡◌, ◌≢◌, Bool, true, false, not, ◌&&◌, ◌||◌, List, [], ◌∷◌, map, length, refl, sym, ◌∙◌, ap, subst, arith, nat_eq, nat_lt, filter, set, inl, inr}
+use Rattle.std.specs.List.{list_all, position_or_len, range_with_len, IsDistinct}
+use Rattle.std.proofs.lemmas.Bool.{cases_Bool, cases_eq, cases_lt, and_parts, and_from, eq-eqb, ne_eqb, lt-ltb, le-ltb, false≢true}
 use Rattle.std.proofs.lemmas.List.{length-set, get_or-set_same, get_or-set_other}
 use Rattle.std.proofs.lemmas.List.FromFn.{length-map-range_with_len, get_or-map-range_with_len}
 use Rattle.admit_core.specs.Lists.{is_among}
