@@ -1,9 +1,9 @@
 -- The candidates of a call order, each at their place.
-use Rattle.std.proofs.Common.{ℕ, zero, suc, ◌+◌, ◌<◌, ◌≡◌, Bool, true, false, not, List, [], ◌∷◌, length, map, take, option_map, position, unwrap_or, inl, inr, refl, sym, ◌∙◌, ap, arith, nat_eq, nat_lt, get_or, All}
+use Rattle.std.proofs.Common.{ℕ, zero, suc, ◌+◌, ◌<◌, ◌≡◌, Bool, true, false, not, List, [], ◌∷◌, ◌++◌, length, map, take, option_map, position, unwrap_or, inl, inr, refl, sym, ◌∙◌, ap, arith, nat_eq, nat_lt, get_or, All}
 use Rattle.std.specs.Prelude.{slice_get}
 use Rattle.std.specs.List.{IsDistinct, list_any, position_or_len}
 use Rattle.std.proofs.lemmas.Bool.{cases_Bool, eq-eqb, eqb-true, false_from_ne_true, false≢true, ltb-false}
-use Rattle.std.proofs.lemmas.List.{get_or-map, get_or-take, get_or_default, length-map, length-take-le, take_more}
+use Rattle.std.proofs.lemmas.List.{get_or-map, get_or-take, get_or_default, length-map, length-take-le, map-append, map_more, take_more}
 use Rattle.std.proofs.lemmas.List.Elements.{All-cons, All-head, All-nil, All-tail}
 use Rattle.std.proofs.lemmas.List.Folds.{Any-from_list_any}
 use Rattle.std.proofs.lemmas.List.Sums.{prefix_len-le-length}
@@ -57,6 +57,24 @@ list_at [] g = refl
 list_at (o ∷ os) zero = refl
 list_at (o ∷ os) (suc g) = list_at os g
 
+-- the candidates of one call order more
+pub sets_more : {S : Type 0} (sets new : List (IndexSet ℕ S)) (set : IndexSet ℕ S) (os : List CallOrder) (i : ℕ) (d : CallOrder)
+    → i < length os → new ≡ sets ++ set ∷ []
+    → map (λ (x : IndexSet ℕ S). x.keys) sets ≡ map (λ (o : CallOrder). o.list) (take i os) → set.keys ≡ (get_or os i d).list
+    → map (λ (x : IndexSet ℕ S). x.keys) new ≡ map (λ (o : CallOrder). o.list) (take (i + 1) os)
+sets_more {S} sets new set os i d lt pushed same is =
+    let keys = λ (x : IndexSet ℕ S). x.keys in
+    let lists = λ (o : CallOrder). o.list in
+    ap (map keys) pushed ∙ map-append keys sets (set ∷ []) ∙ ap (λ (ls : List (List ℕ)). ls ++ set.keys ∷ []) same
+    ∙ ap (λ (l : List ℕ). map lists (take i os) ++ l ∷ []) is ∙ sym (map_more lists os i d lt)
+
+-- and as many as there are
+pub sets_each : {S : Type 0} (sets : List (IndexSet ℕ S)) (os : List CallOrder)
+    → map (λ (x : IndexSet ℕ S). x.keys) sets ≡ map (λ (o : CallOrder). o.list) os → length sets ≡ length os
+sets_each {S} sets os same =
+    sym (length-map sets (λ (x : IndexSet ℕ S). x.keys)) ∙ ap (λ (ls : List (List ℕ)). length ls) same
+    ∙ length-map os (λ (o : CallOrder). o.list)
+
 -- the candidates kept at a place are those of the call order
 pub keys_at : {S : Type 0} (sets : List (IndexSet ℕ S)) (os : List CallOrder) (g : ℕ)
     (set : IndexSet ℕ S)
@@ -64,13 +82,5 @@ pub keys_at : {S : Type 0} (sets : List (IndexSet ℕ S)) (os : List CallOrder) 
     → g < length os → set ≡ get_or sets g set → set.keys ≡ unwrap_or (option_map (λ (o : CallOrder). o.list) (slice_get os g)) []
 keys_at {S} sets os g set same lt is =
     let keys = λ (x : IndexSet ℕ S). x.keys in
-    let lists = λ (o : CallOrder). o.list in
-    let within : g < length sets =
-    omega (
-      arith,
-      lt,
-      length-map sets keys,
-      ap (λ (ls : List (List ℕ)). length ls) same,
-      length-map os lists,
-    ) in
+    let within : g < length sets = omega (arith, lt, sets_each sets os same) in
     ap keys is ∙ sym (get_or-map keys sets g set [] within) ∙ ap (λ (ls : List (List ℕ)). get_or ls g []) same ∙ sym (list_at os g)

@@ -1,11 +1,11 @@
 -- A matching that is stable in a market is stable in another, where the list of one candidate differs.
-use Rattle.std.proofs.Common.{ℕ, ◌≤◌, ◌<◌, ◌≡◌, ◌≢◌, Bool, true, false, ◌&&◌, ◌||◌, List, [], ◌∷◌, length, refl, sym, ◌∙◌, ap, arith, nat_lt, inl, inr}
+use Rattle.std.proofs.Common.{ℕ, ◌≡◌, Bool, true, ◌||◌, List, [], ◌∷◌, length, refl, sym, ◌∙◌, ap, arith, nat_lt, inl, inr}
 use Rattle.std.specs.Prelude.{Option, Some, slice_index}
 use Rattle.std.specs.List.{list_any, before_first, range_with_len}
 use Rattle.std.proofs.lemmas.Bool.{cases_eq, and_parts, or_left, or_right, eq-eqb}
 use Rattle.admit_core.specs.Lists.{is_among}
 use Rattle.markets.specs.Markets.{MarketRows, list_of, lists_it, position_of}
-use Rattle.markets.specs.Matchings.{place_of, is_at, holders, prefers, would_take, IsStable}
+use Rattle.markets.specs.Matchings.{place_of, is_at, holders, prefers, IsStable}
 use Rattle.stable_market.specs.Truth.{DifferAtMostIn}
 use Rattle.markets.specs.Firsts.{among_filter, among_before, at_place}
 use Rattle.std.proofs.Common.{nat_eq}

@@ -1,5 +1,5 @@
 -- A market has one stable matching that is best for all.
-use Rattle.std.proofs.Common.{ℕ, ◌≡◌, ◌<◌, List, length, inl, inr, refl, sym, ◌∙◌, ap}
+use Rattle.std.proofs.Common.{ℕ, ◌≡◌, List, inl, inr, refl, sym, ◌∙◌, ap}
 use Rattle.std.specs.Prelude.{Option, Some, None}
 use Rattle.std.specs.List.{before_first}
 use Rattle.std.proofs.lemmas.Bool.{cases_Bool, false≢true}

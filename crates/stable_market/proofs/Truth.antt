@@ -1,12 +1,12 @@
 -- Nobody gains by another list. One who got a programme by it has that programme where they list it alone, and so a
 -- place in every stable matching there; then they have a place where they list the true programmes down to it, in a
 -- matching that is stable for the whole true list.
-use Rattle.std.proofs.Common.{ℕ, ◌<◌, ◌≡◌, ◌≢◌, Bool, true, false, ◌&&◌, ◌||◌, List, [], ◌∷◌, length, refl, sym, ◌∙◌, ap, subst, nat_eq, nat_lt, filter, inl, inr}
+use Rattle.std.proofs.Common.{ℕ, ◌<◌, ◌≡◌, Bool, true, false, ◌&&◌, ◌||◌, List, [], ◌∷◌, length, refl, sym, ◌∙◌, ap, nat_eq, filter, inl, inr}
 use Rattle.std.specs.Prelude.{Option, Some, None, is_some}
 use Rattle.std.specs.List.{before_first}
 use Rattle.std.proofs.lemmas.Bool.{cases_Bool, and_parts, and_from, or_cases, or_left, or_right, eq-eqb, eqb-true, false≢true, false_from_ne_true}
 use Rattle.admit_core.specs.Lists.{is_among}
-use Rattle.markets.specs.Markets.{MarketRows, IsMarket, list_of, lists_it, position_of}
+use Rattle.markets.specs.Markets.{MarketRows, IsMarket, list_of, lists_it}
 use Rattle.markets.specs.Matchings.{place_of, is_at, prefers, IsStable, IsBestForAll}
 use Rattle.stable_market.specs.Truth.{DifferAtMostIn, TruthPays}
 use Rattle.markets.specs.Firsts.{among_filter, among_before, before_yes, before_no}

@@ -45,3 +45,34 @@ returns c =
     ∙ envied_is s os lasts w (order_distinct d os valid c.requires.orders w.programme) c.call_everyone.ensures c.requires.lasts lt in
     same_block k c.seats_left.result (seats_left s w.programme) c.envied_at-envied.result
     (last_envied s os w) (c.seats_left.ensures ∙ ap (seats_left s) p_is) envied
+
+pub order_of-order-requires-clause-orders : goal.order_of-order-requires-clause-orders
+order_of-order-requires-clause-orders c = c.call_everyone.ensures.as_many
+
+pub order_of-order-requires-clause-programme : goal.order_of-order-requires-clause-programme
+order_of-order-requires-clause-programme c =
+    omega (
+      arith,
+      ap (λ (v : Wish). v.programme) c.wish_at-programme.ensures.wish,
+      c.programme_count.ensures.each c.args.wish c.requires.wish,
+      c.programme_count.ensures.count,
+    )
+
+pub bounds-lasts-programme : goal.bounds-lasts-programme
+bounds-lasts-programme c =
+    omega (
+      arith,
+      ap (λ (v : Wish). v.programme) c.wish_at-programme.ensures.wish,
+      c.programme_count.ensures.each c.args.wish c.requires.wish,
+      c.programme_count.ensures.count,
+      c.requires.lasts.as_long,
+    )
+
+pub seats_left-requires : goal.seats_left-requires
+seats_left-requires c =
+    omega (
+      arith,
+      ap (λ (v : Wish). v.programme) c.wish_at-programme.ensures.wish,
+      c.programme_count.ensures.each c.args.wish c.requires.wish,
+      c.programme_count.ensures.count,
+    )

@@ -1,4 +1,5 @@
 use Rattle.std.proofs.Common.{◌∙◌}
+use Rattle.std.proofs.lemmas.List.{take_all}
 use Rattle.envy.proofs.CallSets.{set_more}
 use Rattle.envy.proofs.called.set_of.Goals as goal
 
@@ -7,3 +8,6 @@ loop-candidate-preserved c =
     c.in_ok-insert.ensures.keys
     ∙ set_more c.args.order.now c.loop-candidate.set.keys c.loop-candidate.candidate-index 0
     c.requires c.loop-candidate-test.true c.loop-candidate.invariant
+
+pub returns : goal.returns
+returns c = c.loop-candidate.invariant ∙ take_all c.loop-candidate.candidate-index c.args.order.now c.loop-candidate-test.false
