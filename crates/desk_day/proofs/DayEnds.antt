@@ -1,6 +1,6 @@
 -- A day on a desk from the day that is played on its states.
 use Rattle.std.proofs.Common.{ℕ, ◌≡◌, ◌++◌, Bool, false, List, sym, subst, ◌∙◌, Option, Result, Ok, Err, IfOk, IfErr}
-use Rattle.std.specs.Prelude.{OnErr, IsErr, IsErrAnd, is_err}
+use Rattle.std.specs.Prelude.{OnErr, IsErrAnd, is_err}
 use Rattle.std.proofs.lemmas.Bool.{false≢true}
 use Rattle.admit_core.specs.declared.ranking.CallOrder.{CallOrder}
 use Rattle.admit_core.specs.declared.records.DayRecord.{DayRecord}
@@ -18,11 +18,7 @@ pub no_refusal : {T E : Type 0} (P : Type 0) (r : Result T E) {b : Bool} → b �
 no_refusal P (Ok x) is none = tt
 no_refusal P (Err e) is none = absurd (false≢true (sym none ∙ is))
 
--- of an error nothing is said that holds of days, and where memory ran out all that is said of that
-pub no_day : {T E : Type 0} (P : T → Type 0) (r : Result T E) → IsErr r → IfOk r P
-no_day P (Ok x) is = absurd (false≢true is)
-no_day P (Err e) is = tt
-
+-- where memory ran out, what is said of that
 pub ran_out : {T : Type 0} (P : DayRefusal → Type 0) (r : Result T DayRefusal) → IsErrAnd r (λ e. e ≡ refusals.OutOfMemory)
     → P refusals.OutOfMemory → IfErr r P
 ran_out P (Ok x) is p = tt

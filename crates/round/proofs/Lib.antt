@@ -7,3 +7,4 @@ pub mod OfferLaws
 pub mod PassClauses
 pub mod SeatLaw
 pub mod EarlyEnds
+pub mod Found

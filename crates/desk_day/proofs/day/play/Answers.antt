@@ -1,4 +1,5 @@
 use Rattle.std.proofs.Common.{◌∙◌, ◌≤◌, ◌+◌, ap, length, refl, subst, sym}
+use Rattle.std.proofs.lemmas.Result.{IfOk-from_err}
 use Rattle.std.specs.Option.{option_copied}
 use Rattle.admit_core.specs.CallOrder.{AreCallOrders}
 use Rattle.admit_core.specs.Days.{IsDay, Passes}
@@ -8,7 +9,7 @@ use Rattle.admit_core.specs.Validity.{IsValid}
 use Rattle.linked_demand.specs.Lineups.{IsLineupOf}
 use Rattle.desk_day.specs.DayPasses.{AreChosenPasses, last_opening}
 use Rattle.desk_day.specs.RunDay.{recorded}
-use Rattle.desk_day.proofs.DayEnds.{done_so, no_day, ran_out}
+use Rattle.desk_day.proofs.DayEnds.{done_so, ran_out}
 use Rattle.desk_day.proofs.DayLaws.{laws_kept}
 use Rattle.desk_day.proofs.DayPlaces.{day_in}
 use Rattle.desk_day.proofs.Stamps.{stamps_kept}
@@ -39,7 +40,7 @@ pub make_passes-requires-clause-alike : goal.make_passes-requires-clause-alike
 make_passes-requires-clause-alike g c = λ alike none. c.requires.alike alike ∙ sym (c.in_ok-lapsed.ensures.alike none)
 
 pub returns-in_err-passes-clause-done : goal.returns-in_err-passes-clause-done
-returns-in_err-passes-clause-done g c = no_day _ _ c.from_residual-in_err-passes.ensures.0
+returns-in_err-passes-clause-done g c = IfOk-from_err _ _ c.from_residual-in_err-passes.ensures.0
 
 pub returns-in_err-passes-clause-unfit : goal.returns-in_err-passes-clause-unfit
 returns-in_err-passes-clause-unfit g c = ran_out _ _ c.from_residual-in_err-passes.ensures.1 tt
@@ -51,10 +52,10 @@ pub returns-in_err-passes-clause-untold : goal.returns-in_err-passes-clause-unto
 returns-in_err-passes-clause-untold g c = ran_out _ _ c.from_residual-in_err-passes.ensures.1 c.in_err-passes.ensures.early
 
 pub returns-in_err-passes-clause-answered : goal.returns-in_err-passes-clause-answered
-returns-in_err-passes-clause-answered g c = no_day _ _ c.from_residual-in_err-passes.ensures.0
+returns-in_err-passes-clause-answered g c = IfOk-from_err _ _ c.from_residual-in_err-passes.ensures.0
 
 pub returns-in_err-done-clause-done : goal.returns-in_err-done-clause-done
-returns-in_err-done-clause-done g c = no_day _ _ c.from_residual-in_err-done.ensures.0
+returns-in_err-done-clause-done g c = IfOk-from_err _ _ c.from_residual-in_err-done.ensures.0
 
 pub returns-in_err-done-clause-unfit : goal.returns-in_err-done-clause-unfit
 returns-in_err-done-clause-unfit g c = ran_out _ _ c.from_residual-in_err-done.ensures.1 tt
@@ -66,7 +67,7 @@ pub returns-in_err-done-clause-untold : goal.returns-in_err-done-clause-untold
 returns-in_err-done-clause-untold g c = ran_out _ _ c.from_residual-in_err-done.ensures.1 (_, c.in_ok-passes.ensures.told)
 
 pub returns-in_err-done-clause-answered : goal.returns-in_err-done-clause-answered
-returns-in_err-done-clause-answered g c = no_day _ _ c.from_residual-in_err-done.ensures.0
+returns-in_err-done-clause-answered g c = IfOk-from_err _ _ c.from_residual-in_err-done.ensures.0
 
 pub returns-clause-done : goal.returns-clause-done
 returns-clause-done g c =

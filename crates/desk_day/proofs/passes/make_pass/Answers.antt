@@ -1,9 +1,10 @@
 use Rattle.std.proofs.Common.{ℕ, ◌≡◌, ◌∙◌, ◌++◌, ap, sym, subst, List, length}
+use Rattle.std.proofs.lemmas.Result.{IfOk-from_err}
 use Rattle.admit_core.specs.declared.state.Mark.{Mark}
 use Rattle.admit_core.specs.AutoAnswer.{auto_all}
 use Rattle.admit_core.specs.State.{State}
 use Rattle.desk_day.specs.DayPasses.{IsAnswered}
-use Rattle.desk_day.proofs.DayEnds.{no_day, tells_on}
+use Rattle.desk_day.proofs.DayEnds.{tells_on}
 use Rattle.desk_day.proofs.LaterPasses.{answered_but, asked_within, closing_answered, same_but}
 use Rattle.desk_day.proofs.OnePass.{closed, closed_dossier, pass_ended, fewer_open, closed_long}
 use Rattle.desk_day.proofs.PassesSoFar.{tells_of_falls}
@@ -94,84 +95,84 @@ returns-clause-answered g c =
     subst IsAnswered (sym end) (closing_answered s orders bars c.args.stamp long)
 
 pub returns-in_err-pass-clause-end : goal.returns-in_err-pass-clause-end
-returns-in_err-pass-clause-end g c = no_day _ _ c.from_residual.ensures.0
+returns-in_err-pass-clause-end g c = IfOk-from_err _ _ c.from_residual.ensures.0
 
 pub returns-in_err-pass-clause-state : goal.returns-in_err-pass-clause-state
-returns-in_err-pass-clause-state g c = no_day _ _ c.from_residual.ensures.0
+returns-in_err-pass-clause-state g c = IfOk-from_err _ _ c.from_residual.ensures.0
 
 pub returns-in_err-pass-clause-fewer : goal.returns-in_err-pass-clause-fewer
-returns-in_err-pass-clause-fewer g c = no_day _ _ c.from_residual.ensures.0
+returns-in_err-pass-clause-fewer g c = IfOk-from_err _ _ c.from_residual.ensures.0
 
 pub returns-in_err-pass-clause-marks : goal.returns-in_err-pass-clause-marks
-returns-in_err-pass-clause-marks g c = no_day _ _ c.from_residual.ensures.0
+returns-in_err-pass-clause-marks g c = IfOk-from_err _ _ c.from_residual.ensures.0
 
 pub returns-in_err-pass-clause-answered : goal.returns-in_err-pass-clause-answered
-returns-in_err-pass-clause-answered g c = no_day _ _ c.from_residual.ensures.0
+returns-in_err-pass-clause-answered g c = IfOk-from_err _ _ c.from_residual.ensures.0
 
 pub returns-in_err-pass-clause-asked : goal.returns-in_err-pass-clause-asked
-returns-in_err-pass-clause-asked g c = no_day _ _ c.from_residual.ensures.0
+returns-in_err-pass-clause-asked g c = IfOk-from_err _ _ c.from_residual.ensures.0
 
 pub returns-in_err-pass-clause-told : goal.returns-in_err-pass-clause-told
-returns-in_err-pass-clause-told g c = no_day _ _ c.from_residual.ensures.0
+returns-in_err-pass-clause-told g c = IfOk-from_err _ _ c.from_residual.ensures.0
 
 pub returns-in_err-pass-clause-chosen : goal.returns-in_err-pass-clause-chosen
-returns-in_err-pass-clause-chosen g c = no_day _ _ c.from_residual.ensures.0
+returns-in_err-pass-clause-chosen g c = IfOk-from_err _ _ c.from_residual.ensures.0
 
 pub returns-in_err-pass-clause-early : goal.returns-in_err-pass-clause-early
 returns-in_err-pass-clause-early g c =
     let more = tells_of_falls _ _ _ _ c.in_err-pass.ensures.early in tells_on c.from_residual.result _ _ more.0 more.1
 
 pub returns-in_err-extend_from_slice-clause-end : goal.returns-in_err-extend_from_slice-clause-end
-returns-in_err-extend_from_slice-clause-end g c = no_day _ _ c.from_residual-in_err-extend_from_slice.ensures.0
+returns-in_err-extend_from_slice-clause-end g c = IfOk-from_err _ _ c.from_residual-in_err-extend_from_slice.ensures.0
 
 pub returns-in_err-extend_from_slice-clause-state : goal.returns-in_err-extend_from_slice-clause-state
-returns-in_err-extend_from_slice-clause-state g c = no_day _ _ c.from_residual-in_err-extend_from_slice.ensures.0
+returns-in_err-extend_from_slice-clause-state g c = IfOk-from_err _ _ c.from_residual-in_err-extend_from_slice.ensures.0
 
 pub returns-in_err-extend_from_slice-clause-fewer : goal.returns-in_err-extend_from_slice-clause-fewer
-returns-in_err-extend_from_slice-clause-fewer g c = no_day _ _ c.from_residual-in_err-extend_from_slice.ensures.0
+returns-in_err-extend_from_slice-clause-fewer g c = IfOk-from_err _ _ c.from_residual-in_err-extend_from_slice.ensures.0
 
 pub returns-in_err-extend_from_slice-clause-marks : goal.returns-in_err-extend_from_slice-clause-marks
-returns-in_err-extend_from_slice-clause-marks g c = no_day _ _ c.from_residual-in_err-extend_from_slice.ensures.0
+returns-in_err-extend_from_slice-clause-marks g c = IfOk-from_err _ _ c.from_residual-in_err-extend_from_slice.ensures.0
 
 pub returns-in_err-extend_from_slice-clause-answered : goal.returns-in_err-extend_from_slice-clause-answered
-returns-in_err-extend_from_slice-clause-answered g c = no_day _ _ c.from_residual-in_err-extend_from_slice.ensures.0
+returns-in_err-extend_from_slice-clause-answered g c = IfOk-from_err _ _ c.from_residual-in_err-extend_from_slice.ensures.0
 
 pub returns-in_err-extend_from_slice-clause-asked : goal.returns-in_err-extend_from_slice-clause-asked
-returns-in_err-extend_from_slice-clause-asked g c = no_day _ _ c.from_residual-in_err-extend_from_slice.ensures.0
+returns-in_err-extend_from_slice-clause-asked g c = IfOk-from_err _ _ c.from_residual-in_err-extend_from_slice.ensures.0
 
 pub returns-in_err-extend_from_slice-clause-told : goal.returns-in_err-extend_from_slice-clause-told
-returns-in_err-extend_from_slice-clause-told g c = no_day _ _ c.from_residual-in_err-extend_from_slice.ensures.0
+returns-in_err-extend_from_slice-clause-told g c = IfOk-from_err _ _ c.from_residual-in_err-extend_from_slice.ensures.0
 
 pub returns-in_err-extend_from_slice-clause-chosen : goal.returns-in_err-extend_from_slice-clause-chosen
-returns-in_err-extend_from_slice-clause-chosen g c = no_day _ _ c.from_residual-in_err-extend_from_slice.ensures.0
+returns-in_err-extend_from_slice-clause-chosen g c = IfOk-from_err _ _ c.from_residual-in_err-extend_from_slice.ensures.0
 
 pub returns-in_err-extend_from_slice-clause-early : goal.returns-in_err-extend_from_slice-clause-early
 returns-in_err-extend_from_slice-clause-early g c =
     tells_on c.from_residual-in_err-extend_from_slice.result _ _ _ c.in_ok-pass.ensures.told
 
 pub returns-in_err-autos-clause-end : goal.returns-in_err-autos-clause-end
-returns-in_err-autos-clause-end g c = no_day _ _ c.from_residual-in_err-autos.ensures.0
+returns-in_err-autos-clause-end g c = IfOk-from_err _ _ c.from_residual-in_err-autos.ensures.0
 
 pub returns-in_err-autos-clause-state : goal.returns-in_err-autos-clause-state
-returns-in_err-autos-clause-state g c = no_day _ _ c.from_residual-in_err-autos.ensures.0
+returns-in_err-autos-clause-state g c = IfOk-from_err _ _ c.from_residual-in_err-autos.ensures.0
 
 pub returns-in_err-autos-clause-fewer : goal.returns-in_err-autos-clause-fewer
-returns-in_err-autos-clause-fewer g c = no_day _ _ c.from_residual-in_err-autos.ensures.0
+returns-in_err-autos-clause-fewer g c = IfOk-from_err _ _ c.from_residual-in_err-autos.ensures.0
 
 pub returns-in_err-autos-clause-marks : goal.returns-in_err-autos-clause-marks
-returns-in_err-autos-clause-marks g c = no_day _ _ c.from_residual-in_err-autos.ensures.0
+returns-in_err-autos-clause-marks g c = IfOk-from_err _ _ c.from_residual-in_err-autos.ensures.0
 
 pub returns-in_err-autos-clause-answered : goal.returns-in_err-autos-clause-answered
-returns-in_err-autos-clause-answered g c = no_day _ _ c.from_residual-in_err-autos.ensures.0
+returns-in_err-autos-clause-answered g c = IfOk-from_err _ _ c.from_residual-in_err-autos.ensures.0
 
 pub returns-in_err-autos-clause-asked : goal.returns-in_err-autos-clause-asked
-returns-in_err-autos-clause-asked g c = no_day _ _ c.from_residual-in_err-autos.ensures.0
+returns-in_err-autos-clause-asked g c = IfOk-from_err _ _ c.from_residual-in_err-autos.ensures.0
 
 pub returns-in_err-autos-clause-told : goal.returns-in_err-autos-clause-told
-returns-in_err-autos-clause-told g c = no_day _ _ c.from_residual-in_err-autos.ensures.0
+returns-in_err-autos-clause-told g c = IfOk-from_err _ _ c.from_residual-in_err-autos.ensures.0
 
 pub returns-in_err-autos-clause-chosen : goal.returns-in_err-autos-clause-chosen
-returns-in_err-autos-clause-chosen g c = no_day _ _ c.from_residual-in_err-autos.ensures.0
+returns-in_err-autos-clause-chosen g c = IfOk-from_err _ _ c.from_residual-in_err-autos.ensures.0
 
 pub returns-in_err-autos-clause-early : goal.returns-in_err-autos-clause-early
 returns-in_err-autos-clause-early g c =

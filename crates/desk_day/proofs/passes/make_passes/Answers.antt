@@ -1,4 +1,5 @@
 use Rattle.std.proofs.Common.{ℕ, ◌<◌, ◌≡◌, ◌∙◌, ap, sym, List, length, refl, arith, not, ◌++◌, subst}
+use Rattle.std.proofs.lemmas.Result.{IfOk-from_err}
 use Rattle.std.specs.Prelude.{IsTrue}
 use Rattle.std.proofs.lemmas.Bool.{not_from_false}
 use Rattle.std.proofs.lemmas.List.{append-nil}
@@ -12,7 +13,6 @@ use Rattle.admit_core.specs.Days.{frees_nothing}
 use Rattle.linked_demand.specs.Lineups.{IsLineupOf}
 use Rattle.desk_day.specs.DayPasses.{schools_of_passes, stamp_of}
 use Rattle.desk_day.specs.DayPlaces.{AreWishesOf}
-use Rattle.desk_day.proofs.DayEnds.{no_day}
 use Rattle.desk_day.proofs.LaterPasses.{answered_all, answered_along, asked_within, offers_within, steps_taken}
 use Rattle.desk_day.proofs.OnePass.{open_at_most}
 use Rattle.desk_day.proofs.PassesSoFar.{so_far_none, so_far_more, so_far_end, chosen_none, chosen_more, told_more, tells_from}
@@ -148,58 +148,58 @@ follow-requires g c =
     }
 
 pub returns-in_err-end-clause-passes : goal.returns-in_err-end-clause-passes
-returns-in_err-end-clause-passes g c = no_day _ _ c.from_residual.ensures.0
+returns-in_err-end-clause-passes g c = IfOk-from_err _ _ c.from_residual.ensures.0
 
 pub returns-in_err-end-clause-opening : goal.returns-in_err-end-clause-opening
-returns-in_err-end-clause-opening g c = no_day _ _ c.from_residual.ensures.0
+returns-in_err-end-clause-opening g c = IfOk-from_err _ _ c.from_residual.ensures.0
 
 pub returns-in_err-end-clause-few : goal.returns-in_err-end-clause-few
-returns-in_err-end-clause-few g c = no_day _ _ c.from_residual.ensures.0
+returns-in_err-end-clause-few g c = IfOk-from_err _ _ c.from_residual.ensures.0
 
 pub returns-in_err-end-clause-answered : goal.returns-in_err-end-clause-answered
-returns-in_err-end-clause-answered g c = no_day _ _ c.from_residual.ensures.0
+returns-in_err-end-clause-answered g c = IfOk-from_err _ _ c.from_residual.ensures.0
 
 pub returns-in_err-end-clause-told : goal.returns-in_err-end-clause-told
-returns-in_err-end-clause-told g c = no_day _ _ c.from_residual.ensures.0
+returns-in_err-end-clause-told g c = IfOk-from_err _ _ c.from_residual.ensures.0
 
 pub returns-in_err-end-clause-chosen : goal.returns-in_err-end-clause-chosen
-returns-in_err-end-clause-chosen g c = no_day _ _ c.from_residual.ensures.0
+returns-in_err-end-clause-chosen g c = IfOk-from_err _ _ c.from_residual.ensures.0
 
 pub returns-in_err-push-clause-passes : goal.returns-in_err-push-clause-passes
-returns-in_err-push-clause-passes g c = no_day _ _ c.from_residual-in_err-push.ensures.0
+returns-in_err-push-clause-passes g c = IfOk-from_err _ _ c.from_residual-in_err-push.ensures.0
 
 pub returns-in_err-push-clause-opening : goal.returns-in_err-push-clause-opening
-returns-in_err-push-clause-opening g c = no_day _ _ c.from_residual-in_err-push.ensures.0
+returns-in_err-push-clause-opening g c = IfOk-from_err _ _ c.from_residual-in_err-push.ensures.0
 
 pub returns-in_err-push-clause-few : goal.returns-in_err-push-clause-few
-returns-in_err-push-clause-few g c = no_day _ _ c.from_residual-in_err-push.ensures.0
+returns-in_err-push-clause-few g c = IfOk-from_err _ _ c.from_residual-in_err-push.ensures.0
 
 pub returns-in_err-push-clause-answered : goal.returns-in_err-push-clause-answered
-returns-in_err-push-clause-answered g c = no_day _ _ c.from_residual-in_err-push.ensures.0
+returns-in_err-push-clause-answered g c = IfOk-from_err _ _ c.from_residual-in_err-push.ensures.0
 
 pub returns-in_err-push-clause-told : goal.returns-in_err-push-clause-told
-returns-in_err-push-clause-told g c = no_day _ _ c.from_residual-in_err-push.ensures.0
+returns-in_err-push-clause-told g c = IfOk-from_err _ _ c.from_residual-in_err-push.ensures.0
 
 pub returns-in_err-push-clause-chosen : goal.returns-in_err-push-clause-chosen
-returns-in_err-push-clause-chosen g c = no_day _ _ c.from_residual-in_err-push.ensures.0
+returns-in_err-push-clause-chosen g c = IfOk-from_err _ _ c.from_residual-in_err-push.ensures.0
 
 pub returns-in_err-push-2-clause-passes : goal.returns-in_err-push-2-clause-passes
-returns-in_err-push-2-clause-passes g c = no_day _ _ c.from_residual-in_err-push-2.ensures.0
+returns-in_err-push-2-clause-passes g c = IfOk-from_err _ _ c.from_residual-in_err-push-2.ensures.0
 
 pub returns-in_err-push-2-clause-opening : goal.returns-in_err-push-2-clause-opening
-returns-in_err-push-2-clause-opening g c = no_day _ _ c.from_residual-in_err-push-2.ensures.0
+returns-in_err-push-2-clause-opening g c = IfOk-from_err _ _ c.from_residual-in_err-push-2.ensures.0
 
 pub returns-in_err-push-2-clause-few : goal.returns-in_err-push-2-clause-few
-returns-in_err-push-2-clause-few g c = no_day _ _ c.from_residual-in_err-push-2.ensures.0
+returns-in_err-push-2-clause-few g c = IfOk-from_err _ _ c.from_residual-in_err-push-2.ensures.0
 
 pub returns-in_err-push-2-clause-answered : goal.returns-in_err-push-2-clause-answered
-returns-in_err-push-2-clause-answered g c = no_day _ _ c.from_residual-in_err-push-2.ensures.0
+returns-in_err-push-2-clause-answered g c = IfOk-from_err _ _ c.from_residual-in_err-push-2.ensures.0
 
 pub returns-in_err-push-2-clause-told : goal.returns-in_err-push-2-clause-told
-returns-in_err-push-2-clause-told g c = no_day _ _ c.from_residual-in_err-push-2.ensures.0
+returns-in_err-push-2-clause-told g c = IfOk-from_err _ _ c.from_residual-in_err-push-2.ensures.0
 
 pub returns-in_err-push-2-clause-chosen : goal.returns-in_err-push-2-clause-chosen
-returns-in_err-push-2-clause-chosen g c = no_day _ _ c.from_residual-in_err-push-2.ensures.0
+returns-in_err-push-2-clause-chosen g c = IfOk-from_err _ _ c.from_residual-in_err-push-2.ensures.0
 
 pub returns-in_err-push-2-clause-early : goal.returns-in_err-push-2-clause-early
 returns-in_err-push-2-clause-early g c = on_err _ (tells_from _ _ _ _ c.passes.invariant.told (_, c.in_ok-end.ensures.told))
