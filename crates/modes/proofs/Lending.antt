@@ -1,17 +1,23 @@
 -- The picker that the ending is lent.
-use Rattle.std.proofs.Common.{◌≡◌, ◌∙◌, List, [], Option, None, Some, Result, Ok, Err, IfOk, refl, subst, sym}
+use Rattle.std.proofs.Common.{◌≡◌, ◌∙◌, ℕ, List, [], Option, None, Some, Result, Ok, Err, IfOk, refl, subst, sym}
 use Rattle.std.specs.Prelude.{⊤}
+use Rattle.std.specs.Result.{IsErrAnd}
+use Rattle.std.proofs.lemmas.Result.{err_from_is_err_and}
 use Rattle.std.proofs.lemmas.List.{append-nil}
+use Rattle.admit_core.specs.DossierRows.{DossierRows}
 use Rattle.admit_core.specs.declared.ranking.CallOrder.{CallOrder}
 use Rattle.admit_core.specs.declared.records.DayRecord.{DayRecord}
 use Rattle.admit_core.specs.declared.refusal.Refusal.{Refusal}
 use Rattle.desk_day.specs.DayPasses.{TellsMore}
 use Rattle.desk_day.specs.DeskStates.{DeskStates}
+use Rattle.dossier_check.specs.Ids.{Ids}
 use Rattle.played.specs.Lent.{Lent, Untold}
 use Rattle.played.specs.PlayedDays.{Played}
 use Rattle.played.proofs.Naming.{OnlyNamed, back_untouched, each_named}
+use Rattle.request.specs.declared.modes.Mode.{Mode}
 use Rattle.request.specs.declared.pickers.PickerName.{PickerName}
-use Rattle.modes.specs.Asking.{ArePicks, IsLent, TellsLent, asked}
+use Rattle.modes.specs.Asking.{ArePicks, Asked, IsLent, TellsLent, TellsPicks, asked}
+use Rattle.modes.specs.Beds.{PicksForFigures}
 use Rattle.modes.specs.Endings.{EndsAfter, EndsLent, IsEndOf, IsRefusedWith, lines_before}
 use Rattle.modes.specs.Jobs.{Seen, picker_after}
 use Rattle.modes.specs.declared.reply.Reply.{Reply}
@@ -39,6 +45,36 @@ module _ {E : Type 0} (seen : Seen) (played : Played) (desk : DeskStates) (betwe
     tells = subst (λ (n : Option PickerName). IfOk result (λ reply. TellsLent n (ArePicks seen.request.mode seen played desk) between after)) is ends.picks;
     lends = subst (λ (n : Option PickerName). IsLent n between after) is (lent_named name only ends);
   }
+
+-- a mode that is lent a picker ends by what its text and its picks are
+module _ {E : Type 0} {seen : Seen} {played : Played} {desk : DeskStates} {before after : Asked}
+    (told : TellsMore before.told after.told) (choice : after.choice ≡ before.choice) where
+  pub ends_so_lent : (mode : Mode) {reply : Reply} → seen.request.mode ≡ mode
+      → IsEndOf mode seen played desk reply.exit reply.text.items
+      → TellsPicks (ArePicks mode seen played desk before) before.told after.told
+      → EndsLent {E = E} seen played desk before after (Ok reply)
+  ends_so_lent mode {reply} is ends picks = record {
+    ends = subst (λ (m : Mode). IsEndOf m seen played desk reply.exit reply.text.items) (sym is) ends;
+    picks = subst (λ (m : Mode). TellsPicks (ArePicks m seen played desk before) before.told after.told) (sym is) picks;
+    told = told;
+    choice = choice;
+  }
+
+  -- or not at all
+  pub stops_lent : (Q : E → Type 0) {result : Result Reply E} → IsErrAnd result Q
+      → EndsLent seen played desk before after result
+  stops_lent Q {result} stops =
+      let stopped = err_from_is_err_and result stops in
+      let Stops : Result Reply E → Type 0 = λ r. EndsLent seen played desk before after r in
+      subst Stops (sym stopped.1) (record { ends = tt; picks = tt; told = told; choice = choice })
+
+-- the picks for the figures of days that have another name
+pub picks_named : {days others : List DayRecord} {choice : List ℕ → List ℕ → ℕ} {before after : List ℕ}
+    (d : DossierRows) (index : Ids) (orders : List CallOrder) (desk : DeskStates) (school : ℕ) → days ≡ others
+    → TellsPicks (PicksForFigures d index orders days desk school choice before) before after
+    → TellsPicks (PicksForFigures d index orders others desk school choice before) before after
+picks_named {choice = choice} {before = before} d index orders desk school same picks =
+    (picks.0, subst (λ (ds : List DayRecord). PicksForFigures d index orders ds desk school choice before picks.0) same picks.1, picks.2)
 
 -- nobody is lent
 told_nothing : {E : Type 0} (result : Result Reply E) → IfOk result (λ reply. ⊤)

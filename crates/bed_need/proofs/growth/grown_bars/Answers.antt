@@ -45,3 +45,19 @@ returns-clause-told g c =
 pub returns-clause-early : goal.returns-clause-early
 returns-clause-early g c =
     tells_on _ _ _ c.in_ok-before.ensures.asked.early c.in_ok-after.ensures.asked.early
+
+pub returns-clause-choice : goal.returns-clause-choice
+returns-clause-choice g c = c.in_ok-after.ensures.asked.choice ∙ c.in_ok-before.ensures.asked.choice
+
+pub returns-in_err-after-clause-early : goal.returns-in_err-after-clause-early
+returns-in_err-after-clause-early g c =
+    tells_on _ _ _ c.in_ok-before.ensures.asked.early c.in_err-after.ensures.asked.early
+
+pub returns-in_err-after-clause-choice : goal.returns-in_err-after-clause-choice
+returns-in_err-after-clause-choice g c = c.in_err-after.ensures.asked.choice ∙ c.in_ok-before.ensures.asked.choice
+
+pub bars_with-requires-clause-beds : goal.bars_with-requires-clause-beds
+bars_with-requires-clause-beds g c =
+    let beds : c.beds_of.result ≡ beds_of c.args.state.now.dossier c.args.school =
+    c.beds_of.ensures ∙ ap (λ (d : DossierRows). beds_of d c.args.school) c.dossier.ensures in
+    omega (arith, beds, c.requires.beds)

@@ -38,6 +38,7 @@ returns c =
       explanation = c.explain_on_desk-why.result;
       explains =
           explains_on c.args.input.now.dossier c.args.orders.now.orders day c.args.desk.now c.in-Some.place c.explain_on_desk-why.result _ _
-          (c.deref.ensures.value ∙ c.in_ok-ceilings.ensures.ceilings) (c.last_bars-bars.ensures ∙ ap last_bars c.as_slice.ensures) c.explain_on_desk-why.ensures;
+          (c.deref.ensures.value ∙ c.in_ok-ceilings.ensures.ceilings)
+          (c.last_bars-bars.ensures ∙ ap last_bars c.as_slice.ensures) c.explain_on_desk-why.ensures;
       is_line = same;
     }) c.explain_text.ensures
