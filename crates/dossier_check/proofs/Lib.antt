@@ -7,7 +7,6 @@ pub mod Faultless
 pub mod FirstRows
 pub mod Firsts
 pub mod Found
-pub mod IdPlaces
 pub mod InOrder
 pub mod KeyPlaces
 pub mod LastRow

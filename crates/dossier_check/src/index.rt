@@ -1,14 +1,14 @@
 //! The places of ids.
 ghost use Rattle.std.specs.Prelude.{◌≡◌, position, nat_eq};
 
-use crate::id_places::IdPlaces;
+use crate::row_ids::RowIds;
 use std::marker::Model;
 
 /// The ids of the wishes and of the schools. A contract sees them as two lists, by place.
 #[derive(Drop)]
 pub struct Index {
-    pub(crate) wishes: IdPlaces,
-    pub(crate) schools: IdPlaces,
+    pub(crate) wishes: RowIds,
+    pub(crate) schools: RowIds,
 }
 
 impl Model for Index {

@@ -53,10 +53,9 @@ fn give_back(
 
 impl Keys {
     /// The index alone; the room of the others is given back.
-    pub(crate) fn into_index(self, alloc: Global) -> Result<Index, OutOfMemory>
+    pub(crate) fn into_index(self) -> Index
         requires { IsSmall (record { wishes = self.wishes.keys; schools = self.schools.keys }) }
-        ensures { IfOk result (λ index.
-            index ≡ record { wishes = self.wishes.keys; schools = self.schools.keys }) }
+        ensures { result ≡ record { wishes = self.wishes.keys; schools = self.schools.keys } }
     {
         let Keys {
             groups,
@@ -67,10 +66,7 @@ impl Keys {
             state,
         } = self;
         give_back(groups, programmes, boarding, state);
-        Ok(Index {
-            wishes: wishes.into_places(alloc)?,
-            schools: schools.into_places(alloc)?,
-        })
+        Index { wishes, schools }
     }
 }
 

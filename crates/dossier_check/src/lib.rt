@@ -10,7 +10,6 @@ mod dates;
 mod day_falls;
 mod groups;
 mod hashing;
-mod id_places;
 mod index;
 mod items;
 mod made;

@@ -288,10 +288,9 @@ pub fn check(alloc: Global, tables: &Tables) -> Result<Checked, InFault>
     let (keys, rankings) = check_slots(alloc, tables)?;
     let dossier = make_dossier(alloc, tables, &keys, rankings)?;
     let dates = dates_of(alloc, tables, &keys)?;
-    let index = keys.into_index(alloc)?;
     Ok(Checked {
         dossier,
-        index,
+        index: keys.into_index(),
         dates,
     })
 }

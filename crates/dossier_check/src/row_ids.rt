@@ -4,7 +4,6 @@ ghost use Rattle.std.specs.List.{IsDistinct, list_any};
 ghost use Rattle.admit_core.specs.Faults.{first_row};
 ghost use Rattle.dossier_check.specs.RowIds.{Rises};
 
-use crate::id_places::{IdPlaces, Order, pairs_of};
 use crate::noted::{Key, note};
 use admit_core::OutOfMemory;
 use indexmap::IndexSet;
@@ -61,7 +60,7 @@ fn at_distance(ids: &[u32], id: u32) -> Option<usize>
 }
 
 /// The place of an id among rising ones.
-pub(crate) fn place_among(ids: &[u32], id: u32) -> Option<usize>
+fn place_among(ids: &[u32], id: u32) -> Option<usize>
     requires { Rises ids.now }
     ensures place { result ≡ position (nat_eq id) ids.now }
     ensures found { is_some result ≡ list_any (nat_eq id) ids.now }
@@ -138,38 +137,7 @@ fn note_hashed<R, Q: Key<R, u32>>(
     Ok((set, first))
 }
 
-impl Way {
-    ghost use Rattle.dossier_check.specs.IdPlaces.{IsOrder, keys_in};
-    ghost use Rattle.dossier_check.specs.RowIds.{IsWay, keys_by};
-
-    /// The same ids in an order by which their places are found without a table.
-    fn into_order(self, alloc: Global) -> Result<Order, OutOfMemory>
-        requires { IsWay self }
-        ensures keys { IfOk result (λ order. keys_in order ≡ keys_by self) }
-        ensures is_order { IfOk result IsOrder }
-    {
-        match self {
-            Way::Rising(ids) => Ok(Order::Rising(ids)),
-            Way::Hashed(set) => {
-                let ids = set.as_slice().to_vec(alloc)?;
-                let pairs = pairs_of(alloc, ids.as_slice())?;
-                Ok(Order::Paired(ids, pairs))
-            }
-        }
-    }
-}
-
 impl RowIds {
-    /// The same ids, that no more are added to.
-    pub(crate) fn into_places(self, alloc: Global) -> Result<IdPlaces, OutOfMemory>
-        ensures { IfOk result (λ places. places.keys ≡ self.keys) }
-    {
-        let RowIds { way } = self;
-        Ok(IdPlaces {
-            order: way.into_order(alloc)?,
-        })
-    }
-
     /// No ids, with room for a number of them.
     pub(crate) fn with_room(alloc: Global, room: usize) -> Result<RowIds, OutOfMemory>
         ensures { IfOk result (λ ids. ids.keys ≡ []) }
