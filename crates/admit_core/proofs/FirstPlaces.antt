@@ -1,9 +1,10 @@
--- Where a number stands first in a list.
+-- Where a number stands first in a list, and which stands last.
 use Rattle.std.proofs.Common.{◌≡◌, ℕ, ◌<◌, suc, true, false, List, [], ◌∷◌, Some, length, get_or, position, refl, arith, nat_eq}
 use Prim.Native.Nat.{zero}
 use Rattle.std.specs.List.{AllByRecursion, list_any}
 use Rattle.std.proofs.lemmas.Bool.Decides.{nat_tests}
 use Rattle.std.proofs.lemmas.List.Quantifiers.{position-Some}
+use Rattle.admit_core.specs.Blocking.{last_of}
 
 -- g stands at i, and not before
 abbrev pub IsAt : ℕ → List ℕ → ℕ → Type 0
@@ -25,3 +26,8 @@ pub none_after : (g k : ℕ) (ks : List ℕ) → nat_eq g k ≡ true → AllByRe
 none_after g k [] e h = refl
 none_after g k (y ∷ ys) e (here, rest) =
     let f : nat_eq g y ≡ false = grind (arith, nat_tests) in rw f (none_after g k ys e rest)
+
+-- the last of a list stays so where one is put in front
+pub last_more : (x : ℕ) (ys : List ℕ) (v : ℕ) → last_of ys ≡ Some v → last_of (x ∷ ys) ≡ Some v
+last_more x [] v is = absurd (cc)
+last_more x (y ∷ ys) v is = is

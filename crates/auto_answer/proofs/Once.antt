@@ -6,6 +6,7 @@ use Rattle.std.proofs.lemmas.Bool.{cases_Bool, cases_eq, eqb-true, eq-eqb, ne_eq
 use Rattle.std.proofs.lemmas.List.Sums.{sum_by-cons, sum-map, sum_by-le-sum_by}
 use Rattle.std.proofs.lemmas.List.{length-map, drop_more, drop_all}
 use Rattle.std.specs.Option.{option_eq}
+use Rattle.admit_core.proofs.FirstPlaces.{last_more}
 use Rattle.admit_core.specs.declared.dossier.Wish.{Wish}
 use Rattle.admit_core.specs.DossierRows.{DossierRows, candidate_of}
 use Rattle.admit_core.specs.Lists.{is_among, distinct}
@@ -110,10 +111,6 @@ none_passes : (q : ℕ → Bool) (xs : List ℕ) → list_any q xs ≡ false →
 none_passes q [] none = refl
 none_passes q (x ∷ xs) none = let parts = or_parts (q x) (list_any q xs) none in rw parts.0 (none_passes q xs parts.1)
 
-last_of-more : (x : ℕ) (ys : List ℕ) (z : ℕ) → last_of ys ≡ Some z → last_of (x ∷ ys) ≡ Some z
-last_of-more x [] z e = absurd (cc)
-last_of-more x (y ∷ ys) z e = last_of-cons x y ys ∙ e
-
 -- where one of a range passes, the last that does is not below it
 or_cases_left : (x y : Bool) → (x || y) ≡ true → y ≡ false → x ≡ true
 or_cases_left true y some none = refl
@@ -128,7 +125,7 @@ last_from q a (suc n) some =
           let rest = last_from q (a + 1) n more in
           let above : a ≤ rest.0 = omega (arith, rest.1) in
           elim (cases_Bool (q a)) [
-            | inl here ↦ (rest.0, above, rw here (last_of-more a (filter q (range_with_len (a + 1) n)) rest.0 rest.2))
+            | inl here ↦ (rest.0, above, rw here (last_more a (filter q (range_with_len (a + 1) n)) rest.0 rest.2))
             | inr other ↦ (rest.0, above, rw other rest.2)
           ]
       | inr none ↦
@@ -162,7 +159,7 @@ is_last_in q place a (suc n) le lt here =
           rw (length_is, ← same) (elim (cases_Bool (list_any q rest)) [
             | inl more ↦
                 let last = last_from q (a + 1) n more in
-                rw (rw (← same) at here, last_of-more a (filter q rest) last.0 last.2, more)
+                rw (rw (← same) at here, last_more a (filter q rest) last.0 last.2, more)
                 (ne_eqb last.0 a (λ e. omega (arith, e, last.1)))
             | inr none ↦ rw (rw (← same) at here, none_passes q rest none, none) (eq-eqb a a refl)
           ])

@@ -13,6 +13,7 @@ use Rattle.admit_core.specs.Blocking.{behind, last_envied, last_of}
 use Rattle.admit_core.specs.Lists.{is_among}
 use Rattle.admit_core.proofs.Evenings.{entry_wish}
 use Rattle.admit_core.proofs.Plain.{filter_none}
+use Rattle.admit_core.proofs.FirstPlaces.{last_more}
 use Rattle.day_state.specs.Bundles.{number_in}
 use Rattle.day_state.specs.Kept.{wish_in}
 use Rattle.proposals.specs.Called.{AreCalled}
@@ -20,10 +21,6 @@ use Rattle.admit_core.specs.Proposals.{order_of}
 use Rattle.admit_core.specs.State.{State, entries, holds_seat, is_live}
 use Rattle.envy.specs.Known.{AreLast, envied_at, is_live_from, place_of, reaches}
 use Rattle.envy.proofs.Orders.{first_there}
-
-last_more : (x : ℕ) (ys : List ℕ) (v : ℕ) → last_of ys ≡ Some v → last_of (x ∷ ys) ≡ Some v
-last_more x [] v is = absurd (cc)
-last_more x (y ∷ ys) v is = is
 
 -- the last one who passes, where it is known
 pub last_passes : (test : ℕ → Bool) (xs : List ℕ) (r : ℕ) → r < length xs → test (get_or xs r 0) ≡ true

@@ -9,7 +9,7 @@ use Rattle.std.proofs.Math.ListN.{get_or-map}
 use Rattle.std.proofs.lemmas.Bool.{cases_lt, and_from, lt-ltb, false≢true, false_from_ne_true}
 use Rattle.std.proofs.lemmas.List.{map-append, length-map, get_or_default}
 use Rattle.std.proofs.lemmas.List.Folds.{list_any_at}
-use Rattle.std.proofs.lemmas.List.Kept.{IsStrictlyIncreasing-filter, AllPairs-from_increasing}
+use Rattle.std.proofs.lemmas.List.Kept.{AllPairs-from_increasing}
 use Rattle.std.proofs.lemmas.List.Sorted.{searched}
 use Rattle.std.proofs.lemmas.List.Sums.{position_or_len_is}
 use Rattle.admit_core.specs.Lists.{is_among}
@@ -17,9 +17,8 @@ use Rattle.markets.specs.Markets.{MarketRows, IsMarket, order_of, is_distinct, p
 use Rattle.markets.specs.Listers.{AreLists, AreListers, ArePutIn, naming}
 use Rattle.markets.specs.Ranked.{ArePositions}
 use Rattle.markets.specs.Firsts.{all_of, among_filter, range_has}
-use Rattle.markets.specs.Lawful.{range_rises}
 use Rattle.markets.specs.Positions.{length_before, only_place, order_distinct, order_lists, is_candidate, position_is}
-use Rattle.markets.proofs.Called.{found_in}
+use Rattle.markets.proofs.Called.{found_in, listers_rise}
 use Rattle.markets.proofs.Listing.{naming_more}
 use Rattle.markets.proofs.BelowCount.{is_distinct_from}
 
@@ -65,9 +64,6 @@ orders_are_lists m is p lt =
     (all_of (λ x. nat_lt x (length m.lists)) order
     (λ x among. lt-ltb x (length m.lists) (is_candidate m is p x (order_lists m is p x lt among))))
 
-naming_rises : (orders : List (List ℕ)) (x n : ℕ) → IsStrictlyIncreasing (naming orders x n)
-naming_rises orders x n = IsStrictlyIncreasing-filter (λ p. is_among x (get_or orders p [])) (range_with_len 0 n) (range_rises 0 n)
-
 -- who isn't in an order stands past its end
 past_end : (m : MarketRows) (p x : ℕ) → is_among x (order_of m p) ≡ false → position_of m p x ≡ length (order_of m p) + 1
 past_end m p x absent =
@@ -90,7 +86,7 @@ pub looked_up : (m : MarketRows) (p x : ℕ) (programmes positions : List ℕ) (
 looked_up m p x programmes positions r p_lt are at is = by r (searched programmes p r is up) (found_in programmes p r rises is)
   where
     rises : IsStrictlyIncreasing programmes
-    rises = let P : List ℕ → Type 0 = λ xs. IsStrictlyIncreasing xs in subst P (sym are) (naming_rises m.orders x (length m.orders))
+    rises = let P : List ℕ → Type 0 = λ xs. IsStrictlyIncreasing xs in subst P (sym are) (listers_rise m.orders x (length m.orders))
 
     up : (i j : ℕ) → i ≤ j → j < length programmes → get_or programmes i 0 ≤ get_or programmes j 0
     up i j le lt =
