@@ -1,5 +1,5 @@
 -- Plain facts of truth values, options and lists, which the proofs of several crates cite.
-use Rattle.std.proofs.Common.{ℕ, zero, suc, ◌≡◌, ◌≢◌, Bool, true, false, cond, ◌&&◌, ◌||◌, ◌⊎◌, not, List, [], ◌∷◌, ◌++◌, All, Option, None, Some, Result, Ok, Err, count_by, filter, length, map, option_map, unwrap_or, inl, inr, refl, sym, ◌∙◌, ap, arith, nat_eq}
+use Rattle.std.proofs.Common.{ℕ, zero, suc, ◌≡◌, ◌≢◌, ◌+◌, Bool, true, false, cond, ◌&&◌, ◌||◌, ◌⊎◌, not, List, [], ◌∷◌, ◌++◌, All, Option, None, Some, Result, Ok, Err, count_by, filter, length, map, option_map, unwrap_or, inl, inr, refl, sym, ◌∙◌, ap, arith, nat_eq}
 use Rattle.std.specs.Prelude.{OnErr, slice_get}
 use Rattle.std.specs.List.{AllByRecursion, find, list_any}
 use Rattle.std.specs.Option.{option_or}
@@ -79,6 +79,9 @@ waits_open false behind is none = absurd (false≢true is)
 
 pub nat_eq_sym : (m n : ℕ) → nat_eq m n ≡ nat_eq n m
 nat_eq_sym m n = grind (arith, nat_tests)
+
+pub zero_plus : (n : ℕ) → 0 + n ≡ n
+zero_plus n = omega arith
 
 pub none_or_none : {X : Type 0} {a b : Option X} → a ≡ None → b ≡ None → option_or a b ≡ None
 none_or_none {X} {a} {b} e f = ap (λ o. option_or o b) e ∙ f

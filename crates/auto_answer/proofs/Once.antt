@@ -7,6 +7,7 @@ use Rattle.std.proofs.lemmas.List.Sums.{sum_by-cons, sum-map, sum_by-le-sum_by}
 use Rattle.std.proofs.lemmas.List.{length-map, drop_more, drop_all}
 use Rattle.std.specs.Option.{option_eq}
 use Rattle.admit_core.proofs.FirstPlaces.{last_more}
+use Rattle.admit_core.proofs.Plain.{zero_plus}
 use Rattle.admit_core.specs.declared.dossier.Wish.{Wish}
 use Rattle.admit_core.specs.DossierRows.{DossierRows, candidate_of}
 use Rattle.admit_core.specs.Lists.{is_among, distinct}
@@ -36,9 +37,6 @@ times-is c cs = refl
 one_time : (c n : ℕ) (ns : List ℕ) → nat_eq c n ≡ true → times c (n ∷ ns) ≡ 1 + times c ns
 unfolding times
 one_time c n ns e = sum_by-cons (λ x. cond (nat_eq c x) 1 0) n ns ∙ ap (λ b. cond b 1 0 + count_by (nat_eq c) ns) e
-
-zero_plus : (n : ℕ) → 0 + n ≡ n
-zero_plus n = omega arith
 
 no_time : (c n : ℕ) (ns : List ℕ) → nat_eq c n ≡ false → times c (n ∷ ns) ≡ times c ns
 unfolding times

@@ -5,6 +5,7 @@ use Rattle.std.specs.List.{enumerate_from}
 use Rattle.std.proofs.lemmas.Option.{unwrap_or-slice_get}
 use Rattle.std.proofs.lemmas.Slice.Zip.{length-zip, get_or-zip}
 use Rattle.std.proofs.lemmas.List.FromFn.{length-enumerate_from, get_or-enumerate_from}
+use Rattle.admit_core.proofs.Plain.{zero_plus}
 use Rattle.admit_core.specs.declared.state.Status.{Status}
 use Rattle.admit_core.specs.declared.state.Mark.{Mark}
 use Rattle.admit_core.specs.declared.state.Change.{Change}
@@ -15,9 +16,6 @@ use Rattle.desk_day.specs.Changes.{is_answered_change}
 use Rattle.desk_day.proofs.ChangedMarks.{change_of, is_answered}
 use Rattle.desk_day.proofs.LapsedOffers.{lapse_of, is_lapse}
 use Rattle.desk_day.proofs.Listed.{listed, listed_some, listed_none}
-
-zero_plus : (n : ℕ) → 0 + n ≡ n
-zero_plus n = omega arith
 
 -- a pair with its place
 pub pair_at : {X : Type 0} (xs : List X) (ms : List Mark) (k : ℕ) (x : X) → k < length xs → k < length ms
