@@ -1,10 +1,10 @@
 -- An order has the candidates whose lists name its programme: by counts and stamps.
-use Rattle.std.proofs.Common.{ℕ, zero, suc, ◌+◌, ◌-◌, ◌≤◌, ◌<◌, ◌≡◌, Bool, true, false, cond, not, ◌&&◌, List, [], ◌∷◌, length, get_or, inl, inr, refl, sym, ◌∙◌, ap, subst, arith, nat_eq, nat_lt, Vec}
+use Rattle.std.proofs.Common.{ℕ, zero, suc, ◌+◌, ◌-◌, ◌≤◌, ◌<◌, ◌≡◌, Bool, true, false, cond, not, ◌&&◌, List, [], ◌∷◌, length, replicate, get_or, inl, inr, refl, sym, ◌∙◌, ap, subst, arith, nat_eq, nat_lt, Vec}
 use Rattle.std.specs.Prelude.{◌==◌, Option, Some, None, find, position, slice_index, All}
 use Rattle.std.specs.List.{list_all, position_or_len, range_with_len, IsDistinct, AllByRecursion}
 use Rattle.std.proofs.lemmas.Bool.{cases_Bool, cases_eq, cases_lt, and_parts, or_parts, and_from, or_cases, or_left, or_right, eqb-true, eq-eqb, lt-ltb, false≢true, false_from_ne_true, not-false}
 use Rattle.std.proofs.lemmas.Cmp.{nat_eq_equiv}
-use Rattle.std.proofs.lemmas.List.{get_or_past}
+use Rattle.std.proofs.lemmas.List.{get_or_past, length-replicate}
 use Rattle.std.proofs.lemmas.List.Folds.{list_any_at}
 use Rattle.std.proofs.lemmas.List.Sums.{fails_before_first}
 use Rattle.admit_core.proofs.NextCalls.{find_none}
@@ -21,6 +21,7 @@ use Rattle.markets.specs.Firsts.{among_filter, among_range, range_has, one_of_al
 use Rattle.markets.specs.Positions.{distinct_from}
 use Rattle.markets.specs.Lawful.{range_rises}
 use Rattle.markets.proofs.Listing.{row_is}
+use Rattle.markets.proofs.Stamping.{none_newer}
 use Rattle.std.specs.declared.alloc.Global.{Global}
 use Rattle.admit_core.proofs.Plain.{same_test}
 
@@ -142,10 +143,14 @@ pub record OrdersStood (m : MarketRows) (k stamp : ℕ) (stamps : List ℕ) : Ty
   pub up_to : AreUpTo stamp stamps
   pub stood : (i : ℕ) → 0 ≤ i → i < k → not (is_order m i) ≡ false
 
-pub orders_start : (m : MarketRows) (stamps : List ℕ) → length stamps ≡ length m.lists → ((q : ℕ) → slice_index stamps q ≡ 0)
-    → OrdersStood m 0 0 stamps
-orders_start m stamps as_many zeros =
-    record { stamp_is = refl; as_many = as_many; up_to = λ q lt. omega (arith, zeros q); stood = λ i le lt. absurd (omega (arith, lt)) }
+pub orders_start : (m : MarketRows) (stamps : List ℕ) → stamps ≡ replicate (length m.lists) 0 → OrdersStood m 0 0 stamps
+orders_start m stamps are =
+    record {
+      stamp_is = refl;
+      as_many = ap length are ∙ length-replicate (length m.lists) 0;
+      up_to = none_newer (length m.lists) stamps are;
+      stood = λ i le lt. absurd (omega (arith, lt));
+    }
 
 told_order : (m : MarketRows) (k stamp : ℕ) (stamps : List ℕ) (result : Bool) → k < length m.orders → OrdersStood m k stamp stamps
     → result ≡ has_all_of (length stamps) (listers m k) (order_of m k) → result ≡ is_order m k

@@ -1,11 +1,11 @@
 -- Stamps along a list.
-use Rattle.std.proofs.Common.{ℕ, ◌+◌, ◌≤◌, ◌<◌, ◌≡◌, Bool, true, false, not, List, [], ◌∷◌, ◌++◌, length, take, drop, get_or, inl, inr, refl, sym, ◌∙◌, ap, subst, arith, nat_eq, nat_lt}
+use Rattle.std.proofs.Common.{ℕ, ◌+◌, ◌≤◌, ◌<◌, ◌≡◌, Bool, true, false, not, List, [], ◌∷◌, ◌++◌, length, take, drop, replicate, get_or, inl, inr, refl, sym, ◌∙◌, ap, subst, arith, nat_eq, nat_lt}
 use Rattle.std.specs.Prelude.{slice_index}
 use Rattle.std.specs.List.{list_all}
 use Rattle.std.proofs.Math.ListN.{set}
 use Rattle.std.proofs.lemmas.Bool.{cases_eq, and_parts, and_from, eq-eqb, ne_eqb, lt-ltb, false≢true, false_from_ne_true, or_left, or_right}
 use Rattle.std.proofs.lemmas.Cmp.{nat_eq_equiv}
-use Rattle.std.proofs.lemmas.List.{append-nil, drop_all, length-set, take_all, take_more}
+use Rattle.std.proofs.lemmas.List.{append-nil, drop_all, get_or-replicate, length-replicate, length-set, take_all, take_more}
 use Rattle.std.proofs.lemmas.List.Folds.{list_all-append, list_any-append}
 use Rattle.std.proofs.lemmas.Grind.{get_or-set_at}
 use Rattle.std.proofs.lemmas.Map.Keys.{IsDistinct-push, apart_from_distinct}
@@ -93,6 +93,21 @@ pub record AllStood (n : ℕ) (lists : List (List ℕ)) (k stamp : ℕ) (stamps 
   pub as_many : length stamps ≡ n
   pub up_to : AreUpTo stamp stamps
   pub stood : (i : ℕ) → i < k → not (is_list_below n (get_or lists i [])) ≡ false
+
+-- none is tested yet
+pub none_newer : (n : ℕ) (stamps : List ℕ) → stamps ≡ replicate n 0 → AreUpTo 0 stamps
+none_newer n stamps are q lt =
+    let within : q < n = omega (arith, lt, ap length are ∙ length-replicate n 0) in
+    omega (arith, ap (λ (xs : List ℕ). slice_index xs q) are ∙ get_or-replicate n q 0 0 within)
+
+pub stood_none : (n : ℕ) (lists : List (List ℕ)) (stamps : List ℕ) → stamps ≡ replicate n 0 → AllStood n lists 0 0 stamps
+stood_none n lists stamps are =
+    record {
+      stamp_is = refl;
+      as_many = ap length are ∙ length-replicate n 0;
+      up_to = none_newer n stamps are;
+      stood = λ i lt. absurd (omega (arith, lt));
+    }
 
 -- whether a list stands the test, as it is read
 pub told_list : (n : ℕ) (lists : List (List ℕ)) (k : ℕ) (item slice stamps now : List ℕ) (result : Bool) → k < length lists

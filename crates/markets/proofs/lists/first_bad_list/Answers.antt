@@ -2,8 +2,13 @@ use Rattle.std.proofs.Common.{ℕ, List, [], ◌+◌, ◌-◌, ◌≡◌, Bool, 
 use Rattle.markets.specs.Markets.{is_list_below}
 use Rattle.markets.specs.Stamps.{AreOlder}
 use Rattle.markets.specs.Firsts.{position_found, position_none}
-use Rattle.markets.proofs.Stamping.{AllStood, told_list, stood_more, put_back}
+use Rattle.markets.proofs.Stamping.{AllStood, told_list, stood_none, stood_more, put_back}
 use Rattle.markets.proofs.lists.first_bad_list.Goals as goal
+
+pub loop-list-init : goal.loop-list-init
+loop-list-init c =
+    stood_none c.args.count c.args.lists.now c.in_ok-stamps.stamps.items
+    (c.in_ok-stamps.ensures.items_if_clones_equal (λ y e. e))
 
 pub overflow_add-stamp : goal.overflow_add-stamp
 overflow_add-stamp c = omega (arith, c.loop-list.invariant.stamp_is, c.loop-list-test.true, c.requires)

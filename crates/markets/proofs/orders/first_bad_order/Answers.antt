@@ -1,6 +1,6 @@
-use Rattle.std.proofs.Common.{ℕ, [], sym, length, arith}
+use Rattle.std.proofs.Common.{ℕ, [], ◌∙◌, sym, length, arith}
 use Rattle.markets.specs.Markets.{MarketRows}
-use Rattle.markets.proofs.Ordering.{orders_more, orders_found, orders_none, row_read, told_now, row_within}
+use Rattle.markets.proofs.Ordering.{orders_start, orders_more, orders_found, orders_none, row_read, told_now, row_within}
 use Rattle.markets.proofs.Reading.{list_read}
 use Rattle.markets.proofs.orders.first_bad_order.Goals as goal
 
@@ -49,3 +49,8 @@ overflow_add-stamp c = omega (arith, c.loop-order.invariant.stamp_is, c.loop-ord
 pub index-requires : goal.index-requires
 index-requires c =
     omega (arith, c.loop-order.invariant.stamp_is, c.loop-order-test.true, c.in_ok-rows.ensures.one_each)
+
+pub loop-order-init : goal.loop-order-init
+loop-order-init c =
+    orders_start (record { lists = c.args.lists.now; orders = c.args.orders.now; seats = [] }) c.as_mut_slice-stamps.result.now
+    (c.as_mut_slice-stamps.ensures.value ∙ c.in_ok-room.ensures.items_if_clones_equal (λ y e. e))

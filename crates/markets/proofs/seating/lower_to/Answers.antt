@@ -1,4 +1,4 @@
-use Rattle.std.proofs.Common.{ℕ, List, ◌<◌, ◌≡◌, ◌+◌, ◌-◌, ◌∙◌, arith, length, ap, set, sym}
+use Rattle.std.proofs.Common.{ℕ, List, ◌<◌, ◌≡◌, ◌+◌, ◌-◌, ◌∙◌, arith, length, ap, set, subst, sym}
 use Rattle.std.specs.Prelude.{slice_index}
 use Rattle.std.proofs.lemmas.List.{get_or_default, set-get_or}
 use Rattle.markets.proofs.Rounds.{put_here, set_again}
@@ -48,4 +48,5 @@ returns-clause-bars g c =
     ∙ get_or_default bars p c.index-from.result.now 0 p_lt in
     let end : slice_index bars p + c.args.to - c.loop-passed._passed ≡ c.args.to =
     omega (arith, from, c.loop-passed-test.false, c.loop-passed.auto._passed-end (omega (arith, from, c.requires.lower))) in
-    c.loop-passed.invariant.0 ∙ ap (set bars p) end
+    let P = λ (v : ℕ). c.loop-passed.bars.items ≡ set bars p v in
+    subst P end c.loop-passed.invariant.0
