@@ -7,7 +7,6 @@ use Rattle.desk_day.specs.DayPasses.{IsAnswered}
 use Rattle.desk_day.proofs.DayEnds.{tells_on}
 use Rattle.desk_day.proofs.LaterPasses.{answered_but, asked_within, closing_answered, same_but}
 use Rattle.desk_day.proofs.OnePass.{closed, closed_dossier, pass_ended, fewer_open, closed_long}
-use Rattle.desk_day.proofs.PassesSoFar.{tells_of_falls}
 use Rattle.desk_day.proofs.passes.make_pass.Goals as goal
 
 pub returns-clause-end : goal.returns-clause-end
@@ -93,34 +92,6 @@ returns-clause-answered g c =
     let end = closed s c.pass.new.state c.answer_after-freed.new.state orders bars c.args.stamp c.in_ok-pass.ensures.state
     c.answer_after-freed.ensures.state in
     subst IsAnswered (sym end) (closing_answered s orders bars c.args.stamp long)
-
-pub returns-in_err-pass-clause-end : goal.returns-in_err-pass-clause-end
-returns-in_err-pass-clause-end g c = IfOk-from_err _ _ c.from_residual.ensures.0
-
-pub returns-in_err-pass-clause-state : goal.returns-in_err-pass-clause-state
-returns-in_err-pass-clause-state g c = IfOk-from_err _ _ c.from_residual.ensures.0
-
-pub returns-in_err-pass-clause-fewer : goal.returns-in_err-pass-clause-fewer
-returns-in_err-pass-clause-fewer g c = IfOk-from_err _ _ c.from_residual.ensures.0
-
-pub returns-in_err-pass-clause-marks : goal.returns-in_err-pass-clause-marks
-returns-in_err-pass-clause-marks g c = IfOk-from_err _ _ c.from_residual.ensures.0
-
-pub returns-in_err-pass-clause-answered : goal.returns-in_err-pass-clause-answered
-returns-in_err-pass-clause-answered g c = IfOk-from_err _ _ c.from_residual.ensures.0
-
-pub returns-in_err-pass-clause-asked : goal.returns-in_err-pass-clause-asked
-returns-in_err-pass-clause-asked g c = IfOk-from_err _ _ c.from_residual.ensures.0
-
-pub returns-in_err-pass-clause-told : goal.returns-in_err-pass-clause-told
-returns-in_err-pass-clause-told g c = IfOk-from_err _ _ c.from_residual.ensures.0
-
-pub returns-in_err-pass-clause-chosen : goal.returns-in_err-pass-clause-chosen
-returns-in_err-pass-clause-chosen g c = IfOk-from_err _ _ c.from_residual.ensures.0
-
-pub returns-in_err-pass-clause-early : goal.returns-in_err-pass-clause-early
-returns-in_err-pass-clause-early g c =
-    let more = tells_of_falls _ _ _ _ c.in_err-pass.ensures.early in tells_on c.from_residual.result _ _ more.0 more.1
 
 pub returns-in_err-extend_from_slice-clause-end : goal.returns-in_err-extend_from_slice-clause-end
 returns-in_err-extend_from_slice-clause-end g c = IfOk-from_err _ _ c.from_residual-in_err-extend_from_slice.ensures.0

@@ -51,15 +51,6 @@ returns-clause-chosen g c =
 pub returns-clause-choice : goal.returns-clause-choice
 returns-clause-choice g c = c.greatest.ensures.choice
 
-pub returns-in_err-round-clause-pass : goal.returns-in_err-round-clause-pass
-returns-in_err-round-clause-pass g c = IfOk-from_err _ _ c.from_residual.ensures.0
-
-pub returns-in_err-round-clause-told : goal.returns-in_err-round-clause-told
-returns-in_err-round-clause-told g c = IfOk-from_err _ _ c.from_residual.ensures.0
-
-pub returns-in_err-round-clause-chosen : goal.returns-in_err-round-clause-chosen
-returns-in_err-round-clause-chosen g c = IfOk-from_err _ _ c.from_residual.ensures.0
-
 pub returns-in_err-falls-clause-pass : goal.returns-in_err-falls-clause-pass
 returns-in_err-falls-clause-pass g c = IfOk-from_err _ _ c.from_residual-in_err-falls.ensures.0
 
