@@ -11,6 +11,7 @@ pub mod IdPlaces
 pub mod InOrder
 pub mod KeyPlaces
 pub mod LastRow
+pub mod MadeItems
 pub mod NoFault
 pub mod NotedKeys
 pub mod OneAccepted
