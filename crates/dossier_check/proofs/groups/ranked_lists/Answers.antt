@@ -15,5 +15,5 @@ loop-row-preserved c =
 
 pub returns : goal.returns
 returns c =
-    c.loop-row.invariant.laid
-    ∙ ap (λ rows. map (ranked_in rows) c.args.groups.now.keys) (take_all c.loop-row.row-index c.args.rankings.now (omega (arith, c.loop-row-test.false)))
+    let all = take_all c.loop-row.row-index c.args.rankings.now (omega (arith, c.loop-row-test.false)) in
+    c.loop-row.invariant.laid ∙ ap (λ rows. map (ranked_in rows) c.args.groups.now.keys) all
