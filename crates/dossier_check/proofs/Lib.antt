@@ -10,6 +10,7 @@ pub mod Found
 pub mod InOrder
 pub mod KeyPlaces
 pub mod LastRow
+pub mod MadeItems
 pub mod NoFault
 pub mod NotedKeys
 pub mod OneAccepted

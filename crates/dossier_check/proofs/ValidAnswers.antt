@@ -27,7 +27,8 @@ among_distinct : (n : ℕ) (ns : List ℕ) → is_among n ns ≡ true → is_amo
 among_distinct n [] e = cc
 among_distinct n (m ∷ ns) e = by (is_among m ns) refl (nat_eq n m) refl (among_distinct n ns)
   where
-    by : (again : Bool) → is_among m ns ≡ again → (here : Bool) → nat_eq n m ≡ here → (is_among n ns ≡ true → is_among n (distinct ns) ≡ true) → is_among n (distinct (m ∷ ns)) ≡ true
+    by : (again : Bool) → is_among m ns ≡ again → (here : Bool) → nat_eq n m ≡ here
+        → (is_among n ns ≡ true → is_among n (distinct ns) ≡ true) → is_among n (distinct (m ∷ ns)) ≡ true
     by true f true g rest = let same : n ≡ m = nat_eq_sound n m g in rw f (rest (rw same f))
     by true f false g rest = rw f (rest (rw g at e))
     by false f true g rest = rw (f, g) refl
@@ -35,32 +36,44 @@ among_distinct n (m ∷ ns) e = by (is_among m ns) refl (nat_eq n m) refl (among
 
 module _ (t : Tables) (ranges : AreTables t) (fine : HasNoFault t) where
   school_there : (school : ℕ) → is_among school (school_ids t) ≡ true → place_of (school_ids t) school < length (dossier_of t).schools
-  school_there school known = rw (length-map-here school_of_row t.schools, ← length-map-here (λ h. h.id) t.schools) (place_within (school_ids t) school known)
+  school_there school known = rw (length-map-here school_of_row t.schools, ← length-map-here (λ h. h.id) t.schools)
+      (place_within (school_ids t) school known)
 
   pub valid_ceilings : All (IsValidCeiling (dossier_of t)) (dossier_of t).ceilings
   valid_ceilings =
       All-map (IsValidCeiling (dossier_of t)) (ceiling_of_row t) t.ceilings (λ k c lt.
       let row = ranges.ceilings.each k c lt in
-      record { day = row.day; school = school_there (get_or t.ceilings k c).school (ceiling_schools_known t fine k c lt); ceiling = row.ceiling })
+      record {
+        day = row.day;
+        school = school_there (get_or t.ceilings k c).school (ceiling_schools_known t fine k c lt);
+        ceiling = row.ceiling;
+      })
 
   pub ceilings_by_day : IsNonDecreasing (map (λ c. c.day) (dossier_of t).ceilings)
-  ceilings_by_day = subst IsNonDecreasing (sym (map-map (λ c. c.day) (ceiling_of_row t) t.ceilings)) (days_rise (λ c. c.day) t.ceilings (third_passes fine.ceilings))
+  ceilings_by_day = subst IsNonDecreasing (sym (map-map (λ c. c.day) (ceiling_of_row t) t.ceilings))
+      (days_rise (λ c. c.day) t.ceilings (third_passes fine.ceilings))
 
-  not_same_day : (i j : ℕ) (d : CeilingRow) → (i < j) → j < length t.ceilings → NotSameDay (ceiling_of_row t (get_or t.ceilings i d)) (ceiling_of_row t (get_or t.ceilings j d))
+  not_same_day : (i j : ℕ) (d : CeilingRow) → (i < j) → j < length t.ceilings
+      → NotSameDay (ceiling_of_row t (get_or t.ceilings i d)) (ceiling_of_row t (get_or t.ceilings j d))
   not_same_day i j d lt in_j days schools =
       let a : CeilingRow = get_or t.ceilings i d in
       let b : CeilingRow = get_or t.ceilings j d in
-      let school : a.school ≡ b.school = same_place (school_ids t) a.school b.school (ceiling_schools_known t fine i d (omega arith)) (ceiling_schools_known t fine j d in_j) schools in
-      true≢false (sym (and_from _ _ (nat_eq_same b.day a.day (sym days)) (nat_eq_same b.school a.school (sym school))) ∙ ceilings_apart t fine i j d lt in_j)
+      let school : a.school ≡ b.school =
+      same_place (school_ids t) a.school b.school (ceiling_schools_known t fine i d (omega arith))
+      (ceiling_schools_known t fine j d in_j) schools in
+      true≢false (sym (and_from _ _ (nat_eq_same b.day a.day (sym days)) (nat_eq_same b.school a.school (sym school)))
+      ∙ ceilings_apart t fine i j d lt in_j)
 
   pub no_day_twice : AllPairs NotSameDay (dossier_of t).ceilings
   no_day_twice = all_pairs_map NotSameDay (ceiling_of_row t) t.ceilings not_same_day
 
   wish_there : (wish : ℕ) → is_among wish (wish_ids t) ≡ true → place_of (wish_ids t) wish < length (dossier_of t).wishes
-  wish_there wish known = rw (length-map-here (wish_of_row t) t.wishes, ← length-map-here (λ w. w.id) t.wishes) (place_within (wish_ids t) wish known)
+  wish_there wish known = rw (length-map-here (wish_of_row t) t.wishes, ← length-map-here (λ w. w.id) t.wishes)
+      (place_within (wish_ids t) wish known)
 
   target_there : (kind : AnswerKind) (target : ℕ) → is_target t kind target ≡ true → IsTarget (dossier_of t) kind (target_of t kind target)
-  target_there Quit target known = among_distinct target (map (λ w. w.candidate) (dossier_of t).wishes) (rw (map-map (λ w. w.candidate) (wish_of_row t) t.wishes) known)
+  target_there Quit target known = among_distinct target (map (λ w. w.candidate) (dossier_of t).wishes)
+      (rw (map-map (λ w. w.candidate) (wish_of_row t) t.wishes) known)
   target_there Accept target known = wish_there target known
   target_there Refuse target known = wish_there target known
   target_there Withdraw target known = wish_there target known
@@ -72,4 +85,5 @@ module _ (t : Tables) (ranges : AreTables t) (fine : HasNoFault t) where
       record { day = (ranges.answers.each k a lt).day; target = target_there row.kind row.target (targets_known t fine k a lt) })
 
   pub answers_by_day : IsNonDecreasing (map (λ a. a.day) (dossier_of t).answers)
-  answers_by_day = subst IsNonDecreasing (sym (map-map (λ a. a.day) (answer_of_row t) t.answers)) (days_rise (λ a. a.day) t.answers (second_passes fine.answers))
+  answers_by_day = subst IsNonDecreasing (sym (map-map (λ a. a.day) (answer_of_row t) t.answers))
+      (days_rise (λ a. a.day) t.answers (second_passes fine.answers))

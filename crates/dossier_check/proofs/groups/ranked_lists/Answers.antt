@@ -1,5 +1,5 @@
-use Rattle.std.proofs.Common.{map, take, sym, ap, ◌∙◌}
-use Rattle.std.proofs.lemmas.List.{take_more}
+use Rattle.std.proofs.Common.{map, take, sym, ap, ◌∙◌, arith}
+use Rattle.std.proofs.lemmas.List.{take_all, take_more}
 use Rattle.admit_core.specs.Standing.{ranked_in}
 use Rattle.dossier_check.proofs.groups.ranked_lists.Goals as goal
 
@@ -12,3 +12,8 @@ loop-row-preserved c =
           ∙ ap (λ rows. map (ranked_in rows) c.args.groups.now.keys) (sym (take_more rs i _ c.loop-row-test.true));
       len = c.in_ok-lay_row.ensures.len ∙ c.loop-row.invariant.len;
     }
+
+pub returns : goal.returns
+returns c =
+    let all = take_all c.loop-row.row-index c.args.rankings.now (omega (arith, c.loop-row-test.false)) in
+    c.loop-row.invariant.laid ∙ ap (λ rows. map (ranked_in rows) c.args.groups.now.keys) all
