@@ -146,8 +146,11 @@ place_told s index id are told = ap (λ (x : Ids). position (nat_eq id) x.wishes
 pub place_within : (s : State) (index : Ids) (id k : ℕ) → index ≡ ids_in s.dossier
     → position (nat_eq id) index.wishes ≡ Some k → k < length s.dossier.wishes
 place_within s index id k are told =
-    omega (arith, (place_found (nat_eq id) (ids s) k (place_told s index id are told)).0,
-    length-map s.dossier.wishes (λ (w : Wish). w.id))
+    omega (
+      arith,
+      (place_found (nat_eq id) (ids s) k (place_told s index id are told)).0,
+      length-map s.dossier.wishes (λ (w : Wish). w.id),
+    )
 
 -- the wish there shows the rank or not, by whether it demands a bed
 pub shows_there : (s : State) (orders : List CallOrder) (bars : List ℕ) (h r id k : ℕ) (demands : Bool)

@@ -1,8 +1,10 @@
-use Rattle.std.proofs.Common.{◌∙◌, ap, length, nat_eq, subst, sym}
+use Rattle.std.proofs.Common.{◌∙◌, ap, arith, length, nat_eq, subst, sym}
 use Rattle.admit_core.specs.CallOrder.{AreCallOrders}
+use Rattle.admit_core.specs.DossierRows.{DossierRows}
 use Rattle.admit_core.specs.State.{State}
 use Rattle.dossier_check.proofs.Places.{position-any}
 use Rattle.modes.proofs.Figuring.{all_only, all_picked, all_tell, opening_called, opening_ceilings, opening_dossier}
+use Rattle.modes.proofs.OnDesks.{found_within}
 use Rattle.modes.proofs.beds.school_text.Goals as goal
 
 pub unreachable-requires : goal.unreachable-requires
@@ -31,6 +33,12 @@ figures_text-requires-clause-ceilings g c =
     c.args.school c.in-Some.place c.in-Some-last.day.now (sym c.school_place.ensures ∙ c.in-Some.is)
     (sym c.in-Some-last.ensures.value) c.requires.desk
     ∙ ap (λ (s : State). length s.dossier.schools) (sym c.opening-opening.ensures)
+
+pub figures_text-requires-clause-place : goal.figures_text-requires-clause-place
+figures_text-requires-clause-place g c =
+    let place = found_within _ _ c.args.school c.in-Some.place c.args.input.now.schools_have_ids
+    (sym c.school_place.ensures ∙ c.in-Some.is) in
+    omega (arith, place, ap (λ (d : DossierRows). length d.schools) (figures_text-requires-clause-dossier g c))
 
 pub returns-clause-text : goal.returns-clause-text
 returns-clause-text g c =

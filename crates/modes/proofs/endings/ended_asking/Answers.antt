@@ -49,14 +49,18 @@ returns-in_ok-text-in-Beds g c =
     let told = c.in_ok-text-in-Beds.ensures in
     let figures = subst (λ (ds : List DayRecord). TellsFigures d index orders ds c.args.led.now.desk school
     c.in_ok-text-in-Beds.text.items) days told.text in
-    ends_so_lent told.early told.choice (Beds school) c.in-Beds.is
-    (c.done.ensures.exit, subst (TellsFigures d index orders c.args.led.now.days.items c.args.led.now.desk school)
-    (sym c.done.ensures.text) figures)
+    ends_so_lent told.early told.choice (Beds school) c.in-Beds.is (
+      c.done.ensures.exit,
+      subst (TellsFigures d index orders c.args.led.now.days.items c.args.led.now.desk school)
+          (sym c.done.ensures.text) figures,
+    )
     (picks_named d index orders c.args.led.now.desk school days told.picks)
 
 pub returns-in_ok-text-in-Market : goal.returns-in_ok-text-in-Market
 returns-in_ok-text-in-Market g c =
     let told = c.in_ok-text-in-Market.ensures in
-    ends_so_lent told.early told.choice Market c.in-Market.is
-    (c.done-in-Market.ensures.exit, subst (TellsMarket c.args.input.now.dossier c.args.led.now.orders.orders)
-    (sym c.done-in-Market.ensures.text) told.text) told.picks
+    ends_so_lent told.early told.choice Market c.in-Market.is (
+      c.done-in-Market.ensures.exit,
+      subst (TellsMarket c.args.input.now.dossier c.args.led.now.orders.orders)
+          (sym c.done-in-Market.ensures.text) told.text,
+    ) told.picks
