@@ -6,7 +6,6 @@ use Rattle.std.proofs.lemmas.Bool.{cases_Bool, cases_eq, eqb-true, eq-eqb, ne_eq
 use Rattle.std.proofs.lemmas.List.Sums.{sum_by-cons, sum-map, sum_by-le-sum_by}
 use Rattle.std.proofs.lemmas.List.{length-map, drop_more, drop_all}
 use Rattle.std.specs.Option.{option_eq}
-use Rattle.admit_core.proofs.FirstPlaces.{last_more}
 use Rattle.admit_core.proofs.Plain.{zero_plus}
 use Rattle.admit_core.specs.declared.dossier.Wish.{Wish}
 use Rattle.admit_core.specs.DossierRows.{DossierRows, candidate_of}
@@ -97,13 +96,17 @@ total_at_most f cs few =
     )
 
 -- the last of a list
-abbrev last_of : List ℕ → Option ℕ
-last_of xs = slice_get xs (length xs - 1)
+abbrev end_of : List ℕ → Option ℕ
+end_of xs = slice_get xs (length xs - 1)
 
-last_of-cons : (x y : ℕ) (ys : List ℕ) → last_of (x ∷ y ∷ ys) ≡ last_of (y ∷ ys)
-last_of-cons x y ys =
+end_of-cons : (x y : ℕ) (ys : List ℕ) → end_of (x ∷ y ∷ ys) ≡ end_of (y ∷ ys)
+end_of-cons x y ys =
     let one_less : length (x ∷ y ∷ ys) - 1 ≡ suc (length (y ∷ ys) - 1) = omega arith in
     ap (slice_get (x ∷ y ∷ ys)) one_less
+
+end_of-more : (x : ℕ) (ys : List ℕ) (z : ℕ) → end_of ys ≡ Some z → end_of (x ∷ ys) ≡ Some z
+end_of-more x [] z e = absurd (cc)
+end_of-more x (y ∷ ys) z e = end_of-cons x y ys ∙ e
 
 none_passes : (q : ℕ → Bool) (xs : List ℕ) → list_any q xs ≡ false → filter q xs ≡ []
 none_passes q [] none = refl
@@ -115,7 +118,7 @@ or_cases_left true y some none = refl
 or_cases_left false y some none = absurd (false≢true (sym none ∙ some))
 
 last_from : (q : ℕ → Bool) (a n : ℕ) → list_any q (range_with_len a n) ≡ true
-    → (z : ℕ) × (a ≤ z) × (last_of (filter q (range_with_len a n)) ≡ Some z)
+    → (z : ℕ) × (a ≤ z) × (end_of (filter q (range_with_len a n)) ≡ Some z)
 last_from q a zero some = absurd (cc)
 last_from q a (suc n) some =
     elim (cases_Bool (list_any q (range_with_len (a + 1) n))) [
@@ -123,7 +126,7 @@ last_from q a (suc n) some =
           let rest = last_from q (a + 1) n more in
           let above : a ≤ rest.0 = omega (arith, rest.1) in
           elim (cases_Bool (q a)) [
-            | inl here ↦ (rest.0, above, rw here (last_more a (filter q (range_with_len (a + 1) n)) rest.0 rest.2))
+            | inl here ↦ (rest.0, above, rw here (end_of-more a (filter q (range_with_len (a + 1) n)) rest.0 rest.2))
             | inr other ↦ (rest.0, above, rw other rest.2)
           ]
       | inr none ↦
@@ -131,9 +134,9 @@ last_from q a (suc n) some =
           (a, omega arith, rw (here, none_passes q (range_with_len (a + 1) n) none) refl)
     ]
 
-skip_first : (x : ℕ) (ys : List ℕ) → 0 < length ys → last_of (x ∷ ys) ≡ last_of ys
+skip_first : (x : ℕ) (ys : List ℕ) → 0 < length ys → end_of (x ∷ ys) ≡ end_of ys
 skip_first x [] some = absurd (omega arith)
-skip_first x (y ∷ ys) some = last_of-cons x y ys
+skip_first x (y ∷ ys) some = end_of-cons x y ys
 
 some_passes : (q : ℕ → Bool) (place a n : ℕ) → a ≤ place → place < a + n → q place ≡ true → 0 < length (filter q (range_with_len a n))
 some_passes q place a zero le lt here = absurd (omega arith)
@@ -146,7 +149,7 @@ some_passes q place a (suc n) le lt here =
     ]
 
 is_last_in : (q : ℕ → Bool) (place a n : ℕ) → a ≤ place → place < a + n → q place ≡ true
-    → option_eq nat_eq (last_of (filter q (range_with_len a n))) (Some place)
+    → option_eq nat_eq (end_of (filter q (range_with_len a n))) (Some place)
     ≡ not (list_any q (range_with_len (place + 1) (a + n - (place + 1))))
 is_last_in q place a zero le lt here = absurd (omega arith)
 is_last_in q place a (suc n) le lt here =
@@ -157,7 +160,7 @@ is_last_in q place a (suc n) le lt here =
           rw (length_is, ← same) (elim (cases_Bool (list_any q rest)) [
             | inl more ↦
                 let last = last_from q (a + 1) n more in
-                rw (rw (← same) at here, last_more a (filter q rest) last.0 last.2, more)
+                rw (rw (← same) at here, end_of-more a (filter q rest) last.0 last.2, more)
                 (ne_eqb last.0 a (λ e. omega (arith, e, last.1)))
             | inr none ↦ rw (rw (← same) at here, none_passes q rest none, none) (eq-eqb a a refl)
           ])
@@ -188,7 +191,7 @@ among_from c cs i (suc m) e =
 
 -- THE TEST: a wish is its candidate's last where it is the last of their own
 pub last_own : (d : DossierRows) (place : ℕ) → place < length d.wishes
-    → option_eq nat_eq (last_of (own_places d (candidate_of d place))) (Some place)
+    → option_eq nat_eq (end_of (own_places d (candidate_of d place))) (Some place)
     ≡ not (is_among (candidate_of d place) (drop (place + 1) (wishers d)))
 last_own d place lt =
     let c = candidate_of d place in
