@@ -1,5 +1,5 @@
 -- As many candidates become live in a school as there are demanded ranks.
-use Rattle.std.proofs.Common.{ℕ, ◌≤◌, ◌<◌, ◌≡◌, Bool, true, false, not, ◌&&◌, List, [], ◌∷◌, map, length, get_or, inl, inr, refl, sym, ◌∙◌, ap, arith, filter, find, nat_eq, suc, Option, Some, None}
+use Rattle.std.proofs.Common.{ℕ, ◌≤◌, ◌<◌, ◌≡◌, Bool, true, false, not, ◌&&◌, List, [], ◌∷◌, map, length, get_or, inl, inr, refl, sym, ◌∙◌, ap, arith, filter, find, nat_eq, nat_lt, suc, Option, Some, None}
 use Rattle.std.specs.Prelude.{◌↔◌, IsSome, option_map, unwrap_or}
 use Rattle.std.specs.List.{list_any, IsDistinct}
 use Rattle.std.proofs.lemmas.Bool.{cases_Bool, cases_order, and_parts, and_from, not-true, eqb-true, eq-eqb, lt-ltb, false≢true}
@@ -17,7 +17,7 @@ use Rattle.admit_core.specs.Validity.{IsValid}
 use Rattle.admit_core.specs.State.{State, entries, is_school, has_school, holds_bed, bed_holders}
 use Rattle.admit_core.specs.Proposals.{is_proposed, demands_bed, demanded_ranks}
 use Rattle.admit_core.specs.Days.{offered}
-use Rattle.admit_core.proofs.DemandLaws.{demanded, demand_parts}
+use Rattle.admit_core.proofs.DemandLaws.{demanded}
 use Rattle.admit_core.proofs.Dossiers.{ranks_of_valid}
 use Rattle.admit_core.proofs.Tests.{among-map, increasing-ascending}
 use Rattle.admit_core.proofs.Counting.{distinct_kept}
@@ -46,10 +46,17 @@ one_school (Some g) None h is also = absurd (false≢true also)
 one_school (Some g) (Some f) h is also = (refl, ap (λ (n : ℕ). Some n) (eqb-true g h is ∙ sym (eqb-true f h also)))
 
 -- what it takes to demand a bed
-pub record Demands (s : State) (orders : List CallOrder) (bars : List ℕ) (h : ℕ) (w : Wish) (m : Mark) : Type 0 where
+pub record DemandsBed (s : State) (orders : List CallOrder) (bars : List ℕ) (h : ℕ) (w : Wish) (m : Mark) : Type 0 where
   pub has : has_school w h ≡ true
   pub no_bed : not (holds_bed s w.candidate h) ≡ true
   pub offers : is_proposed s orders bars w m ≡ true
+
+pub parts_of_demand : (s : State) (orders : List CallOrder) (bars : List ℕ) (h : ℕ) (w : Wish) (m : Mark)
+    → demands_bed s orders bars h w m ≡ true → DemandsBed s orders bars h w m
+parts_of_demand s orders bars h w m t =
+    let outer = and_parts (has_school w h && nat_lt 0 w.board_rank && not (holds_bed s w.candidate h)) (is_proposed s orders bars w m) t in
+    let middle = and_parts (has_school w h && nat_lt 0 w.board_rank) (not (holds_bed s w.candidate h)) outer.0 in
+    record { has = (and_parts (has_school w h) (nat_lt 0 w.board_rank) middle.0).0; no_bed = middle.1; offers = outer.1 }
 
 module _ (s : State) (valid : IsValid s.dossier) (h : ℕ) where
   -- in a school, a rank tells its candidate, and a candidate their rank
@@ -126,7 +133,7 @@ module _ (s : State) (orders : List CallOrder) (bars : List ℕ) (stamp : Stamp)
       found_value (λ (x : Wish × Mark). x.0.candidate) (demands_at r) c (entries s) some
       (λ k x lt at passes.
       let parts = and_parts (demands_bed s orders bars h x.0 x.1) (nat_eq r x.0.board_rank) passes in
-      let has = (demand_parts s orders bars h x.0 x.1 parts.0).has in
+      let has = (parts_of_demand s orders bars h x.0 x.1 parts.0).has in
       (ranks_tell s valid h k makes.place x e lt at makes.within makes.here has makes.passes).0 (sym (eqb-true r x.0.board_rank parts.1)) ∙ eqb-true e.0.candidate c makes.own) in
       rw is_c at (among-map who r (demanded_ranks s orders bars h) (demanded s orders bars h r ∙ some))
 
@@ -137,7 +144,7 @@ module _ (s : State) (orders : List CallOrder) (bars : List ℕ) (stamp : Stamp)
       let w = e.0 in
       let c : ℕ = w.candidate in
       let outer = and_parts (demands_bed s orders bars h w e.1) (nat_eq r w.board_rank) both in
-      let parts = demand_parts s orders bars h w e.1 outer.0 in
+      let parts = parts_of_demand s orders bars h w e.1 outer.0 in
       let makes : MakesLive s orders bars boards c =
       record { place = k; entry = e; within = within; here = here; offers = parts.offers; own = eq-eqb c c refl; passes = parts.has } in
       let now = is_live_after s orders bars stamp boards c makes in

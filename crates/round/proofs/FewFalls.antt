@@ -16,9 +16,10 @@ use Rattle.admit_core.specs.State.{State, entries, is_waiting, is_school, holds_
 use Rattle.admit_core.specs.Proposals.{is_behind_bar, is_barred, is_open, is_proposed, needs_no_seat, ahead, demands_bed, demanded_ranks}
 use Rattle.admit_core.specs.Falls.{FallingSystem, IsAtMost, is_overfilled, fall_of, fallen, AreFalls}
 use Rattle.admit_core.specs.Boarding.{boarding}
-use Rattle.admit_core.proofs.DemandLaws.{demanded, behind_lower, boarding_is_lawful, demand_parts}
+use Rattle.admit_core.proofs.DemandLaws.{demanded, behind_lower, boarding_is_lawful}
 use Rattle.admit_core.proofs.FallsLaw.{over_in, over_rank, falls_under}
 use Rattle.admit_core.proofs.Tests.{Implies, filter_implied}
+use Rattle.round.proofs.BedLaw.{parts_of_demand}
 use Rattle.round.specs.PassLaws.{waiting_boarders, FallsAreFew}
 
 -- one more passes the weaker test
@@ -112,7 +113,7 @@ module _ (s : State) (orders : List CallOrder) (ceilings : List ℕ) where
       let w = e.0 in
       let m = e.1 in
       let outer = and_parts (demands_bed s orders bars i w m) (nat_eq r w.board_rank) both in
-      let parts = demand_parts s orders bars i w m outer.0 in
+      let parts = parts_of_demand s orders bars i w m outer.0 in
       let opens = and_parts (is_waiting m) (not (is_barred s bars w m)) (opens_of s orders bars w m parts.offers) in
       let low : slice_index (fallen bars (fall_of sys bars i)) i ≡ r - 1 = get_or-set_same bars i (r - 1) 0 i_bar in
       let now = barred_from s (fallen bars (fall_of sys bars i)) w m w.school i parts.has opens.0 parts.no_bed (omega (arith, low, rank.0, eqb-true r w.board_rank outer.1)) in
