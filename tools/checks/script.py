@@ -13,7 +13,7 @@ from .runs import binary
 
 STAND_IN = """#!/bin/sh
 case $1 in
-    sleep) sleep "$2" ;;
+    sleep) : > "$0.began"; sleep "$2" ;;
     killed) kill -9 $$ ;;
     --help) echo "bad words"; exit 2 ;;
 esac
@@ -132,8 +132,12 @@ def check_long_runs(tally: Tally, script: Path) -> None:
     os.close(ours)
     check_quick_runs(tally, script)
     tally.equal("no terminal", call(script, "sleep", "6").complaint, "")
+    began = script.parent / "crates/parcours/out/parcours.began"
+    began.unlink()
     with subprocess.Popen([script, "sleep", "3"], stdout=subprocess.DEVNULL, env=environment) as process:
-        time.sleep(0.5)
+        deadline = time.monotonic() + 20
+        while not began.exists() and time.monotonic() < deadline:
+            time.sleep(0.05)
         process.send_signal(signal.SIGTERM)
         begun = time.monotonic()
         tally.equal("stopped", process.wait(), 143)
