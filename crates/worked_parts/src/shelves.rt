@@ -22,14 +22,27 @@ fn outcome(read: Result<Vec<u8>, SlotRefusal>, bytes: &[u8]) -> &'static str {
     }
 }
 
+/// What comes out of the wishes' slot of a shelf, which has these bytes, and out of one that was
+/// never put.
+fn read_back(
+    alloc: Global,
+    shelf: PlainShelf,
+    bytes: &[u8],
+    limit: u64,
+) -> (&'static str, &'static str) {
+    let mut shelf = shelf;
+    let answer = outcome(read_slot(alloc, &mut shelf, Slot::Wishes, limit), bytes);
+    let other = outcome(read_slot(alloc, &mut shelf, Slot::Chain, limit), &[]);
+    (answer, other)
+}
+
 /// What comes out of a slot of so many bytes, and out of one that was never put.
 fn comes_whole(alloc: Global, length: usize, limit: u64) -> Result<String, OutOfMemory> {
     let bytes = vec![in alloc; 7u8; length]?;
+    let put = Vec::from_slice(alloc, bytes.as_slice())?;
     let mut shelf = PlainShelf::new(alloc);
-    shelf.put(Slot::Wishes, Vec::from_slice(alloc, bytes.as_slice())?);
-    let read = read_slot(alloc, &mut shelf, Slot::Wishes, limit);
-    let answer = outcome(read, bytes.as_slice());
-    let other = outcome(read_slot(alloc, &mut shelf, Slot::Chain, limit), &[]);
+    shelf.put(Slot::Wishes, put);
+    let (answer, other) = read_back(alloc, shelf, bytes.as_slice(), limit);
     Ok(format!(in alloc; "{answer}, the other {other}")?)
 }
 
@@ -53,22 +66,29 @@ fn read_two(shelf: &mut MemShelf, answers: &mut Vec<u8>) -> Result<(), OutOfMemo
 
 /// A shelf with these bytes, whose calls of these numbers fail.
 fn failing_shelf(alloc: Global, text: &str, calls: &str) -> Result<MemShelf, OutOfMemory> {
+    let bytes = bytes_in(alloc, text)?;
     let mut shelf = MemShelf::new(alloc);
-    shelf.put(Slot::State, bytes_in(alloc, text)?);
+    shelf.put(Slot::State, bytes);
     for call in calls.split_whitespace() {
         shelf.fail_at(call.parse::<u64>().unwrap_or(0))?;
     }
     Ok(shelf)
 }
 
-/// Six reads of two bytes of a text, of which those of these numbers fail.
-pub(crate) fn reads_in(alloc: Global, input: &str) -> Result<String, OutOfMemory> {
-    let (text, calls) = input.split_once(" ").unwrap_or((input, ""));
-    let mut shelf = failing_shelf(alloc, text, calls)?;
+/// Six reads of two bytes.
+fn six_reads(alloc: Global, shelf: MemShelf) -> Result<Vec<u8>, OutOfMemory> {
+    let mut shelf = shelf;
     let mut answers = Vec::new(alloc);
     for _ in 0..6u8 {
         read_two(&mut shelf, &mut answers)?;
     }
+    Ok(answers)
+}
+
+/// Six reads of two bytes of a text, of which those of these numbers fail.
+pub(crate) fn reads_in(alloc: Global, input: &str) -> Result<String, OutOfMemory> {
+    let (text, calls) = input.split_once(" ").unwrap_or((input, ""));
+    let answers = six_reads(alloc, failing_shelf(alloc, text, calls)?)?;
     text_of(alloc, answers.as_slice())
 }
 
