@@ -21,7 +21,7 @@ import rtlib  # noqa: E402 (the kit's own library, beside its command rt)
 A_CHECK = 3_000_000_000  # bytes that a check may take
 A_LOAD = 150  # what it costs to load what a crate stands on, in lines of code
 A_PROOF = 0.1  # what a line of proofs costs, in lines of code
-LINES_A_MINUTE = 550  # of code, proved on one processor: between 430 and 820, as the machine is
+LINES_A_MINUTE = 550  # of code, proved on one processor: between 430 and 930, as the machine is
 TARGET = "x86_64-unknown-linux-gnu"
 
 

@@ -9,7 +9,7 @@ from functools import partial
 
 from dossier.program import program
 
-from . import days, disks, exporting, hostile, killing, rounds, script, sheets, stored
+from . import days, disks, exporting, hostile, killing, lemmas, rounds, script, sheets, stored
 from .harness import EXAMPLES, Tally, until_told
 
 Checks = Callable[[Tally], None]
@@ -26,6 +26,7 @@ def topics(program: str) -> dict[str, list[Checks]]:
                     hostile.check_broken_dossiers, hostile.check_lines],
         "disks": [disks.check_full_devices, disks.check_small_disks],
         "killing": list(killing.CHECKS),
+        "lemmas": [lemmas.check_same_lemmas],
         "rounds": [partial(rounds.check_small_rounds, program=program), partial(rounds.check_finds, program=program),
                    partial(rounds.check_unknown_modes, program=program),
                    rounds.check_endless, partial(rounds.check_stopped, program=program)],
