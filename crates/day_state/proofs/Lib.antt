@@ -3,6 +3,7 @@ pub mod Places
 pub mod KeptCounts
 pub mod Change
 pub mod Ordering
+pub mod Runs
 pub mod Along
 pub mod Numbering
 pub mod Sharing

@@ -5,16 +5,14 @@ use Rattle.std.specs.List.{list_any, range_with_len}
 use Rattle.std.specs.List.Sorted.{IsNonDecreasingBy, IsPermutation, IsStableByKey, IsPartitionPoint}
 use Rattle.std.specs.Ordering.{nat_cmp, is_lt}
 use Rattle.std.proofs.lemmas.Bool.{cases_Bool, cases_lt, both_ways, cases_order, or_parts, eqb-true, eq-eqb, ne_eqb, lt-ltb, le-ltb, ltb-true, ltb-false, leb-true, leb-false, le-leb}
-use Rattle.std.proofs.lemmas.List.{append-nil, length-append, get_or_append_left, get_or-append_right, length-take, length-drop, get_or-take, get_or-drop, take-append-drop, map-id}
-use Rattle.std.proofs.lemmas.Option.{unwrap_or-slice_get}
+use Rattle.std.proofs.lemmas.List.{append-nil, length-take, length-drop, get_or-take, get_or-drop, take-append-drop, map-id}
 use Rattle.std.proofs.lemmas.List.Elements.{filter-append}
 use Rattle.std.proofs.lemmas.List.Folds.{Any-from_list_any, drop_split}
 use Rattle.std.proofs.lemmas.List.FromFn.{length-range_with_len, get_or-range_with_len, map-range_with_len_more}
 use Rattle.std.proofs.lemmas.List.Sorted.{All-permutation, length_permutation}
 use Rattle.admit_core.proofs.Plain.{filter_same, filter_none}
 use Rattle.admit_core.specs.declared.dossier.Wish.{Wish}
-use Rattle.day_state.specs.declared.spans.Span.{Span}
-use Rattle.day_state.specs.Kept.{candidate_in, span_in, IsIndex, IsSpan, AreSpans}
+use Rattle.day_state.specs.Kept.{candidate_in, IsIndex}
 
 pub filter_all : {X : Type 0} (p : X → Bool) (xs : List X) → All (λ x. p x ≡ true) xs → filter p xs ≡ xs
 filter_all p [] all = refl
@@ -124,28 +122,3 @@ between {X} key xs c from to from_in to_in lower upper =
     ap (filter p) whole ∙ filter-append p (take from xs) (slice_range xs from to ++ drop to xs)
     ∙ rw (front, filter-append p (slice_range xs from to) (drop to xs), middle, back) (append-nil (slice_range xs from to)) in
     (le, sym parts)
-
--- one more wish with the span of its candidate
-pub spans_more : (ws : List Wish) (order : List ℕ) (n c : ℕ) (spans : List Span) (span : Span)
-    → AreSpans ws order n spans → IsSpan ws order c span
-    → candidate_in ws n ≡ c → AreSpans ws order (n + 1) (spans ++ span ∷ [])
-spans_more ws order n c spans span are is same = record {
-  count = omega (arith, length-append spans (span ∷ []), are.count);
-  each = λ k lt. elim (cases_lt k n) [
-    | inl before ↦
-        let k_in : k < length spans = omega (arith, are.count) in
-        let e : span_in (spans ++ span ∷ []) k ≡ span_in spans k =
-        unwrap_or-slice_get (spans ++ span ∷ []) k (span_in [] 0)
-        ∙ get_or_append_left spans (span ∷ []) (span_in [] 0) k k_in
-        ∙ sym (unwrap_or-slice_get spans k (span_in [] 0)) in
-        rw e (are.each k before)
-    | inr here ↦
-        let at : k ≡ length spans = omega (arith, are.count) in
-        let zero_more : k - k ≡ 0 = omega arith in
-        let last : k ≡ n = omega (arith, are.count) in
-        let e : span_in (spans ++ span ∷ []) k ≡ span =
-        unwrap_or-slice_get (spans ++ span ∷ []) k (span_in [] 0)
-        ∙ get_or-append_right spans (span ∷ []) k k (span_in [] 0) (sym at) (omega arith) ∙ rw zero_more refl in
-        rw (e, last, same) is
-  ];
-}

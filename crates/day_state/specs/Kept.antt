@@ -1,5 +1,5 @@
 -- What is kept beside the marks: an index of the candidates, and the numbers of those who are live.
-use Rattle.std.specs.Prelude.{◌≡◌, ℕ, ◌+◌, ◌-◌, ◌<◌, Bool, false, cond, ◌&&◌, List, map, length, filter, Option, Some, None, ◌==◌, slice_get, slice_index, slice_set, unwrap_or, All}
+use Rattle.std.specs.Prelude.{◌≡◌, ℕ, ◌+◌, ◌-◌, ◌≤◌, ◌<◌, Bool, true, false, cond, ◌&&◌, List, map, length, filter, Option, Some, None, ◌==◌, slice_get, slice_index, slice_set, unwrap_or, All}
 use Rattle.std.specs.List.{list_any, range_with_len}
 use Rattle.std.specs.List.Sorted.{IsNonDecreasingBy}
 use Rattle.admit_core.specs.declared.dossier.Wish.{Wish}
@@ -8,6 +8,7 @@ use Rattle.admit_core.specs.declared.state.Mark.{Mark}
 use Rattle.day_state.specs.declared.spans.Span.{Span}
 use Rattle.day_state.specs.Spans.{IsWithin, part_of}
 use Rattle.admit_core.specs.DossierRows.{DossierRows, candidates_of}
+use Rattle.admit_core.specs.Lists.{is_among}
 use Rattle.admit_core.specs.State.{State, entries, is_live, status_number, holds_seat, holds_bed}
 
 -- a wish that waits from the start
@@ -103,6 +104,18 @@ pub record IsSpan (ws : List Wish) (order : List ℕ) (c : ℕ) (span : Span) : 
 -- the span at a place
 abbrev pub span_in : List Span → ℕ → Span
 span_in spans k = unwrap_or (slice_get spans k) (record { from = 0; to = 0 })
+
+-- from one place up to another an order by a key holds one key, and that key nowhere else from there on
+pub record IsRun (key : ℕ → ℕ) (order : List ℕ) (from to : ℕ) : Type 0 where
+  pub alike : (k : ℕ) → from ≤ k → k < to
+      → key (slice_index order k) ≡ key (slice_index order from)
+  pub ends : to < length order → ¬ (key (slice_index order to) ≡ key (slice_index order from))
+
+-- some places hold a span, and the others what they held
+pub record IsSpanPut (places : List ℕ) (span : Span) (old new : List Span) : Type 0 where
+  pub as_long : length new ≡ length old
+  pub here : (k : ℕ) → k < length old → is_among k places ≡ true → span_in new k ≡ span
+  pub others : (k : ℕ) → is_among k places ≡ false → span_in new k ≡ span_in old k
 
 -- the first n wishes have each the span of its candidate
 pub record AreSpans (ws : List Wish) (order : List ℕ) (n : ℕ) (spans : List Span) : Type 0 where

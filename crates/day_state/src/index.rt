@@ -1,11 +1,11 @@
 //! An index from a candidate to their own wishes.
-ghost use Rattle.std.specs.Prelude.{◌≡◌, ◌<◌, ◌≤◌, ◌^◌, length, IfOk, OnOk, nat_lt, nat_le, true, false};
+ghost use Rattle.std.specs.Prelude.{◌≡◌, ◌<◌, ◌≤◌, ◌^◌, length, IfOk, OnOk, All, nat_lt, nat_le, true, false};
 ghost use Rattle.std.specs.List.{range_with_len};
 ghost use Rattle.std.specs.List.Sorted.{IsNonDecreasingBy, IsPermutation, IsStableByKey, IsPartitionPoint};
 ghost use Rattle.std.specs.Ordering.{nat_cmp};
 ghost use Rattle.admit_core.specs.DossierRows.{DossierRows, candidate_of};
 ghost use Rattle.admit_core.specs.OwnWishes.{own_places};
-ghost use Rattle.day_state.specs.Kept.{candidate_in, IsIndex, IsSpan, AreSpans};
+ghost use Rattle.day_state.specs.Kept.{candidate_in, IsIndex, IsSpan, IsRun, IsSpanPut, AreSpans};
 
 use crate::spans::{Span, part};
 use admit_core::{Dossier, OutOfMemory, Wish};
@@ -148,33 +148,49 @@ fn span_of(wishes: &[Wish], order: &[u32], candidate: u32) -> Span
     }
 }
 
-/// The span of a candidate, where that of a neighbour, who may be the same, is known.
-fn span_beside(wishes: &[Wish], order: &[u32], candidate: u32, neighbour: u32, known: Span) -> Span
+/// Where the wishes of the candidate end who begin at a place of an order by candidate.
+fn end_of_run(wishes: &[Wish], order: &[u32], from: usize) -> usize
     requires rises { IsNonDecreasingBy (candidate_in wishes.now) order.now }
-    requires count { length order.now < 2 ^ 32 }
-    requires known { IsSpan wishes.now order.now neighbour known }
-    ensures { IsSpan wishes.now order.now candidate result }
+    requires from { from < length order.now }
+    ensures further { from < result }
+    ensures within { result ≤ length order.now }
+    ensures alike { IsRun (candidate_in wishes.now) order.now from result }
 {
-    if candidate == neighbour {
-        known
-    } else {
-        span_of(wishes, order, candidate)
+    let candidate = candidate_at(wishes, order[from]);
+    let mut to = from + 1;
+    while to < order.len() && candidate_at(wishes, order[to]) == candidate {
+        to += 1;
+    }
+    to
+}
+
+/// Puts a span at these places.
+fn put_span(spans: &mut Vec<Span>, places: &[u32], span: Span)
+    requires { All (λ k. k < length spans.old.items) places.now }
+    ensures { IsSpanPut places.now span spans.old.items spans.new.items }
+{
+    for place in places {
+        spans[*place as usize] = span;
     }
 }
 
-/// The span of each wish's candidate. Neighbours of one candidate are searched for once.
+/// The span of each wish's candidate, in one walk along the order: the wishes of one candidate
+/// stand together in it.
 fn spans_of(alloc: Global, wishes: &[Wish], order: &[u32]) -> Result<Vec<Span>, OutOfMemory>
-    requires rises { IsNonDecreasingBy (candidate_in wishes.now) order.now }
+    requires index { IsIndex wishes.now order.now }
     requires count { length order.now < 2 ^ 32 }
     ensures { IfOk result (λ v. AreSpans wishes.now order.now (length wishes.now) v.items) }
 {
-    let mut candidate = 0;
-    let mut span = span_of(wishes, order, candidate);
-    let mut spans = Vec::with_capacity(alloc, wishes.len())?;
-    for wish in wishes {
-        span = span_beside(wishes, order, wish.candidate, candidate, span);
-        candidate = wish.candidate;
-        spans.push(span)?;
+    let mut spans = vec![in alloc; Span { from: 0, to: 0 }; wishes.len()]?;
+    let mut from = 0;
+    while from < order.len() {
+        let to = end_of_run(wishes, order, from);
+        let span = Span {
+            from: from as u32,
+            to: to as u32,
+        };
+        put_span(&mut spans, part(order, span), span);
+        from = to;
     }
     Ok(spans)
 }

@@ -1,19 +1,18 @@
-use Rattle.std.proofs.Common.{◌∙◌, [], ap}
-use Rattle.std.proofs.lemmas.Option.{unwrap_or-slice_get}
-use Rattle.admit_core.specs.declared.dossier.Wish.{Wish}
-use Rattle.day_state.specs.Kept.{wish_in}
-use Rattle.day_state.proofs.Places.{candidate_in}
-use Rattle.day_state.proofs.Ordering.{spans_more}
+use Rattle.std.proofs.Common.{ℕ, List, refl, subst}
+use Rattle.day_state.specs.declared.spans.Span.{Span}
+use Rattle.day_state.specs.Kept.{IsSpanPut}
+use Rattle.day_state.proofs.Runs.{spanned_more, spanned_all}
 use Rattle.day_state.proofs.index.spans_of.Goals as goal
 
-pub loop-wish-preserved : goal.loop-wish-preserved
-loop-wish-preserved c =
-    let ws = c.args.wishes.now in
-    let k = c.loop-wish.wish-index in
-    record {
-      so_far = rw c.in_ok-push.ensures.items
-          (spans_more ws c.args.order.now k _ c.loop-wish.spans.items c.span_beside-span.result
-          c.loop-wish.invariant.so_far c.span_beside-span.ensures
-          (candidate_in ws k ∙ ap (λ (w : Wish). w.candidate) (unwrap_or-slice_get ws k (wish_in [] 0))));
-      last = c.span_beside-span.ensures;
-    }
+pub loop-from-preserved : goal.loop-from-preserved
+loop-from-preserved c =
+    let span : Span = record { from = c.loop-from.from; to = c.end_of_run-to.result } in
+    let P = λ (own : List ℕ). IsSpanPut own span c.loop-from.spans.items c.put_span.new.spans.items in
+    spanned_more c.args.wishes.now c.args.order.now c.loop-from.from c.end_of_run-to.result span c.loop-from.spans.items
+    c.put_span.new.spans.items c.requires.index c.loop-from-test.true c.loop-from.invariant c.end_of_run-to.ensures.further
+    c.end_of_run-to.ensures.within c.end_of_run-to.ensures.alike refl refl (subst P c.part.ensures c.put_span.ensures)
+
+pub returns : goal.returns
+returns c =
+    spanned_all c.args.wishes.now c.args.order.now c.loop-from.from c.loop-from.spans.items c.requires.index c.loop-from.invariant
+    c.loop-from-test.false
