@@ -1,5 +1,5 @@
 -- A round stays right where a bar falls.
-use Rattle.std.proofs.Common.{ℕ, ◌≤◌, ◌<◌, ◌≡◌, Bool, true, false, not, ◌&&◌, Option, None, List, length, inl, inr, refl, sym, ◌∙◌, ap, arith, zero, suc, get_or, Some, subst, Vec}
+use Rattle.std.proofs.Common.{ℕ, ◌≤◌, ◌<◌, ◌≡◌, Bool, true, false, not, ◌&&◌, Option, None, List, length, inl, inr, refl, sym, ◌∙◌, ap, arith, get_or, Some, subst, Vec}
 use Rattle.std.specs.declared.alloc.Global.{Global}
 use Rattle.std.specs.Prelude.{slice_index, slice_set, slice_get}
 use Rattle.std.proofs.lemmas.Bool.{cases_eq, eqb-true, le-ltb}

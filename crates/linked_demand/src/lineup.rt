@@ -183,7 +183,7 @@ impl Lineup {
         let mut early = vec![in alloc; false; count]?;
         let claims = claims_of(alloc, state, orders, &mut places, &mut early)?;
         let boarders = boarders_of(alloc, state)?;
-        let maybe_sure = maybe_sure_of(alloc, state, &early)?;
+        let maybe_sure = maybe_sure_of(alloc, state, orders, &claims, &places, &early)?;
         Ok(Lineup {
             claims,
             places,

@@ -1,48 +1,49 @@
 //! Which wishes may need no seat while they wait.
-ghost use Rattle.std.specs.Prelude.{◌≡◌, ◌<◌, length, All, IfOk};
-ghost use Rattle.std.specs.List.{list_any};
-ghost use Rattle.linked_demand.specs.Seats.{is_beside, is_doubled, may_be_sure, maybe_sure_of};
+ghost use Rattle.std.specs.Prelude.{◌≡◌, ◌<◌, length, IfOk};
+ghost use Rattle.linked_demand.specs.Seats.{IsLineup, is_doubled, may_be_sure, maybe_sure_of};
 
+use crate::claims::Claims;
 use crate::seats::is_set;
 use crate::wishes::wish_count;
-use admit_core::OutOfMemory;
+use admit_core::{CallOrders, OutOfMemory};
 use day_state::DayState;
 use proposals::wish_at;
 use std::alloc::Global;
 
-/// Whether a wish is another one than that at a place, and of the same programme.
-fn is_beside(state: &DayState<'_>, place: u32, other: u32) -> bool
+/// Whether the candidate of the wish at a place has another one in its programme: their claim in
+/// its line is of more than one.
+fn is_doubled(
+    state: &DayState<'_>,
+    orders: &CallOrders,
+    claims: &[Claims],
+    places: &[u32],
+    early: &[bool],
+    place: u32,
+) -> bool
     requires place { place < length state.now.dossier.wishes }
-    requires other { other < length state.now.dossier.wishes }
-    ensures { result ≡ is_beside state.now.dossier place other }
-{
-    other != place && wish_at(state, other).programme == wish_at(state, place).programme
-}
-
-/// Whether one of some wishes is another one, and of the same programme.
-fn any_beside(state: &DayState<'_>, place: u32, wishes: &[u32]) -> bool
-    requires place { place < length state.now.dossier.wishes }
-    requires wishes { All (λ k. k < length state.now.dossier.wishes) wishes.now }
-    ensures { result ≡ list_any (is_beside state.now.dossier place) wishes.now }
-{
-    wishes.iter().any(|wish| is_beside(state, place, *wish))
-}
-
-/// Whether the candidate of the wish at a place has another one in its programme.
-fn is_doubled(state: &DayState<'_>, place: u32) -> bool
-    requires { place < length state.now.dossier.wishes }
+    requires lineup { IsLineup state.now.dossier orders.now.orders claims.now places.now early.now }
     ensures { result ≡ is_doubled state.now.dossier place }
 {
-    any_beside(state, place, state.own_wishes_beside(place))
+    let wish = wish_at(state, place);
+    let line = &claims[wish.programme as usize];
+    let claim = line.at(places[place as usize] as usize);
+    claim.len() > 1
 }
 
 /// Whether the wish at a place may need no seat while it waits.
-fn may_be_sure(state: &DayState<'_>, early: &[bool], place: u32) -> bool
+fn may_be_sure(
+    state: &DayState<'_>,
+    orders: &CallOrders,
+    claims: &[Claims],
+    places: &[u32],
+    early: &[bool],
+    place: u32,
+) -> bool
     requires place { place < length state.now.dossier.wishes }
-    requires early { length early.now ≡ length state.now.dossier.wishes }
+    requires lineup { IsLineup state.now.dossier orders.now.orders claims.now places.now early.now }
     ensures { result ≡ may_be_sure state.now.dossier early.now place }
 {
-    is_set(early, place) || is_doubled(state, place)
+    is_set(early, place) || is_doubled(state, orders, claims, places, early, place)
 }
 
 /// The wishes that may need no seat while they wait, by place: those that are called by a limit,
@@ -50,17 +51,20 @@ fn may_be_sure(state: &DayState<'_>, early: &[bool], place: u32) -> bool
 pub fn maybe_sure_of(
     alloc: Global,
     state: &DayState<'_>,
+    orders: &CallOrders,
+    claims: &[Claims],
+    places: &[u32],
     early: &[bool],
 ) -> Result<Vec<u32>, OutOfMemory>
-    requires { length early.now ≡ length state.now.dossier.wishes }
+    requires { IsLineup state.now.dossier orders.now.orders claims.now places.now early.now }
     ensures { IfOk result (λ v. v.items ≡ maybe_sure_of state.now.dossier early.now) }
 {
-    let mut places = Vec::new(alloc);
+    let mut sure = Vec::new(alloc);
     let count = wish_count(state);
     for place in 0..count {
-        if may_be_sure(state, early, place) {
-            places.push(place)?;
+        if may_be_sure(state, orders, claims, places, early, place) {
+            sure.push(place)?;
         }
     }
-    Ok(places)
+    Ok(sure)
 }

@@ -1,11 +1,16 @@
-use Rattle.std.proofs.Common.{length}
-use Rattle.std.specs.Prelude.{◌==◌}
-use Rattle.admit_core.specs.DossierRows.{candidate_of}
-use Rattle.linked_demand.proofs.Keeping.{passing_within}
+use Rattle.std.proofs.Common.{refl}
+use Rattle.linked_demand.proofs.MaybeSure.{doubled_here, place_in, programme_in}
 use Rattle.linked_demand.proofs.maybe_sure.is_doubled.Goals as goal
 
-pub any_beside-requires-clause-wishes : goal.any_beside-requires-clause-wishes
-any_beside-requires-clause-wishes c =
-    let d = c.args.state.now.dossier in
-    passing_within (λ k. candidate_of d k == candidate_of d c.args.place) (length d.wishes)
-    c.own_wishes_beside.result.now c.own_wishes_beside.ensures
+pub bounds-claims-wish : goal.bounds-claims-wish
+bounds-claims-wish c = programme_in c.requires.lineup c.args.place c.requires.place c.wish_at-wish.result c.wish_at-wish.ensures.wish
+
+pub at-claim-requires : goal.at-claim-requires
+at-claim-requires c =
+    place_in c.requires.lineup c.args.place c.requires.place c.wish_at-wish.result c.wish_at-wish.ensures.wish
+    c.index-claims-wish.result c.index-claims-wish.is _ refl
+
+pub returns : goal.returns
+returns c =
+    doubled_here c.requires.lineup c.args.place c.requires.place c.wish_at-wish.result c.wish_at-wish.ensures.wish
+    c.index-claims-wish.result c.index-claims-wish.is _ refl c.at-claim.result.now c.at-claim.ensures

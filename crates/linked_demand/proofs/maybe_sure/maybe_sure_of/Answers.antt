@@ -11,12 +11,12 @@ loop-place-preserved c =
     let k = c.loop-place.place in
     elim c.if-may_be_sure.branch [
       | then-may_be_sure+in_ok-push w ↦
-          rw w.places-is
+          rw w.sure-is
           (w.in_ok-push.ensures.items
           ∙ ap (λ (xs : List ℕ). xs ++ k ∷ []) c.loop-place.invariant
           ∙ sym (range_kept q k (sym c.may_be_sure.ensures ∙ w.if-may_be_sure.true)))
       | else-may_be_sure w ↦
-          rw w.places-is (c.loop-place.invariant ∙ sym (range_left q k (sym c.may_be_sure.ensures ∙ w.if-may_be_sure.false)))
+          rw w.sure-is (c.loop-place.invariant ∙ sym (range_left q k (sym c.may_be_sure.ensures ∙ w.if-may_be_sure.false)))
     ]
 
 pub returns : goal.returns

@@ -1,4 +1,4 @@
-use Rattle.std.proofs.Common.{ℕ, ◌<◌, true, false, not, List, length, arith, refl, sym, ◌∙◌, ap, subst}
+use Rattle.std.proofs.Common.{ℕ, ◌<◌, not, List, length, arith, refl, sym, ◌∙◌, ap, subst}
 use Rattle.std.specs.List.Sorted.{IsNonDecreasing}
 use Rattle.admit_core.proofs.Plain.{unlike, alike}
 use Rattle.linked_demand.proofs.Answered.{was_answered, listed_rises, still_listed, room_for_one, one_listed, listed_within, one_dropped}
