@@ -1,9 +1,8 @@
 -- Where all have been answered for but those who have one of some wishes, only they and those with an offer are answered for, and change.
-use Rattle.std.proofs.Common.{ℕ, ◌<◌, ◌≡◌, true, false, List, ◌++◌, map, length, inl, inr, refl, sym, ◌∙◌, ap, subst, nat_eq}
+use Rattle.std.proofs.Common.{ℕ, ◌<◌, ◌≡◌, false, List, ◌++◌, map, length, inl, inr, refl, sym, ◌∙◌, ap, subst, nat_eq}
 use Rattle.std.specs.Prelude.{All, if◌then◌else◌}
 use Rattle.std.proofs.lemmas.Bool.{cases_Bool, false≢true, or_parts}
 use Rattle.std.proofs.lemmas.List.{map-append}
-use Rattle.std.proofs.lemmas.List.Elements.{All-append}
 use Rattle.std.proofs.lemmas.List.Folds.{list_any-append}
 use Rattle.admit_core.specs.declared.ranking.CallOrder.{CallOrder}
 use Rattle.admit_core.specs.declared.dossier.Wish.{Wish}
@@ -93,14 +92,6 @@ module _ (s : State) (orders : List CallOrder) (bars : List ℕ) (stamp : Stamp)
 pub offers_within : (s t : State) (orders : List CallOrder) (bars offers : List ℕ) → t.dossier ≡ s.dossier → offers ≡ proposed s orders bars
     → All (λ k. k < length t.dossier.wishes) offers
 offers_within s t orders bars offers same are = rw (same, are) (proposed_are_wishes s orders bars)
-
--- the wishes beside a pass, and its offers
-pub asked_within : (s t : State) (orders : List CallOrder) (bars beside offers asked : List ℕ) → t.dossier ≡ s.dossier
-    → offers ≡ proposed s orders bars
-    → All (λ k. k < length s.dossier.wishes) beside → asked ≡ beside ++ offers → All (λ k. k < length t.dossier.wishes) asked
-asked_within s t orders bars beside offers asked same are within asked_are =
-    rw (same, asked_are, are) (All-append (λ (k : ℕ). k < length s.dossier.wishes) beside (proposed s orders bars) within
-    (proposed_are_wishes s orders bars))
 
 pub answered_but : (s off : State) (orders : List CallOrder) (bars beside offers asked : List ℕ) (stamp : Stamp)
     → length s.marks ≡ length s.dossier.wishes

@@ -17,3 +17,4 @@ pub mod DayEnds
 pub mod LaterPasses
 pub mod BesideChanges
 pub mod Touching
+pub mod OnceEach

@@ -9,3 +9,4 @@ pub mod DayLaws
 pub mod DayPlaces
 pub mod LastPasses
 pub mod RunDay
+pub mod Once

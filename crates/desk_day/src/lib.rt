@@ -12,6 +12,7 @@ mod desk;
 mod evening;
 mod lapses;
 mod morning;
+mod once;
 mod passes;
 mod refusal;
 mod touched;

@@ -11,8 +11,10 @@ ghost use Rattle.auto_answer.specs.Laws.{AreAnsweredBut, SameOthers};
 ghost use Rattle.desk_day.specs.Changes.{answered_changes};
 ghost use Rattle.desk_day.specs.DayPasses.{AreChosenPasses, IsAnswered, IsAnsweredBut, TellsMore, schools_of_passes, last_opening, offered_along, open_wishes};
 ghost use Rattle.desk_day.specs.DayPlaces.{AreWishesOf};
+ghost use Rattle.desk_day.specs.Once.{NamesSame};
 
 use crate::changes::{answered_changes, changes_beside};
+use crate::once::ask_beside;
 use admit_core::{CallOrders, Change, Freed, OutOfMemory, PassEnd, Sequence, Stamp};
 use auto_answer::{auto_all, auto_some};
 use bar_fixpoint::Picker;
@@ -154,7 +156,7 @@ fn frees_nothing(freed: Freed) -> bool
 }
 
 /// Makes a pass, and the automatic answers that follow it; its offers are added to `beside`, which
-/// then has the wishes of all whom it asks, where all others have been answered for.
+/// then has a wish of each whom it asks, where all others have been answered for.
 fn make_pass(
     alloc: Global,
     opening: &DayState<'_>,
@@ -182,7 +184,8 @@ fn make_pass(
         state.new < open_wishes state.old) }
     ensures marks { IfOk result (λ _. length state.new.marks ≡ length state.new.dossier.wishes) }
     ensures answered { IfOk result (λ _. IsAnswered state.new) }
-    ensures asked { IfOk result (λ end. beside.new.items ≡ beside.old.items ++ end.pass.offers) }
+    ensures asked { IfOk result (λ end. NamesSame state.old.dossier
+        (beside.old.items ++ end.pass.offers) beside.new.items) }
 
     ensures told { IfOk result (λ end. told picker.new ≡ told picker.old ++ schools_of
         end.pass.falls) }
@@ -196,7 +199,7 @@ fn make_pass(
 {
     let _ = state.marks(); // one for each wish
     let pass = pass(alloc, state, orders, lineup, ceilings, stamp, picker)?;
-    beside.extend_from_slice(pass.offers.as_slice())?;
+    ask_beside(beside, state, pass.offers.as_slice(), is_answered)?;
     let freed = answer_after(state, is_answered, beside.as_slice(), stamp);
     let autos = changes_after(alloc, opening, state, is_answered, beside.as_slice())?;
     Ok(PassEnd {

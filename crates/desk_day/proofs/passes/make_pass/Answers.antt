@@ -1,11 +1,14 @@
-use Rattle.std.proofs.Common.{ℕ, ◌≡◌, ◌∙◌, ◌++◌, ap, sym, subst, List, length}
+use Rattle.std.proofs.Common.{◌≡◌, ◌∙◌, ◌++◌, ap, refl, sym, subst, List, length}
 use Rattle.std.proofs.lemmas.Result.{IfOk-from_err}
 use Rattle.admit_core.specs.declared.state.Mark.{Mark}
 use Rattle.admit_core.specs.AutoAnswer.{auto_all}
 use Rattle.admit_core.specs.State.{State}
 use Rattle.desk_day.specs.DayPasses.{IsAnswered}
 use Rattle.desk_day.proofs.DayEnds.{tells_on}
-use Rattle.desk_day.proofs.LaterPasses.{answered_but, asked_within, closing_answered, same_but}
+use Rattle.desk_day.proofs.LaterPasses.{answered_but, closing_answered, offers_within, same_but}
+use Rattle.desk_day.proofs.OnceEach.{names_of_offers, names_there, others_stay}
+use Rattle.desk_day.specs.DayPlaces.{AreWishesOf}
+use Rattle.admit_core.specs.DossierRows.{DossierRows}
 use Rattle.desk_day.proofs.OnePass.{closed, closed_dossier, pass_ended, fewer_open, closed_long}
 use Rattle.desk_day.proofs.passes.make_pass.Goals as goal
 
@@ -37,6 +40,16 @@ returns-clause-marks g c =
     (closed c.args.state.now c.pass.new.state c.answer_after-freed.new.state c.args.orders.now.orders c.in_ok-pass.pass.bars c.args.stamp
     c.in_ok-pass.ensures.state c.answer_after-freed.ensures.state)
 
+pub ask_beside-requires-clause-offers : goal.ask_beside-requires-clause-offers
+ask_beside-requires-clause-offers g c =
+    offers_within c.args.state.now c.pass.new.state c.args.orders.now.orders c.in_ok-pass.pass.bars c.as_slice.result.now
+    (ap (λ (t : State). t.dossier) c.in_ok-pass.ensures.state) (c.as_slice.ensures ∙ c.in_ok-pass.ensures.pass.offers)
+
+pub ask_beside-requires-clause-places : goal.ask_beside-requires-clause-places
+ask_beside-requires-clause-places g c =
+    let P : DossierRows → Type 0 = λ d. AreWishesOf d c.args.beside.now.items in
+    subst P (sym (ap (λ (t : State). t.dossier) c.in_ok-pass.ensures.state)) c.requires.beside
+
 pub answer_after-freed-requires : goal.answer_after-freed-requires
 answer_after-freed-requires g c =
     let s = c.args.state.now in
@@ -44,17 +57,18 @@ answer_after-freed-requires g c =
     let bars = c.in_ok-pass.pass.bars in
     let beside = c.args.beside.now.items in
     let offers = c.as_slice.result.now in
-    let asked = c.as_slice-2.result.now in
+    let off = c.pass.new.state in
     let long : length s.marks ≡ length s.dossier.wishes = ap (λ (ms : List Mark). length ms) (sym c.marks.ensures.marks)
     ∙ c.marks.ensures.one_each in
     let are = c.as_slice.ensures ∙ c.in_ok-pass.ensures.pass.offers in
-    let asked_are = c.as_slice-2.ensures.value ∙ c.in_ok-extend_from_slice.ensures.items in
     let made = c.in_ok-pass.ensures.state in
+    let names = names_there off.dossier off.dossier (beside ++ offers) _ c.as_slice-2.result.now refl c.as_slice-2.ensures.value
+    c.in_ok-ask_beside.ensures in
     record {
-      asked = asked_within s c.pass.new.state orders bars beside offers asked (ap (λ (t : State). t.dossier) made) are c.requires.beside
-          asked_are;
-      others = λ known. answered_but s c.pass.new.state orders bars beside offers asked c.args.stamp long made are asked_are
-          (c.requires.answered known c.args.stamp);
+      asked = names.within;
+      others = λ known. others_stay off (auto_all off c.args.stamp) (beside ++ offers) c.as_slice-2.result.now names
+          (answered_but s off orders bars beside offers (beside ++ offers) c.args.stamp long made are refl
+          (c.requires.answered known c.args.stamp));
     }
 
 pub changes_after-requires : goal.changes_after-requires
@@ -65,21 +79,22 @@ changes_after-requires g c =
     let stamp = c.args.stamp in
     let beside = c.args.beside.now.items in
     let offers = c.as_slice.result.now in
-    let asked = c.as_slice-3.result.now in
+    let opening = c.args.opening.now in
     let long : length s.marks ≡ length s.dossier.wishes = ap (λ (ms : List Mark). length ms) (sym c.marks.ensures.marks)
     ∙ c.marks.ensures.one_each in
     let are = c.as_slice.ensures ∙ c.in_ok-pass.ensures.pass.offers in
-    let asked_are = c.as_slice-3.ensures.value ∙ c.in_ok-extend_from_slice.ensures.items in
     let made = c.in_ok-pass.ensures.state in
     let close = c.answer_after-freed.ensures.state in
     let opens = ap (λ (t : State). t.dossier) c.requires.opening in
+    let same = ap (λ (t : State). t.dossier) made ∙ sym opens in
+    let names = names_there c.pass.new.state.dossier opening.dossier (beside ++ offers) _ c.as_slice-3.result.now same
+    c.as_slice-3.ensures.value c.in_ok-ask_beside.ensures in
     record {
       same = ap (λ (t : State). t.dossier) (close ∙ ap (λ (t : State). auto_all t stamp) made) ∙ sym opens;
-      asked = asked_within s c.args.opening.now orders bars beside offers asked opens are c.requires.beside asked_are;
-      others = λ known.
-          same_but s c.pass.new.state c.answer_after-freed.new.state c.args.opening.now orders bars beside offers asked stamp long made
-          close c.requires.opening are asked_are
-          (c.requires.answered known stamp);
+      asked = names.within;
+      others = λ known. others_stay opening c.answer_after-freed.new.state (beside ++ offers) c.as_slice-3.result.now names
+          (same_but s c.pass.new.state c.answer_after-freed.new.state opening orders bars beside offers (beside ++ offers) stamp long made
+          close c.requires.opening are refl (c.requires.answered known stamp));
     }
 
 pub returns-clause-answered : goal.returns-clause-answered
@@ -93,33 +108,33 @@ returns-clause-answered g c =
     c.answer_after-freed.ensures.state in
     subst IsAnswered (sym end) (closing_answered s orders bars c.args.stamp long)
 
-pub returns-in_err-extend_from_slice-clause-end : goal.returns-in_err-extend_from_slice-clause-end
-returns-in_err-extend_from_slice-clause-end g c = IfOk-from_err _ _ c.from_residual-in_err-extend_from_slice.ensures.0
+pub returns-in_err-ask_beside-clause-end : goal.returns-in_err-ask_beside-clause-end
+returns-in_err-ask_beside-clause-end g c = IfOk-from_err _ _ c.from_residual-in_err-ask_beside.ensures.0
 
-pub returns-in_err-extend_from_slice-clause-state : goal.returns-in_err-extend_from_slice-clause-state
-returns-in_err-extend_from_slice-clause-state g c = IfOk-from_err _ _ c.from_residual-in_err-extend_from_slice.ensures.0
+pub returns-in_err-ask_beside-clause-state : goal.returns-in_err-ask_beside-clause-state
+returns-in_err-ask_beside-clause-state g c = IfOk-from_err _ _ c.from_residual-in_err-ask_beside.ensures.0
 
-pub returns-in_err-extend_from_slice-clause-fewer : goal.returns-in_err-extend_from_slice-clause-fewer
-returns-in_err-extend_from_slice-clause-fewer g c = IfOk-from_err _ _ c.from_residual-in_err-extend_from_slice.ensures.0
+pub returns-in_err-ask_beside-clause-fewer : goal.returns-in_err-ask_beside-clause-fewer
+returns-in_err-ask_beside-clause-fewer g c = IfOk-from_err _ _ c.from_residual-in_err-ask_beside.ensures.0
 
-pub returns-in_err-extend_from_slice-clause-marks : goal.returns-in_err-extend_from_slice-clause-marks
-returns-in_err-extend_from_slice-clause-marks g c = IfOk-from_err _ _ c.from_residual-in_err-extend_from_slice.ensures.0
+pub returns-in_err-ask_beside-clause-marks : goal.returns-in_err-ask_beside-clause-marks
+returns-in_err-ask_beside-clause-marks g c = IfOk-from_err _ _ c.from_residual-in_err-ask_beside.ensures.0
 
-pub returns-in_err-extend_from_slice-clause-answered : goal.returns-in_err-extend_from_slice-clause-answered
-returns-in_err-extend_from_slice-clause-answered g c = IfOk-from_err _ _ c.from_residual-in_err-extend_from_slice.ensures.0
+pub returns-in_err-ask_beside-clause-answered : goal.returns-in_err-ask_beside-clause-answered
+returns-in_err-ask_beside-clause-answered g c = IfOk-from_err _ _ c.from_residual-in_err-ask_beside.ensures.0
 
-pub returns-in_err-extend_from_slice-clause-asked : goal.returns-in_err-extend_from_slice-clause-asked
-returns-in_err-extend_from_slice-clause-asked g c = IfOk-from_err _ _ c.from_residual-in_err-extend_from_slice.ensures.0
+pub returns-in_err-ask_beside-clause-asked : goal.returns-in_err-ask_beside-clause-asked
+returns-in_err-ask_beside-clause-asked g c = IfOk-from_err _ _ c.from_residual-in_err-ask_beside.ensures.0
 
-pub returns-in_err-extend_from_slice-clause-told : goal.returns-in_err-extend_from_slice-clause-told
-returns-in_err-extend_from_slice-clause-told g c = IfOk-from_err _ _ c.from_residual-in_err-extend_from_slice.ensures.0
+pub returns-in_err-ask_beside-clause-told : goal.returns-in_err-ask_beside-clause-told
+returns-in_err-ask_beside-clause-told g c = IfOk-from_err _ _ c.from_residual-in_err-ask_beside.ensures.0
 
-pub returns-in_err-extend_from_slice-clause-chosen : goal.returns-in_err-extend_from_slice-clause-chosen
-returns-in_err-extend_from_slice-clause-chosen g c = IfOk-from_err _ _ c.from_residual-in_err-extend_from_slice.ensures.0
+pub returns-in_err-ask_beside-clause-chosen : goal.returns-in_err-ask_beside-clause-chosen
+returns-in_err-ask_beside-clause-chosen g c = IfOk-from_err _ _ c.from_residual-in_err-ask_beside.ensures.0
 
-pub returns-in_err-extend_from_slice-clause-early : goal.returns-in_err-extend_from_slice-clause-early
-returns-in_err-extend_from_slice-clause-early g c =
-    tells_on c.from_residual-in_err-extend_from_slice.result _ _ _ c.in_ok-pass.ensures.told
+pub returns-in_err-ask_beside-clause-early : goal.returns-in_err-ask_beside-clause-early
+returns-in_err-ask_beside-clause-early g c =
+    tells_on c.from_residual-in_err-ask_beside.result _ _ _ c.in_ok-pass.ensures.told
 
 pub returns-in_err-autos-clause-end : goal.returns-in_err-autos-clause-end
 returns-in_err-autos-clause-end g c = IfOk-from_err _ _ c.from_residual-in_err-autos.ensures.0
@@ -154,8 +169,8 @@ returns-in_err-autos-clause-dossier g c =
     closed_dossier c.args.state.now c.pass.new.state c.answer_after-freed.new.state c.args.orders.now.orders c.in_ok-pass.pass.bars
     c.args.stamp c.in_ok-pass.ensures.state c.answer_after-freed.ensures.state
 
-pub returns-in_err-extend_from_slice-clause-dossier : goal.returns-in_err-extend_from_slice-clause-dossier
-returns-in_err-extend_from_slice-clause-dossier g c = ap (λ (t : State). t.dossier) c.in_ok-pass.ensures.state
+pub returns-in_err-ask_beside-clause-dossier : goal.returns-in_err-ask_beside-clause-dossier
+returns-in_err-ask_beside-clause-dossier g c = ap (λ (t : State). t.dossier) c.in_ok-pass.ensures.state
 
 pub returns-clause-dossier : goal.returns-clause-dossier
 returns-clause-dossier g c =
@@ -164,7 +179,9 @@ returns-clause-dossier g c =
 
 pub returns-clause-asked : goal.returns-clause-asked
 returns-clause-asked g c =
-    c.in_ok-extend_from_slice.ensures.items ∙ ap (λ (l : List ℕ). c.args.beside.now.items ++ l) c.as_slice.ensures
+    let beside = c.args.beside.now.items in
+    names_of_offers c.pass.new.state.dossier c.args.state.now.dossier beside c.as_slice.result.now _ _
+    (ap (λ (t : State). t.dossier) c.in_ok-pass.ensures.state) c.as_slice.ensures c.in_ok-ask_beside.ensures
 
 pub returns-clause-told : goal.returns-clause-told
 returns-clause-told g c = c.in_ok-pass.ensures.told

@@ -11,9 +11,11 @@ use Rattle.admit_core.specs.DossierRows.{DossierRows}
 use Rattle.admit_core.specs.State.{State}
 use Rattle.admit_core.specs.Days.{frees_nothing}
 use Rattle.linked_demand.specs.Lineups.{IsLineupOf}
-use Rattle.desk_day.specs.DayPasses.{schools_of_passes, stamp_of}
+use Rattle.desk_day.specs.DayPasses.{offered_along, schools_of_passes, stamp_of}
 use Rattle.desk_day.specs.DayPlaces.{AreWishesOf}
-use Rattle.desk_day.proofs.LaterPasses.{answered_all, answered_along, asked_within, offers_within, steps_taken}
+use Rattle.desk_day.proofs.LaterPasses.{answered_all, answered_along, offers_within, steps_taken}
+use Rattle.desk_day.proofs.OnceEach.{names_along, names_of_offers, names_there, others_stay}
+use Rattle.admit_core.specs.AutoAnswer.{auto_all}
 use Rattle.desk_day.proofs.OnePass.{open_at_most}
 use Rattle.desk_day.proofs.PassesSoFar.{so_far_none, so_far_more, so_far_end, chosen_none, chosen_more, told_more, tells_from}
 use Rattle.desk_day.proofs.passes.make_passes.Goals as goal
@@ -132,19 +134,22 @@ follow-requires g c =
     let asked = c.as_slice-in-passes-2.result.now in
     let stamp = stamp_of c.args.day c.passes.number in
     let opens = c.passes.invariant.opening in
-    let are = c.as_slice-in-passes.ensures ∙ c.in_ok-end.ensures.end.pass.offers in
-    let asked_are = c.as_slice-in-passes-2.ensures.value ∙ c.in_ok-end.ensures.asked
-    ∙ ap (λ (l : List ℕ). beside ++ l) (sym c.as_slice-in-passes.ensures) in
     let opened = ap (λ (t : State). t.dossier) opens in
-    let P : DossierRows → Type 0 = λ d. AreWishesOf d beside in
-    let within = subst P (sym c.passes.invariant.so_far.dossier) c.passes.invariant.beside in
+    let are = c.as_slice-in-passes.ensures ∙ c.in_ok-end.ensures.end.pass.offers in
+    let names_here = names_of_offers s.dossier opening.dossier beside _ offers _ (sym opened) (sym c.as_slice-in-passes.ensures)
+    c.in_ok-end.ensures.asked in
+    let names = names_there opening.dossier opening.dossier (beside ++ offers) _ asked refl c.as_slice-in-passes-2.ensures.value
+    names_here in
+    let along = offered_along offers stamp opening in
     record {
       same = opened ∙ sym c.in_ok-end.ensures.dossier;
       offers = offers_within s opening orders bars offers opened are;
-      asked = asked_within s opening orders bars beside offers asked opened are within asked_are;
+      asked = names.within;
       steps = λ known. steps_taken s opening c.make_pass.new.state orders bars offers stamp long opens c.in_ok-end.ensures.state are;
-      others = λ known. answered_along s opening orders bars beside offers asked stamp long opens are asked_are
-          (c.passes.invariant.answered known stamp);
+      others = λ known. others_stay along (auto_all along stamp) (beside ++ offers) asked
+          (names_along opening offers stamp (beside ++ offers) asked names)
+          (answered_along s opening orders bars beside offers (beside ++ offers) stamp long opens are refl
+          (c.passes.invariant.answered known stamp));
     }
 
 pub returns-in_err-end-clause-passes : goal.returns-in_err-end-clause-passes

@@ -1,0 +1,59 @@
+//! Each candidate once, however many of their wishes are named.
+ghost use Rattle.std.specs.Prelude.{◌≡◌, ◌<◌, ◌++◌, length, OnOk};
+ghost use Rattle.admit_core.specs.DossierRows.{candidate_of};
+ghost use Rattle.desk_day.specs.DayPlaces.{AreWishesOf};
+ghost use Rattle.desk_day.specs.Once.{NamesSame};
+
+use day_state::DayState;
+use std::alloc::AllocError;
+
+/// The first wish of a wish's candidate.
+fn first_beside(state: &DayState<'_>, place: u32) -> u32
+    requires { place < length state.now.dossier.wishes }
+    ensures within { result < length state.now.dossier.wishes }
+    ensures same { candidate_of state.now.dossier result ≡ candidate_of state.now.dossier place }
+{
+    let own = state.own_wishes_beside(place);
+    if own.is_empty() { place } else { own[0] }
+}
+
+/// Leads each wish to the first one of its candidate.
+fn lead_to_firsts(places: &mut Vec<u32>, state: &DayState<'_>)
+    requires { AreWishesOf state.now.dossier places.old.items }
+    ensures { NamesSame state.now.dossier places.old.items places.new.items }
+{
+    for index in 0..places.len() {
+        places[index] = first_beside(state, places[index]);
+    }
+}
+
+/// Leaves one wish of each candidate who has some of these, so that whoever goes along them looks
+/// at each candidate once.
+fn keep_once(places: &mut Vec<u32>, state: &DayState<'_>)
+    requires { AreWishesOf state.now.dossier places.old.items }
+    ensures { NamesSame state.now.dossier places.old.items places.new.items }
+{
+    lead_to_firsts(places, state);
+    places.sort_unstable();
+    places.dedup();
+}
+
+/// Adds the offers of a pass to the wishes of those whom it asks. Where they are to be gone along
+/// one wish of each candidate is left.
+pub(crate) fn ask_beside(
+    places: &mut Vec<u32>,
+    state: &DayState<'_>,
+    offers: &[u32],
+    is_answered: bool,
+) -> Result<(), AllocError>
+    requires places { AreWishesOf state.now.dossier places.old.items }
+    requires offers { AreWishesOf state.now.dossier offers.now }
+    ensures { OnOk result (NamesSame state.now.dossier (places.old.items ++ offers.now)
+        places.new.items) }
+{
+    places.extend_from_slice(offers)?;
+    if is_answered {
+        keep_once(places, state);
+    }
+    Ok(())
+}
