@@ -20,6 +20,7 @@ BAD_WORDS = (
     ("write_sample.sh",), ("write_sample.sh", "5"), ("write_sample.sh", "5", "x", "2", "y"),
     *(("write_sample.sh", number, "x") for number in BAD_NUMBERS),
     ("write_sample.sh", "5", "x", "many"), ("write_sample.sh", "5", "x", "-1"),
+    ("shapes.sh", "round"), ("shapes.sh", "quits", "--runs", "0"), ("shapes.sh", "--beside"),
 )
 
 

@@ -11,6 +11,7 @@ import tempfile
 from collections.abc import Iterator
 from dataclasses import dataclass
 from pathlib import Path
+from typing import BinaryIO
 
 from dossier.program import program
 
@@ -119,20 +120,29 @@ def put(files: Files, folder: Path) -> None:
 
 def watch(words: tuple[str, ...], folder: Path, longest: float, by: str | None = None,
           environment: dict[str, str] | None = None, user: int | None = None) -> Watched:
-    """Runs the program, or another one, in the folder, as another user where one is named; a run that takes more than
-    the seconds of a processor (unless it is another user's), or many times as long by the clock, is stopped."""
+    """Runs the program, or another one, in the folder, as `watch_into` does."""
     with tempfile.TemporaryFile() as output:
-        child = subprocess.Popen([by or binary(), *words], cwd=folder, stdin=subprocess.DEVNULL, stdout=output,
-                                 stderr=subprocess.DEVNULL, env={**os.environ, **(environment or {})},
-                                 start_new_session=True, user=user, extra_groups=None if user is None else ())
-        if user is None:
-            bound = math.ceil(longest) + 1
-            resource.prlimit(child.pid, resource.RLIMIT_CPU, (bound, bound))
-        usage = wait_for(child.pid, PATIENCE * longest)
+        status, usage = watch_into(output, words, folder, longest, by, environment, user)
         output.seek(0)
         text = output.read()
-    child.returncode = os.waitstatus_to_exitcode(usage[0])
-    return Watched(child.returncode, text, usage[1].ru_utime + usage[1].ru_stime, usage[1].ru_maxrss * 1024)
+    return Watched(status, text, usage.ru_utime + usage.ru_stime, usage.ru_maxrss * 1024)
+
+
+def watch_into(output: BinaryIO, words: tuple[str, ...], folder: Path, longest: float, by: str | None = None,
+               environment: dict[str, str] | None = None,
+               user: int | None = None) -> tuple[int, resource.struct_rusage]:
+    """Runs the program, or another one, in the folder, as another user where one is named, with its text to the
+    output; a run that takes more than the seconds of a processor (unless it is another user's), or many times as long
+    by the clock, is stopped. Answers its status (below 0 a signal) and what it took."""
+    child = subprocess.Popen([by or binary(), *words], cwd=folder, stdin=subprocess.DEVNULL, stdout=output,
+                             stderr=subprocess.DEVNULL, env={**os.environ, **(environment or {})},
+                             start_new_session=True, user=user, extra_groups=None if user is None else ())
+    if user is None:
+        bound = math.ceil(longest) + 1
+        resource.prlimit(child.pid, resource.RLIMIT_CPU, (bound, bound))
+    status, usage = wait_for(child.pid, PATIENCE * longest)
+    child.returncode = os.waitstatus_to_exitcode(status)
+    return child.returncode, usage
 
 
 def wait_for(child: int, longest: float) -> tuple[int, resource.struct_rusage]:

@@ -1,6 +1,6 @@
 -- One fall: the list that the picker is asked with, the rank, and the names.
-use Rattle.std.proofs.Common.{◌≡◌, ℕ, zero, suc, ◌+◌, ◌-◌, ◌<◌, ◌≤◌, Bool, true, not, cond, ◌&&◌, List, [], ◌∷◌, ◌++◌, length, take, map, slice_index, slice_set, refl, sym, ap, ◌∙◌, subst, inl, inr, arith, Some}
-use Rattle.std.specs.Prelude.{Option, filter, nat_le, unwrap_or, Contains, sum}
+use Rattle.std.proofs.Common.{◌≡◌, ℕ, zero, suc, ◌+◌, ◌-◌, ◌<◌, ◌≤◌, Bool, true, not, cond, ◌&&◌, List, [], ◌∷◌, ◌++◌, length, take, map, slice_index, slice_set, refl, sym, ap, ◌∙◌, subst, inl, inr, arith, None, Some, Result, Ok, Err}
+use Rattle.std.specs.Prelude.{IfNone, IfOk, IfSome, Option, filter, nat_le, unwrap_or, Contains, sum}
 use Rattle.std.specs.List.{list_all, range_with_len}
 use Rattle.std.specs.List.Sorted.{IsStrictlyIncreasing}
 use Rattle.std.proofs.lemmas.Bool.{cases_order, le-leb, lt-leb, cases_Bool}
@@ -12,7 +12,7 @@ use Rattle.admit_core.specs.declared.records.Fall.{Fall}
 use Rattle.admit_core.specs.Falls.{FallingSystem, IsAtMost, IsLawful, is_overfilled, is_settled, fall_of, fallen}
 use Rattle.admit_core.proofs.FallsLaw.{over_in, over_rank}
 use Rattle.bar_fixpoint.specs.Overfilled.{rank_over, all_overfilled}
-use Rattle.bar_fixpoint.specs.Chosen.{PickedFall, TellsAtMostOne}
+use Rattle.bar_fixpoint.specs.Chosen.{IsPicked, PickedFall, TellsAtMostOne}
 
 -- a filter that the first n pass and no other is the prefix of length n
 filter_front : (most : ℕ) (xs : List ℕ) (n : ℕ) → ((j : ℕ) → j < n → j < length xs → slice_index xs j ≤ most) → ((j : ℕ) → n ≤ j → j < length xs → most < slice_index xs j)
@@ -107,25 +107,53 @@ module _ (sys : FallingSystem) (lawful : IsLawful sys) (bars : List ℕ) (i : �
       let F : ℕ → ℕ → List ℕ → Fall = λ a b c. record { school = i; from = a; to = b - 1; wishes = c } in
       ap (λ a. F a r wishes) is_from ∙ ap (λ b. F (slice_index bars i) b wishes) is_rank ∙ ap (F (slice_index bars i) top) named
 
+-- a place that was picked from all
+pub one_picked : {E : Type 0} (sys : FallingSystem) (choice : List ℕ → List ℕ → ℕ) (bars shown told told_after : List ℕ) (picked : Result (Option ℕ) E) → shown ≡ all_overfilled sys bars
+    → IfOk picked (λ place. IfSome place (Contains shown)) → IfOk picked (λ place. IfSome place (λ i. i ≡ choice told shown))
+    → IfOk picked (λ place. IfSome place (λ i. told_after ≡ told ++ i ∷ [])) → IfOk picked (λ place. IfSome place (IsPicked sys choice bars told told_after))
+one_picked sys choice bars shown told told_after (Ok (Some i)) all listed chosen told_of = (
+  record {
+    place = i;
+    overfilled = overfilled_from_list sys bars shown shown i refl all listed;
+    chosen = chosen ∙ ap (choice told) all;
+    told_of = told_of;
+  },
+  refl,
+)
+one_picked sys choice bars shown told told_after (Ok None) all listed chosen told_of = tt
+one_picked sys choice bars shown told told_after (Err e) all listed chosen told_of = tt
+
+-- there was none to pick from
+pub none_picked : {E : Type 0} (sys : FallingSystem) (bars shown : List ℕ) (picked : Result (Option ℕ) E) → shown ≡ all_overfilled sys bars
+    → IfOk picked (λ place. IfNone place (shown ≡ [])) → IfOk picked (λ place. IfNone place (is_settled sys bars ≡ true))
+none_picked sys bars shown (Ok None) all none = settled_from_none sys bars shown all none
+none_picked sys bars shown (Ok (Some i)) all none = tt
+none_picked sys bars shown (Err e) all none = tt
+
+-- the picked place is overfilled
+pub overfilled_from_pick : (sys : FallingSystem) (choice : List ℕ → List ℕ → ℕ) (bars told told_after : List ℕ) (i : ℕ) → IsPicked sys choice bars told told_after i
+    → is_overfilled sys bars i ≡ true
+overfilled_from_pick sys choice bars told told_after i picked =
+    let P : ℕ → Type 0 = λ j. is_overfilled sys bars j ≡ true in
+    subst P picked.1 picked.0.overfilled
+
 -- the picked place fell
-pub falls_once : (sys : FallingSystem) (choice : List ℕ → List ℕ → ℕ) (told bars shown places : List ℕ) (i : ℕ) (f : Fall) (told_after after : List ℕ)
-    → shown ≡ places → places ≡ all_overfilled sys bars → is_overfilled sys bars i ≡ true → f ≡ fall_of sys bars i → after ≡ fallen bars f → told_after ≡ told ++ i ∷ []
-    → i ≡ choice told shown → PickedFall sys choice told bars f told_after after
-falls_once sys choice told bars shown places i f told_after after are all over is_fall fell told_of chosen =
-    let is : f.school ≡ i = ap (λ (g : Fall). g.school) is_fall in
+pub falls_once : (sys : FallingSystem) (choice : List ℕ → List ℕ → ℕ) (bars told told_after : List ℕ) (i : ℕ) (f : Fall) (after : List ℕ) → IsPicked sys choice bars told told_after i
+    → f ≡ fall_of sys bars i → after ≡ fallen bars f → PickedFall sys choice told bars f told_after after
+falls_once sys choice bars told told_after i f after picked is_fall fell =
+    let is : picked.0.place ≡ f.school = picked.1 ∙ sym (ap (λ (g : Fall). g.school) is_fall) in
     let P : ℕ → Type 0 = λ j. is_overfilled sys bars j ≡ true in
     record {
-      overfilled = subst P (sym is) over;
-      is_fall = is_fall ∙ ap (fall_of sys bars) (sym is);
+      overfilled = subst P is picked.0.overfilled;
+      is_fall = is_fall ∙ ap (fall_of sys bars) (ap (λ (g : Fall). g.school) (sym is_fall));
       bars_fell = fell;
-      chosen = is ∙ chosen ∙ ap (choice told) (are ∙ all);
-      told_of = told_of ∙ ap (λ j. told ++ j ∷ []) (sym is);
+      chosen = sym is ∙ picked.0.chosen;
+      told_of = picked.0.told_of ∙ ap (λ j. told ++ j ∷ []) is;
     }
 
-pub told_one : (sys : FallingSystem) (choice : List ℕ → List ℕ → ℕ) (told bars shown places told_after : List ℕ) (i : ℕ) → shown ≡ places → places ≡ all_overfilled sys bars
-    → is_overfilled sys bars i ≡ true → i ≡ choice told shown → told_after ≡ told ++ i ∷ [] → TellsAtMostOne sys choice bars told told_after
-told_one sys choice told bars shown places told_after i are all over chosen told_of =
-    inr (record { place = i; overfilled = over; chosen = chosen ∙ ap (choice told) (are ∙ all); told_of = told_of })
+pub told_one : (sys : FallingSystem) (choice : List ℕ → List ℕ → ℕ) (bars told told_after : List ℕ) (i : ℕ) → IsPicked sys choice bars told told_after i
+    → TellsAtMostOne sys choice bars told told_after
+told_one sys choice bars told told_after i picked = inr picked.0
 
 -- a fall takes at least one from the sum of the bars
 sum-slice_set : (xs : List ℕ) (i v : ℕ) → i < length xs → sum (slice_set xs i v) + slice_index xs i ≡ sum xs + v

@@ -7,7 +7,7 @@ use Rattle.admit_core.specs.Falls.{FallingSystem, IsAtMost, IsLawful, IsGreatest
 use Rattle.admit_core.proofs.FallsLaw.{all_under, all_above, run_is_greatest}
 use Rattle.bar_fixpoint.specs.Overfilled.{all_overfilled}
 use Rattle.bar_fixpoint.specs.Runs.{AreAboveAllThatFit, schools_of}
-use Rattle.bar_fixpoint.specs.Chosen.{AreChosen, PickedFall, TellsAtMostOne, EndsEarly}
+use Rattle.bar_fixpoint.specs.Chosen.{AreChosen, PickedFall, TellsAtMostOne, EndsEarly, IsRunBy}
 use Rattle.bar_fixpoint.proofs.OneFall.{sum_falls}
 
 -- the falls so far led from the ceilings to the bars
@@ -142,3 +142,17 @@ module _ (sys : FallingSystem) (lawful : IsLawful sys) (choice : List ℕ → Li
   smaller_now choice_now falls bars told_now f told_after after same_choice so_far fell =
       let fell_here = falls_now choice_now bars told_now f told_after after same_choice fell in
       sum_falls sys lawful choice told_now bars f told_after after (under_so_far sys lawful choice told falls bars told_now so_far) fell_here
+
+  -- falls that nobody keeps
+  pub run_now : (falls : List Fall) (bars told_now after told_after : List ℕ) → SoFar sys choice told falls bars told_now → after ≡ bars → told_after ≡ told_now
+      → is_settled sys_now bars ≡ true
+      → IsRunBy sys choice told told_after after
+  run_now falls bars told_now after told_after so_far stayed untold settled =
+      let P : FallingSystem → Type 0 = λ s. is_settled s bars ≡ true in
+      record {
+        falls = falls;
+        is_run = run_so_far sys lawful choice told falls bars told_now so_far (subst P same settled);
+        chosen = so_far.chosen;
+        bars_fell = stayed ∙ so_far.bars_fell;
+        told_of = untold ∙ so_far.told_of;
+      }

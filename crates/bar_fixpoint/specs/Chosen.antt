@@ -1,7 +1,7 @@
 -- Falls whose places a picker chose.
 use Rattle.std.specs.Prelude.{◌≡◌, ℕ, List, [], ◌∷◌, ◌++◌, ◌⊎◌, IsTrue, ⊤}
 use Rattle.admit_core.specs.declared.records.Fall.{Fall}
-use Rattle.admit_core.specs.Falls.{FallingSystem, is_overfilled, fall_of, fallen, bars_after, AreFalls}
+use Rattle.admit_core.specs.Falls.{FallingSystem, is_overfilled, fall_of, fallen, bars_after, AreFalls, IsRun}
 use Rattle.bar_fixpoint.specs.Overfilled.{all_overfilled}
 use Rattle.bar_fixpoint.specs.Runs.{schools_of}
 
@@ -29,6 +29,12 @@ pub record TellsOne (sys : FallingSystem) (choice : List ℕ → List ℕ → �
   pub chosen : place ≡ choice told (all_overfilled sys bars)
   pub told_of : told_after ≡ told ++ place ∷ []
 
+-- this is the place
+abbrev pub IsPicked : FallingSystem → (List ℕ → List ℕ → ℕ)
+    → List ℕ → List ℕ → List ℕ → ℕ → Type 0
+IsPicked sys choice bars told told_after i =
+    (one : TellsOne sys choice bars told told_after) × (one.place ≡ i)
+
 -- a picker told of one place more, or of none
 abbrev pub TellsAtMostOne : FallingSystem → (List ℕ → List ℕ → ℕ)
     → List ℕ → List ℕ → List ℕ → Type 0
@@ -49,3 +55,13 @@ pub record EndsEarly (sys : FallingSystem) (choice : List ℕ → List ℕ → �
 abbrev pub TellsOfFalls : FallingSystem → (List ℕ → List ℕ → ℕ) → List ℕ → List ℕ → Type 0
 TellsOfFalls sys choice told told_after =
     (bars : List ℕ) × EndsEarly sys choice told told_after bars
+
+-- a run of falls led from the ceilings to these bars, and the picker chose each place that fell and
+-- told of it
+pub record IsRunBy (sys : FallingSystem) (choice : List ℕ → List ℕ → ℕ)
+    (told told_after after : List ℕ) : Type 0 where
+  pub falls : List Fall
+  pub is_run : IsRun sys falls
+  pub chosen : AreChosen sys choice told sys.ceilings falls
+  pub bars_fell : after ≡ bars_after sys.ceilings falls
+  pub told_of : told_after ≡ told ++ schools_of falls

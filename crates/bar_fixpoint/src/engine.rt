@@ -1,8 +1,8 @@
 //! The engine.
-ghost use Rattle.std.specs.Prelude.{◌≡◌, ℕ, ◌+◌, ◌<◌, ◌≤◌, List, length, ◌++◌, IfOk, OnOk, OnErr, IfSome, IfNone, IsTrue, sum};
+ghost use Rattle.std.specs.Prelude.{◌≡◌, ℕ, ◌+◌, ◌<◌, ◌≤◌, List, length, [], ◌∷◌, ◌++◌, Contains, IfOk, OnOk, OnErr, IfSome, IfNone, IsTrue, sum};
 ghost use Rattle.admit_core.specs.Falls.{IsAtMost, IsGreatest, IsRun, is_overfilled, is_settled, fall_of, fallen, bars_after};
 ghost use Rattle.bar_fixpoint.specs.Runs.{AreAboveAllThatFit, schools_of};
-ghost use Rattle.bar_fixpoint.specs.Chosen.{AreChosen, PickedFall, TellsAtMostOne, EndsEarly};
+ghost use Rattle.bar_fixpoint.specs.Chosen.{AreChosen, PickedFall, TellsAtMostOne, EndsEarly, IsPicked, IsRunBy};
 
 use crate::falling::Falling;
 use crate::picker::Picker;
@@ -49,6 +49,106 @@ pub fn greatest<F: Falling, L: Ledger>(
     Ok(falls)
 }
 
+/// Lowers bars as [`greatest`] does, for whom the bars are enough: no fall is kept and nobody is
+/// named, so it takes no memory for them.
+pub fn settle<F: Falling, L: Ledger>(
+    alloc: Global,
+    system: &mut F,
+    picker: &mut dyn Picker,
+    steps: &mut Steps<L>,
+) -> Result<(), OutOfMemory>
+    requires { F.bars system.old ≡ (F.system system.old).ceilings }
+
+    ensures greatest { OnOk result (IsGreatest (F.system system.old) (F.bars system.new)) }
+    ensures run { OnOk result (IsRunBy (F.system system.old) (choice picker.old)
+        (told picker.old) (told picker.new) (F.bars system.new)) }
+
+    ensures above { OnErr result (AreAboveAllThatFit (F.system system.old) (F.bars system.new)) }
+    ensures early { OnErr result (EndsEarly (F.system system.old) (choice picker.old)
+        (told picker.old) (told picker.new) (F.bars system.new)) }
+
+    ensures same { F.system system.new ≡ F.system system.old }
+    ensures offers { F.offers system.new ≡ F.offers system.old }
+    ensures choice { choice picker.new ≡ choice picker.old }
+{
+    while let Some(_school) = sink_once(alloc, system, picker, steps)? {}
+    Ok(())
+}
+
+/// The bar of the picked place falls, and that place is answered; none where no place is
+/// overfilled.
+fn sink_once<F: Falling, L: Ledger>(
+    alloc: Global,
+    system: &mut F,
+    picker: &mut dyn Picker,
+    steps: &mut Steps<L>,
+) -> Result<Option<u32>, OutOfMemory>
+    requires { IsAtMost (F.bars system.old) (F.system system.old).ceilings }
+    ensures fall { IfOk result (λ place.
+        IfSome place (λ i. PickedFall (F.system system.old) (choice picker.old)
+        (told picker.old) (F.bars system.old) (fall_of (F.system system.old)
+        (F.bars system.old) i) (told picker.new) (F.bars system.new))) }
+    ensures settled { IfOk result (λ place.
+        IfNone place (IsTrue (is_settled (F.system system.old) (F.bars system.old)))) }
+    ensures rest { IfOk result (λ place. IfNone place
+        ((F.bars system.new ≡ F.bars system.old) × (told picker.new ≡ told picker.old))) }
+    ensures err { OnErr result (F.bars system.new ≡ F.bars system.old) }
+    ensures told { OnErr result (TellsAtMostOne (F.system system.old) (choice picker.old)
+        (F.bars system.old) (told picker.old) (told picker.new)) }
+    ensures same { F.system system.new ≡ F.system system.old }
+    ensures offers { F.offers system.new ≡ F.offers system.old }
+    ensures choice { choice picker.new ≡ choice picker.old }
+{
+    match picked(alloc, system, picker)? {
+        None => Ok(None),
+        Some(school) => {
+            lower_over(alloc, system, school, steps)?;
+            Ok(Some(school))
+        }
+    }
+}
+
+/// The place that the picker chooses from all overfilled ones; none where there is none.
+fn picked<F: Falling>(
+    alloc: Global,
+    system: &F,
+    picker: &mut dyn Picker,
+) -> Result<Option<u32>, OutOfMemory>
+    ensures picked { IfOk result (λ place.
+        IfSome place (IsPicked (F.system system.now) (choice picker.old) (F.bars system.now)
+        (told picker.old) (told picker.new))) }
+    ensures settled { IfOk result (λ place.
+        IfNone place (IsTrue (is_settled (F.system system.now) (F.bars system.now)))) }
+    ensures rest { IfOk result (λ place. IfNone place (told picker.new ≡ told picker.old)) }
+    ensures err { OnErr result (told picker.new ≡ told picker.old) }
+    ensures choice { choice picker.new ≡ choice picker.old }
+{
+    if let Some(places) = system.listed() {
+        return pick_any(places, picker);
+    }
+    let places = system.overfilled(alloc)?;
+    pick_any(places.as_slice(), picker)
+}
+
+/// The place that the picker chooses from these; none where there is none.
+fn pick_any(places: &[u32], picker: &mut dyn Picker) -> Result<Option<u32>, OutOfMemory>
+    ensures member { IfOk result (λ place. IfSome place (Contains places.now)) }
+    ensures chosen { IfOk result (λ place.
+        IfSome place (λ i. i ≡ choice picker.old (told picker.old) places.now)) }
+    ensures told { IfOk result (λ place.
+        IfSome place (λ i. told picker.new ≡ told picker.old ++ i ∷ [])) }
+    ensures none { IfOk result (λ place. IfNone place (places.now ≡ [])) }
+    ensures rest { IfOk result (λ place. IfNone place (told picker.new ≡ told picker.old)) }
+    ensures err { OnErr result (told picker.new ≡ told picker.old) }
+    ensures choice { choice picker.new ≡ choice picker.old }
+{
+    if places.is_empty() {
+        return Ok(None);
+    }
+    let place = picker.pick(places)?;
+    Ok(Some(place))
+}
+
 /// The bar of the picked place falls; none where no place is overfilled.
 fn fall_once<F: Falling, L: Ledger>(
     alloc: Global,
@@ -71,14 +171,13 @@ fn fall_once<F: Falling, L: Ledger>(
     ensures offers { F.offers system.new ≡ F.offers system.old }
     ensures choice { choice picker.new ≡ choice picker.old }
 {
-    let places = system.overfilled(alloc)?;
-    let is_settled = places.is_empty();
-    if is_settled {
-        return Ok(None);
+    match picked(alloc, system, picker)? {
+        None => Ok(None),
+        Some(school) => {
+            let fall = make_fall(alloc, system, school, steps)?;
+            Ok(Some(fall))
+        }
     }
-    let school = picker.pick(places.as_slice())?;
-    let fall = make_fall(alloc, system, school, steps)?;
-    Ok(Some(fall))
 }
 
 /// The bar of an overfilled place falls below its first rank that has no bed.
@@ -109,6 +208,30 @@ fn make_fall<F: Falling, L: Ledger>(
                 to,
                 wishes: Sequence::from_vec(names),
             })
+        }
+    }
+}
+
+/// The same, and nobody is named.
+fn lower_over<F: Falling, L: Ledger>(
+    alloc: Global,
+    system: &mut F,
+    school: u32,
+    steps: &mut Steps<L>,
+) -> Result<(), OutOfMemory>
+    requires under { IsAtMost (F.bars system.old) (F.system system.old).ceilings }
+    requires over { IsTrue (is_overfilled (F.system system.old) (F.bars system.old) school) }
+    ensures bars { OnOk result (F.bars system.new ≡ fallen (F.bars system.old)
+        (fall_of (F.system system.old) (F.bars system.old) school)) }
+    ensures err { OnErr result (F.bars system.new ≡ F.bars system.old) }
+    ensures same { F.system system.new ≡ F.system system.old }
+    ensures offers { F.offers system.new ≡ F.offers system.old }
+{
+    match system.over(alloc, school)? {
+        None => unreachable!(),
+        Some(rank) => {
+            system.lower(school, rank - 1, steps);
+            Ok(())
         }
     }
 }

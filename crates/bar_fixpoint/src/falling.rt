@@ -1,5 +1,5 @@
 //! What a system of falling bars can be asked.
-ghost use Rattle.std.specs.Prelude.{◌≡◌, ℕ, ◌<◌, List, length, slice_index, slice_set, map, filter, nat_le, IfOk};
+ghost use Rattle.std.specs.Prelude.{◌≡◌, ℕ, ◌<◌, List, length, slice_index, slice_set, map, filter, nat_le, IfOk, IfSome};
 ghost use Rattle.admit_core.specs.Falls.{FallingSystem, IsLawful};
 ghost use Rattle.bar_fixpoint.specs.Overfilled.{rank_over, all_overfilled};
 
@@ -47,6 +47,14 @@ pub trait Falling {
             }
         }
         Ok(places)
+    }
+
+    /// The same, lent by a system that keeps the list; none where it keeps none.
+    fn listed(&self) -> Option<&[u32]>
+        ensures { IfSome result (λ places.
+            places.now ≡ all_overfilled (system self.now) (bars self.now)) }
+    {
+        None
     }
 
     /// A name for each demanded rank of at most `upto`, from the least rank.

@@ -12,7 +12,7 @@ mod picker;
 mod pickers;
 mod tired;
 
-pub use engine::greatest;
+pub use engine::{greatest, settle};
 pub use falling::Falling;
 pub use law::law_of_runs;
 pub use picker::Picker;

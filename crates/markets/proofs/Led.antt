@@ -1,25 +1,21 @@
 -- What the engine's answer says of a market that is solved.
-use Rattle.std.proofs.Common.{ℕ, ◌≡◌, List, ◌++◌, refl, sym, subst, inl}
-use Rattle.admit_core.specs.declared.records.Fall.{Fall}
-use Rattle.admit_core.specs.Falls.{FallingSystem, bars_after, IsGreatest, IsRun}
-use Rattle.bar_fixpoint.specs.Runs.{schools_of}
+use Rattle.std.proofs.Common.{ℕ, ◌≡◌, ◌∙◌, List, sym, subst}
+use Rattle.admit_core.specs.Falls.{FallingSystem, IsGreatest}
 use Rattle.bar_fixpoint.proofs.RunLaws.{picks_fix}
-use Rattle.bar_fixpoint.specs.Chosen.{AreChosen, EndsEarly, TellsOfFalls}
+use Rattle.bar_fixpoint.specs.Chosen.{EndsEarly, IsRunBy, TellsOfFalls}
 use Rattle.markets.specs.Solving.{IsLedTo}
 
-pub led : (seen sys : FallingSystem) (choice : List ℕ → List ℕ → ℕ) (told told_after bars : List ℕ) (falls : List Fall) → seen ≡ sys
-    → IsRun seen falls
-    → AreChosen seen choice told seen.ceilings falls → told_after ≡ told ++ schools_of falls → bars ≡ bars_after seen.ceilings falls
+pub led : (seen sys : FallingSystem) (choice : List ℕ → List ℕ → ℕ) (told told_after low bars : List ℕ) → seen ≡ sys → IsRunBy seen choice told told_after low → bars ≡ low
     → IsLedTo sys choice told told_after bars
-led seen sys choice told told_after bars falls same run chosen told_of bars_fell =
+led seen sys choice told told_after low bars same run bars_are =
     let P : FallingSystem → Type 0 = λ s. IsLedTo s choice told told_after bars in
     subst P same (record {
-      falls = falls;
-      is_run = run;
-      leads = (picks_fix seen falls run).0;
-      chosen = chosen;
-      told_of = told_of;
-      bars_fell = bars_fell;
+      falls = run.falls;
+      is_run = run.is_run;
+      leads = (picks_fix seen run.falls run.is_run).0;
+      chosen = run.chosen;
+      told_of = run.told_of;
+      bars_fell = bars_are ∙ run.bars_fell;
     })
 
 -- the greatest bars of the system that the engine sees
@@ -34,14 +30,3 @@ pub some_told : (seen sys : FallingSystem) (choice : List ℕ → List ℕ → �
 some_told seen sys choice told told_after bars same early =
     let P : FallingSystem → Type 0 = λ s. TellsOfFalls s choice told told_after in
     subst P same (bars, early)
-
--- all falls are told of
-pub all_told : (seen sys : FallingSystem) (choice : List ℕ → List ℕ → ℕ) (told told_after : List ℕ) (falls : List Fall) → seen ≡ sys
-    → IsRun seen falls
-    → AreChosen seen choice told seen.ceilings falls → told_after ≡ told ++ schools_of falls → TellsOfFalls sys choice told told_after
-all_told seen sys choice told told_after falls same run chosen told_of =
-    let P : FallingSystem → Type 0 = λ s. TellsOfFalls s choice told told_after in
-    subst P same (
-      bars_after seen.ceilings falls,
-      record { falls = falls; are_falls = run.are_falls; chosen = chosen; bars_fell = refl; told_of = inl told_of },
-    )

@@ -15,9 +15,9 @@ abbrev pub overfilled : Fill → List ℕ
 overfilled f = filter (is_over f.seats f.counts) (range_with_len 0 (length f.counts))
 
 -- they are listed, with room for all
-pub record AreListed (f : Fill) (places : List ℕ) (capacity : ℕ) : Type 0 where
+pub record AreListed (f : Fill) (places : List ℕ) (room_for : ℕ) : Type 0 where
   pub listed : places ≡ overfilled f
-  pub room : length f.counts ≤ capacity
+  pub room : length f.counts ≤ room_for
 
 -- the counts with one more where a place is
 abbrev pub counted_in : List ℕ → Option ℕ → List ℕ

@@ -5,6 +5,7 @@ ghost use Rattle.std.specs.List.Sorted.{IsNonDecreasing, IsPartitionPoint};
 ghost use Rattle.markets.specs.Fillings.{overfilled, is_over};
 
 use admit_core::OutOfMemory;
+use place_queue::PlaceQueue;
 use std::alloc::Global;
 use std::marker::Model;
 
@@ -12,7 +13,7 @@ use std::marker::Model;
 pub struct Filling {
     seats: Vec<u32>,
     counts: Vec<u32>,
-    overfilled: Vec<u32>,
+    overfilled: PlaceQueue,
 }
 
 // Not derived: so it is dropped in one step where it is held, and not by each list.
@@ -27,7 +28,6 @@ impl Drop for Filling {
 }
 
 impl Model for Filling {
-    ghost use Rattle.std.specs.Prelude.{vec_capacity};
     ghost use Rattle.markets.specs.Fillings.{Fill, AreListed};
 
     ghost Value = { Fill };
@@ -35,7 +35,7 @@ impl Model for Filling {
     ghost view = { λ f. record { seats = f.seats.items; counts = f.counts.items } };
 
     ghost invariant = { λ f. AreListed (record { seats = f.seats.items; counts = f.counts.items })
-        f.overfilled.items (vec_capacity f.overfilled) };
+        f.overfilled.items f.overfilled.room };
 }
 
 impl Filling {
@@ -46,12 +46,13 @@ impl Filling {
         ensures { IfOk result (λ f. f ≡ record { seats = seats.now; counts = counts.items }) }
     {
         let seats = seats.to_vec(alloc)?;
-        let mut overfilled = Vec::with_capacity(alloc, counts.len())?;
+        let mut overfilled = Vec::with_capacity(alloc, 2 * counts.len())?;
         for programme in 0..counts.len() as u32 {
             if counts[programme as usize] > seats[programme as usize] {
                 overfilled.push(programme)?;
             }
         }
+        let overfilled = PlaceQueue::from_vec(overfilled, counts.len());
         Ok(Filling {
             seats,
             counts,
@@ -79,7 +80,14 @@ impl Filling {
     pub fn overfilled(&self, alloc: Global) -> Result<Vec<u32>, OutOfMemory>
         ensures { IfOk result (λ places. places.items ≡ overfilled self.now) }
     {
-        Ok(self.overfilled.to_vec(alloc)?)
+        Ok(self.overfilled.as_slice().to_vec(alloc)?)
+    }
+
+    /// The same, lent.
+    pub fn listed(&self) -> &[u32]
+        ensures { result.now ≡ overfilled self.now }
+    {
+        self.overfilled.as_slice()
     }
 
     /// Puts how many candidates a programme has.
@@ -93,9 +101,9 @@ impl Filling {
         let was_over = self.counts[programme as usize] > seats;
         let is_over = count > seats;
         if is_over != was_over {
-            let at = first_not_below(&self.overfilled, programme);
+            let at = first_not_below(self.overfilled.as_slice(), programme);
             if is_over {
-                self.overfilled.insert(at, programme).unwrap();
+                self.overfilled.insert(at, programme);
             } else {
                 self.overfilled.remove(at);
             }

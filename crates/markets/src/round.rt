@@ -172,6 +172,10 @@ impl Falling for MarketRound<'_> {
         self.seating.filling.overfilled(alloc)
     }
 
+    fn listed(&self) -> Option<&[u32]> {
+        Some(self.seating.filling.listed())
+    }
+
     fn names(&self, alloc: Global, i: u32, upto: u32) -> Result<Vec<u32>, OutOfMemory> {
         let end = least(self.bars[i as usize], upto);
         names_within(alloc, self.market.market(), &self.seating.places, i, end)

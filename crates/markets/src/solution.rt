@@ -11,7 +11,7 @@ use crate::laws::laws_of_markets;
 use crate::market::Market;
 use crate::round::MarketRound;
 use admit_core::{OutOfMemory, Steps};
-use bar_fixpoint::{Falling, Picker, greatest, law_of_runs};
+use bar_fixpoint::{Falling, Picker, law_of_runs, settle};
 use std::alloc::Global;
 use std::sync::ledger::Ledger;
 
@@ -52,7 +52,7 @@ pub fn solve<L: Ledger>(
     laws_of_markets();
     law_of_runs();
     let mut round = MarketRound::build(alloc, market)?;
-    greatest(alloc, &mut round, picker, steps)?;
+    settle(alloc, &mut round, picker, steps)?;
     Ok(solved_by(market, round))
 }
 

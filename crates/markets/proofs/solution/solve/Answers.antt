@@ -10,34 +10,33 @@ use Rattle.markets.proofs.solution.solve.Goals as goal
 
 pub returns-clause-led : goal.returns-clause-led
 returns-clause-led g c =
-    led _ (market_system c.args.market.now) _ _ _ _ _ c.in_ok-round.ensures.system c.in_ok-greatest.ensures.run
-    c.in_ok-greatest.ensures.chosen
-    c.in_ok-greatest.ensures.told (c.solved_by.ensures.bars ∙ c.in_ok-greatest.ensures.bars)
+    led _ (market_system c.args.market.now) _ _ _ _ _ c.in_ok-round.ensures.system c.in_ok-settle.ensures.run
+    c.solved_by.ensures.bars
 
 pub returns-in_err-round-clause-early : goal.returns-in_err-round-clause-early
 returns-in_err-round-clause-early g c = on_err c.from_residual.result (none_told (market_system c.args.market.now) _ _)
 
-pub returns-in_err-greatest-clause-early : goal.returns-in_err-greatest-clause-early
-returns-in_err-greatest-clause-early g c =
-    on_err c.from_residual-in_err-greatest.result
-    (some_told _ (market_system c.args.market.now) _ _ _ _ c.in_ok-round.ensures.system c.in_err-greatest.ensures.early)
+pub returns-in_err-settle-clause-early : goal.returns-in_err-settle-clause-early
+returns-in_err-settle-clause-early g c =
+    on_err c.from_residual-in_err-settle.result
+    (some_told _ (market_system c.args.market.now) _ _ _ _ c.in_ok-round.ensures.system c.in_err-settle.ensures.early)
 
-pub greatest-requires : goal.greatest-requires
-greatest-requires g c =
+pub settle-requires : goal.settle-requires
+settle-requires g c =
     c.in_ok-round.ensures.bars ∙ ap (λ (s : FallingSystem). s.ceilings) (sym c.in_ok-round.ensures.system)
 
 pub solved_by-requires : goal.solved_by-requires
-solved_by-requires g c = c.in_ok-greatest.ensures.offers ∙ c.in_ok-round.ensures.offers
+solved_by-requires g c = c.in_ok-settle.ensures.offers ∙ c.in_ok-round.ensures.offers
 
 pub returns-clause-greatest : goal.returns-clause-greatest
 returns-clause-greatest g c =
-    greatest_here _ (market_system c.args.market.now) _ _ c.in_ok-round.ensures.system c.in_ok-greatest.ensures.greatest
+    greatest_here _ (market_system c.args.market.now) _ _ c.in_ok-round.ensures.system c.in_ok-settle.ensures.greatest
     c.solved_by.ensures.bars
 
 pub returns-clause-stable : goal.returns-clause-stable
 returns-clause-stable g c =
     let m = c.args.market.now in
-    let greatest = greatest_here _ (market_system m) _ _ c.in_ok-round.ensures.system c.in_ok-greatest.ensures.greatest
+    let greatest = greatest_here _ (market_system m) _ _ c.in_ok-round.ensures.system c.in_ok-settle.ensures.greatest
     c.solved_by.ensures.bars in
     let P : List (Option ℕ) → Type 0 = IsStable m in
     subst P (sym c.solved_by.ensures.places) (c.laws_of_markets.ensures.stable m _ c.stands.ensures.market greatest)
@@ -45,7 +44,7 @@ returns-clause-stable g c =
 pub returns-clause-best : goal.returns-clause-best
 returns-clause-best g c =
     let m = c.args.market.now in
-    let greatest = greatest_here _ (market_system m) _ _ c.in_ok-round.ensures.system c.in_ok-greatest.ensures.greatest
+    let greatest = greatest_here _ (market_system m) _ _ c.in_ok-round.ensures.system c.in_ok-settle.ensures.greatest
     c.solved_by.ensures.bars in
     let P : List (Option ℕ) → Type 0 = IsBestForAll m in
     subst P (sym c.solved_by.ensures.places) (c.laws_of_markets.ensures.best m _ c.stands.ensures.market greatest)
@@ -53,7 +52,7 @@ returns-clause-best g c =
 pub returns-clause-placed : goal.returns-clause-placed
 returns-clause-placed g c =
     let m = c.args.market.now in
-    let greatest = greatest_here _ (market_system m) _ _ c.in_ok-round.ensures.system c.in_ok-greatest.ensures.greatest
+    let greatest = greatest_here _ (market_system m) _ _ c.in_ok-round.ensures.system c.in_ok-settle.ensures.greatest
     c.solved_by.ensures.bars in
     let P : List (Option ℕ) → Type 0 = ArePlacedInAll m in
     subst P (sym c.solved_by.ensures.places) (c.laws_of_markets.ensures.placed m _ c.stands.ensures.market greatest)

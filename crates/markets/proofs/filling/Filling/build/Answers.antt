@@ -5,6 +5,7 @@ use Rattle.std.specs.declared.alloc.Global.{Global}
 use Rattle.std.proofs.lemmas.Bool.{lt-ltb, le-ltb}
 use Rattle.std.proofs.lemmas.List.{append-nil, get_or_default}
 use Rattle.bar_fixpoint.proofs.Listing.{filter_more}
+use Rattle.place_queue.specs.Queues.{Queue}
 use Rattle.markets.specs.Fillings.{Fill, is_over}
 use Rattle.markets.proofs.filling.Filling.build.Goals as goal
 use Rattle.markets.proofs.filling.Filling.build.Goals.{then-index+in_ok-push, else-index}
@@ -53,8 +54,8 @@ invariant_of-result c =
     let end : c.loop-programme.programme ≡ length c.args.counts.items =
     omega (arith, c.loop-programme-test.false, c.loop-programme.auto.programme-end, c.len-programme-end.ensures) in
     record {
-      listed = c.loop-programme.invariant.0 ∙ ap (λ n. filter test (range_with_len 0 n)) end;
-      room = c.loop-programme.invariant.1;
+      listed = ap (λ (q : Queue). q.items) c.from_vec-overfilled.ensures ∙ c.loop-programme.invariant.0 ∙ ap (λ n. filter test (range_with_len 0 n)) end;
+      room = omega (arith, ap (λ (q : Queue). q.room) c.from_vec-overfilled.ensures, c.len-2.ensures);
     }
 
 pub returns : goal.returns

@@ -1,4 +1,4 @@
-use Rattle.std.proofs.Common.{◌≡◌, ℕ, ◌≤◌, ◌<◌, true, false, not, List, length, arith, refl, sym, ◌∙◌, ap, subst, nat_lt, get_or, None, Option}
+use Rattle.std.proofs.Common.{◌≡◌, ℕ, ◌≤◌, ◌<◌, true, false, not, List, length, arith, sym, ◌∙◌, ap, subst, nat_lt, get_or, None, Option}
 use Rattle.std.specs.Prelude.{slice_index, is_some}
 use Rattle.std.proofs.Math.Bool.{beq}
 use Rattle.std.proofs.lemmas.Bool.{lt-ltb, le-ltb}
@@ -6,6 +6,7 @@ use Rattle.std.proofs.lemmas.List.{get_or_default}
 use Rattle.std.specs.List.Sorted.{IsNonDecreasing}
 use Rattle.admit_core.proofs.Plain.{unlike, alike}
 use Rattle.linked_demand.proofs.Answered.{listed_rises, still_listed, room_for_one, one_listed, listed_within, one_dropped}
+use Rattle.place_queue.specs.Queues.{Queue}
 use Rattle.markets.specs.Fillings.{Fill}
 use Rattle.markets.proofs.Filled.{mark, marks, some_mark, mark_at, long, as_answers, from_answers}
 use Rattle.markets.proofs.filling.Filling.put.Goals as goal
@@ -52,12 +53,16 @@ first_not_below-at-requires c =
     let seats = c.self.inside.seats.items in
     let counts = c.self.inside.counts.items in
     let P = λ (ks : List ℕ). IsNonDecreasing ks in
-    subst P (sym c.deref.ensures.value)
+    subst P (sym c.as_slice.ensures)
     (listed_rises (marks seats counts) c.self.inside.overfilled.items _
     (as_answers seats counts c.self.inside.overfilled.items _ c.self.invariant))
 
-pub unwrap-requires : goal.unwrap-requires
-unwrap-requires c =
+pub insert-requires-clause-at : goal.insert-requires-clause-at
+insert-requires-clause-at c =
+    omega (arith, c.first_not_below-at.ensures.within, ap length c.as_slice.ensures)
+
+pub insert-requires-clause-room : goal.insert-requires-clause-room
+insert-requires-clause-room c =
     let seats = c.self.inside.seats.items in
     let counts = c.self.inside.counts.items in
     let places = c.self.inside.overfilled.items in
@@ -65,14 +70,12 @@ unwrap-requires c =
     let none = was_unlisted seats counts c.self.view_is k c.requires.counts c.requires.seats c.index-seats.ensures c.index.ensures
     c.args.count c.if-is_over-was_over.true c.if-is_over.true in
     let m_lt = within seats counts c.self.view_is k c.requires.counts c.requires.seats c.index-seats.ensures c.index.ensures c.args.count in
-    c.insert.ensures.succeeds (omega (
+    omega (
       arith,
       room_for_one (marks seats counts) places _ (as_answers seats counts places _ c.self.invariant) k
-          (mark (nat_lt (slice_index seats k) c.args.count)) m_lt c.deref.result.now c.deref.ensures.value c.first_not_below-at.result
+          (mark (nat_lt (slice_index seats k) c.args.count)) m_lt c.as_slice.result.now c.as_slice.ensures c.first_not_below-at.result
           c.first_not_below-at.ensures.within c.first_not_below-at.ensures.point none,
-      c.deref.ensures.len,
-      ap length c.deref.ensures.value,
-    ))
+    )
 
 pub remove-requires : goal.remove-requires
 remove-requires c =
@@ -86,10 +89,9 @@ remove-requires c =
     omega (
       arith,
       listed_within (marks seats counts) places _ (as_answers seats counts places _ c.self.invariant) k
-          (mark (nat_lt (slice_index seats k) c.args.count)) m_lt c.deref.result.now c.deref.ensures.value c.first_not_below-at.result
+          (mark (nat_lt (slice_index seats k) c.args.count)) m_lt c.as_slice.result.now c.as_slice.ensures c.first_not_below-at.result
           c.first_not_below-at.ensures.within c.first_not_below-at.ensures.point some,
-      c.deref.ensures.len,
-      ap length c.deref.ensures.value,
+      ap length c.as_slice.ensures,
     )
 
 pub invariant_of-self : goal.invariant_of-self
@@ -110,19 +112,19 @@ invariant_of-self c =
           v w.if-is_over-was_over.true w.if-is_over.true in
           rw w.self-inside-is
           (from_answers seats counts w.insert.new.self.items k v _ k_lt
-          (one_listed (marks seats counts) places _ (as_answers seats counts places _ c.self.invariant) k x m_lt w.deref.result.now
-          w.deref.ensures.value w.first_not_below-at.result w.first_not_below-at.ensures.within w.first_not_below-at.ensures.point none
-          (is ∙ lt-ltb s v w.if-is_over.true) w.insert.new.self.items _ (w.insert.ensures.items ∙ rw w.unwrap.ensures refl)
-          w.insert.ensures.capacity))
+          (one_listed (marks seats counts) places _ (as_answers seats counts places _ c.self.invariant) k x m_lt w.as_slice.result.now
+          w.as_slice.ensures w.first_not_below-at.result w.first_not_below-at.ensures.within w.first_not_below-at.ensures.point none
+          (is ∙ lt-ltb s v w.if-is_over.true) w.insert.new.self.items _ (ap (λ (q : Queue). q.items) w.insert.ensures)
+          (omega (arith, ap (λ (q : Queue). q.room) w.insert.ensures))))
       | then-is_over-was_over+else-is_over w ↦
           let some = was_listed seats counts c.self.view_is k c.requires.counts c.requires.seats c.index-seats.ensures c.index.ensures
           v w.if-is_over-was_over.true w.if-is_over.false in
           rw w.self-inside-is
           (from_answers seats counts w.remove.new.self.items k v _ k_lt
-          (one_dropped (marks seats counts) places _ (as_answers seats counts places _ c.self.invariant) k x m_lt w.deref.result.now
-          w.deref.ensures.value w.first_not_below-at.result w.first_not_below-at.ensures.within w.first_not_below-at.ensures.point some
-          (is ∙ le-ltb s v w.if-is_over.false) w.remove.new.self.items _ w.remove.ensures.items
-          (omega (arith, w.remove.ensures.capacity))))
+          (one_dropped (marks seats counts) places _ (as_answers seats counts places _ c.self.invariant) k x m_lt w.as_slice.result.now
+          w.as_slice.ensures w.first_not_below-at.result w.first_not_below-at.ensures.within w.first_not_below-at.ensures.point some
+          (is ∙ le-ltb s v w.if-is_over.false) w.remove.new.self.items _ (ap (λ (q : Queue). q.items) w.remove.ensures)
+          (omega (arith, ap (λ (q : Queue). q.room) w.remove.ensures))))
       | else-is_over-was_over w ↦
           rw w.self-inside-is
           (from_answers seats counts places k v _ k_lt

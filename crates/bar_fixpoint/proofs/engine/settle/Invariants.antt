@@ -1,0 +1,21 @@
+use Rattle.std.proofs.Common.{◌≡◌, List}
+use Rattle.std.specs.Prelude.{sum}
+use Rattle.admit_core.specs.declared.records.Fall.{Fall}
+use Rattle.bar_fixpoint.proofs.SoFar.{SoFar}
+use Rattle.bar_fixpoint.proofs.engine.settle.Given as goal
+
+-- there are falls that led here, though nobody keeps them
+abbrev pub invariant-loop-school : goal.invariant-loop-school
+invariant-loop-school g l =
+    let f = g.F.Falling in
+    let first = goal.Picker-dyn g l.fn.picker.now in
+    let now = goal.Picker-dyn g l.picker.now in
+    record {
+      same : f.system l.system ≡ f.system l.fn.system;
+      offers : f.offers l.system ≡ f.offers l.fn.system;
+      choice : now.choice l.picker.now.1 ≡ first.choice l.fn.picker.now.1;
+      so_far : (falls : List Fall) × SoFar (f.system l.fn.system) (first.choice l.fn.picker.now.1) (first.told l.fn.picker.now.1) falls (f.bars l.system) (now.told l.picker.now.1);
+    }
+
+abbrev pub decreases-loop-school : goal.decreases-loop-school
+decreases-loop-school g l = sum (g.F.Falling.bars l.system)

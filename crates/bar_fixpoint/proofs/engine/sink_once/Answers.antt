@@ -1,0 +1,8 @@
+use Rattle.bar_fixpoint.proofs.OneFall.{overfilled_from_pick}
+use Rattle.bar_fixpoint.proofs.engine.sink_once.Goals as goal
+
+pub lower_over-requires-clause-over : goal.lower_over-requires-clause-over
+lower_over-requires-clause-over g c =
+    let f = g.F.Falling in
+    let picked = rw c.in-Some.is at c.in_ok-picked.ensures.picked in
+    overfilled_from_pick (f.system c.args.system.now) _ (f.bars c.args.system.now) _ _ _ picked

@@ -1,0 +1,165 @@
+"""Times the program on dossiers of extreme shapes, each at two sizes, and shows how its time and memory grow."""
+
+import argparse
+import hashlib
+import math
+import subprocess
+import sys
+import tempfile
+from dataclasses import dataclass
+from pathlib import Path
+
+from .harness import TOOLS, scratch, until_told
+from .runs import watch_into
+
+LONGEST = 60.0
+DONE = 0
+MEGABYTE = 1 << 20
+# Below so many seconds the start of a program is most of a run.
+LEAST = 0.01
+HEAD = "| shape | words | rows | text MB | program | s | MB | s grow | MB grow |"
+LINE = "|---|---|---|---|---|---|---|---|---|"
+
+
+@dataclass(frozen=True)
+class Shape:
+    """By what its dossiers are made, at which two sizes, and the words that it is run with."""
+
+    maker: str
+    sizes: tuple[int, int]
+    words: tuple[str, ...] = ("replay",)
+    # The words by which the program itself writes the chain that the run reads.
+    chain: tuple[str, ...] = ()
+
+    def make(self, size: int, folder: Path) -> int:
+        """Writes a dossier, and answers how many rows it has. Another process makes it, so that this one stays small:
+        what a run takes is never told as less than what this process does."""
+        made = subprocess.run([sys.executable, "-B", "-m", "checks.shaped", self.maker, str(size), str(folder)],
+                              cwd=TOOLS, stdout=subprocess.PIPE, check=True)
+        return int(made.stdout)
+
+
+SHAPES = {
+    "quits": Shape("offers_move", (5_000, 20_000), ("replay", "--days", "2")),
+    "quits-ranked": Shape("offers_move_ranked", (5_000, 20_000), ("replay", "--days", "2")),
+    "one-group": Shape("one_group", (50_000, 200_000)),
+    "one-school": Shape("one_school", (50_000, 200_000)),
+    "one-candidate": Shape("one_candidate", (5_000, 20_000)),
+    "one-claim": Shape("one_claim", (5_000, 20_000)),
+    "displaced": Shape("displaced", (4_000, 16_000), ("market",)),
+    "programmes-at-once": Shape("programmes_at_once", (20_000, 80_000), ("market",)),
+    "cascade": Shape("cascade", (2_000, 4_000)),
+    "cascade-envy": Shape("cascade", (4_000, 8_000), ("envy",)),
+    "cascade-beds": Shape("cascade", (4_000, 8_000), ("beds", "--school", "1")),
+    "schools-at-once": Shape("schools_at_once", (20_000, 80_000)),
+    "passes": Shape("passes", (500, 2_000)),
+    "idle-days": Shape("applicants", (10_000, 40_000), ("chain", "--days", "366")),
+    "check-days": Shape("applicants", (10_000, 40_000), ("check",), ("chain", "--days", "61")),
+    "sorted": Shape("applicants", (25_000, 100_000)),
+    "shuffled": Shape("shuffled", (25_000, 100_000)),
+    "gaps": Shape("with_gaps", (25_000, 100_000)),
+}
+
+
+@dataclass(frozen=True)
+class Measured:
+    """How a run ended: what it took, and the length and the checksum of its text."""
+
+    status: int
+    seconds: float
+    memory: int
+    length: int
+    checksum: str
+
+
+def exponent(small: float, large: float, by: float) -> str:
+    """By which power of the rows something grows."""
+    return f"{math.log(large / small) / math.log(by):.1f}"
+
+
+def lines(name: str, program: str, rows: list[int], found: list[Measured]) -> str:
+    """A line for each size; the second one tells the growth."""
+    small, large = found
+    by = rows[1] / rows[0]
+    grown = (exponent(max(small.seconds, LEAST), max(large.seconds, LEAST), by),
+             exponent(small.memory, large.memory, by))
+    told = []
+    for count, one, grow in zip(rows, found, (("", ""), grown)):
+        ended = "" if one.status == DONE else f" (status {one.status})"
+        told.append(f"| {name} | {' '.join(SHAPES[name].words)} | {count} | {one.length / MEGABYTE:.1f} "
+                    f"| {program}{ended} | {one.seconds:.2f} | {one.memory / MEGABYTE:.0f} | {grow[0]} | {grow[1]} |")
+    return "\n".join(told)
+
+
+def measured(words: tuple[str, ...], folder: Path, by: str | None, longest: float) -> Measured:
+    """Runs a program; its text is never held whole."""
+    checksum, length = hashlib.sha256(), 0
+    with tempfile.TemporaryFile() as output:
+        status, usage = watch_into(output, words, folder, longest, by)
+        output.seek(0)
+        while piece := output.read(MEGABYTE):
+            checksum.update(piece)
+            length += len(piece)
+    return Measured(status, usage.ru_utime + usage.ru_stime, usage.ru_maxrss * 1024, length, checksum.hexdigest())
+
+
+def in_turn(shape: Shape, folder: Path, programs: list[str | None], asked: argparse.Namespace) -> list[Measured]:
+    """The quickest run of each program of some, in turn; of one that does not end well once, that run."""
+    runs: list[list[Measured]] = [[] for _ in programs]
+    for _ in range(asked.runs):
+        for program, found in zip(programs, runs):
+            if not found or found[-1].status == DONE:
+                found.append(measured(shape.words, folder, program, asked.longest))
+    return [min(found, key=lambda run: (run.status == DONE, run.seconds)) for found in runs]
+
+
+def tried(name: str, programs: list[str | None], asked: argparse.Namespace) -> bool:
+    """Measures a shape, prints its lines, and answers whether all runs ended well with the same text."""
+    shape, rows, found = SHAPES[name], [], []
+    with scratch() as place:
+        for size in shape.sizes:
+            folder = place / str(size)
+            rows.append(shape.make(size, folder))
+            if shape.chain:
+                with (folder / "chain.txt").open("wb") as chain:
+                    watch_into(chain, shape.chain, folder, asked.longest)
+            found.append(in_turn(shape, folder, programs, asked))
+    for program, of_program in zip(programs, zip(*found)):
+        print(lines(name, Path(program).name if program else "parcours", rows, list(of_program)), flush=True)
+    is_well = all(run.status == DONE and run.checksum == runs[0].checksum for runs in found for run in runs)
+    if not is_well:
+        print(f"FOUND {name}: a run did not end well, or the texts differ", flush=True)
+    return is_well
+
+
+def arguments() -> argparse.ArgumentParser:
+    words = argparse.ArgumentParser(
+        prog="shapes.sh", formatter_class=argparse.RawDescriptionHelpFormatter,
+        description="Makes dossiers of extreme shapes, each at two sizes, runs the program on them (and another\n"
+        "one in turn, whose text must be the same), and prints a table of processor seconds and peak\n"
+        "memory. The last two columns are the growth from the first size to the second, as a power of the\n"
+        "rows: 1 is as the rows, 2 their square. A run is never said to take less memory than this script.",
+        epilog=f"Shapes: {', '.join(SHAPES)}.\n"
+        "Status: 0 all texts are the same, 1 some are not or a run did not end well, 2 bad words.")
+    words.add_argument("shapes", nargs="*", metavar="SHAPE", help="all where none is named")
+    words.add_argument("--beside", metavar="PROGRAM", help="another program to run in turn")
+    words.add_argument("--runs", type=int, default=1, help="runs of each program, of which the quickest counts (1)")
+    words.add_argument("--longest", type=float, default=LONGEST,
+                       help=f"the most seconds of a processor for a run ({LONGEST:.0f})")
+    return words
+
+
+def main(words: list[str]) -> int:
+    parser = arguments()
+    asked = parser.parse_args(words)
+    unknown = [name for name in asked.shapes if name not in SHAPES]
+    if unknown or asked.runs < 1 or asked.longest <= 0:
+        parser.error(f"no shape {unknown[0]}" if unknown else "--runs and --longest are above 0")
+    programs = [None, asked.beside] if asked.beside else [None]
+    print(f"{HEAD}\n{LINE}", flush=True)
+    results = [tried(name, programs, asked) for name in asked.shapes or SHAPES]
+    return 0 if all(results) else 1
+
+
+if __name__ == "__main__":
+    sys.exit(until_told(lambda: main(sys.argv[1:])))
