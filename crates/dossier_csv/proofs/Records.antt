@@ -10,7 +10,7 @@ use Rattle.csv.specs.declared.parser.State.TheVariants as st
 use Rattle.csv.specs.declared.reader.Reader.{Reader}
 use Rattle.csv.specs.Reading.{NextIs, ReadRecord, ReadsNext, default_config, pending_of, records_from, records_next, source_of, took_first}
 use Rattle.std.proofs.Common.{inr}
-use Rattle.csv.specs.Reading.{names_headers, reader_config, reader_headers, reader_state, reader_trim, records}
+use Rattle.csv.specs.Reading.{is_flexible, names_headers, reader_config, reader_headers, reader_state, reader_trim, records}
 use Rattle.csv.specs.declared.reader.Trim.TheVariants as trim
 use Rattle.dossier_csv.specs.Rest.{GivesNext, HasLeft}
 
@@ -108,15 +108,16 @@ gives-told rem b s y (Some z) found fields n left reads e others = gives rem b (
 
 -- the records that are left after a read
 left-after : {R : Type 0} (rem : R → Option (List ℕ)) (a b : Reader R) (found : Bool) (fields : List (List ℕ)) (left : List (List (List ℕ))) (turns : ℕ) (h : HasLeft rem a left)
-    → h.turns ≡ turns → ReadRecord rem a b found fields → took_first b ≡ true → GivesNext rem b found fields left
-left-after rem a b found fields left zero h t r first = absurd (omega (arith, h.enough, t))
-left-after rem a b found fields left (suc n) h t r first =
+    → h.turns ≡ turns → ReadRecord rem a b found fields → took_first b ≡ true → is_flexible b ≡ is_flexible a → GivesNext rem b found fields left
+left-after rem a b found fields left zero h t r first flexible = absurd (omega (arith, h.enough, t))
+left-after rem a b found fields left (suc n) h t r first flexible =
     gives-told rem b a.state h.bytes (pending_of (rem b.rdr) b) found fields n left
     (rw (h.config, h.source) at r.0) (rw (← t) h.records)
     (λ p z told next state rest. let takes = next-takes a.state h.bytes p h.between next in record {
       plain = r.3 ∙ h.plain;
       config = r.2 ∙ h.config;
       ready = inl first;
+      flexible = flexible ∙ h.flexible;
       between = rw state takes.1;
       bytes = z;
       source = rw r.1 told;
@@ -126,17 +127,18 @@ left-after rem a b found fields left (suc n) h t r first =
     })
 
 pub reads-next : {R : Type 0} (rem : R → Option (List ℕ)) (a b : Reader R) (found : Bool) (fields : List (List ℕ)) (left : List (List (List ℕ))) → HasLeft rem a left
-    → ReadRecord rem a b found fields → took_first b ≡ true → GivesNext rem b found fields left
-reads-next rem a b found fields left h r first = left-after rem a b found fields left h.turns h refl r first
+    → ReadRecord rem a b found fields → took_first b ≡ true → is_flexible b ≡ is_flexible a → GivesNext rem b found fields left
+reads-next rem a b found fields left h r first flexible = left-after rem a b found fields left h.turns h refl r first flexible
 
 -- a reader that was just made has all the records left
 pub starts : {R : Type 0} (rem : R → Option (List ℕ)) (reader : Reader R) (bytes : List ℕ) → reader_trim reader ≡ trim.None → reader_config reader ≡ default_config
-    → names_headers reader ≡ false → reader_headers reader ≡ None → reader_state reader ≡ st.StartRecord → source_of rem reader ≡ Some bytes
+    → names_headers reader ≡ false → reader_headers reader ≡ None → is_flexible reader ≡ true → reader_state reader ≡ st.StartRecord → source_of rem reader ≡ Some bytes
     → HasLeft rem reader (records default_config bytes)
-starts rem reader bytes plain config unnamed none state source = record {
+starts rem reader bytes plain config unnamed none flexible state source = record {
   plain = plain;
   config = config;
   ready = inr (inr (unnamed, none));
+  flexible = flexible;
   between = rw state refl;
   bytes = bytes;
   source = source;

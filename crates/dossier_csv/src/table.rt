@@ -4,11 +4,11 @@ ghost use Rattle.std.specs.List.{list_any};
 ghost use Rattle.csv.specs.Records.{fields_of};
 ghost use Rattle.admit_core.specs.Ranges.{AreRows};
 ghost use Rattle.dossier_csv.specs.Layout.{Layout};
-ghost use Rattle.dossier_csv.specs.Rest.{GivesNext, HasLeft};
+ghost use Rattle.dossier_csv.specs.Rest.{GivesNext, HasLeft, HasSome};
 ghost use Rattle.dossier_csv.specs.Shape.{Answers, at_row, records_of, row_of, rows_from, same_texts, shape};
 
 use admit_core::{InFault, MAX_ROWS, Reason, Refusal, Slot};
-use csv::{ByteRecord, Reader, ReaderBuilder};
+use csv::{ByteRecord, ErrorKind, Reader, ReaderBuilder};
 use std::alloc::Global;
 
 /// A row of a slot.
@@ -45,8 +45,11 @@ fn reader_of(alloc: Global, bytes: &[u8]) -> Reader<&[u8]>
         .from_reader(alloc, bytes)
 }
 
-/// The next row, and whether there was one.
+/// The next row, and whether there was one. Records may have any number of fields and need be no
+/// text, so `csv` answers an error for want of memory alone; it leaves open that reading from a
+/// slice fails, which does not happen.
 fn next_row(reader: &mut Reader<&[u8]>, row: &mut ByteRecord) -> Result<bool, InFault>
+    requires { HasSome (λ text. Some text.now) reader.old }
     ensures next { IfOk result (λ found. (left : List (List (List ℕ))) → HasLeft
         (λ text. Some text.now) reader.old left
         → GivesNext (λ text. Some text.now) reader.new found (fields_of row.new) left) }
@@ -54,7 +57,10 @@ fn next_row(reader: &mut Reader<&[u8]>, row: &mut ByteRecord) -> Result<bool, In
 {
     match reader.read_byte_record(row) {
         Ok(found) => Ok(found),
-        Err(_) => Err(InFault::OutOfMemory),
+        Err(error) => match error.kind() {
+            ErrorKind::OutOfMemory | ErrorKind::Io(_) => Err(InFault::OutOfMemory),
+            _ => unreachable!(),
+        },
     }
 }
 
@@ -116,6 +122,7 @@ fn read_rows<T: TableRow>(
     row: &mut ByteRecord,
     width: usize,
 ) -> Result<Vec<T>, InFault>
+    requires { HasSome (λ text. Some text.now) reader.old }
     ensures value { (left : List (List (List ℕ))) → HasLeft (λ text. Some text.now) reader.old left
         → Answers (λ rows. rows.items) result (rows_from T.layout width 2 left) }
     ensures ranges { IfOk result (λ rows. AreRows T.in_range rows.items) }

@@ -177,7 +177,7 @@ impl Shelf for MemShelf {
     ghost use Rattle.std.specs.Io.KnownBytes.{ReadConsumes};
     ghost use Rattle.slot_io.specs.Bytes.{CountsTaken, OthersKept};
     ghost use Rattle.slot_io.specs.Faults.{NoneFell, Rose};
-    ghost use Rattle.slot_io.specs.Refusals.{faults_after};
+    ghost use Rattle.slot_io.specs.Refusals.{CountsFaults, faults_after};
     ghost use Rattle.shelf_io.specs.MemoryShelf.{mem_calls, mem_failing, mem_faults, mem_left, mem_taken};
 
     ghost left = { mem_left };
@@ -198,6 +198,7 @@ impl Shelf for MemShelf {
         ensures counts { NoneFell (mem_faults self.old) (mem_faults self.new) }
         ensures failed { IsErrOf result IoRefusal.Failed → Rose (mem_faults self.old slot)
             (mem_faults self.new slot) }
+        ensures counted { CountsFaults result slot (mem_faults self.old) (mem_faults self.new) }
 
         ensures planned { IsErrOf result IoRefusal.Failed ↔ IsToFail (mem_failing self.old)
             (mem_calls self.old) }

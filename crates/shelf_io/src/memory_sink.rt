@@ -146,13 +146,13 @@ impl Sink for MemSink {
         ensures counts { sink_faults self.old ≤ sink_faults self.new }
         ensures failed { IsErrOf result IoRefusal.Failed
             → Rose (sink_faults self.old) (sink_faults self.new) }
+        ensures counted { sink_faults self.new ≡ faults_after result (sink_faults self.old) }
 
         ensures planned { IsErrOf result IoRefusal.Failed
             ↔ (IsToFail (sink_failing self.old) (sink_calls self.old)
             ⊎ (fitting (sink_room self.old) (length (sink_held self.old)) (length piece.now) ≡ 0)) }
         ensures moves { IfOk result (λ count. count ≡ fitting (sink_room self.old)
             (length (sink_held self.old)) (length piece.now)) }
-        ensures faults { sink_faults self.new ≡ faults_after result (sink_faults self.old) }
         ensures calls { sink_calls self.new ≡ min (sink_calls self.old + 1) (2 ^ 64 - 1) }
         ensures failing { sink_failing self.new ≡ sink_failing self.old }
         ensures room { sink_room self.new ≡ sink_room self.old }

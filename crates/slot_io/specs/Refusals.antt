@@ -1,5 +1,7 @@
 -- What a device answers, and what its refusal leads to.
-use Rattle.std.specs.Prelude.{ℕ, ◌==◌, Result, Ok, Err, if◌then◌else◌}
+use Rattle.std.specs.Prelude.{◌≡◌, ℕ, ◌==◌, Result, Ok, Err, if◌then◌else◌}
+use Rattle.admit_core.specs.declared.slot.Slot.{Slot}
+use Rattle.slot_io.specs.Bytes.{OthersKept}
 use Rattle.slot_io.specs.Faults.{raised}
 use Rattle.slot_io.specs.declared.refusal.IoRefusal.{IoRefusal}
 use Rattle.slot_io.specs.declared.refusal.IoRefusal.TheVariants as io
@@ -16,6 +18,12 @@ abbrev pub faults_after : {T : Type 0} → Result T IoRefusal → ℕ → ℕ
 faults_after (Ok _) count = count
 faults_after (Err io.Failed) count = raised count
 faults_after (Err io.OutOfMemory) count = count
+
+-- the slots' counts of faults after a read of one: only its own count may change
+pub record CountsFaults {T : Type 0} (result : Result T IoRefusal) (slot : Slot)
+    (before now : Slot → ℕ) : Type 0 where
+  pub here : now slot ≡ faults_after result (before slot)
+  pub others : OthersKept slot before now
 
 -- what a device answers at a read: the number of bytes; any error is a failure
 abbrev pub read_answer : {E : Type 0} → Result ℕ E → Result ℕ IoRefusal

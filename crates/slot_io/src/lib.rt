@@ -12,7 +12,7 @@ mod shelf;
 mod sink;
 
 pub use counts::raise;
-pub use devices::{DirShelf, StdSink};
+pub use devices::{DirShelf, Folder, Printed, StdSink, WriterSink};
 pub use refusal::{IoRefusal, SlotRefusal};
 pub use shelf::{Shelf, read_slot};
 pub use sink::{Sink, write_all};

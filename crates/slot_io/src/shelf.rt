@@ -5,6 +5,7 @@ ghost use Rattle.std.specs.Io.KnownBytes.{ReadConsumes};
 ghost use Rattle.admit_core.specs.declared.slot.Slot.{Slot};
 ghost use Rattle.slot_io.specs.Bytes.{CountsTaken, OthersKept, TakesAll, TakesAtMost, TakesMoreThan};
 ghost use Rattle.slot_io.specs.Faults.{Counted, NoneFell, Rose, raised_by};
+ghost use Rattle.slot_io.specs.Refusals.{CountsFaults};
 
 use crate::refusal::{IoRefusal, SlotRefusal};
 use admit_core::Slot;
@@ -30,7 +31,8 @@ pub trait Shelf {
         ensures others_taken { OthersKept slot (taken self.old) (taken self.new) }
         ensures counts { NoneFell (faults self.old) (faults self.new) }
         ensures failed { IsErrOf result IoRefusal.Failed
-            → Rose (faults self.old slot) (faults self.new slot) };
+            → Rose (faults self.old slot) (faults self.new slot) }
+        ensures counted { CountsFaults result slot (faults self.old) (faults self.new) };
 }
 
 /// How many bytes are asked for at once.

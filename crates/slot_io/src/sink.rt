@@ -4,6 +4,7 @@ ghost use Rattle.std.specs.Io.{WritesAtMost};
 ghost use Rattle.std.specs.Io.KnownBytes.{Appends, WriteAppends};
 ghost use Rattle.slot_io.specs.Bytes.{AppendsPrefix};
 ghost use Rattle.slot_io.specs.Faults.{Rose};
+ghost use Rattle.slot_io.specs.Refusals.{faults_after};
 
 use crate::refusal::IoRefusal;
 
@@ -23,7 +24,8 @@ pub trait Sink {
         ensures bytes { WriteAppends (held self.old) (held self.new) result piece.now }
         ensures counts { faults self.old ≤ faults self.new }
         ensures failed { IsErrOf result IoRefusal.Failed
-            → Rose (faults self.old) (faults self.new) };
+            → Rose (faults self.old) (faults self.new) }
+        ensures counted { faults self.new ≡ faults_after result (faults self.old) };
 }
 
 /// Appends all the bytes in order. Where there are none, it makes no call.

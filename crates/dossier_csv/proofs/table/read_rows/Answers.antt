@@ -27,3 +27,6 @@ returns-clause-value g c = λ all has.
     let (left, here, whole) = c.rows.invariant.whole all has in
     let none = none-left _ _ _ left (rw c.if-branch.false at (c.in_ok-next_row.ensures.next left here)) in
     whole ∙ rw none (rows-end _ _ _ _)
+
+pub next_row-requires : goal.next_row-requires
+next_row-requires g c = let (left, here, whole) = c.rows.invariant.whole c.requires.0 c.requires.1 in (left, here)

@@ -17,3 +17,11 @@ returns-clause-value g c =
           rw c.slot.ensures (table-other g.T.TableRow.layout _ found.0 _ found.1 (sym w.if-is_header.ensures))
       | else-branch-via-else-branch w ↦ rw c.slot.ensures (table-none g.T.TableRow.layout _ (none-left _ _ _ _ (rw w.if-branch.false at next)))
     ]
+
+pub next_row-requires : goal.next_row-requires
+next_row-requires g c = (_, c.reader_of-reader.ensures)
+
+pub read_rows-requires : goal.read_rows-requires
+read_rows-requires g c =
+    let next = some-left _ _ _ _ (rw c.if-branch.true at (c.in_ok-next_row.ensures.next _ c.reader_of-reader.ensures)) in
+    (next.0, next.2)
