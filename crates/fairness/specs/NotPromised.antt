@@ -156,3 +156,21 @@ ToBeAScholar =
     (9 ∷ []) (1 ∷ 2 ∷ [])
     × Gives (with_scholar true) (order (11 ∷ 13 ∷ 12 ∷ []) (Both ∷ Free ∷ Scholar ∷ []) ∷ [])
     (1 ∷ []) (2 ∷ 3 ∷ 4 ∷ [])
+
+-- ---- a better position where programmes share a group: 13 goes before 11 in the one ranking of both
+-- programmes, gains the second by wish 4, and loses the first by wish 3, in whose call order they
+-- moved up: 11 no longer takes the second programme with the one bed, so 12, first in the order, is
+-- no longer barred, and takes the seat of the first
+abbrev pub with_one_ranking : List ℕ → Tables
+with_one_ranking ranking =
+    tables (group 1 0 ∷ []) (programme 10 1 1 ∷ programme 20 1 1 ∷ []) (school 5 1 ∷ [])
+    (by_rank 1 ranking) (boarded 5 (11 ∷ 12 ∷ []))
+    (wish 1 11 20 (Some 5) 0 ∷ wish 2 12 10 (Some 5) 0 ∷ wish 3 13 10 None 0
+    ∷ wish 4 13 20 None 0 ∷ [])
+
+abbrev pub SharedGroup : Type 0
+SharedGroup =
+    Gives (with_one_ranking (12 ∷ 11 ∷ 13 ∷ [])) (plain (12 ∷ 11 ∷ 13 ∷ []) ∷ []) (1 ∷ [])
+    (1 ∷ 3 ∷ [])
+    × Gives (with_one_ranking (12 ∷ 13 ∷ 11 ∷ [])) (plain (12 ∷ 13 ∷ 11 ∷ []) ∷ []) (9 ∷ [])
+    (2 ∷ 4 ∷ [])
