@@ -1,0 +1,5 @@
+pub mod Answers
+pub mod Bars
+pub mod CallOrders
+pub mod Days
+pub mod Fairness
