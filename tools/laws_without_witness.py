@@ -225,7 +225,7 @@ def main(words):
                 print(f"{name} ({where}): {kind} ({fault or ', '.join(book.named[kind])})")
         if not witnesses:
             print(f"{name} ({where}): no witness")
-    print(f"{met} laws have a witness, {without} have none; {wrong} witnesses are wrong")
+    print(f"laws with a witness: {met}, without one: {without}; witnesses that are wrong: {wrong}")
     return 1 if without or wrong else 0
 
 

@@ -1,5 +1,8 @@
 pub mod AnswerCases
+pub mod AutomaticCases
 pub mod BarCases
+pub mod BedCases
+pub mod DefinitionCases
 pub mod OrderCases
 pub mod PassCases
 pub mod PromiseCases

@@ -1,13 +1,10 @@
 -- The witnesses of the laws of passes, evenings and chains, by computation.
 use Rattle.std.proofs.Common.{ℕ, ◌≡◌, List, [], ◌∷◌, refl, lit≤, lit<}
 use Rattle.admit_core.specs.declared.ranking.CallOrder.{CallOrder}
-use Rattle.admit_core.specs.declared.records.PassEnd.{PassEnd}
-use Rattle.admit_core.specs.declared.state.Stamp.{Stamp}
 use Rattle.admit_core.specs.Boarding.{boarding}
 use Rattle.admit_core.specs.CallOrder.{AreCallOrders}
-use Rattle.admit_core.specs.Days.{IsPassEnd, Passes, changes, closing, first_evening, freed_after, offered}
-use Rattle.admit_core.specs.Falls.{IsGreatest, IsRun, bars_after}
-use Rattle.admit_core.specs.Proposals.{proposed}
+use Rattle.admit_core.specs.Days.{Passes, first_evening}
+use Rattle.admit_core.specs.Falls.{IsGreatest}
 use Rattle.admit_core.specs.State.{State}
 use Rattle.admit_core.specs.WorkedChains.{one_pass, true_line}
 use Rattle.admit_core.specs.WorkedDays.{fall, quiet, two_candidates}
@@ -23,19 +20,11 @@ use Rattle.law_cases.specs.Fairness.{two_plain_orders, two_rankings}
 use Rattle.law_cases.proofs.BarCases.{greatest_of}
 use Rattle.law_cases.proofs.Valid.{valid_by}
 
--- a pass with its automatic answers, by its run of falls
-pub pass_by : (s : State) (orders : List CallOrder) (ceilings : List ℕ) (stamp : Stamp) (end : PassEnd) → IsRun (boarding s orders ceilings) end.pass.falls
-    → end.pass.bars ≡ bars_after ceilings end.pass.falls → end.pass.offers ≡ proposed s orders end.pass.bars
-    → end.autos ≡ changes (offered s orders end.pass.bars stamp) (closing s orders end.pass.bars stamp)
-    → end.freed ≡ freed_after s orders end.pass.bars stamp → IsPassEnd s orders ceilings stamp end
-pass_by s orders ceilings stamp end run bars offers autos freed =
-    record { pass = passes_with s orders ceilings end.pass run bars offers; autos = autos; freed = freed }
-
-held_called : AreCallOrders held_bed.groups two_candidates
+pub held_called : AreCallOrders held_bed.groups two_candidates
 held_called = (called 2 _ _ refl (refl, (refl, tt)) (λ k. refl), tt)
 
-held_passes : Passes two_candidates (9 ∷ []) 1 1 (first_evening held_bed) (quiet (1 ∷ []) (fall 0 9 1 (1 ∷ []) ∷ []) [] ∷ []) held_bed_evening
-held_passes = (pass_by _ two_candidates (9 ∷ []) _ _ (record { are_falls = (refl, refl, tt); settled = refl }) refl refl refl refl, refl, refl)
+pub held_passes : Passes two_candidates (9 ∷ []) 1 1 (first_evening held_bed) (quiet (1 ∷ []) (fall 0 9 1 (1 ∷ []) ∷ []) [] ∷ []) held_bed_evening
+held_passes = (record { pass = passes_with _ two_candidates (9 ∷ []) _ (record { are_falls = (refl, refl, tt); settled = refl }) refl refl; autos = refl; freed = refl }, refl, refl)
 
 pub seats_are_filled_here : SeatsAreFilledWitness
 seats_are_filled_here =
@@ -58,9 +47,9 @@ realistic_evening = record { dossier = realistic; marks = first_marks }
 pub realistic_holds : Passes (realistic_order ∷ []) (10 ∷ []) 1 1 (first_evening realistic) realistic_passes realistic_evening
 realistic_holds =
     let orders : List CallOrder = realistic_order ∷ [] in (
-      pass_by _ orders (10 ∷ []) _ _ (record { are_falls = tt; settled = refl }) refl refl refl refl,
+      record { pass = passes_with _ orders (10 ∷ []) _ (record { are_falls = tt; settled = refl }) refl refl; autos = refl; freed = refl },
       refl,
-      (pass_by _ orders (10 ∷ []) _ _ (record { are_falls = (refl, refl, tt); settled = refl }) refl refl refl refl, refl, refl),
+      (record { pass = passes_with _ orders (10 ∷ []) _ (record { are_falls = (refl, refl, tt); settled = refl }) refl refl; autos = refl; freed = refl }, refl, refl),
     )
 
 pub evenings_are_closed_here : EveningsAreClosedWitness
