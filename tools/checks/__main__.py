@@ -26,7 +26,7 @@ def topics(program: str) -> dict[str, list[Checks]]:
                     hostile.check_broken_dossiers, hostile.check_lines],
         "disks": [disks.check_full_devices, disks.check_small_disks],
         "killing": list(killing.CHECKS),
-        "lemmas": [lemmas.check_same_lemmas],
+        "lemmas": [lemmas.check_same_lemmas, lemmas.check_witnesses],
         "rounds": [partial(rounds.check_small_rounds, program=program), partial(rounds.check_finds, program=program),
                    partial(rounds.check_unknown_modes, program=program),
                    rounds.check_endless, partial(rounds.check_stopped, program=program)],

@@ -1,4 +1,5 @@
-"""Checks of same_lemmas.py, and by it of the crates: a lemma is stated once."""
+"""Checks of same_lemmas.py and laws_without_witness.py, and by them of the crates: a lemma is stated once, and each law
+has a worked case."""
 
 import shutil
 from pathlib import Path
@@ -31,3 +32,87 @@ def check_same_lemmas(tally: Tally) -> None:
         tally.equal("under other names", look(folder, one=ONE, twin=TWIN), (1, said))
     ended = run(TOOLS / "same_lemmas.py")
     tally.equal("the crates", (ended.status, ended.output), (0, b"0 statements stand more than once\n"))
+
+
+LAWS = """-- two laws, of which one speaks of what holds of all
+abbrev pub Falls : Type 0
+Falls =
+    (lower upper : ℕ) -- two bars
+    → lower ≤ upper
+    → (w : Wish) → IsOpen w
+    → (lower < w.rank) × (w.rank ≤ upper)
+
+abbrev pub OfAll : (ℕ → Type 0) → Type 0
+OfAll Holds = (n : ℕ) → IsSmall n → Holds n
+
+abbrev pub IsLess : ℕ → Type 0
+IsLess n = (m : ℕ) → m ≡ n → m < 9
+
+abbrev pub Free : Type 0
+Free = (n : ℕ) → n ≤ n
+"""
+CALL = """pub fn laws_of_bars()
+    ensures falls { Falls }
+    ensures less { OfAll IsLess }
+    ensures free { Free }
+{}
+"""
+FALLS = """abbrev pub FallsWitness : Type 0
+FallsWitness =
+    let lower : ℕ = 1 in
+    let upper : ℕ = 2 in
+    let w : Wish = record { rank = 2; } in
+    (lower ≤ upper)
+    × IsOpen w
+    × (lower < w.rank) × (w.rank ≤ upper)
+"""
+LESS = """abbrev pub IsLessWitness : Type 0
+IsLessWitness =
+    let n : ℕ = 3 in
+    let m : ℕ = 3 in
+    IsSmall n × (m ≡ n) × (m < 9)
+"""
+CASES = """pub fn witnesses()
+    ensures falls { FallsWitness }
+    ensures less { IsLessWitness }
+{}
+"""
+
+
+def look_at_laws(folder: Path, cases: str, specs: str, *words: str) -> tuple[int, list[str]]:
+    """What laws_without_witness.py says of two laws, of these clauses and these statements of cases."""
+    (folder / "tools").mkdir()
+    shutil.copy(TOOLS / "laws_without_witness.py", folder / "tools")
+    for crate, source, text in (("bars", CALL, LAWS), ("cases", cases, specs)):
+        for place, file, content in (("src", "lib.rt", source), ("specs", "Rows.antt", text)):
+            (folder / "crates" / crate / place).mkdir(parents=True)
+            (folder / "crates" / crate / place / file).write_text(content)
+    ended = run(folder / "tools/laws_without_witness.py", *words)
+    return ended.status, ended.output.decode().splitlines()
+
+
+def check_witnesses(tally: Tally) -> None:
+    tally.begin("laws_without_witness.py")
+    with scratch() as folder:
+        said = ["Falls (bars::laws_of_bars, falls): FallsWitness (cases::witnesses, falls)",
+                "IsLess (bars::laws_of_bars, less): IsLessWitness (cases::witnesses, less)",
+                "laws with a witness: 2, without one: 0; witnesses that are wrong: 0"]
+        tally.equal("each has one", look_at_laws(folder, CASES, FALLS + LESS, "--list"), (0, said))
+    with scratch() as folder:
+        said = ["IsLess (bars::laws_of_bars, less): no witness",
+                "laws with a witness: 1, without one: 1; witnesses that are wrong: 0"]
+        tally.equal("one has none", look_at_laws(folder, CASES, FALLS), (1, said))
+    with scratch() as folder:
+        said = ["IsLess (bars::laws_of_bars, less): IsLessWitness (no clause names it)",
+                "laws with a witness: 1, without one: 0; witnesses that are wrong: 1"]
+        tally.equal("no clause", look_at_laws(folder, CASES.replace("    ensures less { IsLessWitness }\n", ""),
+                                              FALLS + LESS), (1, said))
+    for fault, old, new in (("a premise is left out", "    × IsOpen w\n", ""),
+                            ("another premise", "IsOpen w", "IsShut w"),
+                            ("a variable without a value", "    let upper : ℕ = 2 in\n", "")):
+        with scratch() as folder:
+            said = ["Falls (bars::laws_of_bars, falls): FallsWitness (not the law's text)",
+                    "laws with a witness: 1, without one: 0; witnesses that are wrong: 1"]
+            tally.equal(fault, look_at_laws(folder, CASES, FALLS.replace(old, new) + LESS), (1, said))
+    ended = run(TOOLS / "laws_without_witness.py")
+    tally.equal("the crates", ended.status, 0)

@@ -1,7 +1,6 @@
 -- Those of one kind are called by rank, and a resident scholar no later than their rank says.
 use Rattle.std.proofs.Common.{ℕ, zero, suc, ◌≤◌, ◌<◌, ◌≡◌, true, List, [], ◌∷◌, map, length, take, inl, inr, refl, sym, ◌∙◌, ap, subst, arith, nat_eq, Some}
 use Rattle.std.specs.Prelude.{◌≢◌, Contains, slice_get}
-use Rattle.std.specs.List.{IsDistinct}
 use Rattle.std.proofs.lemmas.Bool.{both_ways, cases_order, eq-eqb, eqb-true, or_left, or_right}
 use Rattle.std.proofs.lemmas.Cmp.{nat_eq_equiv}
 use Rattle.std.proofs.lemmas.List.{get_or-take, length-map, length-take-le}

@@ -83,7 +83,7 @@ zip_map f [] ms = refl
 zip_map f (w ∷ ws) [] = refl
 zip_map f (w ∷ ws) (m ∷ ms) = ap (λ l. (f w, m) ∷ l) (zip_map f ws ms)
 
-in_wishes : (ws : List Wish) (ms : List Mark) (e : Wish × Mark) → IsIn e (zip ws ms) → IsIn e.0 ws
+pub in_wishes : (ws : List Wish) (ms : List Mark) (e : Wish × Mark) → IsIn e (zip ws ms) → IsIn e.0 ws
 in_wishes [] ms e has = has
 in_wishes (w ∷ ws) [] e has = absurd has
 in_wishes (w ∷ ws) (m ∷ ms) e has =

@@ -1,7 +1,7 @@
 -- A better position in a call order costs no offer there.
-use Rattle.std.proofs.Common.{ℕ, ◌+◌, ◌≤◌, ◌≡◌, Bool, true, false, ◌||◌, List, [], ◌∷◌, ◌++◌, map, length, inl, inr, refl, sym, ◌∙◌, ap, subst, arith, filter, nat_eq, nat_lt, count_by, cond, length-append}
+use Rattle.std.proofs.Common.{ℕ, ◌+◌, ◌≤◌, ◌<◌, ◌≡◌, Bool, true, false, ◌||◌, List, [], ◌∷◌, ◌++◌, map, length, inl, inr, refl, sym, ◌∙◌, ap, subst, arith, filter, nat_eq, nat_lt, count_by, cond, length-append}
 use Rattle.std.specs.Prelude.{◌≢◌, nat_le}
-use Rattle.std.specs.List.{IsDistinct, before_first}
+use Rattle.std.specs.List.{IsDistinct, before_first, list_any}
 use Rattle.std.proofs.lemmas.Bool.{and_from, and_parts, cases_Bool, cases_eq, false≢true, le-leb, leb-true, lt-ltb, ltb-true, ne_eqb, or_cases, or_from, or_left, or_parts, or_right}
 use Rattle.std.proofs.lemmas.Cmp.{nat_eq_equiv}
 use Rattle.std.proofs.lemmas.List.{append_assoc}
@@ -17,22 +17,41 @@ use Rattle.admit_core.specs.Falls.{Fits}
 use Rattle.admit_core.specs.Lists.{is_among}
 use Rattle.admit_core.specs.Proposals.{demanded_ranks, demands_bed, is_open, order_of, wants_seat}
 use Rattle.admit_core.specs.State.{State, entries, holds_seat, seats_left}
+use Rattle.admit_core.specs.Validity.{IsValid}
+use Rattle.admit_core.proofs.CallRows.{IsIn}
 use Rattle.admit_core.proofs.DemandLaws.{Demands, demand_from, demand_parts, demanded, demands_at, open_under_higher, seat_stays}
 use Rattle.admit_core.proofs.FullBeds.{rising_distinct}
-use Rattle.admit_core.proofs.Tests.{any_implied, increasing-ascending}
+use Rattle.admit_core.proofs.Tests.{increasing-ascending}
 use Rattle.admit_core.proofs.Plain.{nat_eq_sym}
 use Rattle.fairness.specs.Exchanges.{BetterPositionCostsNoOffer, IsMovedUp}
+use Rattle.fairness.proofs.ByRank.{contains_in}
+use Rattle.fairness.proofs.Exchanging.{in_wishes}
 use Rattle.fairness.proofs.PassedOver.{called_in, early_in, seat_for}
 use Rattle.fairness.proofs.Seams.{before_at, before_others, not_in_front_of}
 
 -- ---- bars that fit under some call orders fit under others that give a seat to nobody more
 -- who has a seat under the second orders has one under the first
 abbrev SeatsFewer : State → List CallOrder → List CallOrder → List ℕ → Type 0
-SeatsFewer s orders others bars = (p c : ℕ) → seat_for others s bars p c ≡ true → seat_for orders s bars p c ≡ true
+SeatsFewer s orders others bars =
+    (p c : ℕ) → p < length s.dossier.programmes → seat_for others s bars p c ≡ true → seat_for orders s bars p c ≡ true
 
-fits_with_fewer : (s : State) (orders others : List CallOrder) (ceilings bars : List ℕ) → SeatsFewer s orders others bars
+-- the programme of a valid dossier's wish is there
+programme_there : (s : State) (e : Wish × Mark) → IsValid s.dossier → IsIn e (entries s) → e.0.programme < length s.dossier.programmes
+programme_there s e valid has =
+    let (k, lt, at) = contains_in e.0 s.dossier.wishes (in_wishes s.dossier.wishes s.marks e has) in
+    subst (λ (w : Wish). w.programme < length s.dossier.programmes) at (valid.wishes k e.0 lt).programme
+
+any_in : {X : Type 0} (p q : X → Bool) (xs : List X) → ((x : X) → IsIn x xs → p x ≡ true → q x ≡ true) → list_any p xs ≡ true → list_any q xs ≡ true
+any_in p q [] implied t = t
+any_in p q (x ∷ xs) implied t =
+    elim (or_cases (p x) (list_any p xs) t) [
+      | inl here ↦ or_left (q x) (list_any q xs) (implied x (inl refl) here)
+      | inr later ↦ or_right (q x) (list_any q xs) (any_in p q xs (λ y has. implied y (inr has)) later)
+    ]
+
+fits_with_fewer : (s : State) (orders others : List CallOrder) (ceilings bars : List ℕ) → IsValid s.dossier → SeatsFewer s orders others bars
     → Fits (boarding s orders ceilings) bars → Fits (boarding s others ceilings) bars
-fits_with_fewer s orders others ceilings bars fewer fits = record {
+fits_with_fewer s orders others ceilings bars valid fewer fits = record {
   under_ceilings = fits.under_ceilings;
   room = λ h lt.
       let ranks = demanded_ranks s others bars h in
@@ -40,14 +59,14 @@ fits_with_fewer s orders others ceilings bars fewer fits = record {
       let no_more = length-le_from_is_member nat_eq_equiv ranks (demanded_ranks s orders bars h) (rising_distinct ranks rises)
       (λ r t.
       demanded s orders bars h r
-      ∙ any_implied (demands_at s others bars h r) (demands_at s orders bars h r)
-      (λ e both.
+      ∙ any_in (demands_at s others bars h r) (demands_at s orders bars h r) (entries s)
+      (λ e has both.
       let parts = and_parts (demands_bed s others bars h e.0 e.1) (nat_eq r e.0.board_rank) both in
       let d = demand_parts s others bars h e.0 e.1 parts.0 in
       let now : Demands s orders bars h e.0 e.1 =
-      record { has = d.has; ranked = d.ranked; no_bed = d.no_bed; opens = d.opens; seat = fewer e.0.programme e.0.candidate d.seat } in
+      record { has = d.has; ranked = d.ranked; no_bed = d.no_bed; opens = d.opens; seat = fewer e.0.programme e.0.candidate (programme_there s e valid has) d.seat } in
       and_from (demands_bed s orders bars h e.0 e.1) (nat_eq r e.0.board_rank) (demand_from s orders bars h e.0 e.1 now) parts.1)
-      (entries s) (sym (demanded s others bars h r) ∙ t)) in
+      (sym (demanded s others bars h r) ∙ t)) in
       omega (arith, no_more, fits.room h lt);
 }
 
@@ -161,17 +180,17 @@ module _ (s : State) (orders moved : List CallOrder) (p c : ℕ) (is : IsMovedUp
       ∙ (λ i. (holds_seat s e p || nat_le (alike.long i + 1) (limit_of s.dossier p)) || nat_lt (alike.counts wants i) (seats_left s p))
       ∙ sym (ap (λ xs. seat_behind e (before_first (nat_eq e) xs)) is.becomes)
 
-  elsewhere : (q e : ℕ) → q ≢ p → seat_for moved s bars q e ≡ seat_for orders s bars q e
-  elsewhere q e other =
+  elsewhere : (q e : ℕ) → q < length s.dossier.programmes → q ≢ p → seat_for moved s bars q e ≡ seat_for orders s bars q e
+  elsewhere q e there other =
       ap (λ (xs : List ℕ).
       (holds_seat s e q || nat_le (length (before_first (nat_eq e) xs) + 1) (limit_of s.dossier q)) || nat_lt (count_by (wants_seat s bars q) (before_first (nat_eq e) xs)) (seats_left s q))
-      (is.others q other)
+      (is.others q there other)
 
   -- where the one who moves up has a seat before, nobody more has one afterwards
   fewer_afterwards : seat_for orders s bars p c ≡ true → SeatsFewer s orders moved bars
-  fewer_afterwards theirs q e t =
+  fewer_afterwards theirs q e there t =
       elim (cases_eq q p) [
-        | inr other ↦ sym (elsewhere q e other) ∙ t
+        | inr other ↦ sym (elsewhere q e there other) ∙ t
         | inl same ↦
             let now = subst (λ (n : ℕ). seat_for moved s bars n e ≡ true) same t in
             subst (λ (n : ℕ). seat_for orders s bars n e ≡ true) (sym same)
@@ -187,9 +206,9 @@ module _ (s : State) (orders moved : List CallOrder) (p c : ℕ) (is : IsMovedUp
 
   -- where they have none afterwards, nobody had more before
   fewer_before : seat_for moved s bars p c ≡ false → SeatsFewer s moved orders bars
-  fewer_before none q e t =
+  fewer_before none q e there t =
       elim (cases_eq q p) [
-        | inr other ↦ elsewhere q e other ∙ t
+        | inr other ↦ elsewhere q e there other ∙ t
         | inl same ↦
             let was = subst (λ (n : ℕ). seat_for orders s bars n e ≡ true) same t in
             subst (λ (n : ℕ). seat_for moved s bars n e ≡ true) (sym same)
@@ -204,17 +223,17 @@ module _ (s : State) (orders moved : List CallOrder) (p c : ℕ) (is : IsMovedUp
       ]
 
 pub better_position_costs_no_offer : BetterPositionCostsNoOffer
-better_position_costs_no_offer s orders moved ceilings bars moved_bars w m is greatest moved_greatest offered =
+better_position_costs_no_offer s orders moved ceilings bars moved_bars w m valid is greatest moved_greatest offered =
     let p = w.programme in
     let c = w.candidate in
     let parts = and_parts (is_open s bars w m) (seat_for orders s bars p c) offered in
-    let still_fit = fits_with_fewer s orders moved ceilings bars (fewer_afterwards s orders moved p c is bars parts.1) greatest.fits in
+    let still_fit = fits_with_fewer s orders moved ceilings bars valid (fewer_afterwards s orders moved p c is bars parts.1) greatest.fits in
     let opens = open_under_higher s orders bars moved_bars (moved_greatest.greatest bars still_fit) w m parts.0 in
     let seat : seat_for moved s moved_bars p c ≡ true =
     elim (cases_Bool (seat_for moved s moved_bars p c)) [
       | inl has ↦ has
       | inr none ↦
-          let fit = fits_with_fewer s moved orders ceilings moved_bars (fewer_before s orders moved p c is moved_bars none) moved_greatest.fits in
+          let fit = fits_with_fewer s moved orders ceilings moved_bars valid (fewer_before s orders moved p c is moved_bars none) moved_greatest.fits in
           let low = seat_stays s orders moved_bars bars (greatest.greatest moved_bars fit) w parts.1 in
           keeps s orders moved p c is moved_bars low
     ] in

@@ -14,10 +14,11 @@ use Rattle.admit_core.specs.Standing.{dossier_of}
 use Rattle.admit_core.proofs.ByPlaces.{EachBelow, after, by_places}
 use Rattle.admit_core.proofs.DemandLaws.{boarding_is_lawful}
 use Rattle.admit_core.proofs.FallsLaw.{run_is_greatest}
-use Rattle.fairness.specs.NotPromised.{Gives, offers_of, BetterBoardingRank, BetterRank, OneBedMore, OneSeatMore, ToBeAScholar}
+use Rattle.admit_core.proofs.Rows.{passes_with}
+use Rattle.fairness.specs.NotPromised.{Gives, offers_of, plain, BetterBoardingRank, BetterRank, LeavingOut, OneBedMore, OneSeatMore, SharedGroup, ToBeAScholar}
 
 -- a call order by its first calls, one after another
-called : (n : ℕ) (g : RankGroup) (o : CallOrder) → length o.trace ≡ length o.list
+pub called : (n : ℕ) (g : RankGroup) (o : CallOrder) → length o.trace ≡ length o.list
     → EachBelow n (λ k. next_after g (take k o.list) ≡ slice_get (zip o.list o.trace) k)
     → ((k : ℕ) → next_after g (take (after n k) o.list) ≡ slice_get (zip o.list o.trace) (after n k))
     → IsCallOrder g o
@@ -83,3 +84,54 @@ to_be_a_scholar = (
   gives_by _ _ (0 ∷ []) _ _ refl (called 3 _ _ refl (refl, (refl, (refl, tt))) (λ k. refl), tt)
       (record { are_falls = (refl, refl, tt); settled = refl }) refl refl,
 )
+
+pub shared_group : SharedGroup
+unfolding first_after
+shared_group = (
+  gives_by _ _ (0 ∷ []) _ _ refl (called 3 _ _ refl (refl, (refl, (refl, tt))) (λ k. refl), tt)
+      (record { are_falls = (refl, refl, tt); settled = refl }) refl refl,
+  gives_by _ _ [] _ _ refl (called 3 _ _ refl (refl, (refl, (refl, tt))) (λ k. refl), tt)
+      (record { are_falls = tt; settled = refl }) refl refl,
+)
+
+pub leaving_out : LeavingOut
+unfolding first_after
+leaving_out =
+    let orders : List CallOrder = plain (102 ∷ 101 ∷ []) ∷ plain (101 ∷ 102 ∷ []) ∷ [] in (
+      record {
+        faultless = refl;
+        called = (called 2 _ _ refl (refl, (refl, tt)) (λ k. refl), (called 2 _ _ refl (refl, (refl, tt)) (λ k. refl), tt));
+        leave = (
+          _,
+          refl,
+          record {
+            lapsed = refl;
+            fits = refl;
+            passes = (record { pass = passes_with _ orders [] _ (record { are_falls = tt; settled = refl }) refl refl; autos = refl; freed = refl }, refl, refl);
+            left = refl;
+            free = refl;
+          },
+          refl,
+        );
+      },
+      record {
+        faultless = refl;
+        called = (called 2 _ _ refl (refl, (refl, tt)) (λ k. refl), (called 2 _ _ refl (refl, (refl, tt)) (λ k. refl), tt));
+        leave = (
+          _,
+          refl,
+          record {
+            lapsed = refl;
+            fits = refl;
+            passes = (
+              record { pass = passes_with _ orders [] _ (record { are_falls = tt; settled = refl }) refl refl; autos = refl; freed = refl },
+              refl,
+              (record { pass = passes_with _ orders [] _ (record { are_falls = tt; settled = refl }) refl refl; autos = refl; freed = refl }, refl, refl),
+            );
+            left = refl;
+            free = refl;
+          },
+          refl,
+        );
+      },
+    )

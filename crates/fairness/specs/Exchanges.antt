@@ -1,5 +1,5 @@
 -- What a candidate keeps who changes places with the one just before them.
-use Rattle.std.specs.Prelude.{◌≡◌, ◌≢◌, ℕ, ◌≤◌, ◌<◌, List, ◌∷◌, ◌++◌, map, nat_eq, ◌==◌, if◌then◌else◌, Contains, IsTrue}
+use Rattle.std.specs.Prelude.{◌≡◌, ◌≢◌, ℕ, ◌≤◌, ◌<◌, List, ◌∷◌, ◌++◌, length, map, nat_eq, ◌==◌, if◌then◌else◌, Contains, IsTrue}
 use Rattle.std.specs.List.{IsDistinct}
 use Rattle.admit_core.specs.declared.dossier.Wish.{Wish}
 use Rattle.admit_core.specs.declared.ranking.CallOrder.{CallOrder}
@@ -11,8 +11,8 @@ use Rattle.admit_core.specs.Proposals.{is_proposed, order_of}
 use Rattle.admit_core.specs.State.{State, has_school}
 use Rattle.admit_core.specs.Validity.{IsValid}
 
--- call orders that are alike but for those of one programme, in which a candidate changes places
--- with the one just before
+-- call orders that are alike but for that of one programme, in which a candidate changes places with
+-- the one just before; the programme has its ranking to itself, since that of no other one changes
 pub record IsMovedUp (d : DossierRows) (orders moved : List CallOrder) (p c : ℕ) : Type 0 where
   pub front : List ℕ
   pub passed : ℕ
@@ -20,13 +20,16 @@ pub record IsMovedUp (d : DossierRows) (orders moved : List CallOrder) (p c : �
   pub was : order_of d orders p ≡ front ++ passed ∷ c ∷ back
   pub becomes : order_of d moved p ≡ front ++ c ∷ passed ∷ back
   pub once : IsDistinct nat_eq (order_of d orders p)
-  pub others : (q : ℕ) → q ≢ p → order_of d moved q ≡ order_of d orders q
+  pub others : (q : ℕ) → q < length d.programmes → q ≢ p
+      → order_of d moved q ≡ order_of d orders q
 
--- a better position in a call order costs no offer there
+-- a better position in the call order of a programme that has its ranking to itself costs no offer
+-- there
 abbrev pub BetterPositionCostsNoOffer : Type 0
 BetterPositionCostsNoOffer =
     (s : State) (orders moved : List CallOrder) (ceilings bars moved_bars : List ℕ)
     (w : Wish) (m : Mark)
+    → IsValid s.dossier
     → IsMovedUp s.dossier orders moved w.programme w.candidate
     → IsGreatest (boarding s orders ceilings) bars
     → IsGreatest (boarding s moved ceilings) moved_bars

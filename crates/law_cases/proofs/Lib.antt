@@ -1,0 +1,10 @@
+pub mod AnswerCases
+pub mod AutomaticCases
+pub mod BarCases
+pub mod BedCases
+pub mod DefinitionCases
+pub mod OrderCases
+pub mod PassCases
+pub mod PromiseCases
+pub mod Tested
+pub mod Valid

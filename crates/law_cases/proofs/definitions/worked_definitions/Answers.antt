@@ -1,0 +1,13 @@
+use Rattle.law_cases.proofs.DefinitionCases.{freed_by_one, limit_explained, name_of_rank, one_is_answered_for, own_answers, pickers_choose, still_over_behind}
+use Rattle.law_cases.proofs.definitions.worked_definitions.Goals as goal
+
+pub returns : goal.returns
+returns c = record {
+  names = name_of_rank;
+  limit = limit_explained;
+  still_over = still_over_behind;
+  answered = one_is_answered_for;
+  freed = freed_by_one;
+  own = own_answers;
+  pickers = pickers_choose;
+}

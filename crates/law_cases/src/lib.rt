@@ -1,0 +1,25 @@
+//! Witnesses of laws: for each law that has premises a worked case that meets all of them, with
+//! what the law concludes there, so that no law holds for want of a case. The text of a witness is
+//! that of its law, with a value for each variable and a product for each arrow, which
+//! `tools/laws_without_witness.py` compares. The calls do nothing: their clauses are theorems.
+//!
+//! `witnesses_of_bars();`
+#![tactic(auto)]
+
+mod answers;
+mod automatic_days;
+mod bars;
+mod beds;
+mod call_orders;
+mod definitions;
+mod passes;
+mod promises;
+
+pub use answers::{witnesses_of_answers, witnesses_of_automatic_answers};
+pub use automatic_days::witnesses_of_automatic_days;
+pub use bars::{witnesses_of_bars, witnesses_of_runs};
+pub use beds::witnesses_of_beds;
+pub use call_orders::{witnesses_of_call_orders, witnesses_of_least_orders};
+pub use definitions::{worked_definitions, worked_relations};
+pub use passes::{witnesses_of_evenings, witnesses_of_passes};
+pub use promises::{witnesses_of_exchanges, witnesses_of_offers, witnesses_of_places};
