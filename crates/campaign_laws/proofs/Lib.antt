@@ -1,0 +1,3 @@
+pub mod GoneStays
+pub mod OneMark
+pub mod Walks

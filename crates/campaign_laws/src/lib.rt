@@ -1,0 +1,10 @@
+//! What the rules promise a candidate over whole campaigns, day after day, whichever schools were
+//! picked; and what they do not, though it seems so. The calls do nothing: their clauses are
+//! theorems over the definitions of the rules.
+//!
+//! `laws_of_marks();`
+#![tactic(auto)]
+
+mod laws;
+
+pub use laws::laws_of_marks;
