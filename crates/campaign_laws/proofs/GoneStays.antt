@@ -1,5 +1,6 @@
 -- What is gone stays gone, and what is live never waits again.
 use Rattle.std.proofs.Common.{ℕ, ◌≡◌, ◌⊎◌, Bool, true, false, not, ◌||◌, List, [], ◌∷◌, length, Option, Some, None, inl, inr, refl, sym, ◌∙◌, ap, subst}
+use Rattle.std.specs.Prelude.{AllPairs}
 use Rattle.std.specs.List.{AllByRecursion, AllZip}
 use Rattle.std.proofs.lemmas.Bool.{cases_Bool, false≢true}
 use Rattle.admit_core.specs.declared.dossier.Answer.{Answer}
@@ -21,8 +22,8 @@ use Rattle.admit_core.specs.State.{State, changed_to, entries, is_gone, is_live,
 use Rattle.admit_core.proofs.Statuses.{changed_status}
 use Rattle.campaign_laws.specs.Moments.{Opening, moments, openings}
 use Rattle.campaign_laws.specs.OneMark.{GoneStaysGone, HasLaterMark, IsLater, IsLaterMark}
-use Rattle.campaign_laws.proofs.OneMark.{IsTouched, KeptOrOffered, KeptOrTouched, Marks, OfOneWish, TouchedOf, a_lapse, an_answer, automatic_answers, marks_imply, of_kind, offers_of_a_pass, proposed_waits}
-use Rattle.campaign_laws.proofs.Walks.{Steps, Walk, all_of, any_two, campaign_steps}
+use Rattle.campaign_laws.proofs.OneMark.{IsTouched, KeptOrLapsed, KeptOrOffered, KeptOrTouched, Marks, OfOneWish, TouchedOf, a_lapse, an_answer, automatic_answers, lapsed_touched, marks_imply, of_kind, offers_of_a_pass, proposed_waits}
+use Rattle.campaign_laws.proofs.Walks.{Nothing, SameDossier, Steps, any_two, both, plain_steps, same_dossier}
 
 differs : {P : Type 0} (b : Bool) → b ≡ false → b ≡ true → P
 differs b fails holds = absurd (false≢true (sym fails ∙ holds))
@@ -64,7 +65,7 @@ waits_not_gone true b t = refl
 waits_not_gone false b t = rw t refl
 
 later_offered : (s : State) (orders : List CallOrder) (bars : List ℕ) (stamp : Stamp) (w : Wish) (m n : Mark) → KeptOrOffered s orders bars stamp w m n → IsLaterMark m n
-later_offered s orders bars stamp w m n (inl kept) = later_kept m n kept
+later_offered s orders bars stamp w m n (inl kept) = later_kept m n kept.1
 later_offered s orders bars stamp w m n (inr given) =
     let waits = proposed_waits s orders bars w m given.0 in
     let waits_not : is_waiting n ≡ false = ap is_waiting given.1 ∙ ap is_waiting_status (changed_status Offered stamp m) in
@@ -107,25 +108,33 @@ joined_entries (x ∷ xs) (y ∷ ys) (z ∷ zs) first second =
 pub later : (T : Wish → Mark → Mark → Type 0) (s t : State) → ((w : Wish) (m n : Mark) → T w m n → IsLaterMark m n) → Marks T s t → IsLater s t
 later T s t each marks = as_entries (entries s) (entries t) (marks_imply T (λ w m n. IsLaterMark m n) each (entries s) (entries t) marks)
 
-terms_long : (d : DossierRows) (terms : Option Terms) (t : Terms) → AreTermsFor d terms → terms ≡ Some t → length t.before ≡ length d.wishes
+pub terms_long : (d : DossierRows) (terms : Option Terms) (t : Terms) → AreTermsFor d terms → terms ≡ Some t → length t.before ≡ length d.wishes
 terms_long d terms t fit is = let here : AreTermsFor d (Some t) = subst (AreTermsFor d) is fit in here
 
 pub later_steps : (d : DossierRows) (terms : Option Terms) (orders : List CallOrder) (Q : Opening → Type 0) (A : Answer → Type 0) → AreTermsFor d terms → Steps d terms orders Q A IsLater
 later_steps d terms orders Q A fit = record {
   stays = λ s. same_entries (entries s);
-  lapses = λ t day s is of. later KeptOrTouched s (lapse t day s) later_either (a_lapse t day s (terms_long d terms t fit is ∙ ap (λ (x : DossierRows). length x.wishes) (sym of)));
+  lapses = λ t day s is of. later KeptOrLapsed s (lapse t day s) (λ w m n kept. later_either w m n (lapsed_touched w m n kept)) (a_lapse t day s (terms_long d terms t fit is ∙ ap (λ (x : DossierRows). length x.wishes) (sym of)));
   answers = λ s stamp a of fits_here known. later (TouchedOf (of_kind a.kind s a.target)) s (after s stamp a) (later_answered (of_kind a.kind s a.target)) (an_answer s stamp a fits_here);
   offers = λ s day bars stamp of greatest known. later (KeptOrOffered s orders bars stamp) s (offered s orders bars stamp) (later_offered s orders bars stamp) (offers_of_a_pass s orders bars stamp);
   autos = λ s stamp of. later KeptOrTouched s (auto_all s stamp) later_either (automatic_answers s stamp);
 }
 
-abbrev pub Nothing : {X : Type 0} → X → Type 0
-Nothing x = Unit {0}
-
 -- THE LAW
 pub gone_stays_gone : GoneStaysGone
 gone_stays_gone terms orders d old days new fit are =
     any_two IsLater (λ a b c first second. joined_entries (entries a) (entries b) (entries c) first second) old (moments terms orders old days) new
-    (campaign_steps old.dossier terms orders Nothing Nothing IsLater (later_steps old.dossier terms orders Nothing Nothing fit) d old days new refl are
-    (all_of Nothing (λ o. tt) (openings terms orders old days))
-    (all_of (λ (day : DayRecord). AllByRecursion Nothing (answers_of old.dossier day.day)) (λ day. all_of Nothing (λ a. tt) (answers_of old.dossier day.day)) days))
+    (plain_steps terms orders IsLater d old days new (later_steps old.dossier terms orders Nothing Nothing fit) are)
+
+-- with the dossier, which stays
+abbrev pub IsLaterOf : State → State → Type 0
+IsLaterOf s t = SameDossier s t × IsLater s t
+
+pub later_of_steps : (d : DossierRows) (terms : Option Terms) (orders : List CallOrder) (Q : Opening → Type 0) (A : Answer → Type 0) → AreTermsFor d terms → Steps d terms orders Q A IsLaterOf
+later_of_steps d terms orders Q A fit = both d terms orders Q A SameDossier IsLater (same_dossier d terms orders Q A) (later_steps d terms orders Q A fit)
+
+pub two_moments : (terms : Option Terms) (orders : List CallOrder) (d : ℕ) (old : State) (days : List DayRecord) (new : State)
+    → AreTermsFor old.dossier terms → Days terms orders d old days new → AllPairs IsLaterOf (old ∷ moments terms orders old days)
+two_moments terms orders d old days new fit are =
+    any_two IsLaterOf (λ a b c first second. (second.0 ∙ first.0, joined_entries (entries a) (entries b) (entries c) first.1 second.1)) old (moments terms orders old days) new
+    (plain_steps terms orders IsLaterOf d old days new (later_of_steps old.dossier terms orders Nothing Nothing fit) are)

@@ -46,7 +46,12 @@ TouchedOf c w m n = (n ≡ m) ⊎ ((w.candidate ≡ c) × IsTouched m n)
 
 -- the offers of a pass leave a mark, or offer a wish that is proposed
 abbrev pub KeptOrOffered : State → List CallOrder → List ℕ → Stamp → Wish → Mark → Mark → Type 0
-KeptOrOffered s orders bars stamp w m n = (n ≡ m) ⊎ ((is_proposed s orders bars w m ≡ true) × (n ≡ changed_to Offered stamp m))
+KeptOrOffered s orders bars stamp w m n =
+    ((is_proposed s orders bars w m ≡ false) × (n ≡ m)) ⊎ ((is_proposed s orders bars w m ≡ true) × (n ≡ changed_to Offered stamp m))
+
+-- a lapse leaves a mark, or ends an offer
+abbrev pub KeptOrLapsed : Wish → Mark → Mark → Type 0
+KeptOrLapsed w m n = (n ≡ m) ⊎ ((is_offered m.status ≡ true) × (n.status ≡ Lapsed))
 
 pub marks_imply : (T U : Wish → Mark → Mark → Type 0) → ((w : Wish) (m n : Mark) → T w m n → U w m n)
     → (xs ys : List (Wish × Mark)) → AllZip (OfOneWish T) xs ys → AllZip (OfOneWish U) xs ys
@@ -115,22 +120,34 @@ offered_not_gone AutoRefused stamp t = absurd (cc)
 offered_not_gone AutoWithdrawn stamp t = absurd (cc)
 offered_not_gone Lapsed stamp t = absurd (cc)
 
+pub touched_any : (c : ℕ) (w : Wish) (m n : Mark) → TouchedOf c w m n → KeptOrTouched w m n
+touched_any c w m n (inl kept) = inl kept
+touched_any c w m n (inr own) = inr own.1
+
+pub lapsed_touched : (w : Wish) (m n : Mark) → KeptOrLapsed w m n → KeptOrTouched w m n
+lapsed_touched w m n (inl kept) = inl kept
+lapsed_touched w m n (inr ended) = inr (record {
+  not_gone = offered_not_gone m.status m.stamp ended.0;
+  not_waiting = ap is_waiting_status ended.1;
+  lived = λ live. never (sym (ap is_live_status ended.1) ∙ live);
+})
+
 lapsed_at : (term day : ℕ) (stamp : Stamp) (before : ℤ) (m : Mark)
-    → (w : Wish) → KeptOrTouched w m (if lapses term day before m then changed_to Lapsed stamp m else m)
+    → (w : Wish) → KeptOrLapsed w m (if lapses term day before m then changed_to Lapsed stamp m else m)
 lapsed_at term day stamp before m w =
     elim (cases_Bool (lapses term day before m)) [
-      | inl over ↦ rw over (inr (touched_by Lapsed stamp m (offered_not_gone m.status m.stamp (and_parts (is_offered m.status) _ over).0) refl (λ e. never e)))
+      | inl over ↦ rw over (inr ((and_parts (is_offered m.status) _ over).0, changed_status Lapsed stamp m))
       | inr stands ↦ rw stands (inl refl)
     ]
 
 lapsed_marks : (term day : ℕ) (stamp : Stamp) (ws : List Wish) (bs : List ℤ) (ms : List Mark) → length bs ≡ length ws
-    → AllZip (OfOneWish KeptOrTouched) (zip ws ms) (zip ws (map (λ (x : ℤ × Mark). if lapses term day x.0 x.1 then changed_to Lapsed stamp x.1 else x.1) (zip bs ms)))
+    → AllZip (OfOneWish KeptOrLapsed) (zip ws ms) (zip ws (map (λ (x : ℤ × Mark). if lapses term day x.0 x.1 then changed_to Lapsed stamp x.1 else x.1) (zip bs ms)))
 lapsed_marks term day stamp [] bs ms long = tt
 lapsed_marks term day stamp (w ∷ ws) [] ms long = absurd (omega (arith, long))
 lapsed_marks term day stamp (w ∷ ws) (b ∷ bs) [] long = tt
 lapsed_marks term day stamp (w ∷ ws) (b ∷ bs) (m ∷ ms) long = ((refl, lapsed_at term day stamp b m w), lapsed_marks term day stamp ws bs ms (omega (arith, long)))
 
-pub a_lapse : (t : Terms) (day : ℕ) (s : State) → length t.before ≡ length s.dossier.wishes → Marks KeptOrTouched s (lapse t day s)
+pub a_lapse : (t : Terms) (day : ℕ) (s : State) → length t.before ≡ length s.dossier.wishes → Marks KeptOrLapsed s (lapse t day s)
 a_lapse t day s long = lapsed_marks t.term day (record { day = day; pass = 0 }) s.dossier.wishes t.before s.marks long
 
 -- an answer, by its kind
@@ -227,7 +244,7 @@ automatic_answers s stamp = marked KeptOrTouched s (λ w m. auto_mark stamp (bes
 pub offers_of_a_pass : (s : State) (orders : List CallOrder) (bars : List ℕ) (stamp : Stamp) → Marks (KeptOrOffered s orders bars stamp) s (offered s orders bars stamp)
 offers_of_a_pass s orders bars stamp =
     marked (KeptOrOffered s orders bars stamp) s (λ w m. if is_proposed s orders bars w m then changed_to Offered stamp m else m)
-    (λ w m. elim (cases_Bool (is_proposed s orders bars w m)) [ | inl given ↦ rw given (inr (refl, refl)) | inr none ↦ rw none (inl refl) ])
+    (λ w m. elim (cases_Bool (is_proposed s orders bars w m)) [ | inl given ↦ rw given (inr (refl, refl)) | inr none ↦ rw none (inl (refl, refl)) ])
 
 -- who is proposed waits, and an offered mark does not
 pub proposed_waits : (s : State) (orders : List CallOrder) (bars : List ℕ) (w : Wish) (m : Mark) → is_proposed s orders bars w m ≡ true → is_waiting m ≡ true

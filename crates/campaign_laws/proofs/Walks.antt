@@ -131,6 +131,29 @@ pub record Steps (d : DossierRows) (terms : Option Terms) (orders : List CallOrd
       → Q (record { state = s; bars = bars }) → R s (offered s orders bars stamp)
   pub autos : (s : State) (stamp : Stamp) → s.dossier ≡ d → R s (auto_all s stamp)
 
+-- two relations at once
+pub both : (d : DossierRows) (terms : Option Terms) (orders : List CallOrder) (Q : Opening → Type 0) (A : Answer → Type 0) (R S : State → State → Type 0)
+    → Steps d terms orders Q A R → Steps d terms orders Q A S → Steps d terms orders Q A (λ s t. R s t × S s t)
+both d terms orders Q A R S first second = record {
+  stays = λ s. (first.stays s, second.stays s);
+  lapses = λ t day s is of. (first.lapses t day s is of, second.lapses t day s is of);
+  answers = λ s stamp a of fit known. (first.answers s stamp a of fit known, second.answers s stamp a of fit known);
+  offers = λ s day bars stamp of greatest known. (first.offers s day bars stamp of greatest known, second.offers s day bars stamp of greatest known);
+  autos = λ s stamp of. (first.autos s stamp of, second.autos s stamp of);
+}
+
+abbrev pub SameDossier : State → State → Type 0
+SameDossier s t = t.dossier ≡ s.dossier
+
+pub same_dossier : (d : DossierRows) (terms : Option Terms) (orders : List CallOrder) (Q : Opening → Type 0) (A : Answer → Type 0) → Steps d terms orders Q A SameDossier
+same_dossier d terms orders Q A = record {
+  stays = λ s. refl;
+  lapses = λ t day s is of. refl;
+  answers = λ s stamp a of fit known. answer_dossier s stamp a;
+  offers = λ s day bars stamp of greatest known. refl;
+  autos = λ s stamp of. refl;
+}
+
 module _ (d : DossierRows) (terms : Option Terms) (orders : List CallOrder) (Q : Opening → Type 0) (A : Answer → Type 0)
     (R : State → State → Type 0) (steps : Steps d terms orders Q A R) where
   lapse_step : (given : Option Terms) (day : ℕ) (s : State) → terms ≡ given → s.dossier ≡ d → R s (after_lapse given day s)
@@ -202,6 +225,24 @@ module _ (d : DossierRows) (terms : Option Terms) (orders : List CallOrder) (Q :
       (subst (λ (s : State). Walk R evening (moments terms orders s days) new) left later)
 
 -- where nothing need be known
+abbrev pub Nothing : {X : Type 0} → X → Type 0
+Nothing x = Unit {0}
+
 pub all_of : {X : Type 0} (P : X → Type 0) → ((x : X) → P x) → (xs : List X) → AllByRecursion P xs
 all_of P each [] = tt
 all_of P each (x ∷ xs) = (each x, all_of P each xs)
+
+pub plain_steps : (terms : Option Terms) (orders : List CallOrder) (R : State → State → Type 0) (number : ℕ) (old : State) (days : List DayRecord) (new : State)
+    → Steps old.dossier terms orders Nothing Nothing R → Days terms orders number old days new → Walk R old (moments terms orders old days) new
+plain_steps terms orders R number old days new steps are =
+    campaign_steps old.dossier terms orders Nothing Nothing R steps number old days new refl are
+    (all_of Nothing (λ o. tt) (openings terms orders old days))
+    (all_of (λ (day : DayRecord). AllByRecursion Nothing (answers_of old.dossier day.day)) (λ day. all_of Nothing (λ a. tt) (answers_of old.dossier day.day)) days)
+
+-- where something is known of the openings alone
+pub steps_by_openings : (terms : Option Terms) (orders : List CallOrder) (Q : Opening → Type 0) (R : State → State → Type 0) (number : ℕ) (old : State) (days : List DayRecord) (new : State)
+    → Steps old.dossier terms orders Q Nothing R → Days terms orders number old days new → AllByRecursion Q (openings terms orders old days)
+    → Walk R old (moments terms orders old days) new
+steps_by_openings terms orders Q R number old days new steps are all =
+    campaign_steps old.dossier terms orders Q Nothing R steps number old days new refl are all
+    (all_of (λ (day : DayRecord). AllByRecursion Nothing (answers_of old.dossier day.day)) (λ day. all_of Nothing (λ a. tt) (answers_of old.dossier day.day)) days)

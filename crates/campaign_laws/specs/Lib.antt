@@ -1,2 +1,4 @@
 pub mod Moments
 pub mod OneMark
+pub mod PassedOver
+pub mod WaitingPlace

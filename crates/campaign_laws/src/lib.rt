@@ -7,4 +7,4 @@
 
 mod laws;
 
-pub use laws::laws_of_marks;
+pub use laws::{laws_of_marks, laws_of_turns};
