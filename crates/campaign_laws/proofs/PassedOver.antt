@@ -103,7 +103,7 @@ nobody_is_ever_passed_over terms orders d old days new place w fit are at unbarr
     (λ c now before. absurd (false≢true (sym before ∙ now))) in
     All-from_recursion (CameFromBefore orders old w) xs all.moments
 
-without_school : (w : Wish) (o : Opening) → w.school ≡ None → IsUnbarred w o
+pub without_school : (w : Wish) (o : Opening) → w.school ≡ None → IsUnbarred w o
 without_school w o none = rw none refl
 
 pub nobody_is_passed_over_without_boarding : NobodyIsPassedOverWithoutBoarding

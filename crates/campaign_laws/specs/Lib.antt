@@ -2,3 +2,5 @@ pub mod Moments
 pub mod OneMark
 pub mod PassedOver
 pub mod WaitingPlace
+pub mod Witnesses
+pub mod WorkedCampaign

@@ -6,5 +6,7 @@
 #![tactic(auto)]
 
 mod laws;
+mod witnesses;
 
 pub use laws::{laws_of_marks, laws_of_turns};
+pub use witnesses::{witnesses_of_marks, witnesses_of_turns};
