@@ -1,5 +1,7 @@
+pub mod Beds
 pub mod GoneStays
 pub mod Holding
+pub mod Kept
 pub mod MetHere
 pub mod OneMark
 pub mod PassedOver

@@ -246,3 +246,53 @@ pub steps_by_openings : (terms : Option Terms) (orders : List CallOrder) (Q : Op
 steps_by_openings terms orders Q R number old days new steps are all =
     campaign_steps old.dossier terms orders Q Nothing R steps number old days new refl are all
     (all_of (λ (day : DayRecord). AllByRecursion Nothing (answers_of old.dossier day.day)) (λ day. all_of Nothing (λ a. tt) (answers_of old.dossier day.day)) days)
+
+-- the openings stand among the moments: what holds at all of them holds before and after the offers of each pass
+pub record Around (P : State → Type 0) (orders : List CallOrder) (o : Opening) : Type 0 where
+  pub stamp : Stamp
+  pub before : P o.state
+  pub after : P (offered o.state orders o.bars stamp)
+
+all_joined : {X : Type 0} (P : X → Type 0) (xs ys : List X) → AllByRecursion P xs → AllByRecursion P ys → AllByRecursion P (xs ++ ys)
+all_joined P [] ys first rest = rest
+all_joined P (x ∷ xs) ys first rest = (first.0, all_joined P xs ys first.1 rest)
+
+module _ (P : State → Type 0) (terms : Option Terms) (orders : List CallOrder) where
+  after_answers : (s : State) (stamp : Stamp) (answers : List Answer) → P s → AllByRecursion P (after_each s stamp answers) → P (after_all s stamp answers)
+  after_answers s stamp [] p all = p
+  after_answers s stamp (a ∷ rest) p all = after_answers (after s stamp a) stamp rest all.0 all.1
+
+  at_evening : (day k : ℕ) (s : State) (passes : List PassEnd) → P s → AllByRecursion P (after_passes orders day k s passes) → P (evening_after orders day k s passes)
+  at_evening day k s [] p all = p
+  at_evening day k s (pass ∷ rest) p all = at_evening day (k + 1) (closing s orders pass.pass.bars (record { day = day; pass = k })) rest all.1.0 all.1.1
+
+  around_passes : (day k : ℕ) (s : State) (passes : List PassEnd) → P s → AllByRecursion P (after_passes orders day k s passes)
+      → AllByRecursion (Around P orders) (pass_openings orders day k s passes)
+  around_passes day k s [] p all = tt
+  around_passes day k s (pass ∷ rest) p all =
+      let stamp : Stamp = record { day = day; pass = k } in
+      (record { stamp = stamp; before = p; after = all.0 }, around_passes day (k + 1) (closing s orders pass.pass.bars stamp) rest all.1.0 all.1.1)
+
+  pub around_openings : (old : State) (days : List DayRecord) → P old → AllByRecursion P (moments terms orders old days)
+      → AllByRecursion (Around P orders) (openings terms orders old days)
+  around_openings old [] p all = tt
+  around_openings old (day ∷ days) p all =
+      let lapsed = after_lapse terms day.day old in
+      let stamp : Stamp = record { day = day.day; pass = 0 } in
+      let answers = answers_of old.dossier day.day in
+      let dawn = morning terms day.day old in
+      let whole = all_split P (day_moments terms orders old day) (moments terms orders (evening_of terms orders old day) days) all in
+      let parts = all_split P (after_each lapsed stamp answers) (after_passes orders day.day 1 dawn day.passes) whole.0.1 in
+      let there = after_answers lapsed stamp answers whole.0.0 parts.0 in
+      all_joined (Around P orders) (day_openings terms orders old day) (openings terms orders (evening_of terms orders old day) days)
+      (around_passes day.day 1 dawn day.passes there parts.1)
+      (around_openings (evening_of terms orders old day) days (at_evening day.day 1 dawn day.passes there parts.1) whole.1)
+
+-- two facts at once
+pub all_both : {X : Type 0} (P Q : X → Type 0) (xs : List X) → AllByRecursion P xs → AllByRecursion Q xs → AllByRecursion (λ x. P x × Q x) xs
+all_both P Q [] first second = tt
+all_both P Q (x ∷ xs) first second = ((first.0, second.0), all_both P Q xs first.1 second.1)
+
+pub all_imply : {X : Type 0} (P Q : X → Type 0) → ((x : X) → P x → Q x) → (xs : List X) → AllByRecursion P xs → AllByRecursion Q xs
+all_imply P Q h [] all = tt
+all_imply P Q h (x ∷ xs) all = (h x all.0, all_imply P Q h xs all.1)

@@ -1,3 +1,5 @@
+pub mod Beds
+pub mod Kept
 pub mod Moments
 pub mod OneMark
 pub mod PassedOver

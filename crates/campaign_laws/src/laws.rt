@@ -1,4 +1,6 @@
 //! What holds of every campaign, as theorems over the definitions.
+ghost use Rattle.campaign_laws.specs.Beds.{NoBedGoesPastBarredWishes, OffersGoByTheTwoLists};
+ghost use Rattle.campaign_laws.specs.Kept.{AutomaticAnswersClimb, WhatIsYoursStays};
 ghost use Rattle.campaign_laws.specs.OneMark.{GoneStaysGone};
 ghost use Rattle.campaign_laws.specs.PassedOver.{NobodyIsEverPassedOver, NobodyIsPassedOverWithoutBoarding};
 ghost use Rattle.campaign_laws.specs.WaitingPlace.{WaitingPlaceNeverWorsens};
@@ -15,4 +17,20 @@ pub fn laws_of_marks()
 pub fn laws_of_turns()
     ensures passed_over { NobodyIsEverPassedOver }
     ensures without_boarding { NobodyIsPassedOverWithoutBoarding }
+{}
+
+/// Who becomes live in a school while a wish with it is barred in every opening ranks better there;
+/// and who is offered one's very wish while it waits stands before its candidate in the call order
+/// or ranks better in the school.
+pub fn laws_of_beds()
+    ensures barred { NoBedGoesPastBarredWishes }
+    ensures two_lists { OffersGoByTheTwoLists }
+{}
+
+/// Who answers themself and gives no answer keeps what they accepted, and each offer but for its
+/// lapse; for whom it is answered automatically, who gives no answer, an accepted wish is only ever
+/// given up for one that they rank better.
+pub fn laws_of_silence()
+    ensures yours { WhatIsYoursStays }
+    ensures climb { AutomaticAnswersClimb }
 {}

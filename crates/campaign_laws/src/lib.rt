@@ -8,5 +8,5 @@
 mod laws;
 mod witnesses;
 
-pub use laws::{laws_of_marks, laws_of_turns};
+pub use laws::{laws_of_beds, laws_of_marks, laws_of_silence, laws_of_turns};
 pub use witnesses::{witnesses_of_marks, witnesses_of_turns};
