@@ -1,7 +1,7 @@
 -- What is gone stays gone, and what is live never waits again.
-use Rattle.std.proofs.Common.{ℕ, ◌≡◌, ◌⊎◌, Bool, true, false, not, ◌||◌, List, [], ◌∷◌, length, Option, Some, None, inl, inr, refl, sym, ◌∙◌, ap, subst}
+use Rattle.std.proofs.Common.{ℕ, ◌≡◌, Bool, true, false, not, ◌||◌, List, [], ◌∷◌, length, Option, Some, inl, inr, refl, sym, ◌∙◌, ap, subst}
 use Rattle.std.specs.Prelude.{AllPairs}
-use Rattle.std.specs.List.{AllByRecursion, AllZip}
+use Rattle.std.specs.List.{AllZip}
 use Rattle.std.proofs.lemmas.Bool.{cases_Bool, false≢true}
 use Rattle.admit_core.specs.declared.dossier.Answer.{Answer}
 use Rattle.admit_core.specs.declared.dossier.Wish.{Wish}
@@ -12,15 +12,14 @@ use Rattle.admit_core.specs.declared.state.Mark.{Mark}
 use Rattle.admit_core.specs.declared.state.Stamp.{Stamp}
 use Rattle.admit_core.specs.declared.state.Status.{Status}
 use Rattle.admit_core.specs.declared.state.Status.TheVariants.{Waiting, Offered, Accepted, Refused, Withdrawn, Quit, AutoRefused, AutoWithdrawn, Lapsed}
-use Rattle.admit_core.specs.Answers.{after, fits}
+use Rattle.admit_core.specs.Answers.{after}
 use Rattle.admit_core.specs.AutoAnswer.{auto_all}
-use Rattle.admit_core.specs.Days.{Days, answers_of, offered}
+use Rattle.admit_core.specs.Days.{Days, offered}
 use Rattle.admit_core.specs.DossierRows.{DossierRows}
 use Rattle.admit_core.specs.Lapses.{AreTermsFor, lapse}
-use Rattle.admit_core.specs.Proposals.{is_proposed}
-use Rattle.admit_core.specs.State.{State, changed_to, entries, is_gone, is_live, is_live_status, is_waiting, is_waiting_status}
+use Rattle.admit_core.specs.State.{State, entries, is_gone, is_live, is_live_status, is_waiting, is_waiting_status}
 use Rattle.admit_core.proofs.Statuses.{changed_status}
-use Rattle.campaign_laws.specs.Moments.{Opening, moments, openings}
+use Rattle.campaign_laws.specs.Moments.{Opening, moments}
 use Rattle.campaign_laws.specs.OneMark.{GoneStaysGone, HasLaterMark, IsLater, IsLaterMark}
 use Rattle.campaign_laws.proofs.OneMark.{IsTouched, KeptOrLapsed, KeptOrOffered, KeptOrTouched, Marks, OfOneWish, TouchedOf, a_lapse, an_answer, automatic_answers, lapsed_touched, marks_imply, of_kind, offers_of_a_pass, proposed_waits}
 use Rattle.campaign_laws.proofs.Walks.{Nothing, SameDossier, Steps, any_two, both, plain_steps, same_dossier}

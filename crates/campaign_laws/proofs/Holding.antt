@@ -1,5 +1,5 @@
 -- Who waits or is live after a step did or was before it, or is offered a wish.
-use Rattle.std.proofs.Common.{ℕ, zero, suc, ◌≡◌, ◌⊎◌, Bool, true, false, ◌&&◌, ◌||◌, List, [], ◌∷◌, Option, Some, None, inl, inr, refl, sym, ◌∙◌, ap, nat_eq}
+use Rattle.std.proofs.Common.{ℕ, zero, suc, ◌≡◌, ◌⊎◌, Bool, true, ◌&&◌, ◌||◌, List, [], ◌∷◌, Option, Some, inl, inr, sym, ◌∙◌, ap, nat_eq}
 use Rattle.std.specs.Prelude.{slice_get, unwrap_or}
 use Rattle.std.specs.List.{AllZip, list_any}
 use Rattle.std.proofs.lemmas.Bool.{and_from, and_parts, false≢true, or_cases, or_left, or_right}
@@ -11,7 +11,7 @@ use Rattle.admit_core.specs.Days.{offered}
 use Rattle.admit_core.specs.Proposals.{is_proposed}
 use Rattle.admit_core.specs.State.{State, entries, is_live}
 use Rattle.admit_core.proofs.Holders.{holds, lives_with}
-use Rattle.campaign_laws.proofs.OneMark.{IsTouched, KeptOrOffered, KeptOrTouched, Marks, OfOneWish, offers_of_a_pass}
+use Rattle.campaign_laws.proofs.OneMark.{KeptOrOffered, KeptOrTouched, Marks, OfOneWish, offers_of_a_pass}
 
 -- one that passes afterwards comes from one that passed a test before
 pub any_back : (T : Wish → Mark → Mark → Type 0) (q r : Wish × Mark → Bool) → ((w : Wish) (m n : Mark) → T w m n → r (w, n) ≡ true → q (w, m) ≡ true)

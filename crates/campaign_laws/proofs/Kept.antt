@@ -1,8 +1,8 @@
 -- What is yours stays, and automatic answers climb.
-use Rattle.std.proofs.Common.{ℕ, zero, suc, ◌≤◌, ◌<◌, ◌≡◌, ◌≢◌, ◌⊎◌, Bool, true, false, not, ◌&&◌, ◌||◌, cond, filter, List, [], ◌∷◌, length, Option, Some, None, inl, inr, refl, sym, ◌∙◌, ap, subst, arith, nat_eq, nat_lt, get_or, zip}
-use Rattle.std.specs.Prelude.{All, AllPairs, IsSome, IsTrue, ◌==◌, nat_le, unwrap_or}
+use Rattle.std.proofs.Common.{ℕ, ◌≤◌, ◌≡◌, ◌⊎◌, Bool, true, false, ◌&&◌, filter, List, [], ◌∷◌, length, Option, Some, None, inl, inr, refl, sym, ◌∙◌, ap, subst, arith, nat_eq, nat_lt, get_or, zip}
+use Rattle.std.specs.Prelude.{IsSome, ◌==◌, nat_le, unwrap_or}
 use Rattle.std.specs.List.{AllByRecursion, AllZip, list_any}
-use Rattle.std.proofs.lemmas.Bool.{and_from, and_parts, both_ways, cases_Bool, cases_lt, eq-eqb, eqb-true, false≢true, false_from_ne_true, leb-false, leb-true, le-leb, ltb-true, lt-ltb, ltb-false, or_cases, or_left, or_right, or_parts}
+use Rattle.std.proofs.lemmas.Bool.{and_from, and_parts, both_ways, cases_Bool, eq-eqb, eqb-true, false≢true, leb-false, leb-true, le-leb, ltb-true, or_cases, or_left, or_right}
 use Rattle.std.proofs.lemmas.List.Elements.{recursion_from_All}
 use Rattle.admit_core.specs.declared.dossier.Answer.{Answer}
 use Rattle.admit_core.specs.declared.dossier.AnswerKind.{AnswerKind}
@@ -17,23 +17,22 @@ use Rattle.admit_core.specs.declared.state.Status.{Status}
 use Rattle.admit_core.specs.declared.state.Status.TheVariants.{Waiting, Offered, Accepted, Refused, Withdrawn, Quit as HasQuit, AutoRefused, AutoWithdrawn, Lapsed}
 use Rattle.admit_core.specs.Answers.{after, is_own_kind, own}
 use Rattle.admit_core.specs.AutoAnswer.{auto_all, auto_mark, auto_status, best_live}
-use Rattle.admit_core.specs.Days.{Days, answers_of, offered}
+use Rattle.admit_core.specs.Days.{answers_of, offered}
 use Rattle.admit_core.specs.DossierRows.{DossierRows}
 use Rattle.admit_core.specs.Lapses.{AreTermsFor, is_offered, lapse}
 use Rattle.admit_core.specs.Lists.{least_by, lesser}
-use Rattle.admit_core.specs.Proposals.{is_proposed}
 use Rattle.admit_core.specs.Relations.{is_accepted}
-use Rattle.admit_core.specs.State.{State, changed_to, entries, is_live, is_live_status, is_waiting_status}
+use Rattle.admit_core.specs.State.{State, entries, is_live, is_live_status, is_waiting_status}
 use Rattle.admit_core.proofs.Holders.{entries_marked, marked_by}
 use Rattle.admit_core.proofs.Plain.{any-filter, any-map}
 use Rattle.admit_core.proofs.Remaining.{least_passes}
 use Rattle.admit_core.proofs.Statuses.{status_of_auto}
 use Rattle.admit_core.proofs.Tests.{any_implied}
-use Rattle.campaign_laws.specs.Kept.{AnswersThemself, AutomaticAnswersClimb, GivesNoAnswer, IsKept, KeepsOwn, NeverDescends, WhatIsYoursStays, has_accepted}
-use Rattle.campaign_laws.specs.Moments.{Opening, moments, openings}
+use Rattle.campaign_laws.specs.Kept.{AnswersThemself, AutomaticAnswersClimb, IsKept, NeverDescends, WhatIsYoursStays}
+use Rattle.campaign_laws.specs.Moments.{moments, openings}
 use Rattle.campaign_laws.proofs.GoneStays.{terms_long}
-use Rattle.campaign_laws.proofs.OneMark.{KeptOrLapsed, KeptOrOffered, KeptOrTouched, Marks, OfOneWish, TouchedOf, a_lapse, an_answer, marked, marks_imply, of_kind, offers_of_a_pass, proposed_waits}
-use Rattle.campaign_laws.proofs.Walks.{Nothing, SameDossier, Steps, all_of, any_two, both, campaign_steps, same_dossier}
+use Rattle.campaign_laws.proofs.OneMark.{KeptOrLapsed, KeptOrOffered, Marks, OfOneWish, TouchedOf, a_lapse, an_answer, marked, marks_imply, of_kind, offers_of_a_pass, proposed_waits}
+use Rattle.campaign_laws.proofs.Walks.{Nothing, Steps, all_of, any_two, campaign_steps}
 
 -- what is kept from step to step
 record StaysYours (terms : Option Terms) (m n : Mark) : Type 0 where
@@ -141,11 +140,10 @@ zip_joined terms c [] [] zs first second = second
 zip_joined terms c [] (y ∷ ys) zs first second = absurd first
 zip_joined terms c (x ∷ xs) [] zs first second = absurd first
 zip_joined terms c (x ∷ xs) (y ∷ ys) [] first second = absurd second
-zip_joined terms c (x ∷ xs) (y ∷ ys) (z ∷ zs) first second =
-    (
-      (second.0.0 ∙ first.0.0, λ own. stays_joined terms x.1 y.1 z.1 (first.0.1 own) (second.0.1 (ap (λ (w : Wish). w.candidate) first.0.0 ∙ own))),
-      zip_joined terms c xs ys zs first.1 second.1,
-    )
+zip_joined terms c (x ∷ xs) (y ∷ ys) (z ∷ zs) first second = (
+  (second.0.0 ∙ first.0.0, λ own. stays_joined terms x.1 y.1 z.1 (first.0.1 own) (second.0.1 (ap (λ (w : Wish). w.candidate) first.0.0 ∙ own))),
+  zip_joined terms c xs ys zs first.1 second.1,
+)
 
 zip_kept : (terms : Option Terms) (c : ℕ) (xs : List (Wish × Mark)) → AllZip (OfOneWish (Stays terms c)) xs xs
 zip_kept terms c [] = tt

@@ -5,6 +5,7 @@ pub mod Kept
 pub mod MetHere
 pub mod OneMark
 pub mod PassedOver
+pub mod Room
 pub mod WaitingPlace
 pub mod Walks
 pub mod WorkedCampaign

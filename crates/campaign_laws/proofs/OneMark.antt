@@ -1,25 +1,24 @@
 -- What a pass, an answer, a lapse and an automatic answer can do to one mark.
-use Rattle.std.proofs.Common.{ℕ, zero, suc, ◌≡◌, ◌⊎◌, Bool, true, false, cond, not, ◌&&◌, ◌||◌, List, [], ◌∷◌, map, length, Option, Some, None, inl, inr, refl, sym, ◌∙◌, ap, arith, nat_eq}
-use Rattle.std.specs.Prelude.{ℤ, AllPairs, ◌==◌, if◌then◌else◌, nat_lt, slice_get, slice_index, unwrap_or, zip}
-use Rattle.std.specs.List.{AllByRecursion, AllZip}
+use Rattle.std.proofs.Common.{ℕ, zero, suc, ◌≡◌, ◌⊎◌, Bool, true, false, not, ◌&&◌, ◌||◌, List, [], ◌∷◌, map, length, Option, Some, None, inl, inr, refl, sym, ◌∙◌, ap, arith}
+use Rattle.std.specs.Prelude.{ℤ, ◌==◌, if◌then◌else◌, nat_lt, slice_get, slice_index, unwrap_or, zip}
+use Rattle.std.specs.List.{AllZip}
 use Rattle.std.proofs.Math.ListN.{set}
-use Rattle.std.proofs.lemmas.Bool.{and_parts, cases_Bool, eqb-true, false≢true, or_parts}
+use Rattle.std.proofs.lemmas.Bool.{and_parts, cases_Bool, eqb-true, false≢true}
 use Rattle.admit_core.specs.declared.dossier.Answer.{Answer}
 use Rattle.admit_core.specs.declared.dossier.AnswerKind.{AnswerKind}
 use Rattle.admit_core.specs.declared.dossier.AnswerKind.TheVariants.{Accept, Refuse, Withdraw, Quit}
 use Rattle.admit_core.specs.declared.dossier.Wish.{Wish}
 use Rattle.admit_core.specs.declared.ranking.CallOrder.{CallOrder}
-use Rattle.admit_core.specs.declared.records.DayRecord.{DayRecord}
 use Rattle.admit_core.specs.declared.records.Terms.{Terms}
 use Rattle.admit_core.specs.declared.state.Mark.{Mark}
 use Rattle.admit_core.specs.declared.state.Stamp.{Stamp}
 use Rattle.admit_core.specs.declared.state.Status.{Status}
 use Rattle.admit_core.specs.declared.state.Status.TheVariants.{Waiting, Offered, Accepted, Refused, Withdrawn, Quit as HasQuit, AutoRefused, AutoWithdrawn, Lapsed}
-use Rattle.admit_core.specs.Answers.{after, after_kind, candidate_at, fits, kind_fits, mark_at, quit_all, refuse_live}
+use Rattle.admit_core.specs.Answers.{after, after_kind, candidate_at, fits, kind_fits, mark_at, refuse_live}
 use Rattle.admit_core.specs.AutoAnswer.{auto_all, auto_mark, auto_status, best_live}
 use Rattle.admit_core.specs.Days.{offered}
 use Rattle.admit_core.specs.Lapses.{is_offered, lapse, lapses}
-use Rattle.admit_core.specs.Proposals.{is_open, is_proposed, needs_no_seat}
+use Rattle.admit_core.specs.Proposals.{is_open, is_proposed}
 use Rattle.admit_core.specs.State.{State, changed_to, entries, is_gone, is_live, is_live_status, is_waiting, is_waiting_status, with_marks}
 use Rattle.admit_core.proofs.Holders.{entries_marked, marked_by}
 use Rattle.admit_core.proofs.Statuses.{changed_status}
@@ -244,7 +243,7 @@ automatic_answers s stamp = marked KeptOrTouched s (λ w m. auto_mark stamp (bes
 pub offers_of_a_pass : (s : State) (orders : List CallOrder) (bars : List ℕ) (stamp : Stamp) → Marks (KeptOrOffered s orders bars stamp) s (offered s orders bars stamp)
 offers_of_a_pass s orders bars stamp =
     marked (KeptOrOffered s orders bars stamp) s (λ w m. if is_proposed s orders bars w m then changed_to Offered stamp m else m)
-    (λ w m. elim (cases_Bool (is_proposed s orders bars w m)) [ | inl given ↦ rw given (inr (refl, refl)) | inr none ↦ rw none (inl (refl, refl)) ])
+    (λ w m. elim (cases_Bool (is_proposed s orders bars w m)) [ inl given ↦ rw given (inr (refl, refl)) | inr none ↦ rw none (inl (refl, refl)) ])
 
 -- who is proposed waits, and an offered mark does not
 pub proposed_waits : (s : State) (orders : List CallOrder) (bars : List ℕ) (w : Wish) (m : Mark) → is_proposed s orders bars w m ≡ true → is_waiting m ≡ true

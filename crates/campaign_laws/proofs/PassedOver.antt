@@ -1,20 +1,16 @@
 -- Nobody is passed over by whom a wish waits that no bar ever stopped.
-use Rattle.std.proofs.Common.{ℕ, ◌≡◌, Bool, true, false, not, ◌&&◌, ◌||◌, List, [], ◌∷◌, length, Option, Some, None, inl, inr, refl, sym, ◌∙◌, ap, subst, nat_eq}
-use Rattle.std.specs.Prelude.{All, IsTrue}
-use Rattle.std.specs.List.{AllByRecursion, list_any}
+use Rattle.std.proofs.Common.{ℕ, ◌≡◌, true, false, not, List, length, Option, None, inl, inr, refl, sym, ◌∙◌, ap, nat_eq}
 use Rattle.std.proofs.lemmas.Bool.{cases_Bool, false≢true, not_from_false}
 use Rattle.std.proofs.lemmas.List.Elements.{All-from_recursion, recursion_from_All}
-use Rattle.admit_core.specs.declared.dossier.Answer.{Answer}
 use Rattle.admit_core.specs.declared.dossier.Wish.{Wish}
 use Rattle.admit_core.specs.declared.ranking.CallOrder.{CallOrder}
-use Rattle.admit_core.specs.declared.records.DayRecord.{DayRecord}
 use Rattle.admit_core.specs.declared.records.Terms.{Terms}
 use Rattle.admit_core.specs.declared.state.Mark.{Mark}
 use Rattle.admit_core.specs.declared.state.Stamp.{Stamp}
 use Rattle.admit_core.specs.declared.state.Status.TheVariants.{Offered}
 use Rattle.admit_core.specs.Answers.{after}
 use Rattle.admit_core.specs.AutoAnswer.{auto_all}
-use Rattle.admit_core.specs.Days.{Days, offered}
+use Rattle.admit_core.specs.Days.{offered}
 use Rattle.admit_core.specs.DossierRows.{DossierRows, candidates_of}
 use Rattle.admit_core.specs.Lapses.{AreTermsFor, lapse}
 use Rattle.admit_core.specs.Lists.{is_among}
@@ -33,7 +29,7 @@ use Rattle.campaign_laws.proofs.GoneStays.{later_steps, terms_long}
 use Rattle.campaign_laws.proofs.Holding.{entry_before, held_already}
 use Rattle.campaign_laws.proofs.OneMark.{KeptOrOffered, KeptOrTouched, Marks, TouchedOf, a_lapse, an_answer, automatic_answers, lapsed_touched, marks_imply, of_kind, offers_of_a_pass, KeptOrLapsed, touched_any}
 use Rattle.campaign_laws.proofs.WaitingPlace.{as_marks}
-use Rattle.campaign_laws.proofs.Walks.{Nothing, SameDossier, Steps, Walk, all_along, all_of, both, same_dossier, steps_by_openings, throughout, with_fact}
+use Rattle.campaign_laws.proofs.Walks.{Nothing, Steps, all_along, all_of, both, steps_by_openings, throughout, with_fact}
 
 -- a wish that waits has waited
 pub waited_at : (s t : State) (place : ℕ) (w : Wish) → IsLater s t → WaitsAt t place w → WaitsAt s place w

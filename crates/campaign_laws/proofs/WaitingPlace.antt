@@ -1,6 +1,6 @@
 -- Those who wait before a candidate never grow in number.
-use Rattle.std.proofs.Common.{ℕ, ◌≤◌, ◌≡◌, Bool, true, ◌&&◌, List, [], ◌∷◌, Option, inl, inr, sym, ◌∙◌, ap, arith, nat_eq, count_by}
-use Rattle.std.specs.List.{AllZip, before_first, list_any}
+use Rattle.std.proofs.Common.{ℕ, ◌≡◌, Bool, true, ◌&&◌, List, [], ◌∷◌, sym, ◌∙◌, ap, arith, nat_eq, count_by}
+use Rattle.std.specs.List.{AllZip, before_first}
 use Rattle.admit_core.specs.declared.dossier.Wish.{Wish}
 use Rattle.admit_core.specs.declared.ranking.CallOrder.{CallOrder}
 use Rattle.admit_core.specs.declared.state.Mark.{Mark}
@@ -8,7 +8,7 @@ use Rattle.admit_core.specs.DossierRows.{DossierRows}
 use Rattle.admit_core.specs.Proposals.{order_of}
 use Rattle.admit_core.specs.State.{State, entries, is_waiting}
 use Rattle.admit_core.proofs.Tests.{count_implied}
-use Rattle.std.proofs.lemmas.Bool.{and_from, and_parts}
+use Rattle.std.proofs.lemmas.Bool.{and_parts}
 use Rattle.campaign_laws.specs.OneMark.{HasLaterMark, IsLater, IsLaterMark}
 use Rattle.campaign_laws.specs.WaitingPlace.{NoMoreWaitBefore, WaitingPlaceNeverWorsens, waits_for}
 use Rattle.campaign_laws.proofs.GoneStays.{IsLaterOf, two_moments}

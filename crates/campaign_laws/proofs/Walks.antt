@@ -1,5 +1,5 @@
 -- A campaign as a walk from moment to moment, each step a lapse, an answer, the offers of a pass or automatic answers.
-use Rattle.std.proofs.Common.{ℕ, ◌+◌, ◌<◌, ◌≡◌, Bool, true, false, zero, suc, All, List, [], ◌∷◌, ◌++◌, Option, Some, None, inl, inr, refl, sym, ◌∙◌, ap, subst, arith, get_or, length}
+use Rattle.std.proofs.Common.{ℕ, ◌+◌, ◌<◌, ◌≡◌, true, zero, suc, List, [], ◌∷◌, ◌++◌, Option, Some, None, inl, inr, refl, sym, ◌∙◌, ap, subst, arith, get_or, length}
 use Rattle.std.specs.Prelude.{AllPairs}
 use Rattle.std.specs.List.{AllByRecursion}
 use Rattle.std.proofs.lemmas.Bool.{cases_Bool}
@@ -11,7 +11,6 @@ use Rattle.admit_core.specs.declared.records.DayRecord.{DayRecord}
 use Rattle.admit_core.specs.declared.records.PassEnd.{PassEnd}
 use Rattle.admit_core.specs.declared.records.Terms.{Terms}
 use Rattle.admit_core.specs.declared.state.Stamp.{Stamp}
-use Rattle.admit_core.specs.declared.state.Status.{Status}
 use Rattle.admit_core.specs.Answers.{after, after_all, after_kind, first_unfit, fits}
 use Rattle.admit_core.specs.AutoAnswer.{auto_all}
 use Rattle.admit_core.specs.Boarding.{boarding}
@@ -165,9 +164,10 @@ module _ (d : DossierRows) (terms : Option Terms) (orders : List CallOrder) (Q :
   answer_steps i s stamp [] of none all = refl
   answer_steps i s stamp (a ∷ rest) of none all =
       elim (cases_Bool (fits s a)) [
-        | inl fit ↦
-            (steps.answers s stamp a of fit all.0,
-              answer_steps (i + 1) (after s stamp a) stamp rest (answer_dossier s stamp a ∙ of) (rw fit at none) all.1)
+        | inl fit ↦ (
+          steps.answers s stamp a of fit all.0,
+          answer_steps (i + 1) (after s stamp a) stamp rest (answer_dossier s stamp a ∙ of) (rw fit at none) all.1,
+        )
         | inr unfit ↦ let some = rw unfit at none in absurd (cc)
       ]
 
@@ -199,10 +199,11 @@ module _ (d : DossierRows) (terms : Option Terms) (orders : List CallOrder) (Q :
       let own : AllByRecursion A answers = subst (λ (x : DossierRows). AllByRecursion A (answers_of x day.day)) (sym of) may in
       let first = answer_steps 0 lapsed stamp answers (lapse_dossier terms day.day old ∙ of) is.fits own in
       let last = pass_steps (ceilings_of old.dossier number) day.day 1 (morning terms day.day old) day.passes evening are_ceilings
-      (morning_dossier terms day.day old ∙ of) is.passes all in
-      (lapse_step terms day.day old refl of,
+      (morning_dossier terms day.day old ∙ of) is.passes all in (
+        lapse_step terms day.day old refl of,
         joined R lapsed (after_each lapsed stamp answers) (after_passes orders day.day 1 (morning terms day.day old) day.passes)
-        (morning terms day.day old) evening first last)
+            (morning terms day.day old) evening first last,
+      )
 
   pub campaign_steps : (number : ℕ) (old : State) (days : List DayRecord) (new : State) → old.dossier ≡ d
       → Days terms orders number old days new

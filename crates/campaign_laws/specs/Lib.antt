@@ -3,6 +3,7 @@ pub mod Kept
 pub mod Moments
 pub mod OneMark
 pub mod PassedOver
+pub mod Room
 pub mod WaitingPlace
 pub mod Witnesses
 pub mod WorkedCampaign

@@ -3,7 +3,7 @@
 -- programme and is barred from the school's one bed, which 12 gets; 14, who ranks their wishes,
 -- gets their second. On day 2 11 refuses, and 12 gets that seat too. On day 3 12's first offer
 -- lapses, and 11 gets the bed. 13 waits all the time, and 14 for their first wish.
-use Rattle.std.specs.Prelude.{◌∷◌, ℕ, List, Option, Some, [], false, map, pos}
+use Rattle.std.specs.Prelude.{◌∷◌, ℕ, List, Option, Some, [], false, pos}
 use Rattle.admit_core.specs.declared.dossier.AnswerKind.TheVariants.{Refuse}
 use Rattle.admit_core.specs.declared.dossier.Wish.{Wish}
 use Rattle.admit_core.specs.declared.ranking.CallOrder.{CallOrder}
@@ -14,7 +14,7 @@ use Rattle.admit_core.specs.Days.{first_evening}
 use Rattle.admit_core.specs.DossierRows.{DossierRows}
 use Rattle.admit_core.specs.State.{State}
 use Rattle.admit_core.specs.WorkedDays.{change, day, fall, freeing, in_order, quiet}
-use Rattle.admit_core.specs.WorkedRows.{boarder, group, marked, programme, ranked, rows, school, wish}
+use Rattle.admit_core.specs.WorkedRows.{boarder, group, marked, programme, ranked, rows, school, small_dossier, wish}
 
 -- the wish of 13, which waits to the end, and that of 11 with boarding, which a bar stops on day 1
 abbrev pub thirteenth : Wish
@@ -94,3 +94,13 @@ third_night = record {
   marks = marked Refused 2 0 ∷ marked Offered 2 1 ∷ marked Waiting 0 0 ∷ marked Offered 3 1
       ∷ marked Lapsed 3 0 ∷ marked Waiting 0 0 ∷ marked Accepted 1 1 ∷ marked Accepted 0 0 ∷ [];
 }
+
+-- day 2 of the small dossier, on which nobody answers
+abbrev pub small_orders : List CallOrder
+small_orders = in_order (11 ∷ []) ∷ []
+
+abbrev pub small_days : List DayRecord
+small_days = day 2 (quiet (3 ∷ []) [] (0 ∷ []) ∷ []) (0 ∷ []) (0 ∷ []) ∷ []
+
+abbrev pub small_night : State
+small_night = record { dossier = small_dossier; marks = marked Offered 2 1 ∷ [] }

@@ -3,6 +3,7 @@ ghost use Rattle.campaign_laws.specs.Beds.{NoBedGoesPastBarredWishes, OffersGoBy
 ghost use Rattle.campaign_laws.specs.Kept.{AutomaticAnswersClimb, WhatIsYoursStays};
 ghost use Rattle.campaign_laws.specs.OneMark.{GoneStaysGone};
 ghost use Rattle.campaign_laws.specs.PassedOver.{NobodyIsEverPassedOver, NobodyIsPassedOverWithoutBoarding};
+ghost use Rattle.campaign_laws.specs.Room.{NeverMoreThanBeds, NeverMoreThanSeats};
 ghost use Rattle.campaign_laws.specs.WaitingPlace.{WaitingPlaceNeverWorsens};
 
 /// What is gone stays gone, and what is live never waits again; and of those who stand before a
@@ -33,4 +34,11 @@ pub fn laws_of_beds()
 pub fn laws_of_silence()
     ensures yours { WhatIsYoursStays }
     ensures climb { AutomaticAnswersClimb }
+{}
+
+/// At no moment more are live in a school than it has beds, or were live at first; nor in a
+/// programme without a call limit than it has seats, or were live at first.
+pub fn laws_of_room()
+    ensures beds { NeverMoreThanBeds }
+    ensures seats { NeverMoreThanSeats }
 {}
