@@ -6,6 +6,7 @@ pub mod MetHere
 pub mod OneMark
 pub mod PassedOver
 pub mod Room
+pub mod Shown
 pub mod WaitingPlace
 pub mod Walks
 pub mod WorkedCampaign

@@ -1,6 +1,7 @@
 pub mod Beds
 pub mod Kept
 pub mod Moments
+pub mod NotPromised
 pub mod OneMark
 pub mod PassedOver
 pub mod Room

@@ -5,9 +5,11 @@
 //! `laws_of_marks();`
 #![tactic(auto)]
 
+mod cases;
 mod laws;
 mod witnesses;
 
+pub use cases::days_not_promised;
 pub use laws::{laws_of_beds, laws_of_marks, laws_of_room, laws_of_silence, laws_of_turns};
 pub use witnesses::{
     witnesses_of_beds, witnesses_of_marks, witnesses_of_room, witnesses_of_silence,
