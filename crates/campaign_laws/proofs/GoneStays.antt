@@ -27,7 +27,7 @@ use Rattle.campaign_laws.proofs.Walks.{Nothing, SameDossier, Steps, any_two, bot
 differs : {P : Type 0} (b : Bool) → b ≡ false → b ≡ true → P
 differs b fails holds = absurd (false≢true (sym fails ∙ holds))
 
-live_waits_not : (x : Status) → is_live_status x ≡ true → is_waiting_status x ≡ false
+pub live_waits_not : (x : Status) → is_live_status x ≡ true → is_waiting_status x ≡ false
 live_waits_not Waiting live = absurd (cc)
 live_waits_not Offered live = refl
 live_waits_not Accepted live = refl
@@ -59,7 +59,7 @@ later_answered : (c : ℕ) (w : Wish) (m n : Mark) → TouchedOf c w m n → IsL
 later_answered c w m n (inl kept) = later_kept m n kept
 later_answered c w m n (inr own) = later_touched m n own.1
 
-waits_not_gone : (a b : Bool) → b ≡ true → not (a || b) ≡ false
+pub waits_not_gone : (a b : Bool) → b ≡ true → not (a || b) ≡ false
 waits_not_gone true b t = refl
 waits_not_gone false b t = rw t refl
 

@@ -229,7 +229,7 @@ by_stays : (terms : Option Terms) (c : ℕ) (s t : State) → Marks (Stays terms
 by_stays terms c s t marks n has = any_on (Stays terms c) (accepted_of c n) (stays_accepted terms c n) (entries s) (entries t) marks has
 
 -- the least of those that pass a test
-none_least : {X : Type 0} (test : X → Bool) (key : X → ℕ) (xs : List X) → least_by key (filter test xs) ≡ None → list_any test xs ≡ false
+pub none_least : {X : Type 0} (test : X → Bool) (key : X → ℕ) (xs : List X) → least_by key (filter test xs) ≡ None → list_any test xs ≡ false
 none_least test key [] none = refl
 none_least test key (x ∷ xs) none =
     elim (cases_Bool (test x)) [
@@ -267,7 +267,7 @@ from_rest test key n x xs b (Some y) some is later within =
     let now = ap key (ap (lesser key x) (sym some) ∙ is) in
     omega (arith, le, other, now)
 
-least_within : {X : Type 0} (test : X → Bool) (key : X → ℕ) (n : ℕ) (xs : List X) (b : X) → least_by key (filter test xs) ≡ Some b
+pub least_within : {X : Type 0} (test : X → Bool) (key : X → ℕ) (n : ℕ) (xs : List X) (b : X) → least_by key (filter test xs) ≡ Some b
     → list_any (λ x. test x && nat_le (key x) n) xs ≡ true → key b ≤ n
 least_within test key n [] b least t = absurd (false≢true t)
 least_within test key n (x ∷ xs) b least t =
@@ -287,7 +287,7 @@ least_within test key n (x ∷ xs) b least t =
           ]
     ]
 
-abbrev ranked_live : ℕ → Wish × Mark → Bool
+abbrev pub ranked_live : ℕ → Wish × Mark → Bool
 ranked_live c e = is_live e.1 && nat_eq e.0.candidate c && nat_lt 0 e.0.preference
 
 accepted_lives : (x : Status) → is_accepted x ≡ true → is_live_status x ≡ true

@@ -1,3 +1,4 @@
+pub mod AutomaticDay
 pub mod Beds
 pub mod Kept
 pub mod Moments

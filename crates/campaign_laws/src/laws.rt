@@ -1,4 +1,5 @@
 //! What holds of every campaign, as theorems over the definitions.
+ghost use Rattle.campaign_laws.specs.AutomaticDay.{StableMatchingsAreNoWorse};
 ghost use Rattle.campaign_laws.specs.Beds.{NoBedGoesPastBarredWishes, OffersGoByTheTwoLists};
 ghost use Rattle.campaign_laws.specs.Kept.{AutomaticAnswersClimb, WhatIsYoursStays};
 ghost use Rattle.campaign_laws.specs.OneMark.{GoneStaysGone};
@@ -41,4 +42,10 @@ pub fn laws_of_silence()
 pub fn laws_of_room()
     ensures beds { NeverMoreThanBeds }
     ensures seats { NeverMoreThanSeats }
+{}
+
+/// Where all answer automatically, all wait at first and no wish has a school, the evening is the
+/// worst stable matching for every candidate.
+pub fn law_of_automatic_days()
+    ensures no_worse { StableMatchingsAreNoWorse }
 {}
