@@ -1,0 +1,13 @@
+pub mod AutomaticDay
+pub mod Beds
+pub mod GoneStays
+pub mod Holding
+pub mod Kept
+pub mod MetHere
+pub mod OneMark
+pub mod PassedOver
+pub mod Room
+pub mod Shown
+pub mod WaitingPlace
+pub mod Walks
+pub mod WorkedCampaign

@@ -1,0 +1,17 @@
+use Rattle.campaign_laws.proofs.Shown.{seat_more_can_place_fewer, bed_more_can_place_fewer, accepting_can_cost, accepting_earlier_can_cost, answers_cannot_be_split, bed_more_can_lower_bar, better_rank_can_harm, leaving_out_can_pay, quitting_can_cost, seat_more_can_empty, withdrawing_can_cost}
+use Rattle.campaign_laws.proofs.cases.days_not_promised.Goals as goal
+
+pub returns : goal.returns
+returns c = record {
+  quitting_can_cost = quitting_can_cost;
+  seat_more_can_empty = seat_more_can_empty;
+  leaving_out_can_pay = leaving_out_can_pay;
+  better_rank_can_harm = better_rank_can_harm;
+  accepting_can_cost = accepting_can_cost;
+  withdrawing_can_cost = withdrawing_can_cost;
+  accepting_earlier_can_cost = accepting_earlier_can_cost;
+  answers_cannot_be_split = answers_cannot_be_split;
+  bed_more_can_lower_bar = bed_more_can_lower_bar;
+  seat_more_can_place_fewer = seat_more_can_place_fewer;
+  bed_more_can_place_fewer = bed_more_can_place_fewer;
+}

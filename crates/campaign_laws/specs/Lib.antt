@@ -1,0 +1,11 @@
+pub mod AutomaticDay
+pub mod Beds
+pub mod Kept
+pub mod Moments
+pub mod NotPromised
+pub mod OneMark
+pub mod PassedOver
+pub mod Room
+pub mod WaitingPlace
+pub mod Witnesses
+pub mod WorkedCampaign

@@ -1,0 +1,51 @@
+//! What holds of every campaign, as theorems over the definitions.
+ghost use Rattle.campaign_laws.specs.AutomaticDay.{StableMatchingsAreNoWorse};
+ghost use Rattle.campaign_laws.specs.Beds.{NoBedGoesPastBarredWishes, OffersGoByTheTwoLists};
+ghost use Rattle.campaign_laws.specs.Kept.{AutomaticAnswersClimb, WhatIsYoursStays};
+ghost use Rattle.campaign_laws.specs.OneMark.{GoneStaysGone};
+ghost use Rattle.campaign_laws.specs.PassedOver.{NobodyIsEverPassedOver, NobodyIsPassedOverWithoutBoarding};
+ghost use Rattle.campaign_laws.specs.Room.{NeverMoreThanBeds, NeverMoreThanSeats};
+ghost use Rattle.campaign_laws.specs.WaitingPlace.{WaitingPlaceNeverWorsens};
+
+/// What is gone stays gone, and what is live never waits again; and of those who stand before a
+/// candidate in a call order never more wait for the programme than before.
+pub fn laws_of_marks()
+    ensures gone { GoneStaysGone }
+    ensures place { WaitingPlaceNeverWorsens }
+{}
+
+/// Who becomes live in a programme while a wish of it waits that no bar ever stopped stands before
+/// its candidate in the call order.
+pub fn laws_of_turns()
+    ensures passed_over { NobodyIsEverPassedOver }
+    ensures without_boarding { NobodyIsPassedOverWithoutBoarding }
+{}
+
+/// Who becomes live in a school while a wish with it is barred in every opening ranks better there;
+/// and who is offered one's very wish while it waits stands before its candidate in the call order
+/// or ranks better in the school.
+pub fn laws_of_beds()
+    ensures barred { NoBedGoesPastBarredWishes }
+    ensures two_lists { OffersGoByTheTwoLists }
+{}
+
+/// Who answers themself and gives no answer keeps what they accepted, and each offer but for its
+/// lapse; for whom it is answered automatically, who gives no answer, an accepted wish is only ever
+/// given up for one that they rank better.
+pub fn laws_of_silence()
+    ensures yours { WhatIsYoursStays }
+    ensures climb { AutomaticAnswersClimb }
+{}
+
+/// At no moment more are live in a school than it has beds, or were live at first; nor in a
+/// programme without a call limit than it has seats, or were live at first.
+pub fn laws_of_room()
+    ensures beds { NeverMoreThanBeds }
+    ensures seats { NeverMoreThanSeats }
+{}
+
+/// Where all answer automatically, all wait at first and no wish has a school, the evening is the
+/// worst stable matching for every candidate.
+pub fn law_of_automatic_days()
+    ensures no_worse { StableMatchingsAreNoWorse }
+{}

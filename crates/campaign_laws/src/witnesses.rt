@@ -1,0 +1,41 @@
+//! For each law a worked case that meets all its premises.
+ghost use Rattle.campaign_laws.specs.Witnesses.{AutomaticAnswersClimbWitness, CameByBetterRankWitness, CameFromBeforeWitness, GoesByTheTwoListsWitness, GoneStaysGoneWitness, IsKeptAcceptedWitness, IsKeptOfferedWitness, IsLaterMarkGoneStaysWitness, IsLaterMarkNeverAgainWitness, IsLaterMarkWaitedWitness, NeverDescendsWitness, NeverMoreThanBedsWitness, NeverMoreThanSeatsWitness, NoBedGoesPastBarredWishesWitness, NobodyIsEverPassedOverWitness, NobodyIsPassedOverWithoutBoardingWitness, OffersGoByTheTwoListsWitness, WaitingPlaceNeverWorsensWitness, WhatIsYoursStaysWitness};
+
+/// Of the laws of marks.
+pub fn witnesses_of_marks()
+    ensures gone { GoneStaysGoneWitness }
+    ensures gone_stays { IsLaterMarkGoneStaysWitness }
+    ensures never_again { IsLaterMarkNeverAgainWitness }
+    ensures waited { IsLaterMarkWaitedWitness }
+    ensures place { WaitingPlaceNeverWorsensWitness }
+{}
+
+/// Of the laws of turns.
+pub fn witnesses_of_turns()
+    ensures passed_over { NobodyIsEverPassedOverWitness }
+    ensures without_boarding { NobodyIsPassedOverWithoutBoardingWitness }
+    ensures came { CameFromBeforeWitness }
+{}
+
+/// Of the laws of beds and of the two lists.
+pub fn witnesses_of_beds()
+    ensures barred { NoBedGoesPastBarredWishesWitness }
+    ensures came { CameByBetterRankWitness }
+    ensures two_lists { OffersGoByTheTwoListsWitness }
+    ensures same_wish { GoesByTheTwoListsWitness }
+{}
+
+/// Of the laws of silence.
+pub fn witnesses_of_silence()
+    ensures yours { WhatIsYoursStaysWitness }
+    ensures accepted { IsKeptAcceptedWitness }
+    ensures offered { IsKeptOfferedWitness }
+    ensures climb { AutomaticAnswersClimbWitness }
+    ensures descends { NeverDescendsWitness }
+{}
+
+/// Of the laws of room.
+pub fn witnesses_of_room()
+    ensures beds { NeverMoreThanBedsWitness }
+    ensures seats { NeverMoreThanSeatsWitness }
+{}
