@@ -1,0 +1,240 @@
+"""Does `recheck` see? Right reports, by every picker, pass; changed ones are refused at their line.
+
+`check.sh` makes some hundreds of each; `python3 -m checks.rechecking --help`, in `tools`, tells the words of longer
+rounds. What is right and what is wrong, the program says (`reports`).
+"""
+
+import argparse
+import importlib.machinery
+import importlib.util
+import random as chance
+import re
+import sys
+import time
+from collections import Counter
+from collections.abc import Callable, Iterator
+from pathlib import Path
+from random import Random
+from types import ModuleType
+
+from dossier.program import program as program_named
+
+from .crowded import Crowd, crowd, other_dossier
+from .harness import EXAMPLES, TOOLS, Tally, run, scratch, until_told
+from .mutations import CHANGES
+from .reports import MUTATIONS, Case, Lines, first_wrong, run_text, word
+from .runs import SLOTS, all_jobs, file_of, put
+from .samples import sample_slots
+
+PICKERS = ("first", "last", "turn", "each")
+SEED = 20260602
+RIGHT, WRONG, UNTESTED = "right", "wrong", "untested"
+Told = tuple[str, int]
+
+
+def tool() -> ModuleType:
+    """The tool as a module, so that thousands of reports need not start Python each."""
+    loader = importlib.machinery.SourceFileLoader("recheck", str(TOOLS / "recheck"))
+    spec = importlib.util.spec_from_loader("recheck", loader)
+    assert spec
+    module = importlib.util.module_from_spec(spec)
+    loader.exec_module(module)
+    return module
+
+
+RECHECK = tool()
+
+
+def told(folder: Path, text: bytes, words: tuple[str, ...]) -> Told:
+    """What `recheck` says of a text: right with its lines, wrong with the number of the line, or that it is untested."""
+    start = RECHECK.day_of(words[words.index("--start") + 1]) if "--start" in words else None
+    term = int(words[words.index("--term") + 1]) if "--term" in words else None
+    report = folder / "report"
+    report.write_bytes(text)
+    try:
+        return RIGHT, RECHECK.test(str(folder), str(report), start, term)[1]
+    except RECHECK.Wrong as wrong:
+        return WRONG, wrong.args[0]
+    except RECHECK.Refused:
+        return WRONG, 1
+    except OSError:
+        return UNTESTED, 0
+
+
+class Round:
+    """What was tried and what was found, over a number of dossiers from a seed."""
+
+    def __init__(self, tally: Tally, program: str, seed: int) -> None:
+        self.tally, self.program, self.seed, self.counts = tally, program, seed, Counter()
+
+    def check(self, kind: str, name: str, holds: bool, seen: object = "") -> None:
+        self.counts[kind] += 1
+        self.tally.check(f"{name}: {kind}", holds, seen)
+
+    def right_text(self, folder: Path, name: str, words: tuple[str, ...]) -> Lines:
+        """The program's own text passes; its lines."""
+        status, text = run_text(self.program, words, folder)
+        found = told(folder, text, words)
+        # In `chain` the line of an unfit answer stands without the days before it, which cannot be tested then.
+        is_lone = b" reason 18 " in text and text.count(b"\n") == 1
+        kind = f"{words[0]}, as it is" + (", refused" if status == 1 else "")
+        self.check(kind, name, status > 1 or found == (RIGHT, text.count(b"\n")) or is_lone and found[0] == UNTESTED, found)
+        return text.splitlines(keepends=True)
+
+    def changed_text(self, case: Case, name: str, kind: str, lines: Lines) -> None:
+        """A changed text is refused at its first wrong line; or it passes, where nothing in it is wrong."""
+        if lines == case.lines:
+            return
+        wrong = first_wrong(case, lines)
+        found = told(case.folder, b"".join(lines), case.words)
+        expected = (WRONG, wrong) if wrong else (RIGHT, len(lines))
+        # A line that is none of a chain hides from the program's `check` what is wrong before it.
+        holds = found == expected or bool(wrong) and found[0] == WRONG and found[1] < wrong
+        self.counts["refused before its line"] += holds and found != expected
+        self.check(kind + ("" if wrong else ", and right all the same"), name, holds, f"{found}, not {expected}")
+
+    def of_crowd(self, number: int, changes: int) -> None:
+        """All modes and pickers of a random dossier, and changes of its replay."""
+        random = Random(self.seed + number)
+        with scratch() as folder:
+            slots = folder / "slots"
+            asked = crowd(random, self.program, slots)
+            name = f"dossier {self.seed + number}"
+            for mode in ("order", "market"):
+                self.changes(random, Case(slots, (mode,), self.right_text(slots, name, (mode,)), self.program), name,
+                             changes // 4)
+            lines: Lines = []
+            for picker in random.sample(PICKERS, 2):
+                self.right_text(slots, name, (*asked.words("chain"), "--picker", picker))
+                lines = self.right_text(slots, name, (*asked.words("replay"), "--picker", picker))
+            case = Case(slots, asked.words("replay"), lines, self.program)
+            self.changes(random, case, name, changes)
+            for _ in range(changes // 2):
+                self.of_other_dossier(random, asked, case, name)
+
+    def changes(self, random: Random, case: Case, name: str, number: int) -> None:
+        for _ in range(number if case.lines else 0):
+            kind, change = random.choice(list(MUTATIONS.items()))
+            self.changed_text(case, name, kind, change(random, case.lines))
+
+    def of_other_dossier(self, random: Random, asked: Crowd, case: Case, name: str) -> None:
+        """The report of a dossier in which one thing is changed: one offer more or less, and all that follows."""
+        kind, other = other_dossier(random, asked.dossier)
+        with scratch() as folder:
+            other.write(folder / "other")
+            status, text = run_text(self.program, (*case.words, "--picker", random.choice(PICKERS)), folder / "other")
+        if status == 0:
+            self.changed_text(case, name, kind, text.splitlines(keepends=True))
+
+    def of_broken_slots(self, number: int, files: dict[str, bytes], words: tuple[str, ...]) -> None:
+        """Slots with changed bytes: a refusal passes where it is the program's, and a changed line does not."""
+        random = Random(self.seed + number)
+        with scratch() as folder:
+            for _ in range(random.choice((1, 1, 2, 3))):
+                slot = random.choice([name for name in files if name != "chain.txt"])
+                files = {**files, slot: random.choice(CHANGES)(files[slot], random)}
+            put(files, folder / "slots")
+            name = f"broken slots {self.seed + number}, {' '.join(words)}"
+            lines = self.right_text(folder / "slots", name, words)
+            if lines and word(lines[0]) == b"refused" and b" reason 18 " not in lines[0]:
+                line = re.sub(rb"\d+", lambda found: str(int(found.group()) + random.choice((-1, 1))).encode(), lines[0], 1)
+                self.check("another row refused", name, told(folder / "slots", line, words)[0] == WRONG, line)
+                self.check("a refusal and more", name, told(folder / "slots", 2 * lines[0], words) == (WRONG, 2), line)
+
+
+def check_worked(tally: Tally, program: str) -> None:
+    """Each text of a worked case passes, and changed ones are refused."""
+    tally.begin("recheck: the worked cases, right and changed")
+    rounds = Round(tally, program, SEED)
+    for number, job in enumerate(all_jobs()):
+        if job.mode in ("replay", "order", "chain", "market"):
+            with scratch() as folder:
+                put(job.files, folder / "slots")
+                lines = rounds.right_text(folder / "slots", job.title, job.words)
+                if job.mode == "replay" and lines and word(lines[0]) != b"refused":
+                    rounds.changes(Random(number), Case(folder / "slots", job.words, lines, program), job.title, 12)
+
+
+def check_random(tally: Tally, program: str, number: int = 120, changes: int = 12, seed: int = SEED) -> Counter:
+    """Random dossiers: by every picker right, and changed."""
+    tally.begin(f"recheck: {number} random dossiers, right and changed")
+    rounds = Round(tally, program, seed)
+    for each in range(number):
+        rounds.of_crowd(each, changes)
+    return rounds.counts
+
+
+def check_broken(tally: Tally, program: str, number: int = 400, seed: int = SEED) -> Counter:
+    """Slots that are no dossier: the first fault is the program's."""
+    tally.begin(f"recheck: {number} dossiers with broken slots")
+    jobs = [job for job in all_jobs() if job.mode in ("replay", "order", "chain", "market")]
+    rounds = Round(tally, program, seed)
+    for each in range(number):
+        job = chance.Random(seed + each).choice(jobs)
+        rounds.of_broken_slots(each, job.files, job.words)
+    return rounds.counts
+
+
+def check_large(tally: Tally, program: str, candidates: int = 600, changes: int = 20, seed: int = SEED) -> Counter:
+    """A dossier like the country's."""
+    tally.begin(f"recheck: a dossier of {candidates} candidates, right and changed")
+    rounds, random = Round(tally, program, seed), Random(seed)
+    with scratch() as folder:
+        put(sample_slots(candidates), folder / "slots")
+        for picker in PICKERS:
+            words = ("replay", "--days", "2", "--picker", picker)
+            lines = rounds.right_text(folder / "slots", f"{candidates} candidates", words)
+        rounds.changes(random, Case(folder / "slots", words[:3], lines, program), f"{candidates} candidates", changes)
+    return rounds.counts
+
+
+def check_said(tally: Tally) -> None:
+    """What is said, with which status, of words and files that are none; and never a traceback."""
+    tally.begin("recheck: what it says")
+    recheck, days = TOOLS / "recheck", EXAMPLES / "two-days"
+    with scratch() as folder:
+        report = folder / "report"
+
+        def says(name: str, status: int, sentence: str, *words: str | Path) -> None:
+            ended = run(recheck, *words, folder=folder)
+            said = ended.output.decode(errors="replace") + ended.complaint
+            tally.check(name, ended.status == status and sentence in said and "Traceback" not in said,
+                        f"status {ended.status}\n{said}")
+
+        says("help", 0, "usage: recheck", "--help")
+        says("no words", 2, "usage: recheck")
+        says("a word too many", 2, "usage: recheck", days, report, "more")
+        says("a start alone", 2, "together", days, report, "--start", "2026-06-02")
+        says("a date that is none", 2, "--start", days, report, "--start", "2026-02-30", "--term", "1")
+        says("a term that is none", 2, "--term", days, report, "--start", "2026-06-02", "--term", "367")
+        says("a report that is missing", 3, "No such file", days, report)
+        says("a report that is a folder", 3, "directory", days, folder)
+        report.write_bytes(b"")
+        says("a folder that is missing", 3, "no such file", folder / "missing", report)
+        for text in (b"\0", b"\xff\n", b"order\n", b"day\n", b"fall 1 2 3 4\n", b"refused\n", b"market -1\n", b"final\n",
+                     b"day 1\npass 1\nfall " + b"9" * 5000 + b" 1 1 1\n", b"proved 2\n", 100 * b"order "):
+            report.write_bytes(text)
+            says(f"the text {text[:20]!r}", 1, "the rules give", days, report)
+
+
+def main() -> int:
+    parser = argparse.ArgumentParser(prog="checks.rechecking", description="Longer rounds of the checks of recheck.")
+    parser.add_argument("--seed", type=int, default=SEED)
+    parser.add_argument("--random", type=int, default=0, metavar="N", help="random dossiers")
+    parser.add_argument("--changes", type=int, default=8, metavar="N", help="changed reports of each of them")
+    parser.add_argument("--broken", type=int, default=0, metavar="N", help="worked dossiers with broken slots")
+    parser.add_argument("--large", type=int, default=0, metavar="N", help="changed reports of a large dossier")
+    parser.add_argument("--candidates", type=int, default=1000, metavar="N", help="how large it is")
+    asked = parser.parse_args()
+    tally, begun, program = Tally(), time.monotonic(), program_named()
+    counts = check_random(tally, program, asked.random, asked.changes, asked.seed) if asked.random else Counter()
+    counts += check_broken(tally, program, asked.broken, asked.seed) if asked.broken else Counter()
+    counts += check_large(tally, program, asked.candidates, asked.large, asked.seed) if asked.large else Counter()
+    for kind, number in sorted(counts.items()):
+        print(f"{number:8} {kind}")
+    print(f"in {time.monotonic() - begun:.0f} s\n{tally.passed} passed, {tally.failed} failed")
+    return 0 if tally.failed == 0 else 1
+
+
+if __name__ == "__main__":
+    sys.exit(until_told(main))
