@@ -9,7 +9,7 @@ from functools import partial
 
 from dossier.program import program
 
-from . import days, disks, exporting, hostile, killing, lemmas, rounds, script, sheets, stored
+from . import days, disks, exporting, hostile, killing, lemmas, rounds, script, sheets, stored, whys
 from .harness import EXAMPLES, Tally, until_told
 
 Checks = Callable[[Tally], None]
@@ -35,6 +35,7 @@ def topics(program: str) -> dict[str, list[Checks]]:
         "days": [partial(days.check_seven_days, program=program), days.check_answers_that_do_not_fit,
                  days.check_stopped_days, days.check_changes_after_a_stop, days.check_days_anew,
                  days.check_rights, days.check_killed_while_running, days.check_full_disk],
+        "whys": [whys.check_lycee, whys.check_by_hand, partial(whys.check_campaigns, program=program)],
     }
 
 

@@ -16,7 +16,7 @@ BAD_WORDS = (
     *(("next_day", "a", "--start", date, "--term", "1")
       for date in ("2026-02-30", "20260602", "2026-W10-1", "1900-06-02", "soon")),
     *(("next_day", "a", "--start", "2026-06-02", "--term", term) for term in ("367", "-1", "")),
-    ("in_words", "de"), ("in_words", "en", "fr"), ("in_words", "--help"),
+    ("in_words", "de"), ("in_words", "en", "fr"), ("in_words", "--helpp"), ("why",), ("why", "a"), ("why", "", "1"), ("why", "a", "fr"),
     ("write_sample.sh",), ("write_sample.sh", "5"), ("write_sample.sh", "5", "x", "2", "y"),
     *(("write_sample.sh", number, "x") for number in BAD_NUMBERS),
     ("write_sample.sh", "5", "x", "many"), ("write_sample.sh", "5", "x", "-1"),

@@ -185,4 +185,4 @@ def numbered_groups(ids: list[str]) -> tuple[dict[str, str] | None, str]:
         if not table.exists():
             return None, ended.complaint
         rows_of_ids = [line.split(",") for line in table.read_text().splitlines()[1:]]
-        return {name: number for _, number, name in rows_of_ids}, ended.complaint
+        return {name: number for number, name, *_ in rows_of_ids}, ended.complaint

@@ -8,6 +8,7 @@ from pathlib import Path
 from .cells import DateOrder, Id, Value
 from .exports import SEPARATORS, fold
 from .faults import Faults, shown
+from .naming import IDS, table_of
 from .numbering import Numbers, number_ids, thing_of
 from .relations import Relations
 from .slots import SLOTS, Column
@@ -15,7 +16,6 @@ from .tables import Choices, Entry, Exports, Table, read_folder
 from .writing import Told, csv_bytes, is_folder, named_folder, say, stop_cleanly, write_folder
 
 DONE, FAULTY, BAD_WORDS, NOT_WRITTEN = range(4)
-TABLE_BACK = "ids.csv"
 
 
 def words() -> argparse.ArgumentParser:
@@ -54,15 +54,14 @@ def slot_bytes(table: Table, numbers: Numbers) -> bytes:
 
 def table_back(numbers: Numbers) -> bytes:
     """Which number stands for which id of the exports."""
-    rows = ((thing.value, numbers.of(thing, identifier), identifier.spelled)
-            for thing, ids in numbers.numbered.items() for identifier in ids)
-    return csv_bytes(("thing", "number", "id"), rows)
+    return csv_bytes(*table_of((thing, numbers.of(thing, identifier), identifier.spelled)
+                               for thing, ids in numbers.numbered.items() for identifier in ids))
 
 
 def slot_files(exports: Exports, numbers: Numbers) -> dict[str, bytes]:
     files = {slot.file: slot_bytes(exports.tables[slot.name], numbers) for slot in SLOTS}
     if any(numbers.numbered.values()):
-        files[TABLE_BACK] = table_back(numbers)
+        files[IDS] = table_back(numbers)
     return files
 
 
@@ -76,7 +75,7 @@ def summary(exports: Exports, numbers: Numbers, folder: Path) -> str:
         lines.append(f"{slot.file}: {len(table.entries)} rows of {shown(source.file)} ({dialect})")
     for thing, ids in numbers.numbered.items():
         if ids:
-            lines.append(f"{TABLE_BACK}: {len(ids)} ids of {thing.plural} numbered, from {numbers.of(thing, ids[0])}")
+            lines.append(f"{IDS}: {len(ids)} ids of {thing.plural} numbered, from {numbers.of(thing, ids[0])}")
     lines += [f"not read: {shown(name)}" for name in exports.passed_over]
     return "\n".join([*lines, f"The dossier is in {shown(str(folder))}."])
 

@@ -108,6 +108,21 @@ def stop_cleanly() -> None:
             signal.signal(number, stop)
 
 
+def write_whole(tool: str, text: str) -> bool:
+    """Writes a text to standard output whole, in UTF-8, and answers whether it could. A reader that has gone has what
+    they want."""
+    rest = text.encode(errors="backslashreplace")
+    try:
+        while rest:
+            rest = rest[os.write(1, rest):]
+    except BrokenPipeError:
+        return True
+    except OSError as error:
+        print(f"{tool}: the text could not be written: {error.strerror}", file=sys.stderr)
+        return False
+    return True
+
+
 def say(tool: str, text: str) -> None:
     """Says on standard output what was done. It is done even where this cannot be said."""
     try:
