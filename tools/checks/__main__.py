@@ -21,7 +21,7 @@ def topics(program: str) -> dict[str, list[Checks]]:
         "stored": [stored.check_prepare, stored.check_leave_out, stored.check_encodings, stored.check_ids,
                    stored.check_next_day, partial(stored.check_in_words, program=program),
                    partial(stored.check_sample, program=program)],
-        "sheets": [sheets.check_sheets, sheets.check_states, sheets.check_flags],
+        "sheets": [sheets.check_sheets, sheets.check_states, sheets.check_rates, sheets.check_flags],
         "hostile": [hostile.check_words, hostile.check_folders, hostile.check_names,
                     hostile.check_broken_dossiers, hostile.check_lines],
         "disks": [disks.check_full_devices, disks.check_small_disks],

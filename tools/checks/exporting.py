@@ -106,7 +106,7 @@ def check_acceptance(tally: Tally, program: str) -> None:
         change = changed(random, dossier)
         with scratch() as folder:
             dossier.write(folder / "slots")
-            status, _, complained = prepare(folder / "slots", folder / "prepared")
+            status, _, complained = prepare(folder / "slots", folder / "prepared", "--rates", "percent")
             ended = run(program, "replay", folder=folder / "slots")
             refused = ended.output.decode()[:80] if ended.status == 1 else "accepted"
             is_alike = ended.status < 2 and (status == preparing.FAULTY) == (ended.status == 1)

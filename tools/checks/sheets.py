@@ -34,7 +34,7 @@ GROUP_SHEETS: tuple[tuple[str, str | bytes, str], ...] = (
     ("thin spaces between thousands", f"{GROUPS}1\u202f000;2;3\n", READ.replace("\n1,", "\n1000,")),
     ("blanks before the sign", f"{GROUPS}1;2\u00a0%;3 %\n", READ),
     ("a decimal comma", f"{GROUPS}1;2,5;3\n", "2,5 is not a whole number"),
-    ("a share in place of a percentage", f"{GROUPS}1;0,2;3\n", "0,2 is not a whole number"),
+    ("a share in place of a percentage", f"{GROUPS}1;0,2;3\n", "0,2 has two readings"),
     ("a minus sign", f"{GROUPS}1;-2;3\n", "-2 is not a whole number"),
     ("a long number", f"{GROUPS}1;{'9' * 5000};3\n", "is not a whole number"),
     ("a formula", f'{GROUPS}="007";2;3\n', "is a formula"),
@@ -97,6 +97,24 @@ def check_states(tally: Tally) -> None:
             tally.equal(f"{status} {since}", found, f"wish,status,since\n1,{expected}\n")
         else:
             tally.check(f"{status} {since}", expected in complaint, complaint)
+
+
+def check_rates(tally: Tally) -> None:
+    """A rate of 1 is 1 % or 100 %: it is read where its column, or the user, says which."""
+    tally.begin("prepare, rates")
+    for words, rates, expected in (
+        ((), ("1", "0"), "1 has two readings"), ((), ("0", "1,0"), "1,0 has two readings"), ((), ("0,5", "0"), "0,5 has"),
+        ((), ("1", "20"), "1 20"), ((), ("1", "0 %"), "1 0"), ((), ("100%", "1 %"), "100 1"), ((), ("0", "0"), "0 0"),
+        (("--rates", "percent"), ("1", "0"), "1 0"), (("--rates", "fraction"), ("1", "0"), "100 0"),
+        (("--rates", "fraction"), ("0,2", "0.50"), "20 50"), (("--rates", "fraction"), ("0,29", "7 %"), "29 7"),
+        (("--rates", "fraction"), ("0,205", "0"), "not a whole number of per cent"),
+        (("--rates", "fraction"), ("20", "0"), "2000 is not from 0 to 100"),
+        (("--rates", "percent"), ("0,2", "0"), "0,2 is not a whole number"),
+    ):
+        sheet = GROUPS + "".join(f"{number};{rate};5%\n" for number, rate in enumerate(rates, start=1))
+        found, complaint = Sheets({"groups.csv": sheet.encode()}, words).prepared("groups.csv")
+        read = " ".join(line.split(",")[1] for line in found.splitlines()[1:])
+        tally.check(f"{words} {rates}", read == expected or not found and expected in complaint, (found, complaint))
 
 
 def check_flags(tally: Tally) -> None:

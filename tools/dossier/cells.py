@@ -4,6 +4,7 @@ import re
 import unicodedata
 from dataclasses import dataclass
 from datetime import date
+from decimal import Decimal
 from enum import Enum
 
 from .exports import fold
@@ -17,6 +18,7 @@ WHOLE_TAIL = re.compile(r"(.*[0-9])[.,]0{1,2}", re.DOTALL)
 THOUSANDS_OR_DECIMALS = re.compile(r"[0-9]{1,3}(?:[.,][0-9]{3})+")
 DIGITS_LOST = re.compile(r"[0-9]+(?:[.,][0-9]+)?[eE][+-][0-9]+")
 NUMBER_LIKE = re.compile(rf"[+-]?[0-9][0-9.,'’{BLANKS}]*|[+-][0-9.,'’{BLANKS}]+|[.,'’][0-9]+")
+DECIMAL = re.compile(r"[0-9]{1,6}(?:\.[0-9]{1,20})?")
 MOST_DIGITS = 1000
 ERROR = re.compile(r"#.*|Err:[0-9]+", re.DOTALL)
 MONTH = "(?:jan|feb|fev|mar|apr|avr|may|mai|jun|juin|jul|juil|aug|aou|sep|oct|nov|dec)[a-z]{0,6}"
@@ -59,6 +61,13 @@ class DateOrder(Enum):
     MONTH_FIRST = "month-first"
 
 
+class Rates(Enum):
+    """How rates without a sign are to be read: 20 is 20 % by the one, and 0.2 is 20 % by the other."""
+
+    PERCENT = "percent"
+    FRACTION = "fraction"
+
+
 class Unclear(Exception):
     """A cell without exactly one reading: what is wrong, and what to do."""
 
@@ -87,8 +96,8 @@ class Id:
 Value = int | bool | str | Id | None
 
 
-def read_cell(text: str, column: Column, dates: DateOrder | None) -> Value:
-    """The value of a cell of this column."""
+def read_cell(text: str, column: Column, dates: DateOrder | None, rates: Rates | None = None) -> Value:
+    """The value of a cell of this column. A rate of 1 has one reading by `rates` alone."""
     trimmed = text.strip(BLANKS + "\r\n")
     if trimmed == "":
         return _empty(column)
@@ -99,7 +108,7 @@ def read_cell(text: str, column: Column, dates: DateOrder | None) -> Value:
         case Content.NUMBER:
             return _in_range(read_number(trimmed), column)
         case Content.PERCENTAGE:
-            return _in_range(read_number(trimmed.removesuffix("%").rstrip(BLANKS)), column)
+            return _in_range(read_rate(trimmed, rates), column)
         case Content.FLAG:
             return read_flag(trimmed)
         case Content.STATUS:
@@ -146,6 +155,32 @@ def read_number(text: str) -> int:
     if BLANK_NUMBER.fullmatch(whole):
         return int("".join(letter for letter in whole if letter not in BLANKS))
     raise Unclear(f"{shown(text)} is not a whole number from 0 on.", "write the number with digits alone.")
+
+
+def rates_of(texts: list[str]) -> Rates | None:
+    """How a column of rates is to be read: as percentages where it has a sign, or a number above 1."""
+    return Rates.PERCENT if any("%" in text or _is_above_one(text) for text in texts) else None
+
+
+def _is_above_one(text: str) -> bool:
+    number = text.strip(BLANKS).replace(",", ".")
+    return DECIMAL.fullmatch(number) is not None and float(number) > 1
+
+
+def read_rate(text: str, rates: Rates | None) -> int:
+    """A rate in whole per cent."""
+    if text.endswith("%"):
+        return read_number(text.removesuffix("%").rstrip(BLANKS))
+    number = text.replace(",", ".")
+    if rates is Rates.FRACTION and DECIMAL.fullmatch(number):
+        hundredfold = Decimal(number) * 100
+        if hundredfold != int(hundredfold):
+            raise Unclear(f"{shown(text)} is not a whole number of per cent.", "correct the rate.")
+        return int(hundredfold)
+    if rates is None and DECIMAL.fullmatch(number) and 0 < Decimal(number) <= 1:
+        raise Unclear(f"{shown(text)} has two readings: per cent, or a share of the whole, where 1 is 100 %, as workbooks "
+                      "keep rates.", "write the rate with its sign, as 20 %, or say --rates percent or --rates fraction.")
+    return read_number(text)
 
 
 def _in_range(value: int, column: Column) -> int:

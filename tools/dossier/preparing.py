@@ -1,11 +1,10 @@
 """From nine spreadsheet exports to the nine slots of a dossier, or to all of their faults."""
 
-import argparse
 import os
 import sys
 from pathlib import Path
 
-from .cells import DateOrder, Id, Value
+from .cells import DateOrder, Id, Rates, Value
 from .exports import SEPARATORS, fold
 from .faults import Faults, shown
 from .naming import IDS, table_of
@@ -13,21 +12,24 @@ from .numbering import Numbers, number_ids, thing_of
 from .relations import Relations
 from .slots import SLOTS, Column
 from .tables import Choices, Entry, Exports, Table, read_folder
+from .wording import Words
 from .writing import Told, csv_bytes, is_folder, named_folder, say, stop_cleanly, write_folder
 
 DONE, FAULTY, BAD_WORDS, NOT_WRITTEN = range(4)
 
 
-def words() -> argparse.ArgumentParser:
-    parser = argparse.ArgumentParser(
-        prog="prepare", allow_abbrev=False,
-        description="Reads nine spreadsheet exports (.csv, .tsv, .txt) of a folder as they come, and writes the nine "
-                    "slots of a dossier to a new folder. All faults are listed at once, and then nothing is written.",
-        epilog="Status: 0 written, 1 faults, 2 bad words, 3 not read or not written.")
+def words() -> Words:
+    parser = Words(
+        "prepare",
+        "Reads nine spreadsheet exports (.csv, .tsv, .txt) of a folder as they come, and writes the nine slots of a "
+        "dossier to a new folder. All faults are listed at once, and then nothing is written.",
+        "Status: 0 written, 1 faults, 2 bad words, 3 not read or not written.")
     parser.add_argument("exports", type=named_folder, help="the folder of the exports")
     parser.add_argument("folder", type=named_folder, help="the new folder for the slots")
     parser.add_argument("--dates", type=DateOrder, choices=list(DateOrder), metavar="day-first|month-first",
                         help="how dates such as 02/06/2025 are to be read")
+    parser.add_argument("--rates", type=Rates, choices=list(Rates), metavar="percent|fraction",
+                        help="how rates without a sign are to be read: 20, or 0.2, for 20 %%")
     parser.add_argument("--leave-out", action="append", default=[], metavar="COLUMN",
                         help="a column of the exports that is no part of the dossier; may be given again")
     return parser
@@ -100,7 +102,7 @@ def left(folder: Path) -> str:
 
 
 def main(arguments: list[str]) -> int:
-    given = words().parse_args(arguments)
+    given = words().of(arguments)
     if not is_folder(given.exports):
         print(f"prepare: there is no folder {given.exports}; name the folder of the exports.", file=sys.stderr)
         return NOT_WRITTEN
@@ -112,7 +114,7 @@ def main(arguments: list[str]) -> int:
         return NOT_WRITTEN
     try:
         stop_cleanly()
-        return prepare(given.exports, given.folder, Choices(given.dates, frozenset(map(fold, given.leave_out))))
+        return prepare(given.exports, given.folder, Choices(given.dates, given.rates, frozenset(map(fold, given.leave_out))))
     except OSError as error:
         print(f"prepare: {error.filename or given.folder}: {error.strerror}; {left(given.folder)}", file=sys.stderr)
         return NOT_WRITTEN

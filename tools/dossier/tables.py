@@ -3,10 +3,10 @@
 from dataclasses import dataclass, field
 from pathlib import Path
 
-from .cells import DateOrder, Unclear, Value, read_cell
+from .cells import DateOrder, Rates, Unclear, Value, rates_of, read_cell
 from .exports import Export, Unreadable, read_export, whole_rows
 from .faults import Faults, Row
-from .slots import MOST_ROWS, SLOTS, Column, Slot
+from .slots import MOST_ROWS, SLOTS, Column, Content, Slot
 
 EXPORT_ENDINGS = (".csv", ".tsv", ".txt")
 # Files with such names are not the user's: a system's own, and those that say that a sheet is open.
@@ -46,6 +46,7 @@ class Choices:
     """What the user said where exports alone leave it open."""
 
     dates: DateOrder | None = None
+    rates: Rates | None = None
     leave_out: frozenset[str] = frozenset()
 
 
@@ -101,12 +102,15 @@ def read_table(slot: Slot, export: Export, choices: Choices, faults: Faults) -> 
     whole = {column.name for column in columns} if len(rows) == len(export.rows) else set()
     if len(export.rows) > MOST_ROWS:
         faults.in_file(export.file, f"it has more than {MOST_ROWS} rows.", "leave out what is not of this dossier.")
+    rates = {column.name: choices.rates or rates_of([row.cells[export.header.places[column.name]] for row in rows])
+             for column in columns if column.content is Content.PERCENTAGE}
     entries = []
     for row in rows:
         values: dict[str, Value] = {}
         for column in columns:
             try:
-                values[column.name] = read_cell(row.cells[export.header.places[column.name]], column, choices.dates)
+                values[column.name] = read_cell(row.cells[export.header.places[column.name]], column, choices.dates,
+                                                rates.get(column.name))
             except Unclear as error:
                 whole.discard(column.name)
                 name = export.first_row.cells[export.header.places[column.name]].strip()
