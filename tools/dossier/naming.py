@@ -5,7 +5,7 @@ from collections.abc import Iterable
 from dataclasses import dataclass
 from pathlib import Path
 
-from .exports import fold
+from .headers import fold
 from .slots import Thing
 
 IDS = "ids.csv"
