@@ -11,10 +11,16 @@ import os
 import queue
 import shutil
 import sys
+import textwrap
 import threading
 import time
 
 sys.dont_write_bytecode = True
+if set(sys.argv[1:]) & {"--help", "-h", "help"}:
+    print(textwrap.fill(" ".join(__doc__.split()), 80))
+    sys.exit(0)
+if len(sys.argv) != 2:
+    sys.exit("usage: prove.py CRATE; prove.py --help says more")
 sys.path.insert(0, os.path.dirname(os.path.realpath(shutil.which("rt") or "/opt/rattle/bin/rt")))
 import rtlib  # noqa: E402 (the kit's own library, beside its command rt)
 

@@ -7,6 +7,7 @@ import glob
 import os
 import re
 import sys
+import textwrap
 
 ROOT = os.path.dirname(os.path.dirname(os.path.realpath(__file__)))
 SIGNATURE = re.compile(r"(?:pub )?([^\s:(){}=-][^\s:(){}=]*) : (.*)")
@@ -35,6 +36,9 @@ def without_names(statement):
 
 
 def main():
+    if set(sys.argv[1:]) & {"--help", "-h", "help"}:
+        print("usage: same_lemmas.py\n" + textwrap.fill(" ".join(__doc__.split()), 80))
+        return 0
     found = collections.defaultdict(list)
     for path in sorted(glob.glob(f"{ROOT}/crates/*/proofs/**/*.antt", recursive=True)):
         with open(path) as file:

@@ -1,8 +1,8 @@
 #!/bin/sh
-# Writes the nine slots of a made-up dossier with NUMBER candidates to the folder FOLDER.
-# The rows are those of the mode `sample`: 500 candidates a programme, up to three choices each.
-# An optional third word gives the answers of day 2: each candidate of that multiple quits.
-# Status: 0 written, 1 not written, 2 bad words. The slots appear in the folder when all are whole.
+# Writes the nine slots of a made-up dossier of NUMBER candidates to FOLDER, as
+# the mode `sample` has them. With QUITS each candidate of that multiple quits on
+# day 2. The slots appear in the folder when all are whole.
+# Status: 0 written, 1 not written, 2 bad words.
 set -u
 slots="groups programmes schools rankings boarding wishes state ceilings answers"
 
@@ -21,6 +21,13 @@ not_written() {
     exit 1
 }
 
+case ${1-} in
+    --help | -h | help)
+        echo "usage: write_sample.sh NUMBER FOLDER [QUITS]"
+        sed -n '2,5s/^# //p' "$0"
+        exit 0 ;;
+    --version) exec "$(dirname -- "$(readlink -f -- "$0")")/in_words" --version ;;
+esac
 if [ $# -lt 2 ] || [ $# -gt 3 ]; then
     echo "usage: $0 NUMBER FOLDER [QUITS]" >&2
     exit 2

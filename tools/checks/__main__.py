@@ -2,14 +2,14 @@
 
 import os
 import subprocess
-import sys
 import time
 from collections.abc import Callable
 from functools import partial
 
 from dossier.program import program
+from dossier.wording import Words
 
-from . import days, disks, exporting, hostile, killing, lemmas, rounds, script, sheets, stored
+from . import days, disks, exporting, hostile, killing, lemmas, rounds, script, sheets, stored, whys
 from .harness import EXAMPLES, Tally, until_told
 
 Checks = Callable[[Tally], None]
@@ -21,8 +21,9 @@ def topics(program: str) -> dict[str, list[Checks]]:
         "stored": [stored.check_prepare, stored.check_leave_out, stored.check_encodings, stored.check_ids,
                    stored.check_next_day, partial(stored.check_in_words, program=program),
                    partial(stored.check_sample, program=program)],
-        "sheets": [sheets.check_sheets, sheets.check_states, sheets.check_flags],
-        "hostile": [hostile.check_words, hostile.check_folders, hostile.check_names,
+        "sheets": [sheets.check_sheets, sheets.check_headers, sheets.check_codes, sheets.check_groups_of_faults,
+                   sheets.check_states, sheets.check_rates, sheets.check_flags],
+        "hostile": [hostile.check_help, hostile.check_old_python, hostile.check_words, hostile.check_folders, hostile.check_names,
                     hostile.check_broken_dossiers, hostile.check_lines],
         "disks": [disks.check_full_devices, disks.check_small_disks],
         "killing": list(killing.CHECKS),
@@ -35,6 +36,7 @@ def topics(program: str) -> dict[str, list[Checks]]:
         "days": [partial(days.check_seven_days, program=program), days.check_answers_that_do_not_fit,
                  days.check_stopped_days, days.check_changes_after_a_stop, days.check_days_anew,
                  days.check_rights, days.check_killed_while_running, days.check_full_disk],
+        "whys": [whys.check_lycee, whys.check_by_hand, partial(whys.check_campaigns, program=program)],
     }
 
 
@@ -47,12 +49,19 @@ def is_there() -> bool:
     return done.returncode == 0
 
 
-def main(named: list[str]) -> int:
+def main(given: list[str]) -> int:
     os.environ["PARCOURS"] = program()
     all_topics = topics(program())
-    if any(name not in all_topics for name in named):
-        print(f"usage: check.sh [{'|'.join(all_topics)}]..", file=sys.stderr)
-        return 2
+    words = Words("check.sh", "Runs all checks of the tools, or those of the topics named, in some minutes. The last line "
+                  "is `N passed, M failed`.", "Status: 0 all passed, 1 some failed, 2 bad words.")
+    words.add_argument("topics", nargs="*", metavar="TOPIC", help=", ".join(all_topics))
+    named = words.of(given).topics
+    if unknown := [name for name in named if name not in all_topics]:
+        words.bad(f"no topic {unknown[0]}; the topics are {', '.join(all_topics)}")
+    return until_told(partial(run_topics, named, all_topics))
+
+
+def run_topics(named: list[str], all_topics: dict[str, list[Checks]]) -> int:
     if not is_there():
         print(f"FAILED {program()} does not run\n0 passed, 1 failed")
         return 1
@@ -66,6 +75,3 @@ def main(named: list[str]) -> int:
     print(f"in {time.monotonic() - begun:.0f} s")
     print(f"{tally.passed} passed, {tally.failed} failed")
     return 0 if tally.failed == 0 else 1
-
-
-sys.exit(until_told(partial(main, sys.argv[1:])))

@@ -4,13 +4,15 @@ The program is the one that is shipped. A small library, which is compiled here 
 counts what the program asks for and refuses one request, or that one and all after it.
 """
 
-import argparse
 import subprocess
 import sys
 from collections.abc import Iterator
 from dataclasses import dataclass
+from functools import partial
 from pathlib import Path
 from random import Random
+
+from dossier.wording import Words
 
 from .harness import EXAMPLES, scratch, until_told
 from .modes import MODES, NO_CHAIN, Mode, chain_of, known_modes, words_of
@@ -177,25 +179,25 @@ class Round:
         return self.found
 
 
-def arguments() -> argparse.ArgumentParser:
-    words = argparse.ArgumentParser(
-        prog="fail_allocations.sh",
-        description="Refuses each request for memory in turn, alone and with all after it, in runs of "
+def arguments() -> Words:
+    words = Words(
+        "fail_allocations.sh",
+        "Refuses each request for memory in turn, alone and with all after it, in runs of "
         "examples/two-days and of worked dossiers with the greatest bar and with falls. The answer must be the same, "
         f"or status 5 with a prefix of the text. A mode that shows something {MOST_FOUND} times is left.",
-        epilog="Status: 0 nothing found, 1 something found, 2 bad words.")
+        "Status: 0 nothing found, 1 something found, 2 bad words.")
     words.add_argument("modes", nargs="*", metavar="MODE", help=f"{', '.join(MODES)}; all where none is named")
     words.add_argument("--every", type=int, default=1, metavar="N", help="tries one request of N")
     return words
 
 
-def main() -> int:
+def attempts(given: list[str]) -> int:
     parser = arguments()
-    asked = parser.parse_args()
+    asked = parser.of(given)
     if unknown := [name for name in asked.modes if name not in MODES]:
-        parser.error(f"no mode {unknown[0]}; the modes are {', '.join(MODES)}")
+        parser.bad(f"no mode {unknown[0]}; the modes are {', '.join(MODES)}")
     if asked.every < 1:
-        parser.error("--every is a number from 1 on")
+        parser.bad("--every is a number from 1 on")
     with scratch() as place:
         library = shim(place)
         found = sum(Round(mode, library, place / "slots", asked.every).run() for mode in known_modes(asked.modes))
@@ -203,5 +205,5 @@ def main() -> int:
     return 0 if found == 0 else 1
 
 
-if __name__ == "__main__":
-    sys.exit(until_told(main))
+def main(given: list[str]) -> int:
+    return until_told(partial(attempts, given))

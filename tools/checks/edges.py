@@ -1,8 +1,6 @@
 """Edges of size and odd files: what each gives in each mode, as `docs/FORMATS.md` lists it."""
 
-import argparse
 import os
-import sys
 import threading
 import time
 from collections.abc import Callable, Iterator
@@ -12,6 +10,7 @@ from pathlib import Path
 from random import Random
 
 from dossier.slots import SLOTS, Column, Content, Slot
+from dossier.wording import Words
 
 from .harness import EXAMPLES, Tally, contents, scratch, until_told
 from .modes import MODES, NO_CHAIN, Mode, known_modes, words_of
@@ -338,22 +337,23 @@ TOPICS: dict[str, Callable[[Tries, list[Mode]], None]] = {
     "numbers": numbers, "options": options, "words": odd_words, "files": odd_files, "growing": growing, "sizes": sizes}
 
 
-def arguments() -> argparse.ArgumentParser:
-    parser = argparse.ArgumentParser(
-        prog="edges.sh",
-        description="Tries edges of size and odd files in each mode, as docs/FORMATS.md lists them, a line a topic and "
+def arguments() -> Words:
+    parser = Words(
+        "edges.sh",
+        "Tries edges of size and odd files in each mode, as docs/FORMATS.md lists them, a line a topic and "
         "mode. The topic `sizes` takes 4 GB of memory, some disk and minutes; the others a minute or two.",
-        epilog="Status: 0 nothing found, 1 something found, 2 bad words.")
+        "Status: 0 nothing found, 1 something found, 2 bad words.")
     parser.add_argument("topics", nargs="*", metavar="TOPIC", help=f"{', '.join(TOPICS)}; all where none is named")
-    parser.add_argument("--mode", action="append", default=[], choices=[*MODES], help="this mode; may be given again")
+    parser.add_argument("--mode", action="append", default=[], choices=[*MODES], metavar="MODE",
+                        help="this mode; may be given again")
     return parser
 
 
-def main() -> int:
+def attempts(given: list[str]) -> int:
     parser = arguments()
-    asked = parser.parse_args()
+    asked = parser.of(given)
     if unknown := [name for name in asked.topics if name not in TOPICS]:
-        parser.error(f"no topic {unknown[0]}; the topics are {', '.join(TOPICS)}")
+        parser.bad(f"no topic {unknown[0]}; the topics are {', '.join(TOPICS)}")
     modes = known_modes(asked.mode)
     tally = Tally()
     with scratch() as place:
@@ -364,5 +364,5 @@ def main() -> int:
     return 0 if tally.failed == 0 else 1
 
 
-if __name__ == "__main__":
-    sys.exit(until_told(main))
+def main(given: list[str]) -> int:
+    return until_told(partial(attempts, given))

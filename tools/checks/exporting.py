@@ -7,6 +7,7 @@ from pathlib import Path
 from random import Random
 
 from dossier import preparing
+from dossier.naming import IDS
 from dossier.slots import SLOTS, Thing
 from dossier.writing import csv_bytes
 
@@ -39,8 +40,8 @@ def with_answers(random: Random, dossier: Dossier) -> Dossier:
 
 def named_back(folder: Path) -> dict[str, bytes]:
     """The prepared slots, with each number put back to its name by the table of ids."""
-    with open(folder / preparing.TABLE_BACK, newline="", encoding="utf-8") as file:
-        names = {(thing, number): name for thing, number, name in csv.reader(file)}
+    with open(folder / IDS, newline="", encoding="utf-8") as file:
+        names = {(thing, row["number"]): row[thing] for row in csv.DictReader(file) for thing in row if row[thing]}
     files = {}
     for slot in SLOTS:
         with open(folder / slot.file, newline="", encoding="utf-8") as file:
@@ -79,7 +80,7 @@ def comes_back(dialect: Dialect, dossier: Dossier, random: Random, namer: Namer 
         status, said, complained = prepare(folder / "exports", folder / "slots", *order)
         if status != preparing.DONE:
             return False, complained
-        if (folder / "slots" / preparing.TABLE_BACK).exists():
+        if (folder / "slots" / IDS).exists():
             return named_back(folder / "slots") == named_dossier(dossier, namer or named), said
         expected = {slot.file: dossier.slot_bytes(slot) for slot in SLOTS}
         return contents(folder / "slots") == expected, said
@@ -105,7 +106,7 @@ def check_acceptance(tally: Tally, program: str) -> None:
         change = changed(random, dossier)
         with scratch() as folder:
             dossier.write(folder / "slots")
-            status, _, complained = prepare(folder / "slots", folder / "prepared")
+            status, _, complained = prepare(folder / "slots", folder / "prepared", "--rates", "percent")
             ended = run(program, "replay", folder=folder / "slots")
             refused = ended.output.decode()[:80] if ended.status == 1 else "accepted"
             is_alike = ended.status < 2 and (status == preparing.FAULTY) == (ended.status == 1)

@@ -1,6 +1,9 @@
 """A hostile round of each tool: no argument, odd ones, folders missing or taken, slots and lines that are none."""
 
+import ast
+import os
 import shutil
+import sys
 from pathlib import Path
 
 from .harness import DATA, EXAMPLES, TOOLS, Ended, Tally, contents, run, scratch
@@ -16,7 +19,7 @@ BAD_WORDS = (
     *(("next_day", "a", "--start", date, "--term", "1")
       for date in ("2026-02-30", "20260602", "2026-W10-1", "1900-06-02", "soon")),
     *(("next_day", "a", "--start", "2026-06-02", "--term", term) for term in ("367", "-1", "")),
-    ("in_words", "de"), ("in_words", "en", "fr"), ("in_words", "--help"),
+    ("in_words", "de"), ("in_words", "en", "fr"), ("in_words", "--helpp"), ("why",), ("why", "a"), ("why", "", "1"), ("why", "a", "fr"),
     ("write_sample.sh",), ("write_sample.sh", "5"), ("write_sample.sh", "5", "x", "2", "y"),
     *(("write_sample.sh", number, "x") for number in BAD_NUMBERS),
     ("write_sample.sh", "5", "x", "many"), ("write_sample.sh", "5", "x", "-1"),
@@ -36,6 +39,39 @@ def check_words(tally: Tally) -> None:
         with scratch() as folder:
             refused(tally, f"{tool} {' '.join(words)}", run(TOOLS / tool, *words, folder=folder), 2)
             tally.equal(f"{tool} {' '.join(words)}: nothing is written", list(folder.iterdir()), [])
+
+
+def check_help(tally: Tally) -> None:
+    """Each tool prints its help and its version, and does nothing else."""
+    tally.begin("help and versions of all tools")
+    tools = [path for path in sorted(TOOLS.iterdir()) if path.is_file() and os.access(path, os.X_OK)]
+    tools += [TOOLS / name for name in ("prove.py", "same_lemmas.py")]
+    tally.check("there are many", len(tools) > 10, tools)
+    for tool in dict.fromkeys(tools):
+        with scratch() as folder:
+            for word in ("--help", "-h", "help"):
+                ended = run(*([sys.executable] if tool.suffix == ".py" else []), tool, word, folder=folder)
+                told = ended.output.decode().splitlines()
+                is_page = ended.status == 0 and ended.complaint == "" and tool.name in ended.output.decode()
+                tally.check(f"{tool.name} {word}", is_page and max(map(len, told)) <= 80, ended)
+            if tool.suffix != ".py":
+                ended = run(tool, "--version", folder=folder)
+                tally.check(f"{tool.name} --version", ended.status == 0 and b"commit" in ended.output, ended)
+            tally.equal(f"{tool.name}: nothing is written", list(folder.iterdir()), [])
+
+
+def check_old_python(tally: Tally) -> None:
+    """A Python that is too old gets a sentence: what starts the tools knows no new word of the language."""
+    tally.begin("Python that is too old")
+    started = (TOOLS / "dossier/starting.py").read_text()
+    ast.parse(started, feature_version=(3, 4))
+    for tool in ("prepare", "next_day", "in_words", "why"):
+        ast.parse((TOOLS / tool).read_text(), feature_version=(3, 4))
+    old = "import sys; sys.version_info = (3, 9, 2); sys.argv = ['why', 'a']; " \
+        "from dossier.starting import start; start('why', 'dossier.explaining')"
+    ended = run(sys.executable, "-B", "-c", old, environment={"PYTHONPATH": str(TOOLS)})
+    refused(tally, "the sentence", ended, 3)
+    tally.check("what it says", "needs Python 3.10 or later, and this is 3.9" in ended.complaint, ended)
 
 
 def check_folders(tally: Tally) -> None:

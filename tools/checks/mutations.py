@@ -6,13 +6,15 @@ changed.
 """
 
 import argparse
-import sys
 from collections import Counter
 from collections.abc import Callable, Iterator
 from dataclasses import dataclass, field
+from functools import partial
 from itertools import islice
 from pathlib import Path
 from random import Random
+
+from dossier.wording import Words
 
 from .harness import scratch, shortened, until_told
 from .judging import LONGEST, OF_INPUT, fault
@@ -242,12 +244,13 @@ def words_round(modes: list[Mode], worked: list[Job], asked: argparse.Namespace)
     return Round("words", asked).run(reworded(by.choice(jobs), modes, by) for _ in range(asked.number))
 
 
-def arguments() -> argparse.ArgumentParser:
-    words = argparse.ArgumentParser(
-        prog="mutate.sh", description="Runs mutated slots of the worked dossiers, a line a mode. A run must end within "
+def arguments() -> Words:
+    words = Words(
+        "mutate.sh",
+        "Runs mutated slots of the worked dossiers, a line a mode. A run must end within "
         f"{LONGEST:.0f} s of a processor with a status of its input, and a line that names a slot and a row must name "
         f"one that is there. A mode that shows something {MOST_FOUND} times is left.",
-        epilog="Status: 0 nothing found, 1 something found, 2 bad words.")
+        "Status: 0 nothing found, 1 something found, 2 bad words.")
     words.add_argument("modes", nargs="*", metavar="MODE", help=f"{', '.join(MODES)}; all where none is named")
     words.add_argument("--cuts", action="store_true",
                        help="cuts each slot that a mode reads at each byte, in place of random changes")
@@ -259,16 +262,16 @@ def arguments() -> argparse.ArgumentParser:
     return words
 
 
-def main() -> int:
+def attempts(given: list[str]) -> int:
     parser = arguments()
-    asked = parser.parse_args()
+    asked = parser.of(given)
     if unknown := [name for name in asked.modes if name not in MODES]:
-        parser.error(f"no mode {unknown[0]}; the modes are {', '.join(MODES)}")
+        parser.bad(f"no mode {unknown[0]}; the modes are {', '.join(MODES)}")
     modes, worked = known_modes(asked.modes), all_jobs()
     found = words_round(modes, worked, asked) if asked.words else sum(round_of(mode, worked, asked) for mode in modes)
     print(f"{found} found")
     return 0 if found == 0 else 1
 
 
-if __name__ == "__main__":
-    sys.exit(until_told(main))
+def main(given: list[str]) -> int:
+    return until_told(partial(attempts, given))

@@ -11,12 +11,12 @@ import os
 import re
 import shutil
 import subprocess
-import sys
 from dataclasses import dataclass
 from functools import partial
 from pathlib import Path
 
 from dossier.program import program
+from dossier.wording import Words
 
 from .harness import LONGEST_RUN, TOP, Tally, scratch
 
@@ -138,7 +138,10 @@ def pages() -> list[Path]:
     return [page.relative_to(TOP) for page in found]
 
 
-def main() -> int:
+def main(given: list[str]) -> int:
+    Words("check_pages.sh", "Runs what stands behind $ in the README, in docs/ and in examples/, and compares what is "
+          "printed with the bytes below it. The last line is `N passed, M failed`.",
+          "Status: 0 all passed, 1 some failed, 2 bad words.").of(given)
     tally = Tally()
     # The script `parcours` says so where it has to build first: that is no part of a page.
     try:
@@ -150,7 +153,3 @@ def main() -> int:
         tally.run(partial(check_page, tally, page))
     print(f"{tally.passed} passed, {tally.failed} failed")
     return 0 if tally.failed == 0 and tally.passed > 0 else 1
-
-
-if __name__ == "__main__":
-    sys.exit(main())

@@ -20,8 +20,10 @@ def check_prepare(tally: Tally) -> None:
         tally.equal("lycee: slots", contents(folder / "dossier"), contents(LYCEE / "slots"))
         tally.equal("lycee: what is said", ended.output, (LYCEE / "prepared.txt").read_bytes())
         ended = run(TOOLS / "prepare", LYCEE / "exports", "other", folder=folder)
-        is_one = ended.status == 1 and ended.complaint.endswith("\n1 fault; nothing is written.\n")
+        is_one = ended.status == 1 and ended.complaint.endswith("\n1 faute\u00a0; rien n'est écrit.\n")
         tally.check("lycee: a date with two readings", is_one, ended)
+        ended = run(TOOLS / "prepare", LYCEE / "exports", "other", "--lang", "en", folder=folder)
+        tally.check("lycee: in English", ended.complaint.endswith("\n1 fault; nothing is written.\n"), ended)
         ended = run(TOOLS / "prepare", EXAMPLES / "blank", "blank", folder=folder)
         tally.check("blank", ended.status == 0 and contents(folder / "blank") == contents(EXAMPLES / "blank"), ended)
         for name in ("faulty", "headers"):
@@ -31,19 +33,28 @@ def check_prepare(tally: Tally) -> None:
 
 
 def check_leave_out(tally: Tally) -> None:
+    """Names and towns are left out by themselves, and said once; what may be a column of the dossier is not."""
     tally.begin("prepare, a column that is no part of the dossier")
     with scratch() as folder:
-        shutil.copytree(EXAMPLES / "two-days", folder / "exports", ignore=shutil.ignore_patterns("*.txt"))
-        rankings = folder / "exports/rankings.csv"
+        shutil.copytree(EXAMPLES / "two-days", folder / "exports", ignore=shutil.ignore_patterns("*.txt", "*.md"))
+        rankings, state = folder / "exports/rankings.csv", folder / "exports/programmes.csv"
         header, *rows = rankings.read_text().splitlines()
-        rankings.write_text("\n".join([f"Last name,{header}", *(f"Dupont,{row}" for row in rows)]))
-        refused = run(TOOLS / "prepare", "exports", "slots", folder=folder)
-        is_told = refused.status == 1 and 'say --leave-out "Last name"' in refused.complaint
-        tally.check("it is not passed over silently", is_told, refused)
-        taken = run(TOOLS / "prepare", "exports", "slots", "--leave-out", "last name", folder=folder)
-        tally.equal("status", taken.status, 0)
+        rankings.write_text("\n".join([f"Last name,{header},Town", *(f"Dupont,{row},Lyon" for row in rows)]))
+        taken = run(TOOLS / "prepare", "exports", "slots", folder=folder)
+        is_said = b"rankings.csv: not read are the columns Last name, Town\n" in taken.output
+        tally.check("it is left out, and said", taken.status == 0 and is_said, taken)
         expected = {name: data for name, data in contents(EXAMPLES / "two-days").items() if name.endswith(".csv")}
         tally.equal("the slots", contents(folder / "slots"), expected)
+        header, *rows = state.read_text().splitlines()
+        state.write_text("\n".join([f"{header},Limits", *(f"{row},0" for row in rows)]))
+        refused = run(TOOLS / "prepare", "exports", "other", folder=folder)
+        is_told = refused.status == 1 and '--column "Limits=limit"' in refused.complaint
+        tally.check("what may be the call limit is not left out", is_told, refused)
+        for word in ("--leave-out=limits", "--column=LIMITS=limit"):
+            made = run(TOOLS / "prepare", "exports", word.rpartition("=")[2], word, folder=folder)
+            tally.equal(word, made.status, 0)
+        tally.check("the column is read", b",limit\n" in (folder / "limit/programmes.csv").read_bytes())
+        tally.check("the column is left out", b"limit" not in (folder / "limits/programmes.csv").read_bytes())
 
 
 def check_next_day(tally: Tally) -> None:
@@ -185,4 +196,4 @@ def numbered_groups(ids: list[str]) -> tuple[dict[str, str] | None, str]:
         if not table.exists():
             return None, ended.complaint
         rows_of_ids = [line.split(",") for line in table.read_text().splitlines()[1:]]
-        return {name: number for _, number, name in rows_of_ids}, ended.complaint
+        return {name: number for number, name, *_ in rows_of_ids}, ended.complaint

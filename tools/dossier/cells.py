@@ -4,19 +4,28 @@ import re
 import unicodedata
 from dataclasses import dataclass
 from datetime import date
+from decimal import Decimal
 from enum import Enum
 
-from .exports import fold
 from .faults import shown
+from .headers import fold
+from .messages import (BECAME_DATE, CORRECT_DATE, CORRECT_NUMBER, CORRECT_RATE, DATE_READINGS, DIGITS_ALONE, DIGITS_LOST,
+                       EMPTY, ENTER_ANEW, EXPORT_VALUES, FAR_YEAR, FILL_IN, FORMAT_NUMBER, FORMAT_TEXT,
+                       FORMAT_TEXT_AGAIN, FORMULA, HIDDEN_LETTER, LEAVE_EMPTY, MEND_FORMULA, NO_DAY, NOT_DATE, NOT_FLAG,
+                       NOT_WHOLE, OUT_OF_RANGE, PART_OF_PERCENT, RATE_READINGS, SAY_ORDER, SHEET_ERROR, SIGN_RATE,
+                       THOUSANDS, TWO_WORDS, UNKNOWN_WORD, WITHOUT_POINTS, WRITE_DATE, WRITE_FLAG, WRITE_WORD, WRITE_ZERO,
+                       ZERO_ID)
 from .slots import GREATEST_NUMBER, Column, Content
+from .texts import Filled
 
 BLANKS = " \t\u00a0\u2007\u2009\u202f"
 PLAIN_NUMBER = re.compile(r"[0-9]+")
 BLANK_NUMBER = re.compile(rf"[0-9]{{1,3}}(?:[{BLANKS}][0-9]{{3}})+")
 WHOLE_TAIL = re.compile(r"(.*[0-9])[.,]0{1,2}", re.DOTALL)
 THOUSANDS_OR_DECIMALS = re.compile(r"[0-9]{1,3}(?:[.,][0-9]{3})+")
-DIGITS_LOST = re.compile(r"[0-9]+(?:[.,][0-9]+)?[eE][+-][0-9]+")
+LOST_DIGITS = re.compile(r"[0-9]+(?:[.,][0-9]+)?[eE][+-][0-9]+")
 NUMBER_LIKE = re.compile(rf"[+-]?[0-9][0-9.,'’{BLANKS}]*|[+-][0-9.,'’{BLANKS}]+|[.,'’][0-9]+")
+DECIMAL = re.compile(r"[0-9]{1,6}(?:\.[0-9]{1,20})?")
 MOST_DIGITS = 1000
 ERROR = re.compile(r"#.*|Err:[0-9]+", re.DOTALL)
 MONTH = "(?:jan|feb|fev|mar|apr|avr|may|mai|jun|juin|jul|juil|aug|aou|sep|oct|nov|dec)[a-z]{0,6}"
@@ -25,7 +34,17 @@ NUMBERED_DATE = re.compile(r"[0-9]{4}[-/](?:0?[1-9]|1[0-2])[-/](?:[0-2]?[0-9]|3[
                            r"|(?:[0-2]?[0-9]|3[01])[-/.](?:[0-2]?[0-9]|3[01])[-/.](?:[0-9]{2}|[0-9]{4})")
 MIDNIGHT = r"(?:[ T]00:00(?::00)?)?"
 ISO_DATE = re.compile(rf"([0-9]{{4}})-([0-9]{{2}})-([0-9]{{2}}){MIDNIGHT}")
-PARTED_DATE = re.compile(rf"([0-9]{{1,2}})[-/.]([0-9]{{1,2}})[-/.]([0-9]{{4}}){MIDNIGHT}")
+PARTED_DATE = re.compile(rf"([0-9]{{1,2}})(?:[-/.](?=[^-/.]+[-/.][0-9]{{4}})|[/.](?=[^-/.]+[/.]))([0-9]{{1,2}})[-/.]"
+                         rf"([0-9]{{4}}|[0-6][0-9]){MIDNIGHT}")
+MONTHS = {name: number for number, names in enumerate((
+    "january janvier jan janv", "february fevrier feb fev fevr", "march mars mar", "april avril apr avr", "may mai",
+    "june juin jun", "july juillet jul juil", "august aout aug", "september septembre sep sept", "october octobre oct",
+    "november novembre nov", "december decembre dec"), start=1) for name in names.split()}
+WEEKDAYS = "|".join(("lundi", "mardi", "mercredi", "jeudi", "vendredi", "samedi", "dimanche", "monday", "tuesday",
+                     "wednesday", "thursday", "friday", "saturday", "sunday"))
+WRITTEN_DATE = re.compile(rf"(?:(?:{WEEKDAYS}) )?(?:(?P<day>[0-9]{{1,2}})(?:er|st|nd|rd|th)? (?P<month>{'|'.join(MONTHS)})"
+                          rf"|(?P<first_month>{'|'.join(MONTHS)}) (?P<second_day>[0-9]{{1,2}})(?:st|nd|rd|th)?)"
+                          rf" (?P<year>[0-9]{{4}}|[0-6][0-9])")
 EARLIEST_YEAR, LATEST_YEAR = 1900, 2299
 
 FLAGS = {
@@ -49,6 +68,12 @@ ANSWERS = {
     "withdraw": ("retire", "retirer", "retrait"),
     "quit": ("demission", "demissionne", "demissionner"),
 }
+# How the words are written in French, for those who are to write them.
+IN_FRENCH = {
+    "waiting": "en attente", "offered": "proposition", "accepted": "accepté", "refused": "refusé", "withdrawn": "retiré",
+    "quit": "démission", "auto_refused": "refusé automatiquement", "auto_withdrawn": "retiré automatiquement",
+    "lapsed": "caduc", "accept": "accepter", "refuse": "refuser", "withdraw": "retirer",
+}
 DOUBTFUL = ("renonce", "renoncer", "renoncement", "renonciation")
 
 
@@ -59,10 +84,17 @@ class DateOrder(Enum):
     MONTH_FIRST = "month-first"
 
 
+class Rates(Enum):
+    """How rates without a sign are to be read: 20 is 20 % by the one, and 0.2 is 20 % by the other."""
+
+    PERCENT = "percent"
+    FRACTION = "fraction"
+
+
 class Unclear(Exception):
     """A cell without exactly one reading: what is wrong, and what to do."""
 
-    def __init__(self, what: str, to_do: str):
+    def __init__(self, what: Filled, to_do: Filled):
         super().__init__(what)
         self.what = what
         self.to_do = to_do
@@ -87,8 +119,8 @@ class Id:
 Value = int | bool | str | Id | None
 
 
-def read_cell(text: str, column: Column, dates: DateOrder | None) -> Value:
-    """The value of a cell of this column."""
+def read_cell(text: str, column: Column, dates: DateOrder | None, rates: Rates | None = None) -> Value:
+    """The value of a cell of this column. A rate of 1 has one reading by `rates` alone."""
     trimmed = text.strip(BLANKS + "\r\n")
     if trimmed == "":
         return _empty(column)
@@ -99,7 +131,7 @@ def read_cell(text: str, column: Column, dates: DateOrder | None) -> Value:
         case Content.NUMBER:
             return _in_range(read_number(trimmed), column)
         case Content.PERCENTAGE:
-            return _in_range(read_number(trimmed.removesuffix("%").rstrip(BLANKS)), column)
+            return _in_range(read_rate(trimmed, rates), column)
         case Content.FLAG:
             return read_flag(trimmed)
         case Content.STATUS:
@@ -115,66 +147,89 @@ def _test_letters(text: str) -> None:
     if not text.isprintable():
         hidden = next((letter for letter in text if not (letter.isprintable() or letter.isspace())), None)
         if hidden is not None:
-            raise Unclear(f"{shown(text)} has a letter that cannot be seen (U+{ord(hidden):04X}).",
-                          "enter the cell anew.")
+            raise Unclear(HIDDEN_LETTER.of(text=shown(text), code=f"U+{ord(hidden):04X}"), ENTER_ANEW.of())
     if ERROR.fullmatch(text):
-        raise Unclear(f"{shown(text)} is an error of the spreadsheet.", "mend the formula, and export the sheet again.")
+        raise Unclear(SHEET_ERROR.of(text=shown(text)), MEND_FORMULA.of())
     if text.startswith("="):
-        raise Unclear(f"{shown(text)} is a formula and no value.", "export the sheet again with its values.")
+        raise Unclear(FORMULA.of(text=shown(text)), EXPORT_VALUES.of())
 
 
 def _empty(column: Column) -> Value:
     if not column.may_be_empty:
-        is_preference = column.name == "preference"
-        raise Unclear("the cell is empty.",
-                      "write 0 where the candidate answers for themselves." if is_preference else "fill in the cell.")
+        raise Unclear(EMPTY.of(), (WRITE_ZERO if column.name == "preference" else FILL_IN).of())
     return 0 if column.content is Content.NUMBER else None
 
 
 def read_number(text: str) -> int:
     """A whole number, with blanks between thousands or with zeros after a decimal point where the sheet shows them."""
-    if DIGITS_LOST.fullmatch(text):
-        raise Unclear(f"{text} has lost digits.",
-                      "format the column as a number without decimals, and export the sheet again.")
+    if LOST_DIGITS.fullmatch(text):
+        raise Unclear(DIGITS_LOST.of(text=text), FORMAT_NUMBER.of())
     if THOUSANDS_OR_DECIMALS.fullmatch(text):
-        raise Unclear(f"{text} has two readings: with thousands, or with decimals.",
-                      "write the number without points and commas.")
+        raise Unclear(THOUSANDS.of(text=text), WITHOUT_POINTS.of())
     tail = WHOLE_TAIL.fullmatch(text)
     whole = tail.group(1) if tail else text
     if PLAIN_NUMBER.fullmatch(whole) and len(whole.lstrip("0")) <= MOST_DIGITS:
         return int(whole.lstrip("0") or "0")
     if BLANK_NUMBER.fullmatch(whole):
         return int("".join(letter for letter in whole if letter not in BLANKS))
-    raise Unclear(f"{shown(text)} is not a whole number from 0 on.", "write the number with digits alone.")
+    raise Unclear(NOT_WHOLE.of(text=shown(text)), DIGITS_ALONE.of())
+
+
+def rates_of(texts: list[str]) -> Rates | None:
+    """How a column of rates is to be read: as percentages where it has a sign, or a number above 1."""
+    return Rates.PERCENT if any("%" in text or _is_above_one(text) for text in texts) else None
+
+
+def _is_above_one(text: str) -> bool:
+    number = text.strip(BLANKS).replace(",", ".")
+    return DECIMAL.fullmatch(number) is not None and float(number) > 1
+
+
+def read_rate(text: str, rates: Rates | None) -> int:
+    """A rate in whole per cent."""
+    if text.endswith("%"):
+        return read_number(text.removesuffix("%").rstrip(BLANKS))
+    number = text.replace(",", ".")
+    if rates is Rates.FRACTION and DECIMAL.fullmatch(number):
+        hundredfold = Decimal(number) * 100
+        if hundredfold != int(hundredfold):
+            raise Unclear(PART_OF_PERCENT.of(text=shown(text)), CORRECT_RATE.of())
+        return int(hundredfold)
+    if rates is None and DECIMAL.fullmatch(number) and 0 < Decimal(number) <= 1:
+        raise Unclear(RATE_READINGS.of(text=shown(text)), SIGN_RATE.of())
+    return read_number(text)
 
 
 def _in_range(value: int, column: Column) -> int:
     if not column.least <= value <= column.greatest:
-        raise Unclear(f"{value} is not from {column.least} to {column.greatest}.", "correct the number.")
+        raise Unclear(OUT_OF_RANGE.of(value=value, least=column.least, greatest=column.greatest), CORRECT_NUMBER.of())
     return value
+
+
+def spelled_as(text: str) -> str:
+    """An id as it is kept: its letters composed, and its blanks single."""
+    return " ".join((text if text.isascii() else unicodedata.normalize("NFC", text)).split())
 
 
 def read_id(text: str) -> Id:
     """An id: a number, or any other text that the spreadsheet cannot have changed."""
-    spelled = " ".join(unicodedata.normalize("NFC", text).split())
-    if DIGITS_LOST.fullmatch(text):
-        raise Unclear(f"{text} has lost digits.",
-                      "format the column as text, enter the ids again, and export the sheet again.")
+    spelled = spelled_as(text)
+    if LOST_DIGITS.fullmatch(text):
+        raise Unclear(DIGITS_LOST.of(text=text), FORMAT_TEXT_AGAIN.of())
     if NUMBERED_DATE.fullmatch(text) or NAMED_DATE.fullmatch(fold(text)):
-        raise Unclear(f"{shown(text)} looks like an id that became a date.",
-                      "format the column as text, and enter the id again.")
+        raise Unclear(BECAME_DATE.of(text=shown(text)), FORMAT_TEXT.of())
     if not NUMBER_LIKE.fullmatch(text):
         return Id(spelled, spelled)
     value = read_number(text)
     if value == 0:
-        raise Unclear("0 is no id.", "write the id; where there is none, leave the cell empty.")
+        raise Unclear(ZERO_ID.of(), LEAVE_EMPTY.of())
     return Id(str(value), spelled)
 
 
 def read_flag(text: str) -> bool:
     flag = FLAGS.get(fold(text))
     if flag is None:
-        raise Unclear(f"{shown(text)} is neither yes nor no.", "write 1 or 0, TRUE or FALSE, VRAI or FAUX, OUI or NON.")
+        raise Unclear(NOT_FLAG.of(text=shown(text)), WRITE_FLAG.of())
     return flag
 
 
@@ -183,29 +238,40 @@ def read_word(text: str, words: dict[str, tuple[str, ...]]) -> str:
     for word, others in words.items():
         if folded == word.replace("_", " ") or folded in others:
             return word
-    choice = ", ".join(words)
-    if folded in DOUBTFUL:
-        raise Unclear(f"{shown(text)} has two readings: to refuse an offer, or to withdraw a wish that waits.",
-                      f"write one of {choice}.")
-    raise Unclear(f"{shown(text)} is an unknown word.", f"write one of {choice}.")
+    choice = WRITE_WORD.of(en=", ".join(words), fr=", ".join(map(IN_FRENCH.__getitem__, words)))
+    raise Unclear((TWO_WORDS if folded in DOUBTFUL else UNKNOWN_WORD).of(text=shown(text)), choice)
 
 
 def read_date(text: str, order: DateOrder | None) -> str:
     """A date as YYYY-MM-DD."""
-    if match := ISO_DATE.fullmatch(text):
-        year, month, day = map(int, match.groups())
-    elif match := PARTED_DATE.fullmatch(text):
-        first, second, year = map(int, match.groups())
-        day, month = _day_and_month(text, first, second, order)
-    else:
-        raise Unclear(f"{shown(text)} is not a date in one reading.", "write it as YYYY-MM-DD.")
+    year, month, day = parts_of_date(text, order)
     try:
         found = date(year, month, day)
     except ValueError:
-        raise Unclear(f"{text} is not a day of the calendar.", "correct the date.") from None
+        raise Unclear(NO_DAY.of(text=text), CORRECT_DATE.of()) from None
     if not EARLIEST_YEAR <= year <= LATEST_YEAR:
-        raise Unclear(f"{text} is not of a year from {EARLIEST_YEAR} to {LATEST_YEAR}.", "correct the date.")
+        raise Unclear(FAR_YEAR.of(text=text, least=EARLIEST_YEAR, greatest=LATEST_YEAR), CORRECT_DATE.of())
     return found.isoformat()
+
+
+def parts_of_date(text: str, order: DateOrder | None) -> tuple[int, int, int]:
+    """The year, the month and the day that a text names in one reading."""
+    if match := ISO_DATE.fullmatch(text):
+        year, month, day = map(int, match.groups())
+        return year, month, day
+    if match := PARTED_DATE.fullmatch(text):
+        first, second = int(match[1]), int(match[2])
+        day, month = _day_and_month(text, first, second, order)
+        return full_year(match[3]), month, day
+    if match := WRITTEN_DATE.fullmatch(fold(text).replace(",", "").replace(".", "")):
+        named = match["month"] or match["first_month"]
+        return full_year(match["year"]), MONTHS[named], int(match["day"] or match["second_day"])
+    raise Unclear(NOT_DATE.of(text=shown(text)), WRITE_DATE.of())
+
+
+def full_year(text: str) -> int:
+    """A year of two digits is one of this century."""
+    return int(text) + (2000 if len(text) == 2 else 0)
 
 
 def _day_and_month(text: str, first: int, second: int, order: DateOrder | None) -> tuple[int, int]:
@@ -217,5 +283,4 @@ def _day_and_month(text: str, first: int, second: int, order: DateOrder | None) 
         return (first, second) if first == second else (second, first)
     if first > 12:
         return first, second
-    raise Unclear(f"{text} has two readings.",
-                  "write it as YYYY-MM-DD, or say --dates day-first or --dates month-first.")
+    raise Unclear(DATE_READINGS.of(text=text), SAY_ORDER.of())

@@ -1,6 +1,5 @@
 """The words of `next_day`, and its messages."""
 
-import argparse
 import os
 import re
 import sys
@@ -10,6 +9,7 @@ from pathlib import Path
 from . import program
 from .campaign import CALENDAR, Stopped, next_day
 from .dating import Calendar
+from .wording import Words
 from .writing import Told, is_folder, named_folder, say, stop_cleanly
 
 FIRST_YEAR, LAST_YEAR = 1901, 2298
@@ -30,13 +30,13 @@ def term_of_days(text: str) -> int:
     return int(text)
 
 
-def words() -> argparse.ArgumentParser:
-    parser = argparse.ArgumentParser(
-        prog="next_day", allow_abbrev=False,
-        description="Runs the coming day of the dossier in FOLDER, keeps its record in FOLDER/days, and makes the "
-                    "slots those of the day after. A day that was stopped half way is ended, and no other is begun.",
-        epilog="Status: 0 the day is made; otherwise nothing is lost, and the status is the program's, or 2 for bad "
-               "words, 3 where the folder cannot be read, 4 where it cannot be written.")
+def words() -> Words:
+    parser = Words(
+        "next_day",
+        "Runs the coming day of the dossier in FOLDER, keeps its record in FOLDER/days, and makes the slots those of "
+        "the day after. A day that was stopped half way is ended, and no other is begun.",
+        "Status: 0 the day is made; otherwise nothing is lost, and the status is the program's, or 2 for bad words, 3 "
+        "where the folder cannot be read, 4 where it cannot be written.")
     parser.add_argument("folder", type=named_folder, metavar="FOLDER", help="the folder of the nine slots")
     parser.add_argument("--start", type=start_date, metavar="DATE",
                         help="the date of day 1, when the campaign begins with deadlines")
@@ -54,9 +54,9 @@ def go_on(folder: Path) -> str:
 
 def main(arguments: list[str]) -> int:
     parser = words()
-    given = parser.parse_args(arguments)
+    given = parser.of(arguments)
     if (given.start is None) != (given.term is None):
-        parser.error("--start and --term are given together or not at all")
+        parser.bad("--start and --term are given together or not at all")
     if not is_folder(given.folder):
         print(f"next_day: there is no folder {given.folder}; name the folder of the dossier.", file=sys.stderr)
         return program.READ_FAULT

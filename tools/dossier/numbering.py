@@ -1,75 +1,86 @@
-"""Numbers for ids that aren't numbers, and the table back."""
+"""Numbers for ids that aren't numbers. Those that an earlier dossier gave stay."""
 
 from collections.abc import Iterator
 from dataclasses import dataclass
+from itertools import repeat
 
-from .cells import Id
-from .exports import fold
-from .faults import Faults, Row, shown
+from .cells import Id, spelled_as
+from .faults import MOST_SHOWN, Faults, Row, shown
+from .headers import fold
+from .messages import (GIVE_ANOTHER, LESSER_NUMBERS, NO_NUMBERS, NUMBER_TAKEN, ONE_OR_TWO, PLURALS, THINGS,
+                       WRITE_ALIKE)
+from .naming import Names
 from .slots import GREATEST_NUMBER, SLOTS, Column, Content, Thing
-from .tables import Entry, Table
+from .tables import Table
+from .values import FAULT, QUIT, Spellings
 
 
-@dataclass(frozen=True, slots=True)
-class Use:
-    """An id at the place where it was met first."""
-
-    id: Id
-    row: Row
+KEPT = ("state", "ceilings", "answers")
 
 
 @dataclass(frozen=True)
 class Numbers:
-    """The number of each id by its thing and key, and which of the ids had none."""
+    """The number of each id that is none, by its code."""
 
-    by_key: dict[Thing, dict[str, int]]
-    numbered: dict[Thing, list[Id]]
+    by_code: dict[Thing, dict[int, int]]
 
-    def of(self, thing: Thing, identifier: Id) -> int:
-        return self.by_key[thing][identifier.key]
-
-
-def thing_of(column: Column, entry: Entry) -> Thing | None:
-    """What an id of this column names; nothing where the answer's kind is unknown."""
-    if column.content is not Content.TARGET:
-        return column.thing
-    if not entry.has("kind"):
-        return None
-    return Thing.CANDIDATE if entry.get("kind") == "quit" else Thing.WISH
+    def of(self, thing: Thing, code: int) -> int:
+        return code if code >= 0 else self.by_code[thing][code]
 
 
-def uses(tables: dict[str, Table]) -> Iterator[tuple[Thing, Use]]:
-    """All ids with what they name, in the order of the slots and rows."""
+def id_columns(tables: dict[str, Table]) -> Iterator[tuple[Table, Column]]:
+    """The columns of ids and targets, in the order of the slots."""
     for slot in SLOTS:
-        table = tables.get(slot.name)
-        if table is None:
-            continue
-        ids = [column for column in table.columns if column.content in (Content.ID, Content.TARGET)]
-        for entry in table.entries:
-            for column in ids:
-                value = entry.get(column.name)
-                thing = thing_of(column, entry)
-                if isinstance(value, Id) and thing is not None:
-                    yield thing, Use(value, entry.row)
+        if slot.name in tables:
+            table = tables[slot.name]
+            yield from ((table, column) for column in table.columns if column.content in (Content.ID, Content.TARGET))
 
 
-def number_ids(tables: dict[str, Table], faults: Faults) -> Numbers:
-    """Numbers the ids; two spellings that may or may not be one id are a fault."""
-    first_uses: dict[Thing, dict[str, Use]] = {thing: {} for thing in Thing}
-    likes: dict[Thing, dict[str, Use]] = {thing: {} for thing in Thing}
-    told: set[tuple[Thing, str]] = set()
-    for thing, use in uses(tables):
-        first_uses[thing].setdefault(use.id.key, use)
-        like = likes[thing].setdefault(likeness(use.id), use)
-        if may_differ(like.id, use.id) and (thing, use.id.spelled) not in told:
-            told.add((thing, use.id.spelled))
-            faults.at((use.row, like.row),
-                      f'the {thing.plural} "{shown(use.id.spelled)}" and "{shown(like.id.spelled)}" may be one or two.',
-                      "write them alike where they are one, and otherwise make them differ in more.")
-    numbered = {thing: [use.id for use in first.values() if use.id.number is None]
-                for thing, first in first_uses.items()}
-    return Numbers({thing: _numbers(thing, first, numbered[thing], faults) for thing, first in first_uses.items()},
-                   numbered)
+def codes_of(thing: Thing, tables: dict[str, Table]) -> Iterator[tuple[Table, Column, Iterator[int]]]:
+    """The codes of a kind of ids, column by column; what is named by no id of the kind is 0."""
+    for table, column in id_columns(tables):
+        values = table.values[column.name]
+        if column.content is Content.TARGET:
+            kinds = table.values["kind"]
+            yield table, column, (value if (kind == QUIT) == (thing is Thing.CANDIDATE) and value != FAULT else 0
+                                  for kind, value in zip(kinds, values)) \
+                if thing in (Thing.CANDIDATE, Thing.WISH) else iter(())
+        elif column.thing is thing:
+            yield table, column, iter(values)
+
+
+def number_ids(tables: dict[str, Table], spellings: dict[Thing, Spellings], earlier: Names, faults: Faults) -> Numbers:
+    """Numbers the ids by the place where they stand first; two that may or may not be one are a fault."""
+    numbers = {}
+    for thing in Thing:
+        if spellings[thing].odd:
+            tell_doubtful(thing, tables, spellings[thing], faults)
+        numbers[thing] = numbers_of(thing, tables, spellings[thing], earlier, faults) if spellings[thing].spelled else {}
+    return Numbers(numbers)
+
+
+def numbers_of(thing: Thing, tables: dict[str, Table], spellings: Spellings, earlier: Names,
+               faults: Faults) -> dict[int, int]:
+    """Ids that were numbered before keep their numbers; the others get those after the greatest of all."""
+    met: dict[int, None] = {}
+    greatest = max(earlier.by_number[thing], default=0)
+    for _, column, codes in codes_of(thing, tables):
+        values = list(codes)
+        met.update(dict.fromkeys(code for code in values if FAULT < code < 0))
+        greatest = max(greatest, max(values, default=0))
+    known = earlier.by_id[thing]
+    numbers: dict[int, int] = {}
+    for code in met:
+        spelled = spellings.of(code)
+        if spelled not in known:
+            greatest += 1
+        numbers[code] = known.get(spelled, greatest)
+    if greatest > GREATEST_NUMBER:
+        row = row_of_code(thing, tables, next(iter(met)))
+        things = PLURALS[thing.value]
+        if row is not None:
+            faults.at(row, NO_NUMBERS.of(things=things), LESSER_NUMBERS.of(things=things))
+    return numbers
 
 
 def likeness(identifier: Id) -> str:
@@ -77,18 +88,86 @@ def likeness(identifier: Id) -> str:
     return fold(identifier.spelled).replace(" ", "").lstrip("0")
 
 
+def zeros(spelled: str) -> int:
+    return len(spelled) - len(spelled.lstrip("0"))
+
+
 def may_differ(one: Id, other: Id) -> bool:
     """Whether two ids that look alike are spelled so that they may be two: capitals, accents, zeros in front."""
-    zeros = len(one.spelled) - len(one.spelled.lstrip("0")) != len(other.spelled) - len(other.spelled.lstrip("0"))
-    return one.key != other.key or zeros
+    return one.key != other.key or zeros(one.spelled) != zeros(other.spelled)
 
 
-def _numbers(thing: Thing, first: dict[str, Use], unnumbered: list[Id], faults: Faults) -> dict[str, int]:
-    """Ids that are numbers keep them; the others get the numbers after the greatest of these."""
-    numbers = {key: use.id.number for key, use in first.items() if use.id.number is not None}
-    start = max(numbers.values(), default=0) + 1
-    if unnumbered and start + len(unnumbered) - 1 > GREATEST_NUMBER:
-        faults.at((first[unnumbered[0].key].row,),
-                  f"no numbers are left for the {thing.plural} whose ids are no numbers.",
-                  f"give lesser numbers to the other {thing.plural}.")
-    return numbers | {identifier.key: start + place for place, identifier in enumerate(unnumbered)}
+def doubtful(thing: Thing, tables: dict[str, Table], spellings: Spellings) -> Iterator[tuple[str, str]]:
+    """The spellings of ids that may be one or two, each with the other."""
+    likes: dict[str, Id] = {}
+    numerals: set[str] | None = None
+    for identifier in spellings.odd.values():
+        like = likeness(identifier)
+        other = likes.setdefault(like, identifier)
+        if other is identifier and like.isascii() and like.isdigit():
+            if numerals is None:
+                numerals = {str(value) for _, _, codes in codes_of(thing, tables) for value in codes if value > 0}
+            other = Id(like, like) if like in numerals else identifier
+        if other is not identifier and may_differ(other, identifier):
+            yield identifier.spelled, other.spelled
+
+
+def tell_doubtful(thing: Thing, tables: dict[str, Table], spellings: Spellings, faults: Faults) -> None:
+    """Tells the ids that may be one or two; the first of them are shown."""
+    pairs = list(doubtful(thing, tables, spellings))
+    rows = rows_of_spellings(thing, tables, {spelled for pair in pairs[:MOST_SHOWN] for spelled in pair})
+    for one, other in pairs:
+        row = rows.get(one) or next(iter(rows.values()), None)
+        if row is not None:
+            what = ONE_OR_TWO.of(things=PLURALS[thing.value], one=shown(one), other=shown(other))
+            faults.at(row, what, WRITE_ALIKE.of(), beside=rows.get(other), cause=("alike", thing))
+
+
+def row_of_code(thing: Thing, tables: dict[str, Table], wanted: int) -> Row | None:
+    """The first row that has the id of this code."""
+    return next((table.row(place) for table, _, codes in codes_of(thing, tables)
+                 for place, code in enumerate(codes) if code == wanted), None)
+
+
+def rows_of_spellings(thing: Thing, tables: dict[str, Table], wanted: set[str]) -> dict[str, Row]:
+    """The first row that has each of these ids in just this spelling."""
+    rows: dict[str, Row] = {}
+    for table, column, codes in codes_of(thing, tables):
+        place_of_cell = table.header.places[column.name]
+        for place, (code, cells) in enumerate(zip(codes, table.rows())):
+            spelled = spelled_as(cells[place_of_cell]) if code != 0 else ""
+            if spelled in wanted:
+                rows.setdefault(spelled, table.row(place))
+        if len(rows) == len(wanted):
+            break
+    return rows
+
+
+def translated(tables: dict[str, Table], spellings: dict[Thing, Spellings], earlier: Names, faults: Faults) -> None:
+    """In the slots that a campaign keeps, the numbers of an earlier dossier are the ids that they stood for."""
+    for thing in Thing:
+        if not earlier.by_number[thing]:
+            continue
+        own = {code for table, _, codes in codes_of(thing, tables) if table.slot.name not in KEPT for code in codes}
+        taken = sorted(own & earlier.by_number[thing].keys())
+        for number in taken[:1]:
+            row = row_of_code(thing, tables, number)
+            if row is not None:
+                what = NUMBER_TAKEN.of(thing=THINGS[thing.value], number=number, id=earlier.by_number[thing][number])
+                faults.at(row, what, GIVE_ANOTHER.of())
+        codes = {number: spellings[thing].code_of(Id(spelled, spelled))
+                 for number, spelled in earlier.by_number[thing].items() if number not in own}
+        for table, column in id_columns(tables):
+            if table.slot.name in KEPT and column.thing in (thing, None):
+                values = table.values[column.name]
+                for place, is_of_kind in enumerate(own_of(thing, table, column)):
+                    if is_of_kind and values[place] in codes:
+                        values[place] = codes[values[place]]
+
+
+def own_of(thing: Thing, table: Table, column: Column) -> Iterator[bool]:
+    """Of each row whether its cell in the column is an id of the kind."""
+    if column.content is not Content.TARGET:
+        return repeat(column.thing is thing, len(table))
+    named = Thing.CANDIDATE, Thing.WISH
+    return (thing in named and (kind == QUIT) == (thing is Thing.CANDIDATE) for kind in table.values["kind"])

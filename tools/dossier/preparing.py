@@ -1,97 +1,160 @@
-"""From nine spreadsheet exports to the nine slots of a dossier, or to all of their faults."""
+"""From nine sheets to the nine slots of a dossier, or to all of their faults."""
 
 import argparse
+import gc
 import os
 import sys
+from collections.abc import Callable, Iterator
+from datetime import date
+from itertools import islice
 from pathlib import Path
 
-from .cells import DateOrder, Id, Value
-from .exports import SEPARATORS, fold
+from .cells import DateOrder, Rates
 from .faults import Faults, shown
-from .numbering import Numbers, number_ids, thing_of
+from .folders import Exports, read_folder
+from .headers import fold
+from .messages import NUMBERS_OF_CAMPAIGN, PLURALS
+from .naming import IDS, Names, NotIds, names_of, read_names, table_of
+from .numbering import Numbers, number_ids, translated
 from .relations import Relations
-from .slots import SLOTS, Column
-from .tables import Choices, Entry, Exports, Table, read_folder
+from .slots import SLOTS, Column, Content, Thing
+from .sources import SEPARATORS, TextSheet
+from .tables import Choices, Table
+from .texts import Language, Text, said
+from .values import ANSWER_WORDS, NOTHING, QUIT, STATUS_WORDS
+from .wording import Words
 from .writing import Told, csv_bytes, is_folder, named_folder, say, stop_cleanly, write_folder
 
 DONE, FAULTY, BAD_WORDS, NOT_WRITTEN = range(4)
-TABLE_BACK = "ids.csv"
+CHUNK = 4_000
+COLUMN_NAMES = frozenset(column.name for slot in SLOTS for column in slot.columns)
+
+READ = Text("{slot}: {count} rows of {file}{how}", "{slot} : {count} lignes de {file}{how}")
+LEFT_OUT = Text("{file}: not read are the columns {names}", "{file} : colonnes qui ne sont pas lues : {names}")
+NUMBERED = Text("{ids}: {count} ids of {things} numbered, from {first}",
+                "{ids} : {count} identifiants de {things} numérotés, à partir de {first}")
+NOT_READ = Text("not read: {name}", "pas lu : {name}")
+IS_IN = Text("The dossier is in {folder}.", "Le dossier est dans {folder}.")
 
 
-def words() -> argparse.ArgumentParser:
-    parser = argparse.ArgumentParser(
-        prog="prepare", allow_abbrev=False,
-        description="Reads nine spreadsheet exports (.csv, .tsv, .txt) of a folder as they come, and writes the nine "
-                    "slots of a dossier to a new folder. All faults are listed at once, and then nothing is written.",
-        epilog="Status: 0 written, 1 faults, 2 bad words, 3 not read or not written.")
-    parser.add_argument("exports", type=named_folder, help="the folder of the exports")
+def chosen_column(text: str) -> tuple[str, str]:
+    """A title and the column that it names, as `N° candidat=candidate`."""
+    title, _, name = text.rpartition("=")
+    column = fold(name).replace(" ", "_")
+    if not fold(title) or column not in COLUMN_NAMES:
+        raise argparse.ArgumentTypeError(f"{text} is no title and column, as \"N° candidat=candidate\"")
+    return fold(title), column
+
+
+def words() -> Words:
+    parser = Words(
+        "prepare",
+        "Reads nine sheets of a folder as they come, exports (.csv, .tsv, .txt) or sheets of workbooks (.ods, .xlsx), and "
+        "writes the nine slots of a dossier to a new folder. All faults are listed at once, and then nothing is written.",
+        "Status: 0 written, 1 faults, 2 bad words, 3 not read or not written.")
+    parser.add_argument("exports", type=named_folder, help="the folder of the sheets")
     parser.add_argument("folder", type=named_folder, help="the new folder for the slots")
     parser.add_argument("--dates", type=DateOrder, choices=list(DateOrder), metavar="day-first|month-first",
                         help="how dates such as 02/06/2025 are to be read")
-    parser.add_argument("--leave-out", action="append", default=[], metavar="COLUMN",
-                        help="a column of the exports that is no part of the dossier; may be given again")
+    parser.add_argument("--rates", type=Rates, choices=list(Rates), metavar="percent|fraction",
+                        help="how rates without a sign are to be read: 20, or 0.2, for 20 %%")
+    parser.add_argument("--column", action="append", default=[], type=chosen_column, metavar="TITLE=COLUMN",
+                        help="which column a title names; may be given again")
+    parser.add_argument("--leave-out", action="append", default=[], metavar="TITLE",
+                        help="a title that names no column of the dossier; may be given again")
+    parser.add_argument("--ids", type=named_folder, metavar="EARLIER",
+                        help="an earlier dossier, or its ids.csv: its ids keep their numbers")
+    parser.add_argument("--lang", choices=("en", "fr"), help="the language of faults; else that of the titles")
     return parser
 
 
-def written(value: Value, column: Column, entry: Entry, numbers: Numbers) -> object:
-    """A value as the slot writes it."""
-    if value is None:
-        return ""
-    if isinstance(value, bool):
-        return int(value)
-    if isinstance(value, Id):
-        thing = thing_of(column, entry)
-        assert thing is not None
-        return numbers.of(thing, value)
-    return value
+def text_of(column: Column, table: Table, numbers: Numbers) -> Callable[[int], str]:
+    """How the values of a column are written."""
+    match column.content:
+        case Content.ID if column.thing and (by_code := numbers.by_code[column.thing]) or column.may_be_empty:
+            known = by_code if column.thing else {}
+            return lambda value: str(value) if value > 0 else str(known[value]) if value < 0 else ""
+        case Content.STATUS:
+            return STATUS_WORDS.__getitem__
+        case Content.ANSWER:
+            return ANSWER_WORDS.__getitem__
+        case Content.DATE:
+            return lambda value: "" if value == NOTHING else date.fromordinal(value).isoformat()
+        case _:
+            return str
 
 
-def slot_bytes(table: Table, numbers: Numbers) -> bytes:
-    rows = ([written(entry.get(column.name), column, entry, numbers) for column in table.columns]
-            for entry in table.entries)
-    return csv_bytes([column.name for column in table.columns], rows)
+def column_texts(column: Column, table: Table, numbers: Numbers) -> Iterator[str]:
+    """The cells of a column as the slot writes them."""
+    values = table.values[column.name]
+    if column.content is Content.TARGET:
+        return (str(numbers.of(Thing.CANDIDATE if kind == QUIT else Thing.WISH, value))
+                for kind, value in zip(table.values["kind"], values))
+    return map(text_of(column, table, numbers), values)
 
 
-def table_back(numbers: Numbers) -> bytes:
-    """Which number stands for which id of the exports."""
-    rows = ((thing.value, numbers.of(thing, identifier), identifier.spelled)
-            for thing, ids in numbers.numbered.items() for identifier in ids)
-    return csv_bytes(("thing", "number", "id"), rows)
+def slot_parts(table: Table, numbers: Numbers) -> Iterator[bytes]:
+    """A slot's file, some thousand rows at once. No cell of a slot needs quotes."""
+    yield f"{','.join(column.name for column in table.columns)}\n".encode()
+    rows = map(",".join, zip(*(column_texts(column, table, numbers) for column in table.columns)))
+    while chunk := list(islice(rows, CHUNK)):
+        yield ("\n".join(chunk) + "\n").encode()
 
 
-def slot_files(exports: Exports, numbers: Numbers) -> dict[str, bytes]:
-    files = {slot.file: slot_bytes(exports.tables[slot.name], numbers) for slot in SLOTS}
-    if any(numbers.numbered.values()):
-        files[TABLE_BACK] = table_back(numbers)
+def table_back(exports: Exports, numbers: Numbers) -> bytes:
+    """Which number stands for which id of the sheets."""
+    return csv_bytes(*table_of((thing, number, exports.spellings[thing].of(code))
+                               for thing, by_code in numbers.by_code.items() for code, number in by_code.items()))
+
+
+def slot_files(exports: Exports, numbers: Numbers) -> dict[str, bytes | Iterator[bytes]]:
+    files: dict[str, bytes | Iterator[bytes]] = {
+        slot.file: slot_parts(exports.tables[slot.name], numbers) for slot in SLOTS}
+    if any(numbers.by_code.values()):
+        files[IDS] = table_back(exports, numbers)
     return files
 
 
-def summary(exports: Exports, numbers: Numbers, folder: Path) -> str:
+def summary(exports: Exports, numbers: Numbers, folder: Path, language: Language) -> str:
     """What was read and written, a line for each slot."""
-    lines = []
+    lines, left_out = [], []
     for slot in SLOTS:
         table = exports.tables[slot.name]
-        source = table.export
-        dialect = f"{source.encoding}, {SEPARATORS[source.separator]}"
-        lines.append(f"{slot.file}: {len(table.entries)} rows of {shown(source.file)} ({dialect})")
-    for thing, ids in numbers.numbered.items():
-        if ids:
-            lines.append(f"{TABLE_BACK}: {len(ids)} ids of {thing.plural} numbered, from {numbers.of(thing, ids[0])}")
-    lines += [f"not read: {shown(name)}" for name in exports.passed_over]
-    return "\n".join([*lines, f"The dossier is in {shown(str(folder))}."])
+        sheet = table.sheet
+        how = f" ({sheet.coding.name}, {said(SEPARATORS[sheet.separator], language)})" \
+            if isinstance(sheet, TextSheet) else ""
+        lines.append(READ.of(slot=slot.file, count=len(table), file=shown(sheet.label), how=how))
+        if table.header.left_out:
+            names = ", ".join(shown(table.header.titles[place].strip()) for place in sorted(table.header.left_out))
+            left_out.append(LEFT_OUT.of(file=shown(sheet.label), names=names))
+    for thing, by_code in numbers.by_code.items():
+        if by_code:
+            lines.append(NUMBERED.of(ids=IDS, count=len(by_code), things=PLURALS[thing.value], first=min(by_code.values())))
+    lines += left_out + [NOT_READ.of(name=shown(name)) for name in exports.passed_over]
+    return "\n".join(line.said(language) for line in [*lines, IS_IN.of(folder=shown(str(folder)))])
 
 
-def prepare(source: Path, folder: Path, choices: Choices) -> int:
+def earlier_names(given: Path | None, source: Path) -> Names:
+    """The numbers of an earlier dossier: as the words name it, else by a table of ids among the sheets."""
+    if given is not None:
+        return read_names(given / IDS if given.is_dir() else given)
+    beside = source / IDS
+    return read_names(beside) if beside.is_file() else names_of(())
+
+
+def prepare(source: Path, folder: Path, choices: Choices, earlier: Names, asked: Language | None) -> int:
     faults = Faults()
     exports = read_folder(source, choices, faults)
-    Relations(exports.tables, faults).test()
-    numbers = number_ids(exports.tables, faults)
+    language = asked or exports.language()
+    translated(exports.tables, exports.spellings, earlier, faults)
+    may_be_numbers = None if any(earlier.by_number.values()) else NUMBERS_OF_CAMPAIGN.of()
+    Relations(exports.tables, exports.spellings, faults, may_be_numbers).test()
+    numbers = number_ids(exports.tables, exports.spellings, earlier, faults)
     if faults.found:
-        files = [exports.tables[slot.name].export.file for slot in SLOTS if slot.name in exports.tables]
-        print(faults.told(files), file=sys.stderr)
+        print(faults.told(exports.files, language), file=sys.stderr)
         return FAULTY
     write_folder(folder, slot_files(exports, numbers))
-    say("prepare", summary(exports, numbers, folder))
+    say("prepare", summary(exports, numbers, folder, language))
     return DONE
 
 
@@ -101,7 +164,7 @@ def left(folder: Path) -> str:
 
 
 def main(arguments: list[str]) -> int:
-    given = words().parse_args(arguments)
+    given = words().of(arguments)
     if not is_folder(given.exports):
         print(f"prepare: there is no folder {given.exports}; name the folder of the exports.", file=sys.stderr)
         return NOT_WRITTEN
@@ -113,7 +176,14 @@ def main(arguments: list[str]) -> int:
         return NOT_WRITTEN
     try:
         stop_cleanly()
-        return prepare(given.exports, given.folder, Choices(given.dates, frozenset(map(fold, given.leave_out))))
+        # Millions of rows come and go, and none of them is part of a ring.
+        gc.disable()
+        columns = {fold(title): "" for title in given.leave_out} | dict(given.column)
+        return prepare(given.exports, given.folder, Choices(given.dates, given.rates, columns),
+                       earlier_names(given.ids, given.exports), given.lang)
+    except NotIds as error:
+        print(f"prepare: {error}", file=sys.stderr)
+        return NOT_WRITTEN
     except OSError as error:
         print(f"prepare: {error.filename or given.folder}: {error.strerror}; {left(given.folder)}", file=sys.stderr)
         return NOT_WRITTEN

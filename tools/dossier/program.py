@@ -26,6 +26,18 @@ def program() -> str:
     return str(Path(__file__).resolve().parents[2] / "parcours")
 
 
+def version() -> str:
+    """What `parcours --version` says of the repository, or of the installed tree, that this tool belongs to."""
+    named = {**os.environ, "LC_ALL": "C"}
+    script = Path(__file__).resolve().parents[2] / "parcours"
+    try:
+        done = subprocess.run([script, "--version"], stdin=subprocess.DEVNULL, stdout=subprocess.PIPE, env=named,
+                              check=False)
+    except OSError:
+        return "of an unknown version"
+    return done.stdout.decode(errors="replace").strip() or "of an unknown version"
+
+
 def run(words: list[str], folder: Path, output: BinaryIO) -> int:
     """Runs the program in the folder with its text to the output, and answers its status."""
     try:

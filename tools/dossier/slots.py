@@ -41,15 +41,17 @@ class Column:
 
     name: str
     content: Content
-    names: tuple[str, ...] = ()
+    french: tuple[str, ...] = ()
+    english: tuple[str, ...] = ()
     thing: Thing | None = None
     least: int = 0
     greatest: int = GREATEST_NUMBER
     is_optional: bool = False
     may_be_empty: bool = False
 
-    def is_named(self, folded: str) -> bool:
-        return folded == self.name.replace("_", " ") or folded in self.names
+    @property
+    def own_name(self) -> str:
+        return self.name.replace("_", " ")
 
 
 @dataclass(frozen=True)
@@ -67,72 +69,79 @@ class Slot:
         return next(column for column in self.columns if column.name == name)
 
 
-def _id(thing: Thing, *names: str, may_be_empty: bool = False) -> Column:
-    return Column(thing.value, Content.ID, names, thing, least=1, may_be_empty=may_be_empty)
+def _id(thing: Thing, names: "Names", may_be_empty: bool = False) -> Column:
+    return Column(thing.value, Content.ID, *names, thing, least=1, may_be_empty=may_be_empty)
 
 
-GROUP_NAMES = ("groupe", "ranking group", "groupe de classement")
-PROGRAMME_NAMES = ("program", "formation")
-SCHOOL_NAMES = ("boarding school", "internat")
-CANDIDATE_NAMES = ("candidat", "candidate id", "candidat e", "numero candidat")
-WISH_NAMES = ("voeu", "voeux", "wish id", "numero voeu")
-RANK = Column("rank", Content.NUMBER, ("rang", "classement"), least=1)
+Names = tuple[tuple[str, ...], tuple[str, ...]]
+GROUP_NAMES: Names = (("groupe", "groupe de classement"), ("ranking group",))
+PROGRAMME_NAMES: Names = (("formation", "formation d'accueil", "voeu formation"), ("program",))
+SCHOOL_NAMES: Names = (("internat", "internat demande", "etablissement internat"), ("boarding school", "boarding"))
+CANDIDATE_NAMES: Names = (("candidat", "candidate e", "candidat e", "dossier", "dossier candidat", "eleve"),
+                          ("applicant",))
+WISH_NAMES: Names = (("voeu", "voeux"), ())
+RANK = Column("rank", Content.NUMBER, ("rang", "classement", "rang de classement", "rang du candidat"), least=1)
+BOARDING_RANK = Column("rank", Content.NUMBER, (*RANK.french, "rang internat", "rang a l'internat", "classement internat"),
+                       ("boarding rank",), least=1)
 DAY = Column("day", Content.NUMBER, ("jour",), least=1, greatest=GREATEST_DAY)
 
 GROUPS = Slot("groups", (
-    _id(Thing.GROUP, *GROUP_NAMES),
+    _id(Thing.GROUP, GROUP_NAMES),
     Column("scholar_pct", Content.PERCENTAGE,
-           ("scholar %", "scholars %", "taux boursiers", "taux de boursiers",
-            "taux minimum de boursiers", "% boursiers"), greatest=100),
+           ("taux boursiers", "taux de boursiers", "taux minimum de boursiers", "taux minimum boursiers", "% boursiers",
+            "taux bourse", "taux min boursiers", "pourcentage boursiers"),
+           ("scholar %", "scholars %", "% scholars", "scholar rate"), greatest=100),
     Column("resident_pct", Content.PERCENTAGE,
-           ("resident %", "residents %", "taux residents", "taux secteur", "taux du secteur",
-            "taux minimum du secteur", "% secteur"), greatest=100),
+           ("taux residents", "taux secteur", "taux du secteur", "taux minimum du secteur", "taux minimum secteur",
+            "% secteur", "taux min secteur", "pourcentage secteur", "taux candidats du secteur"),
+           ("resident %", "residents %", "% residents", "resident rate"), greatest=100),
 ))
 PROGRAMMES = Slot("programmes", (
-    _id(Thing.PROGRAMME, *PROGRAMME_NAMES),
-    _id(Thing.GROUP, *GROUP_NAMES),
-    Column("seats", Content.NUMBER, ("places", "capacite")),
-    Column("limit", Content.NUMBER, ("call limit", "rang limite", "limite"),
-           is_optional=True, may_be_empty=True),
+    _id(Thing.PROGRAMME, PROGRAMME_NAMES),
+    _id(Thing.GROUP, GROUP_NAMES),
+    Column("seats", Content.NUMBER, ("places", "capacite", "capacite d'accueil"), ("capacity",)),
+    Column("limit", Content.NUMBER, ("rang limite", "limite", "rang limite d'appel", "rang du dernier appele"),
+           ("call limit",), is_optional=True, may_be_empty=True),
 ))
 SCHOOLS = Slot("schools", (
-    _id(Thing.SCHOOL, *SCHOOL_NAMES),
-    Column("beds", Content.NUMBER, ("lits", "places", "capacite")),
-    Column("ceiling", Content.NUMBER, ("plafond",)),
+    _id(Thing.SCHOOL, SCHOOL_NAMES),
+    Column("beds", Content.NUMBER, ("lits", "places", "capacite", "places internat", "lits internat")),
+    Column("ceiling", Content.NUMBER, ("plafond", "rang plafond", "rang maximal", "plafond internat")),
 ))
 RANKINGS = Slot("rankings", (
-    _id(Thing.GROUP, *GROUP_NAMES),
-    _id(Thing.CANDIDATE, *CANDIDATE_NAMES),
+    _id(Thing.GROUP, GROUP_NAMES),
+    _id(Thing.CANDIDATE, CANDIDATE_NAMES),
     RANK,
-    Column("scholar", Content.FLAG, ("boursier", "boursiere", "boursier e")),
+    Column("scholar", Content.FLAG, ("boursier", "boursiere", "boursier e", "est boursier", "bourse")),
     Column("resident", Content.FLAG, ("secteur", "du secteur", "candidat du secteur")),
 ))
 BOARDING = Slot("boarding", (
-    _id(Thing.SCHOOL, *SCHOOL_NAMES),
-    _id(Thing.CANDIDATE, *CANDIDATE_NAMES),
-    RANK,
+    _id(Thing.SCHOOL, SCHOOL_NAMES),
+    _id(Thing.CANDIDATE, CANDIDATE_NAMES),
+    BOARDING_RANK,
 ))
 WISHES = Slot("wishes", (
-    _id(Thing.WISH, *WISH_NAMES),
-    _id(Thing.CANDIDATE, *CANDIDATE_NAMES),
-    _id(Thing.PROGRAMME, *PROGRAMME_NAMES),
-    _id(Thing.SCHOOL, *SCHOOL_NAMES, may_be_empty=True),
-    Column("preference", Content.NUMBER, ("ordre de preference", "ordre")),
+    _id(Thing.WISH, WISH_NAMES),
+    _id(Thing.CANDIDATE, CANDIDATE_NAMES),
+    _id(Thing.PROGRAMME, PROGRAMME_NAMES),
+    _id(Thing.SCHOOL, SCHOOL_NAMES, may_be_empty=True),
+    Column("preference", Content.NUMBER, ("preference", "ordre de preference", "ordre", "rang de preference")),
 ))
 STATE = Slot("state", (
-    _id(Thing.WISH, *WISH_NAMES),
+    _id(Thing.WISH, WISH_NAMES),
     Column("status", Content.STATUS, ("statut", "etat")),
-    Column("since", Content.DATE, ("depuis", "depuis le", "date"), is_optional=True, may_be_empty=True),
+    Column("since", Content.DATE, ("depuis", "depuis le", "date", "date de proposition"), is_optional=True,
+           may_be_empty=True),
 ))
 CEILINGS = Slot("ceilings", (
     DAY,
-    _id(Thing.SCHOOL, *SCHOOL_NAMES),
-    Column("ceiling", Content.NUMBER, ("plafond",)),
+    _id(Thing.SCHOOL, SCHOOL_NAMES),
+    Column("ceiling", Content.NUMBER, ("plafond", "nouveau plafond", "rang plafond")),
 ))
 ANSWERS = Slot("answers", (
     DAY,
-    Column("kind", Content.ANSWER, ("type", "answer", "reponse")),
-    Column("target", Content.TARGET, ("cible", "voeu ou candidat", "wish or candidate"), least=1),
+    Column("kind", Content.ANSWER, ("type", "reponse", "decision"), ("answer",)),
+    Column("target", Content.TARGET, ("cible", "voeu ou candidat"), ("wish or candidate",), least=1),
 ))
 
 SLOTS = (GROUPS, PROGRAMMES, SCHOOLS, RANKINGS, BOARDING, WISHES, STATE, CEILINGS, ANSWERS)

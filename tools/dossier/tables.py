@@ -1,115 +1,235 @@
-"""Tables: the exports by slot, each row with the values of its cells."""
+"""Tables: a sheet for each slot, with the values of its cells by column."""
 
+import sys
+from array import array
+from bisect import bisect_right
+from collections.abc import Iterable, Iterator, Sequence
 from dataclasses import dataclass, field
-from pathlib import Path
 
-from .cells import DateOrder, Unclear, Value, read_cell
-from .exports import Export, Unreadable, read_export, whole_rows
+from .cells import DateOrder, Rates, rates_of
 from .faults import Faults, Row
-from .slots import MOST_ROWS, SLOTS, Column, Slot
+from .headers import Header
+from .messages import FEW_CELLS, FEWER_ROWS, NAME_IT, TOO_MANY_ROWS, UNNAMED_CELL, WRITE_CELLS
+from .slots import MOST_ROWS, Column, Content, Slot, Thing
+from .sources import CHUNK, AnySheet, records_of
+from .values import FAULT, QUIT, Reader, Spellings, Values, no_values, numerals_of, reader_of
 
-EXPORT_ENDINGS = (".csv", ".tsv", ".txt")
-# Files with such names are not the user's: a system's own, and those that say that a sheet is open.
-HIDDEN = (".", "~$")
-WORKBOOK_ENDINGS = (".xlsx", ".xls", ".xlsm", ".ods", ".numbers")
-
-
-@dataclass(frozen=True, slots=True)
-class Entry:
-    """A row with the values of the cells that have one, by column."""
-
-    row: Row
-    values: dict[str, Value]
-
-    def get(self, name: str) -> Value:
-        return self.values.get(name)
-
-    def has(self, *names: str) -> bool:
-        return all(name in self.values for name in names)
+LARGE = 400_000
 
 
 @dataclass
 class Table:
-    """A slot's entries, the columns that its export has, and those in which each cell has a value."""
+    """A slot's values by column, all of one length, and the numbers of the sheet's rows that they are of."""
 
-    export: Export
+    slot: Slot
+    sheet: AnySheet
+    header: Header
     columns: tuple[Column, ...]
-    entries: list[Entry]
-    whole_columns: set[str]
+    values: dict[str, Values]
+    first_number: int
+    gap_places: list[int] = field(default_factory=list)  # from these places on rows were passed over, so many in all
+    gap_totals: list[int] = field(default_factory=list)
+    has_whole_rows: bool = True
+    faulty: set[str] = field(default_factory=set)
+
+    def __len__(self) -> int:
+        return len(self.values[self.columns[0].name])
 
     def is_whole(self, *names: str) -> bool:
-        return self.whole_columns.issuperset(names)
+        """Whether each row has a value in each of these columns."""
+        return self.has_whole_rows and self.faulty.isdisjoint(names)
+
+    def row(self, place: int) -> Row:
+        """The row of a place, as the spreadsheet numbers it."""
+        gaps = bisect_right(self.gap_places, place)
+        return Row(self.sheet, self.first_number + place + (self.gap_totals[gaps - 1] if gaps else 0))
+
+    def pass_over(self, place: int, rows: int) -> None:
+        """Notes that so many rows of the sheet stand before this place and are none of the table's."""
+        self.gap_places.append(place)
+        self.gap_totals.append(rows + (self.gap_totals[-1] if self.gap_totals else 0))
+
+    def rows(self) -> Iterator[list[str]]:
+        """The cells of each place's row, read anew."""
+        numbers = (self.row(place).number for place in range(len(self)))
+        wanted = next(numbers, None)
+        for number, cells in enumerate(records_of(self.sheet), start=1):
+            if number == wanted:
+                yield cells
+                wanted = next(numbers, None)
+
+    def title(self, name: str) -> str:
+        """What the sheet calls a column."""
+        return self.header.titles[self.header.places[name]].strip()
+
+    def places(self, *names: str) -> Iterable[int]:
+        """The places with a value in each of these columns."""
+        columns = [self.values[name] for name in names if name in self.faulty]
+        if not columns:
+            return range(len(self))
+        return (place for place in range(len(self)) if all(column[place] != FAULT for column in columns))
+
+    def having(self, names: Sequence[str], name: str) -> Values:
+        """The values of a column in the rows that have one in each of the columns."""
+        column = self.values[name]
+        places = self.places(*names)
+        return column if isinstance(places, range) else array("q", [column[place] for place in places])
 
 
 @dataclass(frozen=True)
 class Choices:
-    """What the user said where exports alone leave it open."""
+    """What the user said where sheets alone leave it open: titles by folded text, each with its column, or none."""
 
     dates: DateOrder | None = None
-    leave_out: frozenset[str] = frozenset()
+    rates: Rates | None = None
+    columns: dict[str, str] = field(default_factory=dict)
 
 
-@dataclass
-class Exports:
-    """The tables by the name of their slot, and the files of the folder that were passed over."""
+class Progress:
+    """On a terminal, a line that says how far a large sheet is read."""
 
-    tables: dict[str, Table] = field(default_factory=dict)
-    passed_over: list[str] = field(default_factory=list)
+    def __init__(self) -> None:
+        self.is_told = False
+
+    def at(self, label: str, rows: int) -> None:
+        if rows % LARGE < CHUNK and rows >= LARGE and sys.stderr.isatty():
+            print(f"\r{label}: {rows:,} ..", end="", file=sys.stderr, flush=True)
+            self.is_told = True
+
+    def end(self) -> None:
+        if self.is_told:
+            print("\r\x1b[K", end="", file=sys.stderr, flush=True)
+            self.is_told = False
 
 
-def read_folder(folder: Path, choices: Choices, faults: Faults) -> Exports:
-    """Reads all exports of a folder, one for each slot."""
-    exports = Exports()
-    for path in sorted(folder.iterdir()):
-        if path.name.startswith(HIDDEN):
-            continue
-        ending = path.suffix.lower()
-        if ending in WORKBOOK_ENDINGS:
-            faults.in_file(path.name, "it is a workbook, not an export.",
-                           "save each of its sheets as CSV, and take it out of the folder.")
-        elif ending in EXPORT_ENDINGS and path.is_file():
-            _take_in(path, choices, exports, faults)
+PROGRESS = Progress()
+
+
+class Reading:
+    """Reads one sheet into a table."""
+
+    def __init__(self, sheet: AnySheet, header: Header, number: int, choices: Choices, faults: Faults,
+                 spellings: dict[Thing, Spellings]):
+        self.choices = choices
+        self.faults = faults
+        self.spellings = spellings
+        self.header = header
+        self.unnamed = header.unnamed
+        columns = tuple(column for column in header.slot.columns if column.name in header.places)
+        self.table = Table(header.slot, sheet, header, columns, {column.name: no_values() for column in columns},
+                           number + 1)
+        self.readers = {column.name: self._reader(column) for column in columns
+                        if column.content not in (Content.PERCENTAGE, Content.TARGET)}
+        self.numerals = {column.name: numerals_of(column) for column in columns}
+
+    def _reader(self, column: Column, rates: Rates | None = None) -> Reader:
+        spellings = self.spellings[column.thing] if column.thing else Spellings()
+        return reader_of(column, self.choices.dates, rates, spellings)
+
+    def run(self) -> Table:
+        number = self.table.first_number
+        rates: dict[str, list[str]] = {column.name: [] for column in self.table.columns
+                                       if column.content is Content.PERCENTAGE}
+        for chunk in chunks_behind(self.table.sheet, number - 1):
+            columns = self._columns(chunk, number)
+            number += len(chunk)
+            if columns is None:
+                continue
+            for column in self.table.columns:
+                texts = columns[self.header.places[column.name]]
+                if column.name in rates:
+                    rates[column.name] += texts
+                elif column.content is Content.TARGET:
+                    self._targets(column, texts)
+                else:
+                    self._values(column, texts)
+            PROGRESS.at(self.table.sheet.label, number)
+        for name, texts in rates.items():
+            column = self.header.slot.column(name)
+            self.readers[name] = self._reader(column, self.choices.rates or rates_of(texts))
+            self._values(column, texts)
+        if len(self.table) > MOST_ROWS:
+            self.faults.in_file(self.table.sheet.label, TOO_MANY_ROWS.of(most=MOST_ROWS), FEWER_ROWS.of())
+        return self.table
+
+    def _columns(self, chunk: list[list[str]], number: int) -> Sequence[Sequence[str]] | None:
+        """The cells of some rows by column, without the empty rows and those that aren't whole."""
+        if not self.unnamed and set(map(len, chunk)) == {self.header.width}:
+            columns = list(zip(*chunk))
+            first = columns[0]
+            if "" not in first and ("".join(first).isdigit() or "" not in map(str.strip, first)):
+                return columns
+        rows = list(self._whole_rows(chunk, number))
+        return list(zip(*rows)) if rows else None
+
+    def _whole_rows(self, chunk: list[list[str]], number: int) -> Iterator[list[str]]:
+        width = self.header.width
+        place = len(self.table)
+        passed = 0
+        for here, cells in enumerate(chunk, start=number):
+            if any(map(str.strip, cells)):
+                if self._is_whole(cells, here):
+                    if passed:
+                        self.table.pass_over(place, passed)
+                        passed = 0
+                    place += 1
+                    yield cells[:width]
+                    continue
+                self.table.has_whole_rows = False
+            passed += 1
+        if passed:
+            self.table.pass_over(place, passed)
+
+    def _is_whole(self, cells: list[str], number: int) -> bool:
+        width = self.header.width
+        if len(cells) < width:
+            self.faults.at(Row(self.table.sheet, number), FEW_CELLS.of(found=len(cells), width=width), WRITE_CELLS.of())
+            return False
+        if any(map(str.strip, cells[width:])) or any(cells[place].strip() for place in self.unnamed):
+            self.faults.at(Row(self.table.sheet, number), UNNAMED_CELL.of(), NAME_IT.of())
+            return False
+        return True
+
+    def _values(self, column: Column, texts: Sequence[str]) -> None:
+        values = self.table.values[column.name]
+        numerals = self.numerals[column.name]
+        numbers = numerals.read(texts) if numerals else None
+        if numbers is None:
+            reader = self.readers[column.name]
+            start = len(values)
+            values.extend(array("q", list(map(reader.__getitem__, texts))))
+            if reader.unclear:
+                self._tell(column, reader, texts, start)
         else:
-            exports.passed_over.append(path.name)
-    missing = [slot for slot in SLOTS if slot.name not in exports.tables]
-    if missing:
-        names = ", ".join(slot.name for slot in missing)
-        faults.in_file(str(folder), f"no export that can be read has the columns of {names}.",
-                       "export those sheets too; for one without rows copy its file of examples/blank, "
-                       f"as {missing[0].file}.")
-    return exports
+            values.extend(array("q", numbers))
+
+    def _targets(self, column: Column, texts: Sequence[str]) -> None:
+        """A target is a candidate's id where somebody quits, else a wish's; its kind was read before."""
+        values = self.table.values[column.name]
+        start = len(values)
+        kinds = self.table.values["kind"][start:]
+        readers = [reader_of(column, None, None, self.spellings[thing]) for thing in (Thing.WISH, Thing.CANDIDATE)]
+        for kind, text in zip(kinds, texts):
+            values.append(FAULT if kind == FAULT else readers[kind == QUIT][text])
+        self.table.faulty.update([column.name] if FAULT in kinds else [])
+        for is_quit, reader in enumerate(readers):
+            theirs = [text if (kind == QUIT) == is_quit else "0000" for kind, text in zip(kinds, texts)]
+            if reader.unclear:
+                self._tell(column, reader, theirs, start)
+
+    def _tell(self, column: Column, reader: Reader, texts: Sequence[str], start: int) -> None:
+        """Tells the cells of these that have no reading."""
+        for place, text in enumerate(texts, start=start):
+            if text in reader.unclear:
+                error = reader.unclear[text]
+                self.table.faulty.add(column.name)
+                self.faults.at(self.table.row(place), error.what, error.to_do, self.table.title(column.name))
 
 
-def _take_in(path: Path, choices: Choices, exports: Exports, faults: Faults) -> None:
-    try:
-        export = read_export(path, choices.leave_out)
-    except Unreadable as error:
-        faults.in_file(path.name, error.what, error.to_do)
-        return
-    slot = export.header.slot
-    if slot.name in exports.tables:
-        faults.in_file(path.name, f"{exports.tables[slot.name].export.file} has the columns of {slot.name} too.",
-                       "leave one of the two in the folder.")
-        return
-    exports.tables[slot.name] = read_table(slot, export, choices, faults)
-
-
-def read_table(slot: Slot, export: Export, choices: Choices, faults: Faults) -> Table:
-    """Reads the cells of an export; a cell without one reading is a fault, and its entry lacks the value."""
-    columns = tuple(column for column in slot.columns if column.name in export.header.places)
-    rows = whole_rows(export, faults)
-    whole = {column.name for column in columns} if len(rows) == len(export.rows) else set()
-    if len(export.rows) > MOST_ROWS:
-        faults.in_file(export.file, f"it has more than {MOST_ROWS} rows.", "leave out what is not of this dossier.")
-    entries = []
-    for row in rows:
-        values: dict[str, Value] = {}
-        for column in columns:
-            try:
-                values[column.name] = read_cell(row.cells[export.header.places[column.name]], column, choices.dates)
-            except Unclear as error:
-                whole.discard(column.name)
-                name = export.first_row.cells[export.header.places[column.name]].strip()
-                faults.at((row,), f"{name}: {error.what}", error.to_do)
-        entries.append(Entry(row, values))
-    return Table(export, columns, entries, whole)
+def chunks_behind(sheet: AnySheet, skipped: int) -> Iterator[list[list[str]]]:
+    """The rows behind the first so many, some thousands at once."""
+    for chunk in sheet.chunks():
+        rest = chunk[skipped:] if skipped else chunk
+        skipped = max(0, skipped - len(chunk))
+        if rest:
+            yield rest

@@ -1,18 +1,17 @@
 """From the line of `explain` on standard input to plain sentences on standard output."""
 
-import os
 import sys
-from collections.abc import Callable
+from types import ModuleType
 
 from . import words_en, words_fr
-from .explanation import Explanation, explanation_of
+from .explanation import explanation_of
 from .faults import shown
+from .setting import OF_A_RUN
+from .wording import Words
+from .writing import write_whole
 
 SAID, NOT_A_LINE, BAD_WORDS, NOT_READ, NOT_WRITTEN = range(5)
-LANGUAGES: dict[str, Callable[[Explanation], list[str]]] = {"en": words_en.sentences, "fr": words_fr.sentences}
-USAGE = """usage: parcours explain --wish W | in_words [fr|en]
-Says the one line of `explain` in two or three plain sentences, in English where no language is named.
-Status: 0 said, 1 not one line of `explain`, 2 bad words, 3 not read, 4 not written."""
+LANGUAGES: dict[str, ModuleType] = {"en": words_en, "fr": words_fr}
 LONGEST_LINE = 1000
 
 
@@ -36,36 +35,30 @@ def in_words(data: bytes, language: str) -> str:
     found = explanation_of(line)
     if found is None:
         raise NotALine(f"this is no line of `explain`: {shown(line)}")
-    return " ".join(LANGUAGES[language](found)) + "\n"
+    return " ".join(LANGUAGES[language].sentences(found, OF_A_RUN)) + "\n"
+
+
+def words() -> Words:
+    parser = Words("in_words", "Says the one line of `parcours explain` on standard input in plain sentences, in English "
+                   "where no language is named.",
+                   "Status: 0 said, 1 not one line of explain, 2 bad words, 3 not read, 4 not written.")
+    parser.add_argument("language", nargs="?", choices=list(LANGUAGES), default="en", help="en or fr")
+    return parser
 
 
 def main(arguments: list[str]) -> int:
-    if len(arguments) > 1 or any(word not in LANGUAGES for word in arguments):
-        print(USAGE, file=sys.stderr)
-        return BAD_WORDS
+    parser = words()
+    language = parser.of(arguments).language
     if sys.stdin is None or sys.stdin.isatty():
-        print(USAGE, file=sys.stderr)
-        return BAD_WORDS
+        parser.bad("give it the line of explain on standard input")
     try:
         data = sys.stdin.buffer.read(LONGEST_LINE + 1)
     except OSError as error:
         print(f"in_words: the line could not be read: {error.strerror}", file=sys.stderr)
         return NOT_READ
     try:
-        told = in_words(data, arguments[0] if arguments else "en")
+        told = in_words(data, language)
     except NotALine as error:
         print(f"in_words: {error}", file=sys.stderr)
         return NOT_A_LINE
-    return write(told)
-
-
-def write(told: str) -> int:
-    """Writes the sentences whole, in UTF-8."""
-    left = told.encode()
-    try:
-        while left:
-            left = left[os.write(1, left):]
-    except OSError as error:
-        print(f"in_words: the sentences could not be written: {error.strerror}", file=sys.stderr)
-        return NOT_WRITTEN
-    return SAID
+    return SAID if write_whole("in_words", told) else NOT_WRITTEN

@@ -1,106 +1,132 @@
-"""Explanations in English, said to the candidate."""
+"""Explanations in English, said to the candidate: how the wish stands, then why, then what they can do."""
 
-from .explanation import (AcceptedWish, BarredWish, Explanation, Gone, GoneWish, OfferedWish, SeatlessWish, Stamp,
+from datetime import date
+
+from .explanation import (AcceptedWish, BarredWish, Explanation, Gone, GoneWish, OfferedWish, SeatlessWish,
                           UnknownWish)
+from .setting import Day, Moment, Setting
 
+MONTHS = ("January", "February", "March", "April", "May", "June", "July", "August", "September", "October", "November",
+          "December")
 ENDED = {
-    Gone.REFUSED: "its offer was refused {when}, by you or because you accepted another one",
-    Gone.WITHDRAWN: "you withdrew it {when}, while it was waiting",
-    Gone.QUIT: "you left the procedure {when}",
-    Gone.AUTO_REFUSED: "the automatic answerer refused its offer {when}, because you had one that you prefer",
-    Gone.AUTO_WITHDRAWN: "the automatic answerer withdrew it {when}, because you had an offer that you prefer",
-    Gone.LAPSED: "its offer lapsed {when}, because it had no answer by its deadline",
+    Gone.REFUSED: "Its offer was refused {when}: you refused it, or you accepted another one.",
+    Gone.WITHDRAWN: "You withdrew it {when}, while it was waiting.",
+    Gone.QUIT: "You left the procedure {when}.",
+    Gone.AUTO_REFUSED: "The automatic answerer refused its offer {when}, because you had one that you prefer.",
+    Gone.AUTO_WITHDRAWN: "The automatic answerer withdrew it {when}, because you had an offer that you prefer.",
+    Gone.LAPSED: "Its offer had no answer in time, and lapsed {when}.",
 }
-OVER = "It cannot come back; your other wishes are not affected."
+OVER = "It cannot come back, and there is nothing to do about it; your other wishes go on as they are."
 OVER_WITH_ALL = "All the wishes that you still had ended with it, and there is nothing left to do."
 WAIT_OR_WITHDRAW = "You can leave it waiting, or withdraw it."
+STILL_REFUSE = "You can still refuse this place, but a wish that is refused never comes back."
+ANEW = "Each pass looks at your wish again."
+A_BED_AND_A_SEAT = "a bed for you, and a seat of the programme if you have none there yet"
 
 
-def counted(count: int, one: str, many: str) -> str:
-    if count == 0:
-        return f"no {many}"
-    return f"{count} {one if count == 1 else many}"
+def of_day(day: Day) -> str:
+    return f"{day.day} {MONTHS[day.month - 1]}" if isinstance(day, date) else f"day {day}"
 
 
-def when(stamp: Stamp) -> str:
-    return "before day 1" if stamp.day == 0 else f"on day {stamp.day}"
+def of_date(day: date) -> str:
+    return f"{of_day(day)} {day.year}"
 
 
-def gone(found: GoneWish) -> list[str]:
-    how = ENDED[found.how].format(when=when(found.stamp))
-    return [f"Wish {found.wish} is over: {how}.", OVER_WITH_ALL if found.how is Gone.QUIT else OVER]
+def when(moment: Moment) -> str:
+    return f"{'before' if moment.is_before else 'on'} {of_day(moment.day)}"
 
 
-def offered(found: OfferedWish) -> list[str]:
-    return [f"Wish {found.wish} received an offer {when(found.stamp)}, and the offer still stands.",
-            "You can accept it, which refuses your other offers and leaves your waiting wishes as they are, "
-            "or refuse it.",
-            "Answer by its deadline, where there is one: after that it lapses."]
+def evening(day: Day, number: int) -> str:
+    """Which evening is spoken of."""
+    return f"In the evening of {of_date(day)}, day {number} of the campaign." if isinstance(day, date) else \
+        f"In the evening of day {number} of the campaign."
 
 
-def accepted(found: AcceptedWish) -> list[str]:
+def heading(wish: str, candidate: str, programme: str, school: str | None) -> str:
+    boarding = "without boarding" if school is None else f"with boarding at {school}"
+    return f"Wish {wish} of candidate {candidate}, for {programme}, {boarding}:"
+
+
+def gone(found: GoneWish, setting: Setting) -> list[str]:
+    return [f"Wish {setting.wish(found.wish)} is over.", ENDED[found.how].format(when=when(setting.moment(found.stamp))),
+            OVER_WITH_ALL if found.how is Gone.QUIT else OVER]
+
+
+def offered(found: OfferedWish, setting: Setting) -> list[str]:
+    told = [f"Wish {setting.wish(found.wish)} has an offer, which was made {when(setting.moment(found.stamp))}."]
+    limit = setting.deadline
+    if limit is not None and limit.is_over:
+        return [*told, f"It was to be answered by {of_day(limit.day)}; that day is over, and the offer lapses next."]
+    by = "by its deadline, if there is one" if limit is None else f"by {of_day(limit.day)}"
+    return [*told, f"Accept it or refuse it, {by}: after that it lapses, and is lost.",
+            "If you accept it, your other offers are refused, and your waiting wishes go on waiting."]
+
+
+def accepted(found: AcceptedWish, setting: Setting) -> list[str]:
+    wish, moment = setting.wish(found.wish), when(setting.moment(found.stamp))
     if found.is_by_answerer:
-        accepted_when = when(found.stamp)
-        return [f"The automatic answerer accepted wish {found.wish} for you {accepted_when}, and the place is yours.",
-                "There is nothing to do: the wishes that you prefer go on waiting, "
-                "and an offer for one of them would take its place.",
-                "You can still refuse it."]
-    return [f"Wish {found.wish} was accepted {when(found.stamp)}, and the place is yours.",
-            "There is nothing to do: your waiting wishes go on waiting, "
-            "and if you accept another offer, this one is refused.",
-            "You can still refuse it."]
+        return [f"Wish {wish} is accepted: the place is yours.",
+                f"The automatic answerer accepted it for you {moment}.",
+                "There is nothing to do: of the wishes that you prefer, those that wait go on waiting, and an offer for "
+                "one of them would take the place of this one.", STILL_REFUSE]
+    return [f"Wish {wish} is accepted: the place is yours.", f"It was accepted {moment}.",
+            "There is nothing to do: your waiting wishes go on waiting, and if you accept another offer, this one is "
+            "refused.", STILL_REFUSE]
 
 
-def barred(found: BarredWish) -> list[str]:
+def barred(found: BarredWish, setting: Setting) -> list[str]:
+    told = [f"Wish {setting.wish(found.wish)} is waiting: there is no offer."]
+    school = f"Boarding school {setting.school(found.school)}"
     if found.beds is None:
-        reach = "nobody" if found.bar == 0 else f"ranks up to {found.bar} only"
-        cause = f"the ceiling of the day lets in {reach}"
-        chance = "when the ceiling is raised"
-    else:
-        cause = bed_reach(found.beds, found.bar)
-        chance = "if the school gets a bed" if found.beds == 0 else "when a bed is given up"
-    return [f"Wish {found.wish} is waiting: your rank in boarding school {found.school} is {found.rank}, and {cause}.",
-            f"It is considered again {chance}.", WAIT_OR_WITHDRAW]
+        reach = "takes nobody else on this day" if found.bar == 0 else f"takes ranks up to {found.bar} on this day"
+        return [*told, f"{school} {reach}, by its ceiling, and your rank there is {found.rank}.",
+                f"{ANEW} For an offer it takes a ceiling that reaches your rank, {A_BED_AND_A_SEAT}.", WAIT_OR_WITHDRAW]
+    return [*told, f"{school} {fullness(found.beds)}. {reach_of(found)}, and your rank there is {found.rank}.",
+            f"{ANEW} For an offer it takes {A_BED_AND_A_SEAT}.", WAIT_OR_WITHDRAW]
 
 
-def bed_reach(beds: int, bar: int) -> str:
-    """How far the beds of a full school go. The bar is 0 only where none of them is free."""
+def fullness(beds: int) -> str:
     if beds == 0:
-        return "the school has no beds"
-    if bar == 0:
-        return "its only bed is taken" if beds == 1 else f"all of its {beds} beds are taken"
-    return f"{'its only bed' if beds == 1 else f'its {beds} beds'} went no further than rank {bar}"
+        return "has no beds"
+    return "is full: its only bed is taken" if beds == 1 else f"is full: all of its {beds} beds are taken"
 
 
-def seatless(found: SeatlessWish) -> list[str]:
-    ahead = "nobody was" if found.ahead == 0 else counted(found.ahead, "candidate was", "candidates were")
-    left = counted(found.left, "seat was", "seats were")
-    told = [f"Wish {found.wish} is waiting: in the last pass {ahead} ahead of you in the programme, and {left} left."]
+def reach_of(found: BarredWish) -> str:
+    """How far the bar let in. It is 0 only where no bed was free."""
+    if found.bar == 0:
+        return "In the last pass no bed was free"
+    return f"In the last pass it took a rank of {found.bar} or better to get a bed there"
+
+
+def seatless(found: SeatlessWish, setting: Setting) -> list[str]:
+    ahead = {0: "nobody came", 1: "1 candidate came"}.get(found.ahead, f"{found.ahead} candidates came")
+    left = {0: "no seat was left", 1: "1 seat was left"}.get(found.left, f"{found.left} seats were left")
+    told = [f"Wish {setting.wish(found.wish)} is waiting: there is no offer.",
+            f"In the last pass {left} in the programme, and {ahead} before you for one."]
     if found.call_limit is not None:
         limit = found.call_limit
-        called = "the first of its call order is" if limit.limit == 1 else \
-            f"the first {limit.limit} of its call order are"
-        told.append(f"Whatever seats are left, {called} called, and you are number {limit.position}.")
-    fewer = "" if found.ahead == 0 else ", one fewer for each candidate ahead of you who drops out"
-    needed = counted(found.wanting, "more seat", "more seats")
-    return [*told, f"An offer takes {needed}{fewer}; you can leave the wish waiting, or withdraw it."]
+        first = "The first of its call order needs" if limit.limit == 1 else \
+            f"The first {limit.limit} of its call order need"
+        told.append(f"{first} no seat left, and you are number {limit.position}.")
+    return [*told, "For an offer, more seats must be left than candidates come before you: seats come free when others "
+                   "refuse or leave.", WAIT_OR_WITHDRAW]
 
 
-def unknown(found: UnknownWish) -> list[str]:
-    return [f"There is no wish {found.wish} in the dossier.", "Check its number and ask again."]
+def unknown(found: UnknownWish, setting: Setting) -> list[str]:
+    return [f"There is no wish {setting.wish(found.wish)} in the dossier.", "Check its number and ask again."]
 
 
-def sentences(found: Explanation) -> list[str]:
+def sentences(found: Explanation, setting: Setting) -> list[str]:
     match found:
         case GoneWish():
-            return gone(found)
+            return gone(found, setting)
         case OfferedWish():
-            return offered(found)
+            return offered(found, setting)
         case AcceptedWish():
-            return accepted(found)
+            return accepted(found, setting)
         case BarredWish():
-            return barred(found)
+            return barred(found, setting)
         case SeatlessWish():
-            return seatless(found)
+            return seatless(found, setting)
         case UnknownWish():
-            return unknown(found)
+            return unknown(found, setting)

@@ -1,117 +1,152 @@
-"""Explications en français, adressées à la personne candidate."""
+"""Explications en français, adressées à la personne candidate : où en est le vœu, pourquoi, et ce qu'on peut faire."""
 
-from .explanation import (AcceptedWish, BarredWish, Explanation, Gone, GoneWish, OfferedWish, SeatlessWish, Stamp,
+from datetime import date
+
+from .explanation import (AcceptedWish, BarredWish, Explanation, Gone, GoneWish, OfferedWish, SeatlessWish,
                           UnknownWish)
+from .setting import Day, Moment, Setting
 
 NO_BREAK = "\u00a0"
+MONTHS = ("janvier", "février", "mars", "avril", "mai", "juin", "juillet", "août", "septembre", "octobre", "novembre",
+          "décembre")
 ENDED = {
-    Gone.REFUSED: "sa proposition a été refusée {when}, par vous ou parce que vous en avez accepté une autre",
-    Gone.WITHDRAWN: "vous l'avez retiré {when}, alors qu'il était en attente",
-    Gone.QUIT: "vous avez démissionné {when}",
-    Gone.AUTO_REFUSED: "le répondeur automatique a refusé sa proposition {when}, "
-                       "car vous en aviez une que vous préférez",
-    Gone.AUTO_WITHDRAWN: "le répondeur automatique l'a retiré {when}, "
-                         "car vous aviez une proposition que vous préférez",
-    Gone.LAPSED: "sa proposition est devenue caduque {when}, faute de réponse à l'échéance",
+    Gone.REFUSED: "Sa proposition a été refusée {when} : vous l'avez refusée, ou vous en avez accepté une autre.",
+    Gone.WITHDRAWN: "Vous l'avez retiré {when}, alors qu'il était en attente.",
+    Gone.QUIT: "Vous avez démissionné {when}.",
+    Gone.AUTO_REFUSED: "Le répondeur automatique a refusé sa proposition {when}, "
+                       "car vous en aviez une que vous préférez.",
+    Gone.AUTO_WITHDRAWN: "Le répondeur automatique l'a retiré {when}, "
+                         "car vous aviez une proposition que vous préférez.",
+    Gone.LAPSED: "Sa proposition est restée sans réponse à l'échéance : elle est devenue caduque {when}.",
 }
-OVER = "Il ne peut pas revenir ; vos autres vœux ne changent pas."
+OVER = "Il ne peut pas revenir, et il n'y a plus rien à faire pour lui ; vos autres vœux suivent leur cours."
 OVER_WITH_ALL = "Tous les vœux qui vous restaient ont pris fin en même temps, et il n'y a plus rien à faire."
 WAIT_OR_WITHDRAW = "Vous pouvez le laisser en attente ou le retirer."
-STILL_REFUSE = "Vous pouvez encore refuser cette place."
+STILL_REFUSE = "Vous pouvez encore refuser cette place, mais un vœu refusé ne revient jamais."
+ANEW = "Chaque passage réexamine votre vœu."
+A_BED_AND_A_SEAT = "un lit pour vous et, si vous n'y en avez pas encore, une place dans la formation"
 
 
-def counted(count: int, one: str, many: str) -> str:
-    """En français, zéro et un prennent le singulier."""
-    return f"{count} {one if count < 2 else many}"
+def of_day(day: Day) -> str:
+    if not isinstance(day, date):
+        return f"le jour {day}"
+    return f"le {'1er' if day.day == 1 else day.day} {MONTHS[day.month - 1]}"
 
 
-def when(stamp: Stamp) -> str:
-    return "avant le jour 1" if stamp.day == 0 else f"le jour {stamp.day}"
+def of_date(day: date) -> str:
+    return f"{of_day(day)} {day.year}"
 
 
-def gone(found: GoneWish) -> list[str]:
-    how = ENDED[found.how].format(when=when(found.stamp))
-    return [f"Le vœu {found.wish} est terminé : {how}.", OVER_WITH_ALL if found.how is Gone.QUIT else OVER]
+def when(moment: Moment) -> str:
+    return f"{'avant ' if moment.is_before else ''}{of_day(moment.day)}"
 
 
-def offered(found: OfferedWish) -> list[str]:
-    return [f"Le vœu {found.wish} a reçu une proposition {when(found.stamp)}, et elle tient toujours.",
-            "Vous pouvez l'accepter, ce qui refuse vos autres propositions et laisse vos vœux en attente tels quels, "
-            "ou la refuser.",
-            "Répondez au plus tard à l'échéance, s'il y en a une : ensuite, la proposition devient caduque."]
+def evening(day: Day, number: int) -> str:
+    """De quel soir il est question."""
+    return f"Au soir du {of_date(day).removeprefix('le ')}, jour {number} de la campagne." if isinstance(day, date) \
+        else f"Au soir du jour {number} de la campagne."
 
 
-def accepted(found: AcceptedWish) -> list[str]:
+def heading(wish: str, candidate: str, programme: str, school: str | None) -> str:
+    boarding = "sans internat" if school is None else f"avec l'internat {school}"
+    return spaced(f"Vœu {wish} du candidat {candidate}, formation {programme}, {boarding} :")
+
+
+def gone(found: GoneWish, setting: Setting) -> list[str]:
+    return [f"Le vœu {setting.wish(found.wish)} est terminé.",
+            ENDED[found.how].format(when=when(setting.moment(found.stamp))),
+            OVER_WITH_ALL if found.how is Gone.QUIT else OVER]
+
+
+def offered(found: OfferedWish, setting: Setting) -> list[str]:
+    told = [f"Le vœu {setting.wish(found.wish)} a une proposition, faite {when(setting.moment(found.stamp))}."]
+    limit = setting.deadline
+    if limit is not None and limit.is_over:
+        return [*told, f"Il fallait y répondre {of_day(limit.day)} au plus tard ; ce jour est passé, et elle va devenir "
+                       "caduque."]
+    by = "au plus tard à l'échéance, s'il y en a une" if limit is None else f"{of_day(limit.day)} au plus tard"
+    return [*told, f"Acceptez-la ou refusez-la, {by} : ensuite, elle devient caduque, et elle est perdue.",
+            "Si vous l'acceptez, vos autres propositions sont refusées, et vos vœux en attente restent en attente."]
+
+
+def accepted(found: AcceptedWish, setting: Setting) -> list[str]:
+    wish, moment = setting.wish(found.wish), when(setting.moment(found.stamp))
     if found.is_by_answerer:
-        return [f"Le répondeur automatique a accepté le vœu {found.wish} pour vous {when(found.stamp)} : "
-                "la place est à vous.",
-                "Il n'y a rien à faire : les vœux que vous préférez restent en attente, "
-                "et une proposition pour l'un d'eux prendrait sa place.", STILL_REFUSE]
-    return [f"Le vœu {found.wish} a été accepté {when(found.stamp)} : la place est à vous.",
+        return [f"Le vœu {wish} est accepté : la place est à vous.",
+                f"Le répondeur automatique l'a accepté pour vous {moment}.",
+                "Il n'y a rien à faire : parmi les vœux que vous préférez, ceux qui attendent restent en attente, et une "
+                "proposition pour l'un d'eux remplacerait celle-ci.", STILL_REFUSE]
+    return [f"Le vœu {wish} est accepté : la place est à vous.", f"Il a été accepté {moment}.",
             "Il n'y a rien à faire : vos vœux en attente le restent, et si vous acceptez une autre proposition, "
             "celle-ci est refusée.", STILL_REFUSE]
 
 
-def barred(found: BarredWish) -> list[str]:
+def barred(found: BarredWish, setting: Setting) -> list[str]:
+    told = [f"Le vœu {setting.wish(found.wish)} est en attente : il n'a pas de proposition."]
+    school = f"L'internat {setting.school(found.school)}"
     if found.beds is None:
-        reach = "ne laisse entrer personne" if found.bar == 0 else f"s'arrête au rang {found.bar}"
-        cause = f"le plafond du jour {reach}"
-        chance = "quand le plafond sera relevé"
-    else:
-        cause = bed_reach(found.beds, found.bar)
-        chance = "si l'internat obtient un lit" if found.beds == 0 else "quand un lit se libérera"
-    return [f"Le vœu {found.wish} est en attente : "
-            f"votre rang à l'internat {found.school} est {found.rank}, et {cause}.",
-            f"Il sera réexaminé {chance}.", WAIT_OR_WITHDRAW]
+        reach = "ne prend plus personne ce jour-là" if found.bar == 0 else \
+            f"prend ce jour-là jusqu'au rang {found.bar}"
+        return [*told, f"{school} {reach} : c'est son plafond, et votre rang y est {found.rank}.",
+                f"{ANEW} Pour une proposition, il faut un plafond qui aille jusqu'à votre rang, {A_BED_AND_A_SEAT}.",
+                WAIT_OR_WITHDRAW]
+    return [*told, f"{school} {fullness(found.beds)}. {reach_of(found)}, et votre rang y est {found.rank}.",
+            f"{ANEW} Pour une proposition, il faut {A_BED_AND_A_SEAT}.", WAIT_OR_WITHDRAW]
 
 
-def bed_reach(beds: int, bar: int) -> str:
-    """Jusqu'où vont les lits d'un internat complet. La barre n'est à 0 que si aucun n'est libre."""
+def fullness(beds: int) -> str:
     if beds == 0:
-        return "l'internat n'a pas de lit"
-    if bar == 0:
-        return "son unique lit est pris" if beds == 1 else f"ses {beds} lits sont tous pris"
-    went = "son unique lit n'est allé" if beds == 1 else f"ses {beds} lits ne sont allés"
-    return f"{went} que jusqu'au rang {bar}"
+        return "n'a pas de lit"
+    return "est complet : son seul lit est pris" if beds == 1 else f"est complet : ses {beds} lits sont tous pris"
 
 
-def seatless(found: SeatlessWish) -> list[str]:
-    ahead = "personne n'était" if found.ahead == 0 else \
-        counted(found.ahead, "candidature était", "candidatures étaient")
-    left = "ne restait aucune place" if found.left == 0 else f"restait {counted(found.left, 'place', 'places')}"
-    told = [f"Le vœu {found.wish} est en attente : "
-            f"au dernier passage, {ahead} devant vous dans la formation, et il {left}."]
+def reach_of(found: BarredWish) -> str:
+    """Jusqu'où la barre laissait entrer. Elle n'est à 0 que si aucun lit n'était libre."""
+    if found.bar == 0:
+        return "Au dernier passage, aucun lit n'était libre"
+    return f"Au dernier passage, il fallait un rang de {found.bar} ou mieux pour y avoir un lit"
+
+
+def seatless(found: SeatlessWish, setting: Setting) -> list[str]:
+    ahead = {0: "personne ne passait", 1: "1 personne passait"}.get(found.ahead, f"{found.ahead} personnes passaient")
+    left = {0: "il ne restait aucune place", 1: "il restait 1 place"}.get(
+        found.left, f"il restait {found.left} places")
+    told = [f"Le vœu {setting.wish(found.wish)} est en attente : il n'a pas de proposition.",
+            f"Au dernier passage, {left} dans la formation, et {ahead} avant vous pour en avoir une."]
     if found.call_limit is not None:
         limit = found.call_limit
-        called = "la première personne de l'ordre d'appel est appelée" if limit.limit == 1 else \
-            f"les {limit.limit} premières personnes de l'ordre d'appel sont appelées"
-        told.append(f"Quelles que soient les places restantes, {called}, et vous y êtes en position {limit.position}.")
-    fewer = "" if found.ahead == 0 else ", une de moins pour chaque candidature devant vous qui se retire"
-    needed = counted(found.wanting, "place de plus", "places de plus")
-    return [*told, f"Pour une proposition, il faut {needed}{fewer} ; "
-                   "vous pouvez laisser le vœu en attente ou le retirer."]
+        first = "La première personne de l'ordre d'appel n'a" if limit.limit == 1 else \
+            f"Les {limit.limit} premières personnes de l'ordre d'appel n'ont"
+        told.append(f"{first} pas besoin d'une place restante, et vous y êtes en position {limit.position}.")
+    return [*told, "Pour une proposition, il faut qu'il reste plus de places qu'il n'y a de personnes avant vous : "
+                   "des places se libèrent quand d'autres refusent ou démissionnent.", WAIT_OR_WITHDRAW]
 
 
-def unknown(found: UnknownWish) -> list[str]:
-    return [f"Il n'y a pas de vœu {found.wish} dans le dossier.",
+def unknown(found: UnknownWish, setting: Setting) -> list[str]:
+    return [f"Il n'y a pas de vœu {setting.wish(found.wish)} dans le dossier.",
             "Vérifiez son numéro et posez la question de nouveau."]
 
 
-def sentences(found: Explanation) -> list[str]:
-    return [sentence.replace(" :", NO_BREAK + ":").replace(" ;", NO_BREAK + ";") for sentence in _sentences(found)]
+def spaced(text: str) -> str:
+    """Le texte avec des espaces insécables devant les deux-points et les points-virgules."""
+    return text.replace(" :", NO_BREAK + ":").replace(" ;", NO_BREAK + ";")
 
 
-def _sentences(found: Explanation) -> list[str]:
+def sentences(found: Explanation, setting: Setting) -> list[str]:
+    return [spaced(sentence) for sentence in _sentences(found, setting)]
+
+
+def _sentences(found: Explanation, setting: Setting) -> list[str]:
     match found:
         case GoneWish():
-            return gone(found)
+            return gone(found, setting)
         case OfferedWish():
-            return offered(found)
+            return offered(found, setting)
         case AcceptedWish():
-            return accepted(found)
+            return accepted(found, setting)
         case BarredWish():
-            return barred(found)
+            return barred(found, setting)
         case SeatlessWish():
-            return seatless(found)
+            return seatless(found, setting)
         case UnknownWish():
-            return unknown(found)
+            return unknown(found, setting)

@@ -22,10 +22,10 @@ def csv_bytes(header: Iterable[str], rows: Iterable[Iterable[object]]) -> bytes:
     return text.getvalue().encode()
 
 
-def write_file(path: Path, data: bytes) -> None:
+def write_file(path: Path, data: bytes | Iterable[bytes]) -> None:
     """Writes a new file, and answers when the disk has it."""
     with open(path, "wb") as file:
-        file.write(data)
+        file.writelines([data] if isinstance(data, bytes) else data)
         file.flush()
         os.fsync(file.fileno())
 
@@ -60,7 +60,7 @@ def replace_file(path: Path, data: bytes) -> None:
     settle(path.parent)
 
 
-def write_folder(folder: Path, files: Mapping[str, bytes]) -> None:
+def write_folder(folder: Path, files: Mapping[str, bytes | Iterable[bytes]]) -> None:
     """Makes a folder with these files; it appears when all of them are whole."""
     fresh = Path(tempfile.mkdtemp(prefix=f".{folder.name}.", dir=folder.parent))
     try:
@@ -106,6 +106,21 @@ def stop_cleanly() -> None:
     for number in (signal.SIGINT, signal.SIGTERM, signal.SIGHUP):
         if signal.getsignal(number) is not signal.SIG_IGN:
             signal.signal(number, stop)
+
+
+def write_whole(tool: str, text: str) -> bool:
+    """Writes a text to standard output whole, in UTF-8, and answers whether it could. A reader that has gone has what
+    they want."""
+    rest = text.encode(errors="backslashreplace")
+    try:
+        while rest:
+            rest = rest[os.write(1, rest):]
+    except BrokenPipeError:
+        return True
+    except OSError as error:
+        print(f"{tool}: the text could not be written: {error.strerror}", file=sys.stderr)
+        return False
+    return True
 
 
 def say(tool: str, text: str) -> None:

@@ -1,0 +1,186 @@
+"""Why wishes stand as they do, in the evening of the last day that `next_day` made: said by the program, of its record.
+
+The program explains each wish from the slots as they were for that day. Its days are told as those of the campaign: a
+stamp of the day itself as that day, and where a wish changed earlier, by the record of the day on which it did.
+"""
+
+import csv
+import sys
+import tempfile
+from dataclasses import dataclass, replace
+from datetime import date, timedelta
+from pathlib import Path
+from types import ModuleType
+
+from . import program, words_en
+from .campaign import Stopped, unread
+from .explanation import AcceptedWish, Explanation, GoneWish, OfferedWish, Stamp, explanation_of
+from .faults import shown
+from .naming import Names, NotIds, names_in
+from .records import WAITING, Held, KeptDay, made_days
+from .setting import Day, Deadline, Moment, Setting
+from .slots import Thing
+from .telling import LANGUAGES
+from .wording import Words
+from .writing import named_folder, stop_cleanly, write_whole
+
+SAID, NOT_THERE = 0, 1
+
+
+@dataclass(frozen=True)
+class Wish:
+    """A row of the wishes, by numbers."""
+
+    wish: int
+    candidate: int
+    programme: int
+    school: int | None
+
+
+def wishes_in(dossier: Path) -> list[Wish]:
+    """The wishes of a dossier that the program has accepted."""
+    with open(dossier / "wishes.csv", newline="", encoding="utf-8-sig") as file:
+        _, *rows = (cells for cells in csv.reader(file) if cells)
+    return [Wish(int(wish), int(candidate), int(programme), int(school) if school else None)
+            for wish, candidate, programme, school, _ in rows]
+
+
+def asked_wishes(given: list[str], candidates: list[str], wishes: list[Wish], names: Names) -> list[Wish]:
+    """The wishes that the words name, and those of the candidates; raises LookupError with what is not there."""
+    by_number = {wish.wish: wish for wish in wishes}
+    found = []
+    for word in given:
+        number = names.number(Thing.WISH, word)
+        if number not in by_number:
+            raise LookupError(f"there is no wish {shown(word)} in the dossier; give the id of its sheet, or its number.")
+        found.append(by_number[number])
+    for word in candidates:
+        number = names.number(Thing.CANDIDATE, word)
+        theirs = [wish for wish in wishes if wish.candidate == number]
+        if not theirs:
+            raise LookupError(f"no wish is of a candidate {shown(word)}; give the id of the sheets, or the number.")
+        found += theirs
+    return list(dict.fromkeys(found))
+
+
+@dataclass(frozen=True)
+class Evening:
+    """The evening of the last day that was made, and the days before it."""
+
+    days: list[KeptDay]
+    names: Names
+
+    @property
+    def last(self) -> KeptDay:
+        return self.days[-1]
+
+    def day(self, number: int) -> Day:
+        """A day of the campaign: its date where there are dates, else its number."""
+        calendar = self.last.calendar
+        return calendar.today - timedelta(days=calendar.day - number) if calendar.today else number
+
+    def changed(self, wish: int, stamp: Stamp) -> tuple[Moment, int]:
+        """When the wish came to stand as it does, and in which pass. The program's stamp has the last day as day 1."""
+        if stamp.day > 0:
+            return Moment(self.day(self.last.number)), stamp.turn
+        held = self.last.before.get(wish, Held(WAITING))
+        for day in reversed(self.days[:-1]):
+            if day.after.get(wish, Held(WAITING)).status != held.status:
+                return Moment(self.day(day.number + 1), is_before=True), 0
+            if day.before.get(wish, Held(WAITING)).status != held.status:
+                return Moment(self.day(day.number)), day.last_passes.get(wish, 0)
+        return Moment(self.day(self.days[0].number), is_before=True), 0
+
+    def deadline(self, wish: int) -> Deadline | None:
+        """By when an offer is to be answered: its date, which the state has, and the term."""
+        calendar = self.last.calendar
+        since = self.last.after[wish].since
+        if calendar.today is None or calendar.term is None or not since:
+            return None
+        limit = date.fromisoformat(since) + timedelta(days=calendar.term)
+        return Deadline(limit, is_over=limit <= calendar.today)
+
+    def told(self, found: Explanation, language: ModuleType) -> list[str]:
+        """The sentences of an explanation, with the ids of the exports and the days of the campaign."""
+        moment = Moment(self.day(self.last.number))
+        if isinstance(found, AcceptedWish | GoneWish | OfferedWish):
+            moment, turn = self.changed(found.wish, found.stamp)
+            found = replace(found, stamp=Stamp(found.stamp.day, turn))
+        return language.sentences(found, Setting(
+            lambda wish: self.names.spelled(Thing.WISH, wish), lambda school: self.names.spelled(Thing.SCHOOL, school),
+            lambda _: moment, self.deadline(found.wish) if isinstance(found, OfferedWish) else None))
+
+
+def explained(wish: Wish, day: KeptDay, slots: Path) -> Explanation:
+    """What the program says of a wish on that day."""
+    with tempfile.TemporaryFile() as output:
+        status = program.run(["explain", "--wish", str(wish.wish), *day.calendar.words()], slots, output)
+        output.seek(0)
+        line = output.read().decode(errors="replace")
+    found = explanation_of(line.removesuffix("\n"))
+    if status != program.DONE or found is None:
+        raise Stopped(status if 0 < status < 256 else program.READ_FAULT,
+                      f"{program.meaning(status)} (status {status}): {shown(line)}")
+    return found
+
+
+def paragraphs(asked: list[Wish], evening: Evening, dossier: Path, language: ModuleType) -> list[str]:
+    """A heading for the evening, and a paragraph for each wish."""
+    day = evening.last
+    told = [language.evening(evening.day(day.number), day.number)]
+    with tempfile.TemporaryDirectory(prefix="why.") as place:
+        day.put_slots(dossier, Path(place))
+        for wish in asked:
+            found = explained(wish, day, Path(place))
+            spelled = evening.names.spelled
+            heading = language.heading(spelled(Thing.WISH, wish.wish), spelled(Thing.CANDIDATE, wish.candidate),
+                                       spelled(Thing.PROGRAMME, wish.programme),
+                                       spelled(Thing.SCHOOL, wish.school) if wish.school else None)
+            told.append(heading + "\n" + " ".join(evening.told(found, language)))
+    return told
+
+
+def words() -> Words:
+    parser = Words(
+        "why",
+        "Says why wishes stand as they do in the evening of the last day that next_day made in FOLDER, in plain "
+        "sentences. What is said is what the program explains of that day, from its record.",
+        "Status: 0 said, 1 no such wish or candidate, 2 bad words, 3 not read, 4 not written; else the program's.")
+    parser.add_argument("folder", type=named_folder, metavar="FOLDER", help="the folder that next_day keeps")
+    parser.add_argument("words", nargs="*", metavar="WISH",
+                        help="wishes, each by its id or its number; a last word fr or en is the language")
+    parser.add_argument("--candidate", action="append", default=[], metavar="C",
+                        help="all wishes of this candidate; may be given again")
+    return parser
+
+
+def main(arguments: list[str]) -> int:
+    parser = words()
+    given = parser.of(arguments)
+    *wishes, last = given.words or [""]
+    language = LANGUAGES.get(last, words_en)
+    wishes += [last] if last and last not in LANGUAGES else []
+    if not wishes and not given.candidate:
+        parser.bad("name a wish, or a candidate with --candidate")
+    try:
+        stop_cleanly()
+        return tell(given.folder, wishes, given.candidate, language)
+    except LookupError as error:
+        print(f"why: {error.args[0]}", file=sys.stderr)
+        return NOT_THERE
+    except Stopped as stop:
+        print(f"why: {stop}", file=sys.stderr)
+        return stop.status
+    except NotIds as error:
+        print(f"why: {error}", file=sys.stderr)
+        return program.READ_FAULT
+    except OSError as error:
+        print(f"why: {unread(error)}", file=sys.stderr)
+        return program.READ_FAULT
+
+
+def tell(folder: Path, wishes: list[str], candidates: list[str], language: ModuleType) -> int:
+    evening = Evening(made_days(folder), names_in(folder))
+    asked = asked_wishes(wishes, candidates, wishes_in(folder), evening.names)
+    told = "\n\n".join(paragraphs(asked, evening, folder, language)) + "\n"
+    return SAID if write_whole("why", told) else program.WRITE_FAULT

@@ -1,0 +1,114 @@
+"""The days that `next_day` has made in a folder, as their records keep them."""
+
+import csv
+import io
+from dataclasses import dataclass
+from datetime import timedelta
+from functools import cached_property
+from pathlib import Path
+
+from .campaign import CALENDAR, CHANGING, CHECKSUMS, LASTING, STAGING, Stopped, checksums, unread
+from .dating import Calendar
+from .program import READ_FAULT
+
+WAITING = "waiting"
+
+
+@dataclass(frozen=True)
+class Held:
+    """How a wish stands in a state: its status, and since when where that is an offer with a date."""
+
+    status: str
+    since: str = ""
+
+
+def state_of(slot: bytes) -> dict[int, Held]:
+    """The wishes of a state slot that have a row; the others wait."""
+    records = csv.reader(io.StringIO(slot.decode("utf-8-sig"), newline=""))
+    _, *rows = [cells for cells in records if cells]
+    return {int(wish): Held(status, *since) for wish, status, *since in rows}
+
+
+@dataclass(frozen=True)
+class KeptDay:
+    """A day that was made: its record, and the day of the campaign that it was."""
+
+    folder: Path
+    calendar: Calendar
+
+    @cached_property
+    def report(self) -> bytes:
+        return (self.folder / "report.txt").read_bytes()
+
+    @cached_property
+    def before(self) -> dict[int, Held]:
+        return state_of((self.folder / "before/state.csv").read_bytes())
+
+    @cached_property
+    def after(self) -> dict[int, Held]:
+        """How each wish stood in the evening, as the program wrote it."""
+        return state_of(self.report.partition(b"\nfinal\n")[2])
+
+    @cached_property
+    def last_passes(self) -> dict[int, int]:
+        """The last pass in which each wish was offered, or answered for automatically."""
+        passes: dict[int, int] = {}
+        number = 0
+        for line in self.report.partition(b"\nfinal\n")[0].splitlines():
+            word, _, rest = line.partition(b" ")
+            if word == b"pass":
+                number = int(rest)
+            elif word in (b"offer", b"auto"):
+                passes[int(rest.partition(b" ")[0])] = number
+        return passes
+
+    @property
+    def number(self) -> int:
+        return self.calendar.day
+
+    def put_slots(self, dossier: Path, place: Path) -> None:
+        """Makes the place hold the slots as they were for this day; those that may not change must be as then."""
+        then = (self.folder / CHECKSUMS).read_bytes().splitlines()
+        changed = [line.split()[-1].decode() for line in checksums(dossier).splitlines() if line not in then]
+        if changed:
+            raise Stopped(READ_FAULT, f"{', '.join(changed)} changed since day {self.number} was made, so what the "
+                                      "program said of that day cannot be asked again; put it back as it was, or make "
+                                      "the next day.")
+        for name in CHANGING:
+            (place / name).write_bytes((self.folder / "before" / name).read_bytes())
+        for name in LASTING:
+            (place / name).symlink_to((dossier / name).resolve())
+
+
+def kept_days(dossier: Path) -> list[KeptDay]:
+    """The days that have records, in order."""
+    try:
+        found = []
+        for folder in sorted((dossier / "days").iterdir()):
+            if not folder.name.startswith(STAGING):
+                coming = Calendar.from_bytes((folder / "after" / CALENDAR).read_bytes())
+                today = coming.today and coming.today - timedelta(days=1)
+                found.append(KeptDay(folder, Calendar(coming.day - 1, today, coming.term)))
+        return sorted(found, key=lambda day: day.number)
+    except FileNotFoundError as error:
+        if Path(error.filename) == dossier / "days":
+            return []
+        raise unread(error) from None
+    except OSError as error:
+        raise unread(error) from None
+    except ValueError:
+        raise Stopped(READ_FAULT, f"{dossier / 'days'} has something that next_day did not write; take it out.") \
+            from None
+
+
+def made_days(dossier: Path) -> list[KeptDay]:
+    """The days that were made, of which there is one at least, the last of them to its end."""
+    days = kept_days(dossier)
+    if not days:
+        raise Stopped(READ_FAULT, f"no day has been made in {dossier}: make one with next_day, and call again.")
+    last = days[-1].folder / "after" / CALENDAR
+    coming = dossier / CALENDAR
+    if not coming.exists() or coming.read_bytes() != last.read_bytes():
+        raise Stopped(READ_FAULT, f"day {days[-1].number} was not made to its end, or its slots were put back; call "
+                                  "next_day first.")
+    return days

@@ -1,0 +1,57 @@
+"""Texts in two languages."""
+
+from dataclasses import dataclass, field
+from typing import Literal, Protocol, runtime_checkable
+
+Language = Literal["en", "fr"]
+NO_BREAK = "\u00a0"
+
+
+@dataclass(frozen=True)
+class Text:
+    """A text in English and French, with places for what differs from one use to another."""
+
+    en: str
+    fr: str
+
+    def of(self, **values: object) -> "Filled":
+        return Filled(self, values)
+
+
+@dataclass(frozen=True)
+class Filled:
+    """A text with its values, of which some may be texts themselves."""
+
+    text: Text
+    values: dict[str, object] = field(default_factory=dict)
+
+    def said(self, language: Language) -> str:
+        values = {name: said(value, language) for name, value in self.values.items()}
+        return spaced(getattr(self.text, language).format(**values), language)
+
+
+@runtime_checkable
+class Sayable(Protocol):
+    """What is said in one of the languages."""
+
+    def said(self, language: Language) -> str:
+        """It in the language."""
+        ...
+
+
+def said(value: object, language: Language) -> str:
+    """A value in the language, where it has one."""
+    if isinstance(value, Text):
+        return value.of().said(language)
+    return value.said(language) if isinstance(value, Sayable) else str(value)
+
+
+def spaced(text: str, language: Language) -> str:
+    """French has blanks that do not break before colons and semicolons."""
+    return text.replace(" :", NO_BREAK + ":").replace(" ;", NO_BREAK + ";") if language == "fr" else text
+
+
+def joined(parts: list[str], language: Language) -> str:
+    """The parts with commas, and a word before the last."""
+    word = " et " if language == "fr" else " and "
+    return word.join(filter(None, (", ".join(parts[:-1]), parts[-1] if parts else "")))

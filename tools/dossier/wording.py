@@ -1,0 +1,28 @@
+"""The words of a tool: its help is at most 80 columns wide, and an error in them is told with what to do."""
+
+import argparse
+from typing import NoReturn
+
+WIDTH = 80
+
+
+class Formatter(argparse.HelpFormatter):
+    """Help of at most 80 columns, however wide the terminal is."""
+
+    def __init__(self, prog: str):
+        super().__init__(prog, width=WIDTH, max_help_position=26)
+
+
+class Words(argparse.ArgumentParser):
+    """The words of a tool. `help` is `--help`, and no option is known by its beginning alone."""
+
+    def __init__(self, tool: str, description: str, epilog: str):
+        super().__init__(prog=tool, description=description, epilog=epilog, allow_abbrev=False,
+                         formatter_class=Formatter)
+
+    def of(self, arguments: list[str]) -> argparse.Namespace:
+        return self.parse_intermixed_args(["--help"] if arguments == ["help"] else arguments)
+
+    def bad(self, message: str) -> NoReturn:
+        """Says what is wrong with the words, and ends with status 2."""
+        self.error(message)

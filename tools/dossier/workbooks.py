@@ -1,0 +1,238 @@
+"""Workbooks: the sheets of `.ods` and `.xlsx` files, which are zipped XML, with each cell read by its type."""
+
+import re
+import zipfile
+from collections.abc import Iterator
+from datetime import datetime, timedelta
+from decimal import Decimal, InvalidOperation
+from pathlib import Path
+from xml.etree import ElementTree
+
+from .decoding import Unreadable
+from .messages import BROKEN_WORKBOOK, SAVE_WORKBOOK
+from .sources import WorkbookSheet
+
+# A workbook repeats its last empty cells and rows up to its edge.
+MOST_COLUMNS = 1000
+MOST_ROWS = 17_000_000
+MOST_BYTES = 1 << 31
+
+OFFICE = "{urn:oasis:names:tc:opendocument:xmlns:office:1.0}"
+TABLE = "{urn:oasis:names:tc:opendocument:xmlns:table:1.0}"
+TEXT = "{urn:oasis:names:tc:opendocument:xmlns:text:1.0}"
+MAIN = "{http://schemas.openxmlformats.org/spreadsheetml/2006/main}"
+STRICT = "{http://purl.oclc.org/ooxml/spreadsheetml/main}"
+LINK = re.compile(r"\{[^}]*\}id")
+
+
+def sheets_of_workbook(path: Path) -> list[WorkbookSheet]:
+    """The sheets of a workbook; raises Unreadable where it is none, or is cut."""
+    try:
+        with zipfile.ZipFile(path) as archive:
+            if sum(entry.file_size for entry in archive.infolist()) > MOST_BYTES:
+                raise Unreadable(BROKEN_WORKBOOK.of(why="it is too large"), SAVE_WORKBOOK.of())
+            names = set(archive.namelist())
+            if "content.xml" in names:
+                found = list(sheets_of_ods(archive))
+            elif "xl/workbook.xml" in names:
+                found = list(sheets_of_xlsx(archive))
+            else:
+                raise Unreadable(BROKEN_WORKBOOK.of(why="no sheet is in it"), SAVE_WORKBOOK.of())
+    except (zipfile.BadZipFile, ElementTree.ParseError, KeyError, ValueError, RuntimeError, NotImplementedError,
+            EOFError) as error:
+        raise Unreadable(BROKEN_WORKBOOK.of(why=error), SAVE_WORKBOOK.of()) from None
+    return [WorkbookSheet(f"{path.name}, {name}", rows) for name, rows in found]
+
+
+def numeral(text: str) -> str:
+    """A number as a cell shows it where it is whole, and else with its decimals."""
+    try:
+        value = Decimal(text)
+        # Workbooks keep binary fractions: what is a whole number within their precision is one.
+        rounded = round(value, 9).normalize()
+        whole = rounded.to_integral_value()
+        return str(int(whole)) if rounded == whole else format(rounded, "f")
+    except (InvalidOperation, ValueError, OverflowError):
+        return text
+
+
+def percentage(text: str) -> str:
+    try:
+        return f"{numeral(str(Decimal(text) * 100))} %"
+    except InvalidOperation:
+        return text
+
+
+def whole_rows(rows: list[list[str]]) -> list[list[str]]:
+    """The rows without the empty ones at the end, all of one width."""
+    while rows and not any(rows[-1]):
+        rows.pop()
+    width = max(map(len, rows), default=0)
+    return [row if len(row) == width else row + [""] * (width - len(row)) for row in rows]
+
+
+def sheets_of_ods(archive: zipfile.ZipFile) -> Iterator[tuple[str, list[list[str]]]]:
+    with archive.open("content.xml") as file:
+        name, rows = "", []
+        for event, element in ElementTree.iterparse(file, events=("start", "end")):
+            if event == "start":
+                if element.tag == f"{TABLE}table":
+                    name, rows = element.get(f"{TABLE}name", ""), []
+            elif element.tag == f"{TABLE}table-row":
+                cells = cells_of_ods(element)
+                repeated = int(element.get(f"{TABLE}number-rows-repeated", "1"))
+                if any(cells) or repeated < MOST_COLUMNS:
+                    rows += [cells] * min(repeated, MOST_ROWS)
+                element.clear()
+            elif element.tag == f"{TABLE}table":
+                yield name, whole_rows(rows)
+                element.clear()
+
+
+def cells_of_ods(row: ElementTree.Element) -> list[str]:
+    cells: list[str] = []
+    for cell in row:
+        if cell.tag in (f"{TABLE}table-cell", f"{TABLE}covered-table-cell"):
+            repeated = int(cell.get(f"{TABLE}number-columns-repeated", "1"))
+            text = text_of_ods(cell)
+            if text or repeated < MOST_COLUMNS:
+                cells += [text] * min(repeated, MOST_COLUMNS)
+    while cells and not cells[-1]:
+        cells.pop()
+    return cells
+
+
+def text_of_ods(cell: ElementTree.Element) -> str:
+    kind = cell.get(f"{OFFICE}value-type")
+    match kind:
+        case "float" | "currency":
+            return numeral(cell.get(f"{OFFICE}value", ""))
+        case "percentage":
+            return percentage(cell.get(f"{OFFICE}value", ""))
+        case "date":
+            return cell.get(f"{OFFICE}date-value", "").removesuffix("T00:00:00")
+        case "boolean":
+            return cell.get(f"{OFFICE}boolean-value", "").upper()
+        case _:
+            return " ".join("".join(part.itertext()) for part in cell if part.tag == f"{TEXT}p").strip()
+
+
+def sheets_of_xlsx(archive: zipfile.ZipFile) -> Iterator[tuple[str, list[list[str]]]]:
+    workbook = plain(archive.read("xl/workbook.xml"))
+    links = {link.get("Id"): link.get("Target", "") for link in
+             ElementTree.fromstring(archive.read("xl/_rels/workbook.xml.rels"))}
+    shared = shared_texts(archive)
+    kinds = kinds_of_styles(archive)
+    properties = workbook.find(f"{MAIN}workbookPr")
+    is_from_1904 = properties is not None and properties.get("date1904") in ("1", "true")
+    for sheet in workbook.iter(f"{MAIN}sheet"):
+        target = next((links[value] for key, value in sheet.attrib.items() if LINK.fullmatch(key)), "")
+        place = target.removeprefix("/") if target.startswith("/") else f"xl/{target}"
+        if "worksheets/" in place:
+            yield sheet.get("name", ""), whole_rows(list(rows_of_xlsx(archive, place, shared, kinds, is_from_1904)))
+
+
+def plain(data: bytes) -> ElementTree.Element:
+    """A tree whose tags are those of the usual kind of workbook, also where it is of the strict kind."""
+    return ElementTree.fromstring(data.replace(STRICT[1:-1].encode(), MAIN[1:-1].encode()))
+
+
+def shared_texts(archive: zipfile.ZipFile) -> list[str]:
+    if "xl/sharedStrings.xml" not in archive.namelist():
+        return []
+    return [text_of_item(item) for item in plain(archive.read("xl/sharedStrings.xml")).iter(f"{MAIN}si")]
+
+
+def text_of_item(item: ElementTree.Element) -> str:
+    """The text of an item with its parts, but without what only says how it is read aloud."""
+    spoken = {id(text) for part in item.iter(f"{MAIN}rPh") for text in part.iter(f"{MAIN}t")}
+    return "".join(text.text or "" for text in item.iter(f"{MAIN}t") if id(text) not in spoken)
+
+
+DATE_FORMATS = {*range(14, 18), 22, *range(27, 37), *range(50, 59)}
+PERCENT_FORMATS = {9, 10}
+
+
+def kinds_of_styles(archive: zipfile.ZipFile) -> list[str]:
+    """Of each style whether its numbers are dates, percentages, or neither."""
+    if "xl/styles.xml" not in archive.namelist():
+        return []
+    styles = plain(archive.read("xl/styles.xml"))
+    own = {int(style.get("numFmtId", "0")): kind_of_format(style.get("formatCode", ""))
+           for style in styles.iter(f"{MAIN}numFmt")}
+    cells = styles.find(f"{MAIN}cellXfs")
+    formats = [int(style.get("numFmtId", "0")) for style in cells] if cells is not None else []
+    return [own.get(number) or ("date" if number in DATE_FORMATS else "percentage" if number in PERCENT_FORMATS else "")
+            for number in formats]
+
+
+def kind_of_format(code: str) -> str:
+    shown = re.sub(r'"[^"]*"|\\.|\[[^]]*\]|_.|\*.', "", code).lower()
+    if "%" in shown:
+        return "percentage"
+    return "date" if re.search(r"[dy]|mm+", shown) and not re.fullmatch(r"[^dy]*[hs][^dy]*", shown) else ""
+
+
+def rows_of_xlsx(archive: zipfile.ZipFile, place: str, shared: list[str], kinds: list[str],
+                 is_from_1904: bool) -> Iterator[list[str]]:
+    number = 0
+    with archive.open(place) as file:
+        for _, element in ElementTree.iterparse(file):
+            if element.tag.rpartition("}")[2] != "row":
+                continue
+            here = int(element.get("r") or number + 1)
+            if not number < here <= MOST_ROWS:
+                raise ValueError(f"row {here} stands after row {number}")
+            yield from ([] for _ in range(number + 1, here))
+            number = here
+            yield cells_of_xlsx(element, shared, kinds, is_from_1904)
+            element.clear()
+
+
+def cells_of_xlsx(row: ElementTree.Element, shared: list[str], kinds: list[str], is_from_1904: bool) -> list[str]:
+    cells: list[str] = []
+    for cell in row:
+        place = column_of(cell.get("r", "")) if cell.get("r") else len(cells)
+        text = text_of_xlsx(cell, shared, kinds, is_from_1904)
+        if text and place < MOST_COLUMNS:
+            cells += [""] * (place - len(cells)) + [text]
+    return cells
+
+
+def column_of(name: str) -> int:
+    """The place of a column by a cell's name: 0 for A1, 26 for AA1."""
+    place = 0
+    for letter in name.rstrip("0123456789"):
+        place = 26 * place + ord(letter) - ord("A") + 1
+    return place - 1
+
+
+def text_of_xlsx(cell: ElementTree.Element, shared: list[str], kinds: list[str], is_from_1904: bool) -> str:
+    value = next((part.text or "" for part in cell if part.tag.endswith("}v")), "")
+    match cell.get("t", "n"):
+        case "s":
+            return shared[int(value)].strip() if value else ""
+        case "inlineStr":
+            return "".join(text.text or "" for text in cell.iter() if text.tag.endswith("}t")).strip()
+        case "str" | "e":
+            return value.strip()
+        case "b":
+            return "TRUE" if value == "1" else "FALSE" if value else ""
+        case "d":
+            return value.removesuffix("T00:00:00")
+    style = int(cell.get("s", "0"))
+    kind = kinds[style] if style < len(kinds) else ""
+    if not value:
+        return ""
+    if kind == "date":
+        return date_of(value, is_from_1904)
+    return percentage(value) if kind == "percentage" else numeral(value)
+
+
+def date_of(text: str, is_from_1904: bool) -> str:
+    """The date of a number of days. Before March 1900 the count has a day that was none."""
+    days = float(text)
+    first = datetime(1904, 1, 1) if is_from_1904 else datetime(1899, 12, 30)
+    if not is_from_1904 and days < 61:
+        return text
+    return (first + timedelta(seconds=round(86400 * days))).isoformat(" ").removesuffix(" 00:00:00")
