@@ -1,10 +1,10 @@
--- The lists of the wishes by programme, and the claims in them.
-use Rattle.std.proofs.Common.{ℕ, ◌+◌, ◌-◌, ◌≤◌, ◌<◌, ◌≡◌, Bool, true, false, not, ◌&&◌, List, [], ◌∷◌, map, length, get_or, inl, inr, refl, sym, ◌∙◌, ap, arith, nat_lt, nat_eq, filter, subst, Some, Vec, ltb, leb}
+-- The lists of the wishes by group, and each candidate's wishes in them.
+use Rattle.std.proofs.Common.{ℕ, ◌+◌, ◌-◌, ◌≤◌, ◌<◌, ◌≡◌, Bool, true, false, not, ◌&&◌, List, map, length, get_or, inl, inr, refl, sym, ◌∙◌, ap, arith, nat_eq, filter, subst, Some, Vec, ltb, leb}
 use Rattle.std.specs.Prelude.{◌==◌, ◌^◌}
 use Rattle.std.specs.declared.alloc.Global.{Global}
 use Rattle.std.specs.List.Sorted.{IsNonDecreasingBy, IsPartitionPoint}
 use Rattle.std.proofs.Math.ListN.{set}
-use Rattle.std.proofs.lemmas.Bool.{and_parts, cases_lt, eqb-true, le-leb, le-ltb, lt-leb, lt-ltb, ltb-true, ltb-false, ne_eqb, or_cases, false≢true}
+use Rattle.std.proofs.lemmas.Bool.{and_parts, cases_lt, eqb-true, le-leb, le-ltb, lt-leb, lt-ltb, ltb-true, ltb-false, or_cases}
 use Rattle.std.proofs.lemmas.List.{get_or-map, get_or_default, length-map, length-set, map-id}
 use Rattle.std.proofs.lemmas.Option.{slice_get-get_or}
 use Rattle.std.proofs.lemmas.List.Elements.{All-filter}
@@ -16,26 +16,25 @@ use Rattle.day_state.specs.Kept.{candidate_in, IsIndex}
 use Rattle.day_state.proofs.Ordering.{between}
 use Rattle.day_state.specs.declared.spans.Span.{Span}
 use Rattle.day_state.specs.Spans.{IsWithin, part_of}
-use Rattle.linked_demand.specs.Claims.{IsSpanOf, AreCandidatesFrom, AreWishesFor, AreWishesFrom, begins_at, lower_before}
+use Rattle.linked_demand.specs.Claims.{IsSpanOf, AreCandidatesFrom, AreWishesIn, AreWishesFrom, begins_at, lower_before}
 use Rattle.linked_demand.specs.Keyed.{AreRowsOf}
-use Rattle.linked_demand.specs.Links.{claim_of}
-use Rattle.linked_demand.specs.Seats.{applies_at}
-use Rattle.linked_demand.proofs.Lining.{filter_twice, claim_own}
+use Rattle.linked_demand.specs.Called.{group_claim, is_of_group}
+use Rattle.linked_demand.proofs.Lining.{filter_twice}
 
-turn_two : (a b : Bool) → (a && b) ≡ (b && a)
+pub turn_two : (a b : Bool) → (a && b) ≡ (b && a)
 turn_two true true = refl
 turn_two true false = refl
 turn_two false true = refl
 turn_two false false = refl
 
--- those in an order by candidate that are for a programme
+-- those in an order by candidate that are for a programme of a group
 pub wishes_in : (s : DossierRows) (order : List ℕ) (p : ℕ) (wishes : List ℕ) → length s.wishes < 2 ^ 32 → IsIndex s.wishes order
-    → wishes ≡ filter (applies_at s p) order → AreWishesFor s p wishes
+    → wishes ≡ filter (is_of_group s p) order → AreWishesIn s p wishes
 wishes_in s order p wishes few index is =
     let ws = s.wishes in
-    let q = applies_at s p in
+    let q = is_of_group s p in
     let own_of = λ (c k : ℕ). candidate_in ws k == c in
-    let right : AreWishesFor s p (filter q order) = record {
+    let right : AreWishesIn s p (filter q order) = record {
       few = omega (arith, few, index.as_long, length-filter_both q (λ k. not (q k)) (λ k. refl) order);
       within = All-filter q (λ k. k < length ws) order index.within;
       rises = IsNonDecreasingBy-filter (candidate_in ws) q order index.rises;
@@ -43,28 +42,27 @@ wishes_in s order p wishes few index is =
           filter_twice (own_of c) q order
           ∙ filter_same (λ k. q k && own_of c k) (λ k. own_of c k && q k) (λ k. turn_two (q k) (own_of c k)) order
           ∙ sym (filter_twice q (own_of c) order)
-          ∙ ap (filter q) (index.own c)
-          ∙ claim_own s p c;
+          ∙ ap (filter q) (index.own c);
     } in
-    let P = λ (ks : List ℕ). AreWishesFor s p ks in
+    let P = λ (ks : List ℕ). AreWishesIn s p ks in
     subst P (sym is) right
 
--- the rows by programme of an order by candidate
+-- the rows by group of an order by candidate
 pub wishes_from : (s : DossierRows) (order : List ℕ) (rows : List (Vec ℕ Global)) → length s.wishes < 2 ^ 32
     → IsIndex s.wishes order
-    → AreRowsOf (λ k. k) (applies_at s) (length s.programmes) order rows → AreWishesFrom s 0 rows
+    → AreRowsOf (λ k. k) (is_of_group s) (length s.groups) order rows → AreWishesFrom s 0 rows
 wishes_from s order rows few index are = record {
   one_each = are.one_each;
-  each = λ p row le at. wishes_in s order p row.items few index (are.each p row at ∙ map-id (filter (applies_at s p) order));
+  each = λ p row le at. wishes_in s order p row.items few index (are.each p row at ∙ map-id (filter (is_of_group s p) order));
 }
 
--- the list that is taken out for a programme is of the wishes for it
+-- the list that is taken out for a group is of the wishes for its programmes
 pub wishes_taken : (s : DossierRows) (n : ℕ) (rows : List (Vec ℕ Global)) (row d : Vec ℕ Global)
-    → n < length s.programmes → row ≡ get_or rows n d → AreWishesFrom s n rows → AreWishesFor s n row.items
+    → n < length s.groups → row ≡ get_or rows n d → AreWishesFrom s n rows → AreWishesIn s n row.items
 wishes_taken s n rows row d lt is are =
     are.each n row (omega arith) (slice_get-get_or rows n d (omega (arith, lt, are.one_each)) ∙ ap Some (sym is))
 
--- once the list of a programme is taken out, the later ones are left
+-- once the list of a group is taken out, the later ones are left
 pub wishes_later : (s : DossierRows) (n : ℕ) (rows : List (Vec ℕ Global)) (row : Vec ℕ Global)
     → AreWishesFrom s n rows → AreWishesFrom s (n + 1) (set rows n row)
 wishes_later s n rows row are = record {
@@ -73,18 +71,18 @@ wishes_later s n rows row are = record {
 }
 
 pub candidates_from : (s : DossierRows) (order : List ℕ) (rows candidates : List (Vec ℕ Global))
-    → AreRowsOf (λ k. k) (applies_at s) (length s.programmes) order rows
-    → AreRowsOf (candidate_in s.wishes) (applies_at s) (length s.programmes) order candidates
+    → AreRowsOf (λ k. k) (is_of_group s) (length s.groups) order rows
+    → AreRowsOf (candidate_in s.wishes) (is_of_group s) (length s.groups) order candidates
     → AreCandidatesFrom s 0 rows candidates
 candidates_from s order rows candidates are own = record {
   one_each = own.one_each;
   each = λ p row other le at there.
       own.each p other there
-      ∙ sym (ap (map (candidate_in s.wishes)) (are.each p row at ∙ map-id (filter (applies_at s p) order)));
+      ∙ sym (ap (map (candidate_in s.wishes)) (are.each p row at ∙ map-id (filter (is_of_group s p) order)));
 }
 
 pub candidates_taken : (s : DossierRows) (n : ℕ) (rows candidates : List (Vec ℕ Global)) (row own d e : Vec ℕ Global)
-    → n < length s.programmes → row ≡ get_or rows n d → own ≡ get_or candidates n e
+    → n < length s.groups → row ≡ get_or rows n d → own ≡ get_or candidates n e
     → AreWishesFrom s n rows → AreCandidatesFrom s n rows candidates
     → own.items ≡ map (candidate_in s.wishes) row.items
 candidates_taken s n rows candidates row own d e lt is own_is are beside =
@@ -184,8 +182,8 @@ point_of_keys key xs P Q i le point = (
 
 -- where a candidate stands in the list of candidates, there their claim stands in that of the wishes
 pub span_is_claim : (s : DossierRows) (p : ℕ) (wishes candidates : List ℕ) (c : ℕ) (span : Span)
-    → AreWishesFor s p wishes → candidates ≡ map (candidate_in s.wishes) wishes → IsSpanOf candidates c span
-    → IsWithin (length wishes) span × (part_of wishes span ≡ claim_of s p c)
+    → AreWishesIn s p wishes → candidates ≡ map (candidate_in s.wishes) wishes → IsSpanOf candidates c span
+    → IsWithin (length wishes) span × (part_of wishes span ≡ group_claim s p c)
 span_is_claim s p wishes candidates c span waiting are is =
     let key = candidate_in s.wishes in
     let P = λ (ks : List ℕ). IsSpanOf ks c span in
@@ -200,32 +198,13 @@ span_is_claim s p wishes candidates c span waiting are is =
 -- a candidate's claim, as it is read
 pub record IsClaimed (s : DossierRows) (p : ℕ) (wishes : List ℕ) (c : ℕ) (span : Span) (claim : List ℕ) : Type 0 where
   pub within : IsWithin (length wishes) span
-  pub part : part_of wishes span ≡ claim_of s p c
-  pub is : claim ≡ claim_of s p c
+  pub part : part_of wishes span ≡ group_claim s p c
+  pub is : claim ≡ group_claim s p c
 
-pub claim_there : {s : DossierRows} {p : ℕ} {wishes : List ℕ} → AreWishesFor s p wishes
+pub claim_there : {s : DossierRows} {p : ℕ} {wishes : List ℕ} → AreWishesIn s p wishes
     → (c : ℕ) (candidates : List ℕ) → candidates ≡ map (candidate_in s.wishes) wishes
     → (span : Span) → IsSpanOf candidates c span → (read claim : List ℕ) → read ≡ wishes
     → claim ≡ part_of read span → IsClaimed s p wishes c span claim
 claim_there {s} {p} {wishes} waiting c candidates are span is read claim same claim_is =
     let found = span_is_claim s p wishes candidates c span waiting are is in
     record { within = found.0; part = found.1; is = claim_is ∙ ap (λ (ks : List ℕ). part_of ks span) same ∙ found.1 }
-
--- where there is no wish nobody has a claim
-pub nobody_there : (s : DossierRows) (p : ℕ) (wishes : List ℕ) → AreWishesFor s p wishes → length wishes ≡ 0
-    → (c : ℕ) → nat_lt 0 (length (claim_of s p c)) ≡ false
-nobody_there s p [] waiting none c = ap (λ (ks : List ℕ). nat_lt 0 (length ks)) (sym (waiting.own c))
-nobody_there s p (k ∷ wishes) waiting none c = absurd (omega arith)
-
--- a claim that is read has a wish, or has none
-pub claim_some : (read claim : List ℕ) → read ≡ claim → (empty : Bool) → empty ≡ nat_eq (length read) 0
-    → empty ≡ false → nat_lt 0 (length claim) ≡ true
-claim_some [] claim is empty empty_is t = absurd (false≢true (sym t ∙ empty_is))
-claim_some (x ∷ read) claim is empty empty_is t = ap (λ (ks : List ℕ). nat_lt 0 (length ks)) (sym is)
-    ∙ lt-ltb 0 (length (x ∷ read)) (omega arith)
-
-pub claim_none : (read claim : List ℕ) → read ≡ claim → (empty : Bool) → empty ≡ nat_eq (length read) 0
-    → empty ≡ true → nat_lt 0 (length claim) ≡ false
-claim_none [] claim is empty empty_is t = ap (λ (ks : List ℕ). nat_lt 0 (length ks)) (sym is)
-claim_none (x ∷ read) claim is empty empty_is t =
-    absurd (false≢true (sym (ne_eqb (length (x ∷ read)) 0 (λ e. omega (arith, e))) ∙ sym empty_is ∙ t))

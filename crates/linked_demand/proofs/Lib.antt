@@ -3,11 +3,13 @@ pub mod Asked
 pub mod Askings
 pub mod Asking
 pub mod BarEach
+pub mod CalledRows
 pub mod ClaimSpans
 pub mod Boarding
 pub mod Closing
 pub mod Counting
 pub mod Cutting
+pub mod Dealing
 pub mod Demanded
 pub mod Falling
 pub mod Filling
@@ -18,6 +20,7 @@ pub mod Items
 pub mod Keeping
 pub mod Keyed
 pub mod Leaving
+pub mod Lined
 pub mod Lining
 pub mod Lowered
 pub mod Marked

@@ -1,25 +1,21 @@
 -- A candidate's claim in a programme, and their place in its line.
-use Rattle.std.proofs.Common.{ℕ, zero, suc, ◌+◌, ◌<◌, ◌≡◌, Bool, true, false, ◌&&◌, List, [], ◌∷◌, map, length, take, get_or, inl, inr, refl, sym, ◌∙◌, ap, arith, nat_eq, nat_lt, nat_le, filter, Option, Some, unwrap_or, subst}
+use Rattle.std.proofs.Common.{ℕ, zero, suc, ◌+◌, ◌<◌, ◌≡◌, Bool, true, false, ◌&&◌, List, [], ◌∷◌, map, length, take, get_or, inl, inr, refl, sym, ◌∙◌, ap, arith, nat_eq, nat_lt, nat_le, filter, Option, Some, unwrap_or}
 use Rattle.std.specs.Prelude.{slice_get, All, ◌==◌}
-use Rattle.std.specs.List.{list_any, enumerate_from, range_with_len, IsDistinct, AllByRecursion, before_first}
+use Rattle.std.specs.List.{list_any, enumerate_from, range_with_len, IsDistinct, AllByRecursion}
 use Rattle.std.proofs.lemmas.Bool.{cases_Bool, cases_lt, false≢true, eq-eqb, ne_eqb, eqb-false, lt-ltb, le-ltb, le-leb, lt-leb}
-use Rattle.std.proofs.lemmas.List.{length-take-le}
 use Rattle.std.proofs.lemmas.List.FromFn.{fill_by_all}
 use Rattle.std.proofs.lemmas.List.Elements.{All-from_recursion}
 use Rattle.std.proofs.lemmas.Option.{slice_get_within, unwrap_or-slice_get}
 use Rattle.admit_core.proofs.Plain.{nat_eq_sym, filter_same}
 use Rattle.admit_core.specs.declared.dossier.Wish.{Wish}
-use Rattle.admit_core.specs.declared.ranking.CallOrder.{CallOrder}
-use Rattle.admit_core.specs.DossierRows.{DossierRows, candidate_of, limit_of}
+use Rattle.admit_core.specs.DossierRows.{DossierRows, candidate_of}
 use Rattle.admit_core.specs.Lists.{is_among}
 use Rattle.admit_core.specs.OwnWishes.{own_places}
-use Rattle.admit_core.specs.Proposals.{order_of}
 use Rattle.day_state.specs.Kept.{wish_in}
 use Rattle.day_state.proofs.Places.{candidate_in}
-use Rattle.proposals.proofs.Front.{front_same}
 use Rattle.linked_demand.specs.Links.{IsPlaceOf, claim_of}
 use Rattle.linked_demand.specs.Opens.{applies_in}
-use Rattle.linked_demand.specs.Seats.{applies_at, is_early}
+use Rattle.linked_demand.specs.Seats.{applies_at}
 use Rattle.linked_demand.proofs.Closing.{places_below}
 
 -- the wishes by place
@@ -126,15 +122,6 @@ all_at : (c : ℕ) (ys : List ℕ) → AllByRecursion (λ y. nat_eq c y ≡ fals
     → nat_eq c (get_or ys j 0) ≡ false
 all_at c ys all j lt = all_get (λ y. nat_eq c y ≡ false) ys all j lt
 
-all_kept : (c : ℕ) (f : ℕ → Bool) (ys : List ℕ) → AllByRecursion (λ y. nat_eq c y ≡ false) ys
-    → AllByRecursion (λ y. nat_eq c y ≡ false) (filter f ys)
-all_kept c f [] all = tt
-all_kept c f (y ∷ ys) all =
-    elim (cases_Bool (f y)) [
-      | inl kept ↦ rw kept (all.0, all_kept c f ys all.1)
-      | inr dropped ↦ rw dropped (all_kept c f ys all.1)
-    ]
-
 once_first : (c x : ℕ) (ys : List ℕ) → AllByRecursion (λ y. nat_eq c y ≡ false) ys → (j : ℕ)
     → j < length (x ∷ ys) → nat_eq j 0 ≡ false → nat_eq c (get_or (x ∷ ys) j 0) ≡ false
 once_first c x ys all zero lt ne = absurd (false≢true (sym ne))
@@ -151,22 +138,15 @@ first_place c x ys is all = record { within = omega arith; here = is; once = onc
 next_place : (c x k : ℕ) (ys : List ℕ) → nat_eq c x ≡ false → IsPlaceOf c ys k → IsPlaceOf c (x ∷ ys) (suc k)
 next_place c x k ys not_x at = record { within = omega (arith, at.within); here = at.here; once = once_later c x k ys not_x at }
 
--- in a list where none stands twice, one who passes stands among those who pass behind those before them
-pub placed : (f : ℕ → Bool) (xs : List ℕ) (i c : ℕ) → IsDistinct nat_eq xs → i < length xs → get_or xs i 0 ≡ c → f c ≡ true
-    → IsPlaceOf c (filter f xs) (length (filter f (take i xs)))
+-- in a list where none stands twice each stands at their place, and nowhere else
+pub place_at : (xs : List ℕ) (i : ℕ) → IsDistinct nat_eq xs → i < length xs → IsPlaceOf (get_or xs i 0) xs i
 unfolding IsDistinct
-placed f [] i c apart lt at passes = absurd (omega arith)
-placed f (x ∷ xs) zero c apart lt at passes =
-    let P = λ (n : ℕ). AllByRecursion (λ y. nat_eq n y ≡ false) xs in
-    let kept : f x ≡ true = ap f at ∙ passes in
-    rw kept (first_place c x (filter f xs) at (all_kept c f xs (subst P at apart.0)))
-placed f (x ∷ xs) (suc i) c apart lt at passes =
-    let later = placed f xs i c apart.1 (omega arith) at passes in
-    let not_x : nat_eq c x ≡ false = nat_eq_sym c x ∙ ap (nat_eq x) (sym at) ∙ all_at x xs apart.0 i (omega arith) in
-    elim (cases_Bool (f x)) [
-      | inl kept ↦ rw kept (next_place c x (length (filter f (take i xs))) (filter f xs) not_x later)
-      | inr dropped ↦ rw dropped later
-    ]
+place_at [] i apart lt = absurd (omega arith)
+place_at (x ∷ xs) zero apart lt = first_place x x xs refl apart.0
+place_at (x ∷ xs) (suc i) apart lt =
+    let c = get_or xs i 0 in
+    let not_x : nat_eq c x ≡ false = nat_eq_sym c x ∙ all_at x xs apart.0 i (omega arith) in
+    next_place c x i xs not_x (place_at xs i apart.1 (omega arith))
 
 -- and one isn't among those before them
 pub fresh : (xs : List ℕ) (i : ℕ) → IsDistinct nat_eq xs → i < length xs → is_among (get_or xs i 0) (take i xs) ≡ false
@@ -177,26 +157,12 @@ fresh (x ∷ xs) (suc i) apart lt =
     let not_x : nat_eq (get_or xs i 0) x ≡ false = nat_eq_sym (get_or xs i 0) x ∙ all_at x xs apart.0 i (omega arith) in
     rw not_x (fresh xs i apart.1 (omega arith))
 
-le_next : (i limit : ℕ) → nat_le (i + 1) limit ≡ nat_lt i limit
+pub le_next : (i limit : ℕ) → nat_le (i + 1) limit ≡ nat_lt i limit
 le_next i limit =
     elim (cases_lt i limit) [
       | inl lt ↦ le-leb (i + 1) limit (omega (arith, lt)) ∙ sym (lt-ltb i limit lt)
       | inr le ↦ lt-leb (i + 1) limit (omega (arith, le)) ∙ sym (le-ltb i limit le)
     ]
-
--- whether one who stands at a place of the call order is called by the limit
-pub early_at : (d : DossierRows) (orders : List CallOrder) (w : Wish) (order : List ℕ) (i : ℕ)
-    → order ≡ order_of d orders w.programme
-    → IsDistinct nat_eq order → i < length order → get_or order i 0 ≡ w.candidate
-    → is_early d orders w ≡ nat_lt i (limit_of d w.programme)
-early_at d orders w order i is apart lt at =
-    let none : is_among w.candidate (take i order) ≡ false = ap (λ c. is_among c (take i order)) (sym at)
-    ∙ fresh order i apart lt in
-    let front : before_first (nat_eq w.candidate) (order_of d orders w.programme) ≡ take i order = rw (← is)
-    (front_same w.candidate order i lt at none) in
-    let long : length (before_first (nat_eq w.candidate) (order_of d orders w.programme)) ≡ i = ap length
-    front ∙ length-take-le i order (omega (arith, lt)) in
-    ap (λ n. nat_le (n + 1) (limit_of d w.programme)) long ∙ le_next i (limit_of d w.programme)
 
 -- a claim's wishes are places of wishes
 pub claim_within : (d : DossierRows) (p c n : ℕ) → n ≡ length d.wishes → All (λ v. v < n) (claim_of d p c)

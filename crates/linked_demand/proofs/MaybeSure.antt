@@ -21,6 +21,7 @@ use Rattle.linked_demand.specs.Fronts.{listed_open, sure_open}
 use Rattle.linked_demand.specs.Links.{WaitsAt, AllOpenWait, claim_of}
 use Rattle.linked_demand.specs.Opens.{sure_at, all_sure, line_of}
 use Rattle.linked_demand.specs.Seats.{IsLineup, applies_at, is_doubled, may_be_sure, maybe_sure_of}
+use Rattle.linked_demand.proofs.ClaimSpans.{turn_two}
 use Rattle.linked_demand.proofs.Closing.{wish_there}
 use Rattle.linked_demand.proofs.Flagging.{claims_each, row_right}
 use Rattle.linked_demand.proofs.Lining.{among_claim, claim_own}
@@ -79,12 +80,6 @@ any_other k (x ∷ y ∷ ks) rises among =
       | inr other ↦ rw other (sym some)
     ]
 
-turned : (a b : Bool) → (a && b) ≡ (b && a)
-turned true true = refl
-turned true false = refl
-turned false true = refl
-turned false false = refl
-
 -- a wish is doubled where its claim has more than one
 doubled_claim : (d : DossierRows) (k : ℕ) (w : Wish) → slice_get d.wishes k ≡ Some w
     → is_doubled d k ≡ nat_lt 1 (length (claim_of d w.programme w.candidate))
@@ -105,7 +100,7 @@ doubled_claim d k w at =
     let among : is_among k claim ≡ true =
     among_claim d p c k w at ∙ and_from (nat_eq w.candidate c) (nat_eq w.programme p)
     (eq-eqb w.candidate c (sym c_is)) (eq-eqb w.programme p (sym p_is)) in
-    any_same (λ j. other j && applies_at d p j) (λ j. applies_at d p j && other j) (λ j. turned (other j) (applies_at d p j)) own
+    any_same (λ j. other j && applies_at d p j) (λ j. applies_at d p j && other j) (λ j. turn_two (other j) (applies_at d p j)) own
     ∙ sym (any-filter other (applies_at d p) own)
     ∙ ap (list_any other) (claim_own d p c)
     ∙ any_other k claim (subst P (claim_own d p c) rises) among

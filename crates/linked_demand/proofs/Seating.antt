@@ -1,7 +1,7 @@
 -- What is known of the wishes of a dossier, programme by programme and candidate by candidate.
-use Rattle.std.proofs.Common.{ℕ, zero, suc, ◌+◌, ◌≤◌, ◌<◌, ◌≡◌, Bool, true, false, ◌&&◌, ◌||◌, List, [], ◌∷◌, ◌++◌, map, length, take, get_or, inl, inr, refl, sym, ◌∙◌, ap, arith, nat_eq, nat_lt, filter, Option, Some, unwrap_or, subst}
-use Rattle.std.specs.Prelude.{slice_get, option_map, All, if◌then◌else◌}
-use Rattle.std.specs.List.{list_any, range_with_len, IsDistinct}
+use Rattle.std.proofs.Common.{ℕ, zero, suc, ◌+◌, ◌≤◌, ◌<◌, ◌≡◌, Bool, true, false, ◌&&◌, ◌||◌, List, [], ◌∷◌, ◌++◌, map, length, take, get_or, inl, inr, refl, sym, ◌∙◌, ap, arith, nat_eq, nat_lt, Option, Some, unwrap_or, subst}
+use Rattle.std.specs.Prelude.{slice_get, All, if◌then◌else◌}
+use Rattle.std.specs.List.{before_first, list_any, range_with_len, IsDistinct}
 use Rattle.std.proofs.lemmas.Bool.{cases_Bool, cases_lt, false≢true, eqb-true, eq-eqb, ltb-true, lt-ltb, or_left, or_right, or_cases, and_parts, and_from}
 use Rattle.std.proofs.lemmas.List.FromFn.{map-range_with_len_more}
 use Rattle.std.proofs.lemmas.Map.Steps.{length-le_from_distinct_below}
@@ -12,17 +12,18 @@ use Rattle.admit_core.specs.declared.ranking.RankGroup.{RankGroup}
 use Rattle.admit_core.specs.CallOrder.{AreCallOrders}
 use Rattle.admit_core.specs.DossierRows.{DossierRows, group_of, limit_of}
 use Rattle.admit_core.specs.Validity.{IsValid, IsValidGroup}
+use Rattle.admit_core.proofs.ClosedEvenings.{among_filter}
 use Rattle.admit_core.proofs.OrderPermutes.{distinct-order}
-use Rattle.admit_core.proofs.Plain.{filter_none}
 use Rattle.admit_core.specs.Lists.{is_among}
 use Rattle.admit_core.specs.Proposals.{order_of}
 use Rattle.day_state.specs.Kept.{wish_in}
 use Rattle.proposals.specs.Called.{AreCalled}
 use Rattle.proposals.proofs.Front.{among_more}
+use Rattle.linked_demand.specs.Called.{order_at}
 use Rattle.linked_demand.specs.Links.{IsPlaceOf, claim_of}
 use Rattle.linked_demand.specs.Opens.{applies_in, line_of}
 use Rattle.linked_demand.specs.Seats.{PutAt, AreSeated, IsLineup, is_below, is_passed}
-use Rattle.linked_demand.proofs.Lining.{among_claim, among_some, applies_claim, placed, early_at}
+use Rattle.linked_demand.proofs.Lining.{among_claim, among_some, applies_claim, le_next, place_at}
 
 -- what holds of those who are done holds of fewer
 pub seated_by : (s : DossierRows) (orders : List CallOrder) (old new : ℕ → ℕ → Bool) (places : List ℕ) (early : List Bool)
@@ -56,22 +57,11 @@ module _ (s : DossierRows) (orders : List CallOrder) (n : ℕ) (order : List ℕ
       still_passed (nat_lt w.programme n) (nat_eq w.programme n) (is_among w.candidate (take i order)) (nat_eq w.candidate x)
       (sym (ap (λ b. nat_lt w.programme n || (nat_eq w.programme n && b)) more) ∙ t) differs
 
-  -- one who has no claim is passed over
-  pub seated_over : (places : List ℕ) (early : List Bool) → nat_lt 0 (length (claim_of s n x)) ≡ false
-      → AreSeated s orders (is_passed n (take i order)) places early
-      → AreSeated s orders (is_passed n (take (i + 1) order)) places early
-  seated_over places early none are =
-      seated_by s orders (is_passed n (take i order)) (is_passed n (take (i + 1) order)) places early
-      (λ j w at t. was_done w t (elim (cases_Bool (nat_eq w.candidate x && nat_eq w.programme n)) [
-        | inl own ↦ absurd (false≢true (sym none ∙ among_some j (claim_of s n x) (among_claim s n x j w at ∙ own)))
-        | inr other ↦ other
-      ])) are
-
   -- for one who has a claim their place is noted
   pub seated_more : (places : List ℕ) (early : List Bool) (new_places : List ℕ) (new_early : List Bool)
       (place : ℕ) (is_early : Bool)
-      → order ≡ order_of s orders n → IsDistinct nat_eq order → nat_lt 0 (length (claim_of s n x)) ≡ true
-      → is_early ≡ nat_lt i (limit_of s n) → place ≡ length (filter (applies_in s n) (take i order))
+      → order ≡ line_of s orders n → IsDistinct nat_eq order → nat_lt 0 (length (claim_of s n x)) ≡ true
+      → is_early ≡ nat_lt (length (before_first (nat_eq x) (order_of s orders n))) (limit_of s n) → place ≡ i
       → AreSeated s orders (is_passed n (take i order)) places early
       → PutAt ℕ 0 (claim_of s n x) place places new_places → PutAt Bool false (claim_of s n x) is_early early new_early
       → AreSeated s orders (is_passed n (take (i + 1) order)) new_places new_early
@@ -89,9 +79,10 @@ module _ (s : DossierRows) (orders : List CallOrder) (n : ℕ) (order : List ℕ
       λ j w at. puts_early.each j (omega (arith, within j w at, are.early_each))
       ∙ ap (λ b. if b then is_early else get_or early j false) (among_claim s n x j w at) in
       let line_place : IsPlaceOf x (line_of s orders n) place =
-      let P = λ (o : List ℕ). IsPlaceOf x (filter (applies_in s n) o) place in
-      let Q = λ (k : ℕ). IsPlaceOf x (filter (applies_in s n) order) k in
-      subst P is (subst Q (sym place_is) (placed (applies_in s n) order i x apart lt (sym x_is) (applies_claim s n x ∙ some))) in
+      let P = λ (o : List ℕ). IsPlaceOf x o place in
+      let Q = λ (k : ℕ). IsPlaceOf x order k in
+      let R = λ (c : ℕ). IsPlaceOf c order i in
+      subst P is (subst Q (sym place_is) (subst R (sym x_is) (place_at order i apart lt))) in
       record {
         places_each = puts.as_long ∙ are.places_each;
         early_each = puts_early.as_long ∙ are.early_each;
@@ -117,9 +108,10 @@ module _ (s : DossierRows) (orders : List CallOrder) (n : ℕ) (order : List ℕ
               let programme : w.programme ≡ n = eqb-true w.programme n parts.1 in
               put_early j w at ∙ ap (λ b. if b then is_early else get_or early j false) own
               ∙ early_is
-              ∙ ap (λ p. nat_lt i (limit_of s p)) (sym programme)
-              ∙ sym (early_at s orders w order i (is ∙ ap (order_of s orders) (sym programme)) apart lt
-              (sym x_is ∙ sym candidate))
+              ∙ ap (λ p. nat_lt (length (before_first (nat_eq x) (order_of s orders p))) (limit_of s p)) (sym programme)
+              ∙ ap (λ c. nat_lt (length (before_first (nat_eq c) (order_of s orders w.programme))) (limit_of s w.programme))
+              (sym candidate)
+              ∙ sym (le_next (length (before_first (nat_eq w.candidate) (order_of s orders w.programme))) (limit_of s w.programme))
           | inr other ↦ put_early j w at ∙ ap (λ b. if b then is_early else get_or early j false) other
               ∙ are.called j w at (was_done w t other)
         ];
@@ -134,27 +126,6 @@ seated_start s orders n order places early are =
       | inl below ↦ below
       | inr here ↦ absurd (false≢true (and_parts (nat_eq w.programme n) false here).1)
     ]) are
-
--- where there is no wish for a programme all of its order are done
-pub seated_nobody : (s : DossierRows) (orders : List CallOrder) (n : ℕ) (order : List ℕ) (places : List ℕ)
-    (early : List Bool) → ((c : ℕ) → nat_lt 0 (length (claim_of s n c)) ≡ false)
-    → AreSeated s orders (is_below n) places early → AreSeated s orders (is_passed n order) places early
-seated_nobody s orders n order places early none are =
-    seated_by s orders (is_below n) (is_passed n order) places early
-    (λ i w at t. elim (or_cases (nat_lt w.programme n) (nat_eq w.programme n && is_among w.candidate order) t) [
-      | inl below ↦ below
-      | inr here ↦
-          let same = (and_parts (nat_eq w.programme n) (is_among w.candidate order) here).0 in
-          let among : is_among i (claim_of s n w.candidate) ≡ true =
-          among_claim s n w.candidate i w at
-          ∙ and_from (nat_eq w.candidate w.candidate) (nat_eq w.programme n) (eq-eqb w.candidate w.candidate refl) same in
-          absurd (false≢true (sym (none w.candidate) ∙ among_some i (claim_of s n w.candidate) among))
-    ]) are
-
-pub nobody_applies : (s : DossierRows) (n : ℕ) (order : List ℕ)
-    → ((c : ℕ) → nat_lt 0 (length (claim_of s n c)) ≡ false) → filter (applies_in s n) order ≡ []
-nobody_applies s n order none = filter_none (applies_in s n) order
-    (λ k d lt. applies_claim s n (get_or order k d) ∙ none (get_or order k d))
 
 -- numbers below a bound that are apart are at most so many
 below_bound : (xs : List ℕ) (n : ℕ) → ((k : ℕ) → get_or xs k 0 < n)
@@ -201,7 +172,7 @@ pub built_more : (s : DossierRows) (orders : List CallOrder) (n : ℕ) (claims :
     → AreCalled s orders
     → IsBuilt s orders n claims places early
     → own ≡ map (claim_of s n) (line_of s orders n)
-    → AreSeated s orders (is_passed n (order_of s orders n)) new_places new_early
+    → AreSeated s orders (is_passed n (line_of s orders n)) new_places new_early
     → IsBuilt s orders (n + 1) (claims ++ own ∷ []) new_places new_early
 built_more s orders n claims places early own new_places new_early called built own_are seated =
     record {
@@ -210,21 +181,29 @@ built_more s orders n claims places early own new_places new_early called built 
           ∙ ap (λ (r : List (List ℕ)). map (λ p. map (claim_of s p) (line_of s orders p)) (range_with_len 0 n) ++ r ∷ []) own_are
           ∙ sym (map-range_with_len_more (λ p. map (claim_of s p) (line_of s orders p)) 0 n n (omega arith));
       seated =
-          seated_by s orders (is_passed n (order_of s orders n)) (is_below (n + 1)) new_places new_early
+          seated_by s orders (is_passed n (line_of s orders n)) (is_below (n + 1)) new_places new_early
           (λ i w at t.
           let is = wish_in_is s.wishes i w at in
           let among : is_among w.candidate (order_of s orders w.programme) ≡ true =
           let P = λ (v : Wish). is_among v.candidate (order_of s orders v.programme) ≡ true in
           subst P is (called.each i (slice_get_within s.wishes i w at)) in
+          let own : is_among i (claim_of s w.programme w.candidate) ≡ true =
+          among_claim s w.programme w.candidate i w at
+          ∙ and_from (nat_eq w.candidate w.candidate) (nat_eq w.programme w.programme) (eq-eqb w.candidate w.candidate refl)
+          (eq-eqb w.programme w.programme refl) in
+          let applies : applies_in s w.programme w.candidate ≡ true =
+          applies_claim s w.programme w.candidate ∙ among_some i (claim_of s w.programme w.candidate) own in
+          let in_line : is_among w.candidate (line_of s orders w.programme) ≡ true =
+          among_filter (applies_in s w.programme) w.candidate (order_of s orders w.programme) among applies in
           elim (cases_lt w.programme n) [
             | inl below ↦ or_left (nat_lt w.programme n)
-                (nat_eq w.programme n && is_among w.candidate (order_of s orders n)) (lt-ltb w.programme n below)
+                (nat_eq w.programme n && is_among w.candidate (line_of s orders n)) (lt-ltb w.programme n below)
             | inr not_below ↦
                 let same : w.programme ≡ n = omega (arith, not_below, ltb-true w.programme (n + 1) t) in
-                let Q = λ (p : ℕ). is_among w.candidate (order_of s orders p) ≡ true in
-                or_right (nat_lt w.programme n) (nat_eq w.programme n && is_among w.candidate (order_of s orders n))
-                (and_from (nat_eq w.programme n) (is_among w.candidate (order_of s orders n))
-                (eq-eqb w.programme n same) (subst Q same among))
+                let Q = λ (p : ℕ). is_among w.candidate (line_of s orders p) ≡ true in
+                or_right (nat_lt w.programme n) (nat_eq w.programme n && is_among w.candidate (line_of s orders n))
+                (and_from (nat_eq w.programme n) (is_among w.candidate (line_of s orders n))
+                (eq-eqb w.programme n same) (subst Q same in_line))
           ]) seated;
     }
 
@@ -250,8 +229,8 @@ built_all s orders n claims places early n_is programmes built =
     }
 
 -- in the order at a place no candidate stands twice
-once_at : (groups : List RankGroup) (orders : List CallOrder) → All IsValidGroup groups → AreCallOrders groups orders → (j : ℕ)
-    → IsDistinct nat_eq (unwrap_or (option_map (λ o. o.list) (slice_get orders j)) [])
+pub once_at : (groups : List RankGroup) (orders : List CallOrder) → All IsValidGroup groups → AreCallOrders groups orders → (j : ℕ)
+    → IsDistinct nat_eq (order_at orders j)
 unfolding IsDistinct
 once_at [] [] valid are j = tt
 once_at [] (o ∷ os) valid are j = absurd are

@@ -1,11 +1,11 @@
--- The claims of a programme as spans of the list of the wishes for it.
+-- Where a candidate's wishes stand in a list by candidate.
 use Rattle.std.specs.Prelude.{◌≡◌, ℕ, ◌-◌, ◌≤◌, ◌<◌, ◌^◌, Bool, true, false, ◌&&◌, ◌||◌, ◌==◌, List, length, map, filter, nat_eq, nat_lt, nat_le, Some, slice_get, slice_index, All, Vec}
 use Rattle.std.specs.declared.alloc.Global.{Global}
 use Rattle.std.specs.List.Sorted.{IsNonDecreasingBy, IsPartitionPoint}
 use Rattle.admit_core.specs.DossierRows.{DossierRows}
 use Rattle.day_state.specs.Kept.{candidate_in}
 use Rattle.day_state.specs.declared.spans.Span.{Span}
-use Rattle.linked_demand.specs.Links.{claim_of}
+use Rattle.linked_demand.specs.Called.{group_claim}
 
 -- in a list that does not fall, the span begins at the first number that is not below this one, and
 -- ends at the first that is above
@@ -23,23 +23,23 @@ lower_before xs c k = nat_eq k 0 || nat_lt (slice_index xs (k - 1)) c
 abbrev pub begins_at : List ℕ → ℕ → ℕ → Bool
 begins_at xs c k = nat_lt k (length xs) && (nat_eq (slice_index xs k) c && lower_before xs c k)
 
--- the wishes for a programme, by candidate: each candidate's stand together, and are their claim
-pub record AreWishesFor (d : DossierRows) (p : ℕ) (wishes : List ℕ) : Type 0 where
+-- the wishes for the programmes of a group, by candidate: each candidate's stand together
+pub record AreWishesIn (d : DossierRows) (g : ℕ) (wishes : List ℕ) : Type 0 where
   pub few : length wishes < 2 ^ 32
   pub within : All (λ k. k < length d.wishes) wishes
   pub rises : IsNonDecreasingBy (candidate_in d.wishes) wishes
-  pub own : (c : ℕ) → filter (λ k. candidate_in d.wishes k == c) wishes ≡ claim_of d p c
+  pub own : (c : ℕ) → filter (λ k. candidate_in d.wishes k == c) wishes ≡ group_claim d g c
 
--- a list for each programme; from one on they are the wishes for it
+-- a list for each group; from one on they are the wishes for its programmes
 pub record AreWishesFrom (d : DossierRows) (n : ℕ) (rows : List (Vec ℕ Global)) : Type 0 where
-  pub one_each : length rows ≡ length d.programmes
-  pub each : (p : ℕ) (row : Vec ℕ Global) → n ≤ p → slice_get rows p ≡ Some row
-      → AreWishesFor d p row.items
+  pub one_each : length rows ≡ length d.groups
+  pub each : (g : ℕ) (row : Vec ℕ Global) → n ≤ g → slice_get rows g ≡ Some row
+      → AreWishesIn d g row.items
 
 -- and beside each of them that of their candidates
 pub record AreCandidatesFrom (d : DossierRows) (n : ℕ)
     (rows candidates : List (Vec ℕ Global)) : Type 0 where
-  pub one_each : length candidates ≡ length d.programmes
-  pub each : (p : ℕ) (row own : Vec ℕ Global) → n ≤ p
-      → slice_get rows p ≡ Some row → slice_get candidates p ≡ Some own
+  pub one_each : length candidates ≡ length d.groups
+  pub each : (g : ℕ) (row own : Vec ℕ Global) → n ≤ g
+      → slice_get rows g ≡ Some row → slice_get candidates g ≡ Some own
       → own.items ≡ map (candidate_in d.wishes) row.items

@@ -17,6 +17,16 @@ pub record IsPutIn {X : Type 0} (here : ℕ → Bool) (x : X)
       → (before : Vec X Global) × (slice_get old h ≡ Some before)
       × (row.items ≡ before.items ++ (if here h then x ∷ [] else []))
 
+-- the items of those of some places that belong in it are put at the end of each row
+pub record ArePutIn {X : Type 0} (item : ℕ → X) (belongs : ℕ → ℕ → Bool) (places : List ℕ)
+    (old new : List (Vec X Global)) : Type 0 where
+  pub as_many : length new ≡ length old
+  pub each :
+      (h : ℕ) (row : Vec X Global)
+      → slice_get new h ≡ Some row
+      → (before : Vec X Global) × (slice_get old h ≡ Some before)
+      × (row.items ≡ before.items ++ map item (filter (belongs h) places))
+
 -- each row has the items of those of some places that belong in it, in their order
 pub record AreRowsOf {X : Type 0} (item : ℕ → X) (belongs : ℕ → ℕ → Bool) (n : ℕ) (places : List ℕ)
     (rows : List (Vec X Global)) : Type 0 where

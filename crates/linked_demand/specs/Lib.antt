@@ -1,4 +1,5 @@
 pub mod Boarders
+pub mod Called
 pub mod Claims
 pub mod Demand
 pub mod Filled

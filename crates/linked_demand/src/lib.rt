@@ -6,6 +6,7 @@
 #![tactic(auto)]
 
 mod boarders;
+mod calling;
 mod claims;
 mod cut;
 mod fill;

@@ -1,31 +1,30 @@
 //! Those who wish for each programme, in call order: this follows from the dossier and its call
 //! orders alone, so that all passes of a day share it.
-ghost use Rattle.std.specs.Prelude.{◌≡◌, ℕ, ◌<◌, false, length, map, nat_eq, nat_lt, All, Bool, IfOk, OnOk};
+ghost use Rattle.std.specs.Prelude.{◌≡◌, ℕ, ◌<◌, ◌≤◌, ◌^◌, false, length, map, nat_eq, nat_lt, All, Bool, IfOk, OnOk};
 ghost use Rattle.std.specs.List.{IsDistinct};
 ghost use Rattle.admit_core.specs.CallOrder.{AreCallOrders};
-ghost use Rattle.admit_core.specs.Proposals.{order_of};
-ghost use Rattle.day_state.specs.Kept.{candidate_in};
-ghost use Rattle.proposals.specs.Called.{AreCalled};
-ghost use Rattle.linked_demand.specs.Claims.{AreWishesFor};
+ghost use Rattle.day_state.specs.Kept.{IsRun};
+ghost use Rattle.linked_demand.specs.Called.{before_at, called_for};
 ghost use Rattle.linked_demand.specs.Links.{claim_of};
 ghost use Rattle.linked_demand.specs.Opens.{line_of};
 ghost use Rattle.linked_demand.specs.Seats.{PutAt, AreSeated, IsLineup, is_below, is_passed};
 
 use crate::boarders::{Boarder, boarders_of};
-use crate::claims::{Claims, span_of};
-use crate::guesses::Guesses;
+use crate::calling::called_wishes;
+use crate::claims::Claims;
 use crate::maybe_sure::maybe_sure_of;
-use crate::wishing::wishes_by_programme;
 use admit_core::{CallOrders, OutOfMemory};
-use day_state::{DayState, part};
-use proposals::{call_everyone, limit_of, order_of, programme_count};
+use day_state::{DayState, Span, part};
+use proposals::{call_everyone, limit_of, programme_count};
 use std::alloc::Global;
 use std::mem;
 
-/// No candidate stands twice in a call order. The call does nothing.
-fn call_once(state: &DayState<'_>, orders: &CallOrders)
+/// No candidate stands twice in a line, and fewer than 2^32 wishes are for a programme. The call
+/// does nothing.
+fn line_once(state: &DayState<'_>, orders: &CallOrders)
     requires { AreCallOrders state.now.dossier.groups orders.now.orders }
-    ensures { (p : ℕ) → IsDistinct nat_eq (order_of state.now.dossier orders.now.orders p) }
+    ensures once { (p : ℕ) → IsDistinct nat_eq (line_of state.now.dossier orders.now.orders p) }
+    ensures few { (p : ℕ) → length (called_for state.now.dossier orders.now.orders p) < 2 ^ 32 }
 {
     let dossier = state.dossier();
     let _ = &dossier.wishes; // learns the invariant
@@ -46,56 +45,72 @@ fn note(places: &mut Vec<u32>, early: &mut Vec<bool>, claim: &[u32], place: u32,
 }
 
 /// Whether one who has so many before them is called by a limit.
-fn is_early(before: usize, limit: u32) -> bool
+fn is_early(before: u32, limit: u32) -> bool
     ensures { result ≡ nat_lt before limit }
 {
-    before < limit as usize
+    before < limit
 }
 
-/// Goes along the call order of a programme, and notes what is known of the wishes for it. Where
-/// there is none, it goes nowhere.
+/// Where the wishes of one candidate end that begin at a place of a line: as many stand before
+/// each of them.
+fn end_of_claim(before: &[u32], from: usize) -> usize
+    requires { from < length before.now }
+    ensures further { from < result }
+    ensures within { result ≤ length before.now }
+    ensures run { IsRun (λ k. k) before.now from result }
+{
+    let mut to = from + 1;
+    while to < before.len() && before[to] == before[from] {
+        to += 1;
+    }
+    to
+}
+
+/// Goes along the wishes for a programme in call order, by how many stand before each in its order,
+/// and notes what is known of them.
 fn line_up(
     alloc: Global,
     state: &DayState<'_>,
     orders: &CallOrders,
     programme: u32,
     wishes: Vec<u32>,
-    candidates: Vec<u32>,
+    before: &[u32],
     places: &mut Vec<u32>,
     early: &mut Vec<bool>,
-    guesses: &mut Guesses,
 ) -> Result<Claims, OutOfMemory>
     requires programme { programme < length state.now.dossier.programmes }
-    requires orders { AreCalled state.now.dossier orders.now.orders }
-    requires once { IsDistinct nat_eq (order_of state.now.dossier orders.now.orders programme) }
-    requires wishes { AreWishesFor state.now.dossier programme wishes.items }
-    requires candidates { candidates.items
-        ≡ map (candidate_in state.now.dossier.wishes) wishes.items }
+    requires once { IsDistinct nat_eq (line_of state.now.dossier orders.now.orders programme) }
+    requires few { length wishes.items < 2 ^ 32 }
+    requires wishes { wishes.items ≡ called_for state.now.dossier orders.now.orders programme }
+    requires before { before.now ≡ map (before_at state.now.dossier orders.now.orders)
+        wishes.items }
     requires seated { AreSeated state.now.dossier orders.now.orders (is_below programme)
         places.old.items early.old.items }
     ensures claims { IfOk result (λ x. x ≡ map (claim_of state.now.dossier programme)
         (line_of state.now.dossier orders.now.orders programme)) }
     ensures seated { OnOk result (AreSeated state.now.dossier orders.now.orders
-        (is_passed programme (order_of state.now.dossier orders.now.orders programme))
+        (is_passed programme (line_of state.now.dossier orders.now.orders programme))
         places.new.items early.new.items) }
 {
     let mut spans = Vec::with_capacity(alloc, wishes.len())?;
-    if wishes.is_empty() {
-        let claims = Claims::new(wishes, spans);
-        return Ok(claims);
-    }
-    let order = order_of(state, orders, programme);
     let limit = limit_of(state, programme);
-    guesses.renew(&candidates);
-    for (before, candidate) in order.iter().enumerate() {
-        let span = span_of(&candidates, *candidate, guesses.of(*candidate));
-        let claim = part(&wishes, span);
-        let is_claim = !claim.is_empty();
-        if is_claim {
-            let is_early = is_early(before, limit);
-            note(places, early, claim, spans.len() as u32, is_early);
-            spans.push(span)?;
-        }
+    let mut from = 0;
+    while from < before.len() {
+        let to = end_of_claim(before, from);
+        let span = Span {
+            from: from as u32,
+            to: to as u32,
+        };
+        let is_early = is_early(before[from], limit);
+        note(
+            places,
+            early,
+            part(&wishes, span),
+            spans.len() as u32,
+            is_early,
+        );
+        spans.push(span)?;
+        from = to;
     }
     let claims = Claims::new(wishes, spans);
     Ok(claims)
@@ -116,25 +131,16 @@ fn claims_of(
         places.new.items early.new.items) }
 {
     call_everyone(state, orders);
-    call_once(state, orders);
-    let mut guesses = Guesses::of_wishes(alloc, state)?;
-    let mut rows = wishes_by_programme(alloc, state)?;
+    line_once(state, orders);
+    let mut called = called_wishes(alloc, state, orders)?;
     let programmes = programme_count(state);
     let mut claims = Vec::with_capacity(alloc, programmes as usize)?;
     for programme in 0..programmes {
         let place = programme as usize;
-        let wishes = mem::replace(&mut rows.wishes[place], Vec::new(alloc));
-        let candidates = mem::replace(&mut rows.candidates[place], Vec::new(alloc));
+        let wishes = mem::replace(&mut called.wishes[place], Vec::new(alloc));
+        let before = mem::replace(&mut called.before[place], Vec::new(alloc));
         let own = line_up(
-            alloc,
-            state,
-            orders,
-            programme,
-            wishes,
-            candidates,
-            places,
-            early,
-            &mut guesses,
+            alloc, state, orders, programme, wishes, &before, places, early,
         )?;
         claims.push(own)?;
     }
@@ -168,8 +174,7 @@ impl Drop for Lineup {
 impl Lineup {
     ghost use Rattle.linked_demand.specs.Lineups.{IsLineupOf};
 
-    /// The lineup of a state's dossier, in one walk along each call order for each of its
-    /// programmes.
+    /// The lineup of a state's dossier, in one walk along the call order of each group.
     pub fn build(
         alloc: Global,
         state: &DayState<'_>,

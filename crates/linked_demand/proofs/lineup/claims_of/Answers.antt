@@ -1,14 +1,16 @@
-use Rattle.std.proofs.Common.{ℕ, ◌+◌, ◌<◌, List, sym, ◌∙◌, arith, subst}
+use Rattle.std.proofs.Common.{ℕ, ◌+◌, ◌<◌, List, length, map, ap, sym, ◌∙◌, arith, subst}
+use Rattle.std.specs.Prelude.{◌^◌}
 use Rattle.linked_demand.proofs.Seating.{IsBuilt, built_none, built_more, built_all}
-use Rattle.linked_demand.proofs.ClaimSpans.{candidates_later, candidates_taken, wishes_later, wishes_taken}
+use Rattle.linked_demand.specs.Called.{before_at, called_for}
+use Rattle.linked_demand.proofs.Dealing.{row_taken, rows_later}
 use Rattle.linked_demand.proofs.lineup.claims_of.Goals as goal
 
 pub loop-programme-init : goal.loop-programme-init
 loop-programme-init c = record {
   built = built_none c.args.state.now.dossier c.args.orders.now.orders c.in_ok-claims.claims.items
       c.args.places.now.items c.args.early.now.items c.in_ok-claims.ensures.items c.requires.places c.requires.early;
-  wishes = c.in_ok-rows.ensures.wishes;
-  candidates = c.in_ok-rows.ensures.candidates;
+  wishes = c.in_ok-called.ensures.wishes;
+  before = c.in_ok-called.ensures.before;
 }
 
 pub line_up-requires-clause-programme : goal.line_up-requires-clause-programme
@@ -16,28 +18,41 @@ line_up-requires-clause-programme c =
     let P = λ (n : ℕ). c.loop-programme.programme < n in
     subst P c.programme_count-programmes.ensures.count c.loop-programme-test.true
 
-pub line_up-requires-clause-orders : goal.line_up-requires-clause-orders
-line_up-requires-clause-orders c = c.call_everyone.ensures
-
 pub line_up-requires-clause-once : goal.line_up-requires-clause-once
-line_up-requires-clause-once c = c.call_once.ensures c.loop-programme.programme
+line_up-requires-clause-once c = c.line_once.ensures.once c.loop-programme.programme
 
 pub line_up-requires-clause-wishes : goal.line_up-requires-clause-wishes
 line_up-requires-clause-wishes c =
-    let P = λ (n : ℕ). c.loop-programme.programme < n in
-    wishes_taken c.args.state.now.dossier c.loop-programme.programme c.loop-programme.rows.wishes.items
+    let d = c.args.state.now.dossier in
+    let n = c.loop-programme.programme in
+    let P = λ (count : ℕ). n < count in
+    row_taken n (length d.programmes) (called_for d c.args.orders.now.orders) c.loop-programme.called.wishes.items
     c.replace-wishes.result _ (subst P c.programme_count-programmes.ensures.count c.loop-programme-test.true)
     (c.replace-wishes.ensures.value ∙ c.index_mut.ensures.value) c.loop-programme.invariant.wishes
 
-pub line_up-requires-clause-candidates : goal.line_up-requires-clause-candidates
-line_up-requires-clause-candidates c =
-    let P = λ (n : ℕ). c.loop-programme.programme < n in
-    candidates_taken c.args.state.now.dossier c.loop-programme.programme c.loop-programme.rows.wishes.items
-    c.loop-programme.rows.candidates.items c.replace-wishes.result c.replace-candidates.result _ _
-    (subst P c.programme_count-programmes.ensures.count c.loop-programme-test.true)
-    (c.replace-wishes.ensures.value ∙ c.index_mut.ensures.value)
-    (c.replace-candidates.ensures.value ∙ c.index_mut-in-loop-programme.ensures.value)
-    c.loop-programme.invariant.wishes c.loop-programme.invariant.candidates
+pub line_up-requires-clause-few : goal.line_up-requires-clause-few
+line_up-requires-clause-few c =
+    let d = c.args.state.now.dossier in
+    let n = c.loop-programme.programme in
+    let P = λ (count : ℕ). n < count in
+    let Q = λ (ks : List ℕ). length ks < 2 ^ 32 in
+    subst Q (sym (row_taken n (length d.programmes) (called_for d c.args.orders.now.orders) c.loop-programme.called.wishes.items
+    c.replace-wishes.result _ (subst P c.programme_count-programmes.ensures.count c.loop-programme-test.true)
+    (c.replace-wishes.ensures.value ∙ c.index_mut.ensures.value) c.loop-programme.invariant.wishes)) (c.line_once.ensures.few n)
+
+pub line_up-requires-clause-before : goal.line_up-requires-clause-before
+line_up-requires-clause-before c =
+    let d = c.args.state.now.dossier in
+    let orders = c.args.orders.now.orders in
+    let n = c.loop-programme.programme in
+    let P = λ (count : ℕ). n < count in
+    let lt = subst P c.programme_count-programmes.ensures.count c.loop-programme-test.true in
+    c.deref.ensures.value
+    ∙ row_taken n (length d.programmes) (λ p. map (before_at d orders) (called_for d orders p)) c.loop-programme.called.before.items
+    c.replace-before.result _ lt (c.replace-before.ensures.value ∙ c.index_mut-in-loop-programme.ensures.value)
+    c.loop-programme.invariant.before
+    ∙ sym (ap (map (before_at d orders)) (row_taken n (length d.programmes) (called_for d orders) c.loop-programme.called.wishes.items
+    c.replace-wishes.result _ lt (c.replace-wishes.ensures.value ∙ c.index_mut.ensures.value) c.loop-programme.invariant.wishes))
 
 pub line_up-requires-clause-seated : goal.line_up-requires-clause-seated
 line_up-requires-clause-seated c = c.loop-programme.invariant.built.seated
@@ -57,10 +72,10 @@ loop-programme-preserved c =
     c.call_everyone.ensures c.loop-programme.invariant.built c.in_ok-own.ensures.claims c.in_ok-own.ensures.seated) in
     record {
       built = built;
-      wishes = wishes_later d n c.loop-programme.rows.wishes.items c.replace-wishes.new.dest
+      wishes = rows_later n (length d.programmes) (called_for d orders) c.loop-programme.called.wishes.items c.replace-wishes.new.dest
           c.loop-programme.invariant.wishes;
-      candidates = candidates_later d n c.loop-programme.rows.wishes.items c.loop-programme.rows.candidates.items
-          c.replace-wishes.new.dest c.replace-candidates.new.dest c.loop-programme.invariant.candidates;
+      before = rows_later n (length d.programmes) (λ p. map (before_at d orders) (called_for d orders p))
+          c.loop-programme.called.before.items c.replace-before.new.dest c.loop-programme.invariant.before;
     }
 
 pub returns : goal.returns

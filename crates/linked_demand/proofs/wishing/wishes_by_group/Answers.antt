@@ -1,28 +1,28 @@
 use Rattle.std.proofs.Common.{ℕ, ◌<◌, List, length, get_or, nat_eq, refl, sym, ◌∙◌, ap, arith, subst}
 use Rattle.std.proofs.lemmas.List.{take_all}
 use Rattle.admit_core.specs.declared.dossier.Wish.{Wish}
-use Rattle.admit_core.specs.DossierRows.{DossierRows}
+use Rattle.admit_core.specs.DossierRows.{DossierRows, group_of}
 use Rattle.admit_core.specs.Validity.{IsValid}
 use Rattle.day_state.specs.Kept.{candidate_in}
 use Rattle.day_state.proofs.Places.{candidate_in as candidate_is}
 use Rattle.linked_demand.specs.Keyed.{AreEmpty, AreRowsOf}
-use Rattle.linked_demand.specs.Seats.{applies_at}
+use Rattle.linked_demand.specs.Called.{is_of_group}
 use Rattle.linked_demand.proofs.Keyed.{programme_at, rows_none, rows_more}
 use Rattle.linked_demand.proofs.ClaimSpans.{candidates_from, wishes_from}
-use Rattle.linked_demand.proofs.wishing.wishes_by_programme.Goals as goal
+use Rattle.linked_demand.proofs.wishing.wishes_by_group.Goals as goal
 
 pub loop-place-init : goal.loop-place-init
 loop-place-init c =
     let d = c.args.state.now.dossier in
-    let n = length d.programmes in
+    let n = length d.groups in
     let wishes = c.in_ok-wishes.wishes.items in
     let candidates = c.in_ok-candidates.candidates.items in
     let P = λ (count : ℕ). AreEmpty count wishes in
     let Q = λ (count : ℕ). AreEmpty count candidates in
     record {
-      wishes = rows_none (λ k. k) (applies_at d) n wishes
+      wishes = rows_none (λ k. k) (is_of_group d) n wishes
           (subst P (ap length c.deref.ensures.value ∙ c.in_ok-counts.ensures) c.in_ok-wishes.ensures);
-      candidates = rows_none (candidate_in d.wishes) (applies_at d) n candidates
+      candidates = rows_none (candidate_in d.wishes) (is_of_group d) n candidates
           (subst Q (ap length c.deref-2.ensures.value ∙ c.in_ok-counts.ensures) c.in_ok-candidates.ensures);
     }
 
@@ -32,14 +32,15 @@ loop-place-preserved c =
     let places = c.places_by_candidate-places.result.now in
     let i = c.loop-place.place-index in
     let k = get_or places i 0 in
-    let here = λ (h : ℕ). ap (λ (v : Wish). nat_eq v.programme h) c.wish_at-wish.ensures.wish in
+    let here = λ (h : ℕ). ap (λ (g : ℕ). nat_eq g h) (c.group_of-group.ensures.group
+    ∙ ap (λ (v : Wish). group_of d v.programme) c.wish_at-wish.ensures.wish) in
     record {
-      wishes = rows_more (λ j. j) (applies_at d) (length d.programmes) places i
-          (λ h. nat_eq c.wish_at-wish.result.programme h) k
+      wishes = rows_more (λ j. j) (is_of_group d) (length d.groups) places i
+          (λ h. nat_eq c.group_of-group.result h) k
           c.loop-place.wishes.items c.put_in.new.rows.items c.loop-place-test.true
           here refl c.loop-place.invariant.wishes c.in_ok-put_in.ensures;
-      candidates = rows_more (candidate_in d.wishes) (applies_at d) (length d.programmes) places i
-          (λ h. nat_eq c.wish_at-wish.result.programme h) c.wish_at-wish.result.candidate
+      candidates = rows_more (candidate_in d.wishes) (is_of_group d) (length d.groups) places i
+          (λ h. nat_eq c.group_of-group.result h) c.wish_at-wish.result.candidate
           c.loop-place.candidates.items c.put_in-in-loop-place.new.rows.items c.loop-place-test.true
           here (ap (λ (v : Wish). v.candidate) c.wish_at-wish.ensures.wish ∙ sym (candidate_is d.wishes k))
           c.loop-place.invariant.candidates c.in_ok-put_in-2.ensures;
@@ -53,8 +54,8 @@ returns c =
     let candidates = c.loop-place.candidates.items in
     let P : DossierRows → Type 0 = IsValid in
     let valid = subst P (c.dossier.view_is ∙ c.dossier-dossier.ensures) c.dossier.invariant in
-    let Q = λ (ks : List ℕ). AreRowsOf (λ k. k) (applies_at d) (length d.programmes) ks wishes in
-    let R = λ (ks : List ℕ). AreRowsOf (candidate_in d.wishes) (applies_at d) (length d.programmes) ks candidates in
+    let Q = λ (ks : List ℕ). AreRowsOf (λ k. k) (is_of_group d) (length d.groups) ks wishes in
+    let R = λ (ks : List ℕ). AreRowsOf (candidate_in d.wishes) (is_of_group d) (length d.groups) ks candidates in
     let all = take_all c.loop-place.place-index places (omega (arith, c.loop-place-test.false)) in
     let are = subst Q all c.loop-place.invariant.wishes in
     record {
@@ -65,24 +66,21 @@ returns c =
 pub wish_at-wish-requires : goal.wish_at-wish-requires
 wish_at-wish-requires c = c.places_by_candidate-places.ensures.within c.loop-place.place-index 0 c.loop-place-test.true
 
-pub put_in-requires : goal.put_in-requires
-put_in-requires c =
+pub group_of-group-requires : goal.group_of-group-requires
+group_of-group-requires c =
     let d = c.args.state.now.dossier in
     let P : DossierRows → Type 0 = IsValid in
     let valid = subst P (c.dossier.view_is ∙ c.dossier-dossier.ensures) c.dossier.invariant in
-    let Q = λ (n : ℕ). c.wish_at-wish.result.programme < n in
     let k = get_or c.places_by_candidate-places.result.now c.loop-place.place-index 0 in
-    subst Q (sym c.loop-place.invariant.wishes.one_each)
-    (programme_at d valid k (c.places_by_candidate-places.ensures.within c.loop-place.place-index 0 c.loop-place-test.true)
-    c.wish_at-wish.result c.wish_at-wish.ensures.wish)
+    programme_at d valid k (c.places_by_candidate-places.ensures.within c.loop-place.place-index 0 c.loop-place-test.true)
+    c.wish_at-wish.result c.wish_at-wish.ensures.wish
+
+pub put_in-requires : goal.put_in-requires
+put_in-requires c =
+    let Q = λ (n : ℕ). c.group_of-group.result < n in
+    subst Q (sym c.loop-place.invariant.wishes.one_each) c.group_of-group.ensures.within
 
 pub put_in-requires-in-loop-place : goal.put_in-requires-in-loop-place
 put_in-requires-in-loop-place c =
-    let d = c.args.state.now.dossier in
-    let P : DossierRows → Type 0 = IsValid in
-    let valid = subst P (c.dossier.view_is ∙ c.dossier-dossier.ensures) c.dossier.invariant in
-    let Q = λ (n : ℕ). c.wish_at-wish.result.programme < n in
-    let k = get_or c.places_by_candidate-places.result.now c.loop-place.place-index 0 in
-    subst Q (sym c.loop-place.invariant.candidates.one_each)
-    (programme_at d valid k (c.places_by_candidate-places.ensures.within c.loop-place.place-index 0 c.loop-place-test.true)
-    c.wish_at-wish.result c.wish_at-wish.ensures.wish)
+    let Q = λ (n : ℕ). c.group_of-group.result < n in
+    subst Q (sym c.loop-place.invariant.candidates.one_each) c.group_of-group.ensures.within
