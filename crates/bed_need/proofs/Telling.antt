@@ -2,24 +2,17 @@
 use Rattle.std.proofs.Common.{◌≡◌, ℕ, List, ◌++◌, Result, Ok, IfOk, subst, sym}
 use Rattle.std.specs.Result.{IsErrAnd}
 use Rattle.std.proofs.lemmas.Result.{err_from_is_err_and}
-use Rattle.admit_core.specs.declared.records.PassRecord.{PassRecord}
-use Rattle.admit_core.specs.declared.ranking.CallOrder.{CallOrder}
-use Rattle.admit_core.specs.Boarding.{boarding}
-use Rattle.admit_core.specs.Days.{IsPass}
 use Rattle.admit_core.specs.Falls.{FallingSystem}
-use Rattle.admit_core.specs.State.{State}
-use Rattle.bar_fixpoint.specs.Chosen.{AreChosen}
-use Rattle.bar_fixpoint.specs.Runs.{schools_of}
+use Rattle.bar_fixpoint.specs.Chosen.{IsRunBy}
 use Rattle.bed_need.specs.Telling.{IsAsked, TellsOfBoth, TellsOfRun}
 
--- of the falls of a pass
-pub run_of_pass : (s : State) (orders : List CallOrder) (ceilings : List ℕ)
-    (choice : List ℕ → List ℕ → ℕ) (told after : List ℕ) (pass : PassRecord)
-    → IsPass s orders ceilings pass → after ≡ told ++ schools_of pass.falls
-    → AreChosen (boarding s orders ceilings) choice told ceilings pass.falls
-    → TellsOfRun (boarding s orders ceilings) choice told after
-run_of_pass s orders ceilings choice told after pass is_pass told_of chosen =
-    record { falls = pass.falls; is_run = is_pass.falls; chosen = chosen; told_of = told_of }
+-- of falls that nobody keeps, of a system that has another name
+pub run_of_settled : (now sys : FallingSystem) (choice : List ℕ → List ℕ → ℕ)
+    (told after bars : List ℕ) → now ≡ sys → IsRunBy now choice told after bars
+    → TellsOfRun sys choice told after
+run_of_settled now sys choice told after bars same run =
+    subst (λ (s : FallingSystem). TellsOfRun s choice told after) same
+    (record { falls = run.falls; is_run = run.is_run; chosen = run.chosen; told_of = run.told_of })
 
 -- of a run of a system that has another name
 pub asked_named : {T E : Type 0} (one other : FallingSystem) (result : Result T E)

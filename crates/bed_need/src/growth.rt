@@ -9,8 +9,8 @@ ghost use Rattle.desk_day.specs.DayPasses.{TellsMore};
 ghost use Rattle.bed_need.specs.Growing.{IsGrowth, with_more_beds, with_n_beds};
 ghost use Rattle.bed_need.specs.Telling.{IsAsked, TellsOfBoth};
 
-use crate::need::pass_in;
 use crate::refitted::refitted;
+use crate::settled::settled_in;
 use admit_core::{CallOrders, Dossier, OutOfMemory};
 use bar_fixpoint::Picker;
 use day_state::DayState;
@@ -23,29 +23,8 @@ pub struct Growth {
     pub after: Vec<u32>,
 }
 
-/// The greatest bars of a state. The offers under them are made in it.
+/// The greatest bars of a state.
 fn bars_in(
-    alloc: Global,
-    state: &mut DayState<'_>,
-    orders: &CallOrders,
-    ceilings: &[u32],
-    picker: &mut dyn Picker,
-) -> Result<Vec<u32>, OutOfMemory>
-    requires orders { AreCallOrders state.old.dossier.groups orders.now.orders }
-    requires ceilings { length ceilings.now ≡ length state.old.dossier.schools }
-
-    ensures bars { IfOk result (λ bars.
-        IsGreatest (boarding state.old orders.now.orders ceilings.now) bars.items) }
-    ensures asked { IsAsked
-        (boarding state.old orders.now.orders ceilings.now) result
-        (choice picker.old) (choice picker.new) (told picker.old) (told picker.new) }
-{
-    let found = pass_in(alloc, state, orders, ceilings, picker)?;
-    Ok(found.bars.into_vec())
-}
-
-/// The greatest bars with the present beds.
-fn bars_now(
     alloc: Global,
     state: &DayState<'_>,
     orders: &CallOrders,
@@ -61,8 +40,8 @@ fn bars_now(
         (boarding state.now orders.now.orders ceilings.now) result
         (choice picker.old) (choice picker.new) (told picker.old) (told picker.new) }
 {
-    let mut copy = state.copy(alloc)?;
-    bars_in(alloc, &mut copy, orders, ceilings, picker)
+    let found = settled_in(alloc, state, orders, ceilings, picker)?;
+    Ok(found.bars)
 }
 
 /// The greatest bars over this dossier, in which a school has so many beds.
@@ -87,8 +66,8 @@ fn bars_over(
         (with_n_beds state.now orders.now.orders ceilings.now school beds) result
         (choice picker.old) (choice picker.new) (told picker.old) (told picker.new) }
 {
-    let mut refitted = refitted(alloc, state, dossier, school, beds)?;
-    bars_in(alloc, &mut refitted, orders, ceilings, picker)
+    let refitted = refitted(alloc, state, dossier, school, beds)?;
+    bars_in(alloc, &refitted, orders, ceilings, picker)
 }
 
 /// The greatest bars where a school has so many beds.
@@ -154,7 +133,7 @@ pub fn grown_bars(
     ensures choice { choice picker.new ≡ choice picker.old }
 {
     let beds = beds_of(state.dossier(), school) + more;
-    let before = bars_now(alloc, state, orders, low, picker)?;
+    let before = bars_in(alloc, state, orders, low, picker)?;
     let after = bars_with(alloc, state, orders, high, school, beds, picker)?;
     Ok(Growth { before, after })
 }

@@ -8,6 +8,7 @@ mod growth;
 mod laws;
 mod need;
 mod refitted;
+mod settled;
 mod text;
 
 pub use growth::{Growth, grown_bars};

@@ -2,7 +2,6 @@
 ghost use Rattle.std.specs.Prelude.{◌≡◌, ◌<◌, ◌≤◌, length, IfOk};
 ghost use Rattle.admit_core.specs.Boarding.{boarding};
 ghost use Rattle.admit_core.specs.CallOrder.{AreCallOrders};
-ghost use Rattle.admit_core.specs.Days.{IsPass, offered};
 ghost use Rattle.admit_core.specs.LeastBeds.{IsLeastBeds, rebuilt};
 ghost use Rattle.desk_day.specs.DayPasses.{TellsMore};
 ghost use Rattle.bed_need.specs.Growing.{with_n_beds};
@@ -10,38 +9,14 @@ ghost use Rattle.bed_need.specs.Needing.{IsNeed, need_of};
 ghost use Rattle.bed_need.specs.Telling.{IsAsked, TellsOfRun};
 
 use crate::refitted::refitted;
-use admit_core::{CallOrders, Dossier, MAX_NUMBER, OutOfMemory, PassRecord, Stamp};
+use crate::settled::settled_in;
+use admit_core::{CallOrders, Dossier, MAX_NUMBER, OutOfMemory, Stamp};
 use bar_fixpoint::Picker;
 use day_state::DayState;
-use linked_demand::Lineup;
-use round::pass;
 use std::alloc::Global;
 
 /// The stamp of offers that nobody is made.
 const NO_STAMP: Stamp = Stamp { day: 0, pass: 0 };
-
-/// One pass over a state, in which its offers are made.
-pub(crate) fn pass_in(
-    alloc: Global,
-    state: &mut DayState<'_>,
-    orders: &CallOrders,
-    ceilings: &[u32],
-    picker: &mut dyn Picker,
-) -> Result<PassRecord, OutOfMemory>
-    requires orders { AreCallOrders state.old.dossier.groups orders.now.orders }
-    requires ceilings { length ceilings.now ≡ length state.old.dossier.schools }
-
-    ensures pass { IfOk result (λ found. IsPass state.old orders.now.orders ceilings.now found) }
-    ensures state { IfOk result (λ found. state.new
-        ≡ offered state.old orders.now.orders found.bars (record { day = 0; pass = 0 })) }
-    ensures asked { IsAsked
-        (boarding state.old orders.now.orders ceilings.now) result
-        (choice picker.old) (choice picker.new) (told picker.old) (told picker.new) }
-{
-    let lineup = Lineup::build(alloc, state, orders)?;
-    let found = pass(alloc, state, orders, &lineup, ceilings, NO_STAMP, picker)?;
-    Ok(found)
-}
 
 /// The beds that a school needs, by how many live there before a pass and after it: none where
 /// nobody comes.
@@ -72,7 +47,8 @@ fn need_in(
     let dossier = roomy.dossier();
     let _ = &dossier.wishes; // learns that the dossier is valid
     let before = roomy.live_in_school(school);
-    pass_in(alloc, roomy, orders, ceilings, picker)?;
+    let found = settled_in(alloc, roomy, orders, ceilings, picker)?;
+    roomy.offer_all(found.offers.as_slice(), NO_STAMP);
     Ok(need_of(before, roomy.live_in_school(school)))
 }
 
@@ -106,7 +82,7 @@ fn need_over(
 /// The least number of beds with which the bar of a school stays at its ceiling: with so many,
 /// nobody who is called and ranks within the ceiling lacks a bed.
 ///
-/// One pass over a school with 2,000,000,000 beds tells who comes. The picker chooses the order of
+/// The greatest bars of a school with 2,000,000,000 beds tell who comes. The picker chooses the order of
 /// its falls, and nothing of the answer.
 pub fn least_beds(
     alloc: Global,

@@ -1,30 +1,60 @@
-use Rattle.std.proofs.Common.{refl, rules}
+use Rattle.std.proofs.Common.{List, ℕ, ◌∙◌, ap, refl, rules, sym}
+use Rattle.admit_core.specs.Proposals.{proposed}
 use Rattle.bar_fixpoint.specs.Runs.{schools_of}
 use Rattle.desk_day.proofs.PassesSoFar.{tells_of_falls, tells_still}
-use Rattle.bed_need.proofs.Telling.{run_of_pass}
-use Rattle.bed_need.proofs.need.pass_in.Goals as goal
+use Rattle.round.proofs.Found.{greatest_kept}
+use Rattle.bed_need.proofs.Telling.{run_of_settled}
+use Rattle.bed_need.proofs.settled.settled_along.Goals as goal
+
+pub returns-clause-bars : goal.returns-clause-bars
+returns-clause-bars g c =
+    greatest_kept _ _ c.in_ok-round.ensures.system _ _ c.in_ok-bars.ensures c.in_ok-settle.ensures.greatest
+
+pub returns-clause-offers : goal.returns-clause-offers
+returns-clause-offers g c =
+    let end = c.settle.new.system in
+    c.in_ok-offers.ensures.offers
+    ∙ ap (proposed end.state end.orders) (sym c.in_ok-bars.ensures)
+    ∙ ap (λ (offers : List ℕ → List ℕ). offers c.in_ok-bars.bars.items)
+    (c.settle.ensures.offers ∙ c.in_ok-round.ensures.offers)
 
 pub returns-clause-asked : goal.returns-clause-asked
 returns-clause-asked g c =
-    let found = c.in_ok-found in
+    let run = c.in_ok-settle.ensures.run in
     record {
-      told =
-          run_of_pass c.args.state.now c.args.orders.now.orders c.args.ceilings.now _ _ _
-          found.found found.ensures.pass found.ensures.told found.ensures.chosen;
-      early = (schools_of found.found.falls, found.ensures.told);
+      told = run_of_settled _ _ _ _ _ _ c.in_ok-round.ensures.system run;
+      early = (schools_of run.falls, run.told_of);
       choice = search rules;
     }
 
-pub returns-in_err-lineup-clause-asked : goal.returns-in_err-lineup-clause-asked
-returns-in_err-lineup-clause-asked g c = record {
+pub returns-in_err-round-clause-asked : goal.returns-in_err-round-clause-asked
+returns-in_err-round-clause-asked g c = record {
   told = search rules;
   early = tells_still _ _ refl;
   choice = search rules;
 }
 
-pub returns-in_err-found-clause-asked : goal.returns-in_err-found-clause-asked
-returns-in_err-found-clause-asked g c = record {
+pub returns-in_err-settle-clause-asked : goal.returns-in_err-settle-clause-asked
+returns-in_err-settle-clause-asked g c = record {
   told = search rules;
-  early = tells_of_falls _ _ _ _ c.in_err-found.ensures.early;
+  early = tells_of_falls _ _ _ _ (_, c.in_err-settle.ensures.early);
   choice = search rules;
 }
+
+pub returns-in_err-bars-clause-asked : goal.returns-in_err-bars-clause-asked
+returns-in_err-bars-clause-asked g c =
+    let run = c.in_ok-settle.ensures.run in
+    record {
+      told = search rules;
+      early = (schools_of run.falls, run.told_of);
+      choice = search rules;
+    }
+
+pub returns-in_err-offers-clause-asked : goal.returns-in_err-offers-clause-asked
+returns-in_err-offers-clause-asked g c =
+    let run = c.in_ok-settle.ensures.run in
+    record {
+      told = search rules;
+      early = (schools_of run.falls, run.told_of);
+      choice = search rules;
+    }
