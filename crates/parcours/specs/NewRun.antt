@@ -1,12 +1,14 @@
 -- A run of the program, whose three pickers are new.
-use Rattle.std.specs.Prelude.{◌≡◌, ℕ, List, [], Result, Ok, Err}
+use Rattle.std.specs.Prelude.{◌≡◌, ◌⊎◌, ℕ, List, []}
 use Rattle.bar_fixpoint.specs.Choices.{first_of, last_of, turn_of}
 use Rattle.intake.specs.Shelves.{OnShelf}
 use Rattle.request.specs.declared.pickers.PickerName.{PickerName}
 use Rattle.request.specs.declared.pickers.PickerName.TheVariants.{First, Last, Turn}
 use Rattle.played.specs.Lent.{Lent}
 use Rattle.replay_cli.specs.Run.{AtSink, IsRun}
+use Rattle.modes.specs.Exits.{exit_number}
 use Rattle.modes.specs.declared.exit.Exit.{Exit}
+use Rattle.modes.specs.declared.exit.Exit.TheVariants.{NoMemory}
 
 -- the pickers have told nothing, and each in its place chooses as its name says
 pub record AreNew (pickers : Lent) : Type 0 where
@@ -24,3 +26,26 @@ pub record IsNewRun (words : List (List ℕ)) (shelf shelf' : OnShelf) (sink sin
   pub are_new : AreNew pickers
   pub is_run : IsRun words (record { shelf = shelf; sink = sink; pickers = pickers })
       (record { shelf = shelf'; sink = sink'; pickers = pickers' }) exit
+
+-- nothing was read, and nothing written
+pub record IsUntouched (shelf shelf' : OnShelf) (sink sink' : AtSink) : Type 0 where
+  pub shelf_kept : shelf' ≡ shelf
+  pub sink_kept : sink' ≡ sink
+
+-- memory ran out before the run
+pub record LacksMemory (shelf shelf' : OnShelf) (sink sink' : AtSink) (number : ℕ) : Type 0 where
+  pub untouched : IsUntouched shelf shelf' sink sink'
+  pub is_number : number ≡ exit_number NoMemory
+
+-- one run with these words and new pickers, and the number of its exit
+pub record EndsRun (words : List (List ℕ)) (shelf shelf' : OnShelf) (sink sink' : AtSink)
+    (number : ℕ) : Type 0 where
+  pub exit : Exit
+  pub is_run : IsNewRun words shelf shelf' sink sink' exit
+  pub is_number : number ≡ exit_number exit
+
+-- the program with these words, over a shelf and a sink as they stand before it and after it, and
+-- the number that it ends with
+abbrev pub Starts : List (List ℕ) → OnShelf → OnShelf → AtSink → AtSink → ℕ → Type 0
+Starts words shelf shelf' sink sink' number =
+    EndsRun words shelf shelf' sink sink' number ⊎ LacksMemory shelf shelf' sink sink' number

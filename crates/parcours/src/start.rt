@@ -1,16 +1,37 @@
-//! A run with new pickers.
-ghost use Rattle.std.specs.Prelude.{◌≡◌, [], IfOk, Some, map, option_map, string_bytes};
+//! The one run of the program, with new pickers.
+ghost use Rattle.std.specs.Prelude.{◌≡◌, [], IfOk, IsErr, IsErrAnd, OnErr, Some, map, option_map, string_bytes};
+ghost use Rattle.std.specs.Process.{exit_status};
 ghost use Rattle.bar_fixpoint.specs.Choices.{first_of, last_of, turn_of};
 ghost use Rattle.intake.specs.Shelves.{on_shelf};
 ghost use Rattle.replay_cli.specs.Run.{at_sink};
-ghost use Rattle.parcours.specs.NewRun.{IsNewRun};
+ghost use Rattle.parcours.specs.NewRun.{IsNewRun, IsUntouched, LacksMemory, Starts};
+ghost use Rattle.parcours.specs.Start.{IsLack, words_in};
 
+use crate::words::words_of;
 use bar_fixpoint::{FirstPicker, LastPicker, TurnPicker};
-use modes::Exit;
+use modes::{Exit, exit_number};
 use played::Pickers;
 use replay_cli::run;
 use slot_io::{Shelf, Sink};
 use std::alloc::{AllocError, Global};
+use std::env::Args;
+use std::io;
+use std::process::{ExitCode, Termination};
+
+/// The number that the program ends with. `started` alone makes one, and it can be neither copied
+/// nor let go: so `main` ends with the number of a run, and runs once.
+pub(crate) struct Ended {
+    number: u8,
+}
+
+impl Termination for Ended {
+    fn report<R: Eprint>(self, _rt: &R) -> ExitCode
+        ensures { exit_status result ≡ self.number }
+    {
+        let Ended { number } = self;
+        ExitCode::from(number)
+    }
+}
 
 /// Runs the program with these pickers, which are new, each in its place.
 fn run_with_new<S: Shelf, K: Sink>(
@@ -37,13 +58,16 @@ fn run_with_new<S: Shelf, K: Sink>(
 }
 
 /// Runs the program with three new pickers, each in its place.
-pub(crate) fn run_new<S: Shelf, K: Sink>(
+fn run_new<S: Shelf, K: Sink>(
     alloc: Global,
     words: &[String],
     shelf: &mut S,
     sink: &mut K,
 ) -> Result<Exit, AllocError>
-    ensures { IfOk result (IsNewRun (map string_bytes words.now)
+    ensures ran { IfOk result (IsNewRun (map string_bytes words.now)
+        (on_shelf S.left S.taken S.faults shelf.old) (on_shelf S.left S.taken S.faults shelf.new)
+        (at_sink K.held K.faults sink.old) (at_sink K.held K.faults sink.new)) }
+    ensures lacked { OnErr result (IsUntouched
         (on_shelf S.left S.taken S.faults shelf.old) (on_shelf S.left S.taken S.faults shelf.new)
         (at_sink K.held K.faults sink.old) (at_sink K.held K.faults sink.new)) }
 {
@@ -53,4 +77,44 @@ pub(crate) fn run_new<S: Shelf, K: Sink>(
         turn: Some(Box::new(alloc, TurnPicker::new(alloc))?),
     };
     Ok(run_with_new(alloc, words, shelf, sink, &mut pickers))
+}
+
+/// Runs the program with what it was given.
+fn run_given<S: Shelf, K: Sink>(
+    alloc: Global,
+    args: io::Result<Args>,
+    shelf: &mut S,
+    sink: &mut K,
+) -> Result<Exit, AllocError>
+    ensures ran { IfOk result (IsNewRun (map string_bytes (words_in args))
+        (on_shelf S.left S.taken S.faults shelf.old) (on_shelf S.left S.taken S.faults shelf.new)
+        (at_sink K.held K.faults sink.old) (at_sink K.held K.faults sink.new)) }
+    ensures lacked { OnErr result (IsUntouched
+        (on_shelf S.left S.taken S.faults shelf.old) (on_shelf S.left S.taken S.faults shelf.new)
+        (at_sink K.held K.faults sink.old) (at_sink K.held K.faults sink.new)) }
+    ensures told { IsErrAnd args IsLack → IsErr result }
+{
+    let words = words_of(alloc, args)?;
+    run_new(alloc, &words, shelf, sink)
+}
+
+/// Runs the program once, with what it was given, and ends with the number of the exit. Where there
+/// was no memory for the words or the pickers, nothing is read and nothing written.
+pub(crate) fn started<S: Shelf, K: Sink>(
+    alloc: Global,
+    args: io::Result<Args>,
+    shelf: &mut S,
+    sink: &mut K,
+) -> Ended
+    ensures starts { Starts (map string_bytes (words_in args))
+        (on_shelf S.left S.taken S.faults shelf.old) (on_shelf S.left S.taken S.faults shelf.new)
+        (at_sink K.held K.faults sink.old) (at_sink K.held K.faults sink.new) result.number }
+    ensures told { IsErrAnd args IsLack → LacksMemory
+        (on_shelf S.left S.taken S.faults shelf.old) (on_shelf S.left S.taken S.faults shelf.new)
+        (at_sink K.held K.faults sink.old) (at_sink K.held K.faults sink.new) result.number }
+{
+    let exit = run_given(alloc, args, shelf, sink).unwrap_or(Exit::NoMemory);
+    Ended {
+        number: exit_number(exit),
+    }
 }

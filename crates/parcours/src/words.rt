@@ -1,7 +1,7 @@
 //! The words that the program is given.
 ghost use Rattle.std.specs.Prelude.{◌≡◌, IfOk, drop};
 ghost use Rattle.std.specs.Vec.Iter.{into_iter_items};
-ghost use Rattle.parcours.specs.Start.{words_in};
+ghost use Rattle.parcours.specs.Start.{ReadsWords};
 
 use std::alloc::{AllocError, Global};
 use std::env::Args;
@@ -18,7 +18,7 @@ fn after_first(alloc: Global, mut args: Args) -> Result<Vec<String>, AllocError>
 /// The words after the program's name. Where one of them is no text, there are none, which are bad
 /// words too.
 pub(crate) fn words_of(alloc: Global, args: io::Result<Args>) -> Result<Vec<String>, AllocError>
-    ensures { IfOk result (λ words. words.items ≡ words_in args) }
+    ensures { ReadsWords args result }
 {
     match args {
         Ok(args) => after_first(alloc, args),

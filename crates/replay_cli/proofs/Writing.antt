@@ -9,9 +9,12 @@ use Rattle.modes.specs.Exits.{is_answer}
 use Rattle.modes.specs.declared.exit.Exit.{Exit}
 use Rattle.modes.specs.declared.exit.Exit.TheVariants as exits
 use Rattle.modes.specs.declared.reply.Reply.{Reply}
-use Rattle.slot_io.specs.Bytes.{AppendsPrefix}
+use Rattle.slot_io.specs.Bytes.{AppendsPart}
 use Rattle.slot_io.specs.Faults.{Rose}
 use Rattle.replay_cli.specs.Answering.{Replies}
+use Rattle.slot_io.specs.declared.refusal.IoRefusal.{IoRefusal}
+use Rattle.slot_io.specs.declared.refusal.IoRefusal.TheVariants as refusals
+use Rattle.replay_cli.specs.Delivering.{Delivers, Takes, exit_after}
 use Rattle.replay_cli.specs.Run.{Around, AtSink, IsRun, IsWhole}
 
 appends_none : (held : Option (List ℕ)) → Appends held held []
@@ -27,7 +30,7 @@ fault_of : (exit : Exit) (Fault : Type 0) → IsTrue (is_answer exit) ⊎ ((exit
 fault_of exit Fault kind is = elim kind [ inl answers ↦ absurd (false≢true (rw is at answers)) | inr faulted ↦ faulted.1 ]
 
 module _ {E : Type 0} (words : List (List ℕ)) (before after : Around) (counts : before.sink.faults ≤ after.sink.faults) where
-  module _ (reply : Reply) (bytes : List ℕ) (same : bytes ≡ reply.text.items) (replies : Replies {E = E} words before.shelf after.shelf before.pickers after.pickers (Ok reply)) where
+  module _ (reply : Reply) (replies : Replies {E = E} words before.shelf after.shelf before.pickers after.pickers (Ok reply)) where
     whole : (slots : Slot → List ℕ) → Tells before.shelf.left slots → IsWhole words slots before after reply.text.items
     whole slots tells =
         elim replies.kinds [
@@ -35,12 +38,8 @@ module _ {E : Type 0} (words : List (List ℕ)) (before after : Around) (counts 
           | inr faulted ↦ inr (record { names = faulted.1; untold = replies.untold (rw faulted.0 refl) })
         ]
 
-    part : AppendsPrefix before.sink.held after.sink.held bytes → AppendsPrefix before.sink.held after.sink.held reply.text.items
-    part prefix = subst (λ (text : List ℕ). AppendsPrefix before.sink.held after.sink.held text) same prefix
-
-    pub written : Appends before.sink.held after.sink.held bytes → IsRun words before after reply.exit
-    written appended =
-        let all = subst (λ (text : List ℕ). Appends before.sink.held after.sink.held text) same appended in
+    written : Appends before.sink.held after.sink.held reply.text.items → IsRun words before after reply.exit
+    written all =
         record {
           answers = λ slots tells. record {
             outcome = λ is. (reply.text.items, replies.outcome slots tells is, all);
@@ -61,12 +60,12 @@ module _ {E : Type 0} (words : List (List ℕ)) (before after : Around) (counts 
           idle = replies.idle;
         }
 
-    pub failed : AppendsPrefix before.sink.held after.sink.held bytes → Rose before.sink.faults after.sink.faults → IsRun words before after exits.WriteFault
-    failed prefix rose = record {
+    failed : AppendsPart before.sink.held after.sink.held reply.text.items → Rose before.sink.faults after.sink.faults → IsRun words before after exits.WriteFault
+    failed part rose = record {
       answers = λ slots tells. record {
         outcome = λ is. absurd (false≢true is);
         ends = λ is. absurd (cc);
-        cut_off = λ is. (reply.text.items, whole slots tells, part prefix);
+        cut_off = λ is. (reply.text.items, whole slots tells, part);
         no_memory = λ is. absurd (cc);
         complete = λ fits none. absurd (none.writes rose);
       };
@@ -81,13 +80,13 @@ module _ {E : Type 0} (words : List (List ℕ)) (before after : Around) (counts 
       idle = replies.idle;
     }
 
-    pub cut : AppendsPrefix before.sink.held after.sink.held bytes → IsRun words before after exits.NoMemory
-    cut prefix = record {
+    cut : AppendsPart before.sink.held after.sink.held reply.text.items → IsRun words before after exits.NoMemory
+    cut part = record {
       answers = λ slots tells. record {
         outcome = λ is. absurd (false≢true is);
         ends = λ is. absurd (cc);
         cut_off = λ is. absurd (cc);
-        no_memory = λ is. inr (reply.text.items, whole slots tells, part prefix);
+        no_memory = λ is. inr (reply.text.items, whole slots tells, part);
         complete = λ fits none. inr refl;
       };
       others = replies.others;
@@ -102,7 +101,7 @@ module _ {E : Type 0} (words : List (List ℕ)) (before after : Around) (counts 
     }
 
   -- there was no memory for the reply
-  pub unanswered : (e : E) → after.sink ≡ before.sink → Replies {E = E} words before.shelf after.shelf before.pickers after.pickers (Err e) → IsRun words before after exits.NoMemory
+  unanswered : (e : E) → after.sink ≡ before.sink → Replies {E = E} words before.shelf after.shelf before.pickers after.pickers (Err e) → IsRun words before after exits.NoMemory
   unanswered e same replies = record {
     answers = λ slots tells. record {
       outcome = λ is. absurd (false≢true is);
@@ -121,3 +120,15 @@ module _ {E : Type 0} (words : List (List ℕ)) (before after : Around) (counts 
     untold = λ is. absurd (false≢true is);
     idle = replies.idle;
   }
+
+  -- a run whose reply was delivered
+  taken : (reply : Reply) → Replies {E = E} words before.shelf after.shelf before.pickers after.pickers (Ok reply) → (refusal : Option IoRefusal)
+      → Takes reply.text.items before.sink after.sink refusal → IsRun words before after (exit_after refusal reply.exit)
+  taken reply replies None takes = written reply replies takes
+  taken reply replies (Some refusals.Failed) takes = failed reply replies takes.0 takes.1
+  taken reply replies (Some refusals.OutOfMemory) takes = cut reply replies takes
+
+  pub delivered : (result : Result Reply E) (exit : Exit) → Replies words before.shelf after.shelf before.pickers after.pickers result → Delivers result before.sink after.sink exit
+      → IsRun words before after exit
+  delivered (Ok reply) exit replies delivers = subst (IsRun words before after) (sym delivers.2) (taken reply replies delivers.0 delivers.1)
+  delivered (Err error) exit replies delivers = subst (IsRun words before after) (sym delivers.0) (unanswered error delivers.1 replies)

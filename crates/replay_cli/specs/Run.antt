@@ -11,7 +11,7 @@ use Rattle.modes.specs.declared.exit.Exit.TheVariants.{BadWords, Done, NoMemory,
 use Rattle.played.specs.Lent.{AreBack, Lent, Untold}
 use Rattle.request.specs.Request.{request_of}
 use Rattle.request.specs.declared.request.Request.{Request}
-use Rattle.slot_io.specs.Bytes.{AppendsPrefix}
+use Rattle.slot_io.specs.Bytes.{AppendsPart}
 use Rattle.slot_io.specs.Faults.{NoneFell, Rose}
 use Rattle.replay_cli.specs.Outcome.{AsksNobody, IsOutcome, NamesFault, slots_read}
 
@@ -29,14 +29,14 @@ pub record Around : Type 0 where
   pub sink : AtSink
   pub pickers : Lent
 
--- a text was written whole, or a prefix of it
+-- a text was written whole, or not all of it
 abbrev pub Writes : Around → Around → (List ℕ → Type 0) → Type 0
 Writes before after IsText =
     (text : List ℕ) × IsText text × Appends before.sink.held after.sink.held text
 
 abbrev pub WritesPart : Around → Around → (List ℕ → Type 0) → Type 0
 WritesPart before after IsText =
-    (text : List ℕ) × IsText text × AppendsPrefix before.sink.held after.sink.held text
+    (text : List ℕ) × IsText text × AppendsPart before.sink.held after.sink.held text
 
 -- the line of a read fault; no picker was asked
 pub record IsFaultLine (words : List (List ℕ)) (before after : Around)
@@ -64,8 +64,8 @@ pub record Answers (words : List (List ℕ)) (slots : Slot → List ℕ) (before
   -- the slots that are read are read to their end
   pub ends : exit ≡ Done → (slot : Slot) → Contains (slots_read (request_of words)) slot
       → after.shelf.left slot ≡ Some []
-  -- a run that is cut off has written a prefix of its text; where memory runs out it may be that
-  -- nobody knows of which
+  -- a run that is cut off has written the beginning of its text, and not all of it; where memory
+  -- runs out it may be that nothing is written
   pub cut_off : exit ≡ WriteFault → WritesPart before after (IsWhole words slots before after)
   pub no_memory : exit ≡ NoMemory → Appends before.sink.held after.sink.held []
       ⊎ WritesPart before after (IsWhole words slots before after)

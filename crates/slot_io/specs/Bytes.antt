@@ -29,7 +29,7 @@ abbrev pub CountsTaken : {E : Type 0} → Result ℕ E → ℕ → ℕ → Type 
 CountsTaken result before now =
     MatchResult result (λ count. Counted count before now) (λ _. now ≡ before)
 
--- a prefix of the bytes was appended
-abbrev pub AppendsPrefix : Option (List ℕ) → Option (List ℕ) → List ℕ → Type 0
-AppendsPrefix before after bytes =
-    (count : ℕ) × (count ≤ length bytes) × Appends before after (take count bytes)
+-- the first of the bytes were appended, and not all of them
+abbrev pub AppendsPart : Option (List ℕ) → Option (List ℕ) → List ℕ → Type 0
+AppendsPart before after bytes =
+    (count : ℕ) × (count < length bytes) × Appends before after (take count bytes)

@@ -2,7 +2,7 @@
 ghost use Rattle.std.specs.Prelude.{◌≡◌, ℕ, ◌<◌, ◌≤◌, List, [], Option, length, IfOk, OnOk, OnErr, IsErrOf};
 ghost use Rattle.std.specs.Io.{WritesAtMost};
 ghost use Rattle.std.specs.Io.KnownBytes.{Appends, WriteAppends};
-ghost use Rattle.slot_io.specs.Bytes.{AppendsPrefix};
+ghost use Rattle.slot_io.specs.Bytes.{AppendsPart};
 ghost use Rattle.slot_io.specs.Faults.{Rose};
 ghost use Rattle.slot_io.specs.Refusals.{faults_after};
 
@@ -28,10 +28,10 @@ pub trait Sink {
         ensures counted { faults self.new ≡ faults_after result (faults self.old) };
 }
 
-/// Appends all the bytes in order. Where there are none, it makes no call.
+/// Appends all the bytes in order. Where there are none, it makes no call, and succeeds.
 pub fn write_all<K: Sink>(sink: &mut K, bytes: &[u8]) -> Result<(), IoRefusal>
     ensures whole { OnOk result (Appends (K.held sink.old) (K.held sink.new) bytes.now) }
-    ensures prefix { OnErr result (AppendsPrefix (K.held sink.old) (K.held sink.new) bytes.now) }
+    ensures part { OnErr result (AppendsPart (K.held sink.old) (K.held sink.new) bytes.now) }
     ensures nothing { bytes.now ≡ [] → (sink.new ≡ sink.old) }
     ensures counts { K.faults sink.old ≤ K.faults sink.new }
     ensures failed { IsErrOf result IoRefusal.Failed
