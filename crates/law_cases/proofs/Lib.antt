@@ -3,6 +3,7 @@ pub mod AutomaticCases
 pub mod BarCases
 pub mod BedCases
 pub mod DefinitionCases
+pub mod MarketCases
 pub mod OrderCases
 pub mod PassCases
 pub mod PromiseCases

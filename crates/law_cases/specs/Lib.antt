@@ -6,3 +6,4 @@ pub mod CallOrders
 pub mod Days
 pub mod Definitions
 pub mod Fairness
+pub mod Markets
