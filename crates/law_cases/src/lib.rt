@@ -15,6 +15,7 @@ mod definitions;
 mod matchings;
 mod passes;
 mod promises;
+mod told;
 
 pub use answers::{witnesses_of_answers, witnesses_of_automatic_answers};
 pub use automatic_days::witnesses_of_automatic_days;
@@ -27,3 +28,4 @@ pub use matchings::{
 };
 pub use passes::{witnesses_of_evenings, witnesses_of_passes};
 pub use promises::{witnesses_of_exchanges, witnesses_of_offers, witnesses_of_places};
+pub use told::{witnesses_of_days, witnesses_of_explanations};
