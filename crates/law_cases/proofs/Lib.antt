@@ -2,7 +2,9 @@ pub mod AnswerCases
 pub mod AutomaticCases
 pub mod BarCases
 pub mod BedCases
+pub mod DayCases
 pub mod DefinitionCases
+pub mod MarketCases
 pub mod OrderCases
 pub mod PassCases
 pub mod PromiseCases

@@ -30,7 +30,7 @@ abbrev pub LimitExplained : Type 0
 LimitExplained =
     let orders : List CallOrder = plain (11 ∷ 12 ∷ 13 ∷ []) ∷ [] in
     let last : LastPass =
-        record { opening = limit_state; orders = orders; ceilings = []; bars = [] } in
+    record { opening = limit_state; orders = orders; ceilings = []; bars = [] } in
     explained last (offered limit_state orders [] first_pass).marks
     ≡ Live Offered first_pass ∷ Live Offered first_pass ∷ NoSeat 2 1 3 2 ∷ []
 

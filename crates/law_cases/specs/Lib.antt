@@ -5,4 +5,6 @@ pub mod Beds
 pub mod CallOrders
 pub mod Days
 pub mod Definitions
+pub mod Explanations
 pub mod Fairness
+pub mod Markets

@@ -12,8 +12,10 @@ mod bars;
 mod beds;
 mod call_orders;
 mod definitions;
+mod matchings;
 mod passes;
 mod promises;
+mod told;
 
 pub use answers::{witnesses_of_answers, witnesses_of_automatic_answers};
 pub use automatic_days::witnesses_of_automatic_days;
@@ -21,5 +23,9 @@ pub use bars::{witnesses_of_bars, witnesses_of_runs};
 pub use beds::witnesses_of_beds;
 pub use call_orders::{witnesses_of_call_orders, witnesses_of_least_orders};
 pub use definitions::{worked_definitions, worked_relations};
+pub use matchings::{
+    witnesses_of_markets, witnesses_of_stable_matchings, worked_market_of_dossier,
+};
 pub use passes::{witnesses_of_evenings, witnesses_of_passes};
 pub use promises::{witnesses_of_exchanges, witnesses_of_offers, witnesses_of_places};
+pub use told::{witnesses_of_days, witnesses_of_explanations};
