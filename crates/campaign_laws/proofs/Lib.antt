@@ -1,5 +1,6 @@
 pub mod AutomaticDay
 pub mod Beds
+pub mod CrossedHere
 pub mod GoneStays
 pub mod Holding
 pub mod Kept

@@ -1,5 +1,6 @@
 pub mod AutomaticDay
 pub mod Beds
+pub mod Crossed
 pub mod Kept
 pub mod Moments
 pub mod NotPromised

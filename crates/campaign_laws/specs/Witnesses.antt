@@ -9,14 +9,16 @@ use Rattle.admit_core.specs.declared.state.Mark.{Mark}
 use Rattle.admit_core.specs.declared.state.Status.TheVariants.{Accepted, Lapsed, Offered, Refused, Waiting}
 use Rattle.admit_core.specs.CallOrder.{AreCallOrders}
 use Rattle.admit_core.specs.Days.{Days, first_evening}
-use Rattle.admit_core.specs.DossierRows.{limit_of}
+use Rattle.admit_core.specs.DossierRows.{DossierRows, limit_of}
 use Rattle.admit_core.specs.Lapses.{AreTermsFor}
 use Rattle.admit_core.specs.Lists.{is_among}
 use Rattle.admit_core.specs.Proposals.{before}
 use Rattle.admit_core.specs.State.{State, holds_bed, holds_seat, is_gone, is_live, is_waiting}
 use Rattle.admit_core.specs.Validity.{IsValid}
 use Rattle.admit_core.specs.WorkedRows.{boarder, marked, small_dossier}
+use Rattle.campaign_laws.specs.AutomaticDay.{IsAllAutomatic, IsStable, has_as_good}
 use Rattle.campaign_laws.specs.Beds.{CameByBetterRank, GoesByTheTwoLists, IsBarredIn, IsSameWishOffered, ranks_better}
+use Rattle.campaign_laws.specs.Crossed.{both_first, crossed, crossed_days, crossed_evening, crossed_orders}
 use Rattle.campaign_laws.specs.Kept.{AnswersThemself, GivesNoAnswer, KeepsOwn, NeverDescends, has_accepted}
 use Rattle.campaign_laws.specs.Moments.{Opening, moments, openings}
 use Rattle.campaign_laws.specs.OneMark.{IsLater}
@@ -251,3 +253,22 @@ NeverMoreThanSeatsWitness =
     × (p < length old.dossier.programmes)
     × (limit_of old.dossier p ≡ 0)
     × All (FitsSeatsOf old p) (moments terms orders old days)
+
+-- ---- an automatic day: each of the two gets their second, though both would have their first in
+-- another stable matching
+abbrev pub StableMatchingsAreNoWorseWitness : Type 0
+StableMatchingsAreNoWorseWitness =
+    let orders : List CallOrder = crossed_orders in
+    let d : DossierRows = crossed in
+    let days : List DayRecord = crossed_days in
+    let evening : State = crossed_evening in
+    let m : State = both_first in
+    let c : ℕ = 101 in
+    let n : ℕ = 2 in
+    IsValid d
+    × AreCallOrders d.groups orders
+    × IsAllAutomatic d
+    × Days None orders 1 (first_evening d) days evening
+    × IsStable orders d m
+    × IsTrue (has_as_good evening c n)
+    × IsTrue (has_as_good m c n)
