@@ -115,12 +115,12 @@ false_ne : (a b : ℕ) → nat_eq a b ≡ false → a ≢ b
 false_ne a b fails same = false≢true (sym fails ∙ eq-eqb a b same)
 
 -- a wish of the dossier, by its place
-record StandsAt (d : DossierRows) (k : ℕ) (w : Wish) : Type 0 where
-  within : k < length d.wishes
-  here : w ≡ get_or d.wishes k w
+pub record StandsAt (d : DossierRows) (k : ℕ) (w : Wish) : Type 0 where
+  pub within : k < length d.wishes
+  pub here : w ≡ get_or d.wishes k w
 
 -- the wish of an entry stands at the entry's place
-stands : (s : State) (d : DossierRows) → s.dossier ≡ d → (k : ℕ) (e : Wish × Mark) → k < length (entries s) → get_or (entries s) k e ≡ e → StandsAt d k e.0
+pub stands : (s : State) (d : DossierRows) → s.dossier ≡ d → (k : ℕ) (e : Wish × Mark) → k < length (entries s) → get_or (entries s) k e ≡ e → StandsAt d k e.0
 stands s d of k e lt at =
     let place = entry_wish s k e lt at in
     record { within = subst (λ (x : DossierRows). k < length x.wishes) of place.0; here = subst (λ (x : DossierRows). e.0 ≡ get_or x.wishes k e.0) of place.1 }
@@ -129,7 +129,7 @@ module _ (d : DossierRows) (valid : IsValid d) (auto : IsAllAutomatic d) where
   no_school : (k : ℕ) (w : Wish) → StandsAt d k w → w.school ≡ None
   no_school k w at = ap (λ (v : Wish). v.school) at.here ∙ auto.schools k w at.within
 
-  prefers : (k : ℕ) (w : Wish) → StandsAt d k w → 0 < w.preference
+  pub prefers : (k : ℕ) (w : Wish) → StandsAt d k w → 0 < w.preference
   prefers k w at = subst (λ (v : Wish). 0 < v.preference) (sym at.here) (auto.ranked k w at.within)
 
   apart : (j k : ℕ) (v w : Wish) → StandsAt d j v → StandsAt d k w → v.candidate ≡ w.candidate → v.programme ≡ w.programme → j < k → ⊥
@@ -164,7 +164,7 @@ mark_of d s of long k w at =
     (x, omega (arith, length-zip ws s.marks, w_lt, x_lt), get_or-zip ws s.marks k (w, x) w_lt x_lt ∙ ap (λ (v : Wish). (v, get_or s.marks k x)) wish ∙ ap (λ (y : Mark). (w, y)) mark)
 
 -- without call limits
-no_limit : (ps : List Programme) (p : ℕ) → AllByRecursion (λ (q : Programme). q.limit ≡ 0) ps → slice_index (map (λ (q : Programme). q.limit) ps) p ≡ 0
+pub no_limit : (ps : List Programme) (p : ℕ) → AllByRecursion (λ (q : Programme). q.limit ≡ 0) ps → slice_index (map (λ (q : Programme). q.limit) ps) p ≡ 0
 no_limit [] p all = refl
 no_limit (q ∷ ps) zero all = all.0
 no_limit (q ∷ ps) (suc p) all = no_limit ps p all.1

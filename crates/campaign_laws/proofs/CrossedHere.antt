@@ -23,8 +23,9 @@ use Rattle.admit_core.proofs.ByPlaces.{by_places}
 use Rattle.dossier_check.proofs.Valid.{is_valid}
 use Rattle.campaign_laws.specs.AutomaticDay.{IsAllAutomatic, IsStable, NotBothLive}
 use Rattle.campaign_laws.specs.Crossed.{both_first, crossed, crossed_days, crossed_evening, crossed_orders, crossed_rows}
-use Rattle.campaign_laws.specs.Witnesses.{StableMatchingsAreNoWorseWitness}
+use Rattle.campaign_laws.specs.Witnesses.{AutomaticEveningsAreStableWitness, StableMatchingsAreNoWorseWitness}
 use Rattle.campaign_laws.proofs.AutomaticDay.{stable_matchings_are_no_worse}
+use Rattle.campaign_laws.proofs.StableEvening.{automatic_evenings_are_stable}
 use Rattle.campaign_laws.proofs.WorkedCampaign.{end_by}
 
 faultless : first_fault crossed_rows ≡ None
@@ -160,4 +161,14 @@ no_worse_here = (
   stable,
   refl,
   stable_matchings_are_no_worse crossed_orders crossed crossed_days crossed_evening both_first 101 2 valid called automatic days_hold stable refl,
+)
+
+pub stable_here : AutomaticEveningsAreStableWitness
+stable_here = (
+  valid,
+  called,
+  automatic,
+  lit< tt,
+  days_hold,
+  automatic_evenings_are_stable crossed_orders crossed crossed_days crossed_evening valid called automatic (lit< tt) days_hold,
 )

@@ -9,6 +9,7 @@ pub mod OneMark
 pub mod PassedOver
 pub mod Room
 pub mod Shown
+pub mod StableEvening
 pub mod WaitingPlace
 pub mod Walks
 pub mod WorkedCampaign

@@ -8,13 +8,15 @@ use Rattle.std.proofs.lemmas.List.Elements.{All-from_recursion}
 use Rattle.admit_core.specs.declared.dossier.School.{School}
 use Rattle.admit_core.specs.declared.dossier.Wish.{Wish}
 use Rattle.admit_core.specs.declared.ranking.CallOrder.{CallOrder}
+use Rattle.admit_core.specs.declared.records.DayRecord.{DayRecord}
+use Rattle.admit_core.specs.declared.records.Terms.{Terms}
 use Rattle.admit_core.specs.declared.records.Terms.{Terms}
 use Rattle.admit_core.specs.declared.state.Stamp.{Stamp}
 use Rattle.admit_core.specs.Answers.{after}
 use Rattle.admit_core.specs.AutoAnswer.{auto_all}
 use Rattle.admit_core.specs.Boarding.{boarding}
 use Rattle.admit_core.specs.CallOrder.{AreCallOrders}
-use Rattle.admit_core.specs.Days.{ceiling_on, ceilings_of, offered}
+use Rattle.admit_core.specs.Days.{Days, ceiling_on, ceilings_of, offered}
 use Rattle.admit_core.specs.DossierRows.{DossierRows, beds_of, candidates_of, limit_of, seats_of}
 use Rattle.admit_core.specs.Falls.{IsGreatest}
 use Rattle.admit_core.specs.Lapses.{AreTermsFor, lapse}
@@ -28,7 +30,7 @@ use Rattle.campaign_laws.specs.Room.{FitsBedsOf, FitsSeatsOf, NeverMoreThanBeds,
 use Rattle.campaign_laws.proofs.GoneStays.{terms_long}
 use Rattle.campaign_laws.proofs.Holding.{held_already}
 use Rattle.campaign_laws.proofs.OneMark.{KeptOrLapsed, KeptOrTouched, Marks, TouchedOf, a_lapse, an_answer, automatic_answers, lapsed_touched, marks_imply, of_kind, touched_any}
-use Rattle.campaign_laws.proofs.Walks.{Nothing, SameDossier, Steps, plain_steps, same_dossier, throughout}
+use Rattle.campaign_laws.proofs.Walks.{HoldsThroughout, Nothing, SameDossier, Steps, plain_steps, same_dossier, throughout}
 
 -- those who pass a test are at most those who pass another, and those who pass the first alone
 parted : (a b : ℕ → Bool) (xs : List ℕ) → length (filter b xs) ≤ length (filter a xs) + length (filter (λ x. not (a x)) (filter b xs))
@@ -98,8 +100,10 @@ never_more_than_beds terms orders d old days new h valid fit are lt =
     let all = throughout (λ s t. NoMoreThan test n s → NoMoreThan test n t) (NoMoreThan test n) (λ s t step few. step few) old xs new walk (omega arith) in
     All-from_recursion (FitsBedsOf old h) xs all.moments
 
-pub never_more_than_seats : NeverMoreThanSeats
-never_more_than_seats terms orders d old days new p valid called fit are lt no_limit =
+pub seats_throughout : (terms : Option Terms) (orders : List CallOrder) (d : ℕ) (old : State) (days : List DayRecord) (new : State) (p : ℕ) → IsValid old.dossier
+    → AreCallOrders old.dossier.groups orders → AreTermsFor old.dossier terms → Days terms orders d old days new → limit_of old.dossier p ≡ 0
+    → HoldsThroughout (FitsSeatsOf old p) (moments terms orders old days) new
+seats_throughout terms orders d old days new p valid called fit are no_limit =
     let test : Wish → Bool = λ w. nat_eq w.programme p in
     let n = max (seats_of old.dossier p) (length (seat_holders old p)) in
     let fits : OffersFit orders test n old.dossier = λ s day bars stamp of greatest few.
@@ -112,5 +116,8 @@ never_more_than_seats terms orders d old days new p valid called fit are lt no_l
     omega (arith, few, taken, split, seats, limit) in
     let xs = moments terms orders old days in
     let walk = plain_steps terms orders (λ s t. NoMoreThan test n s → NoMoreThan test n t) d old days new (room_steps old.dossier terms orders test n fit fits) are in
-    let all = throughout (λ s t. NoMoreThan test n s → NoMoreThan test n t) (NoMoreThan test n) (λ s t step few. step few) old xs new walk (omega arith) in
-    All-from_recursion (FitsSeatsOf old p) xs all.moments
+    throughout (λ s t. NoMoreThan test n s → NoMoreThan test n t) (NoMoreThan test n) (λ s t step few. step few) old xs new walk (omega arith)
+
+pub never_more_than_seats : NeverMoreThanSeats
+never_more_than_seats terms orders d old days new p valid called fit are lt no_limit =
+    All-from_recursion (FitsSeatsOf old p) (moments terms orders old days) (seats_throughout terms orders d old days new p valid called fit are no_limit).moments

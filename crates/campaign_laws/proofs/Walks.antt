@@ -99,7 +99,7 @@ lapse_dossier : (terms : Option Terms) (day : ℕ) (s : State) → (after_lapse 
 lapse_dossier None day s = refl
 lapse_dossier (Some t) day s = refl
 
-morning_dossier : (terms : Option Terms) (day : ℕ) (s : State) → (morning terms day s).dossier ≡ s.dossier
+pub morning_dossier : (terms : Option Terms) (day : ℕ) (s : State) → (morning terms day s).dossier ≡ s.dossier
 morning_dossier terms day s =
     answers_dossier (after_lapse terms day s) (record { day = day; pass = 0 }) (answers_of s.dossier day) ∙ lapse_dossier terms day s
 

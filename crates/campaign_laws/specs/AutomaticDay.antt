@@ -57,3 +57,14 @@ StableMatchingsAreNoWorse =
     → IsStable orders d m
     → IsTrue (has_as_good evening c n)
     → IsTrue (has_as_good m c n)
+
+-- and the evening is such a matching itself
+abbrev pub AutomaticEveningsAreStable : Type 0
+AutomaticEveningsAreStable =
+    (orders : List CallOrder) (d : DossierRows) (days : List DayRecord) (evening : State)
+    → IsValid d
+    → AreCallOrders d.groups orders
+    → IsAllAutomatic d
+    → 0 < length days
+    → Days None orders 1 (first_evening d) days evening
+    → IsStable orders d evening

@@ -272,3 +272,16 @@ StableMatchingsAreNoWorseWitness =
     × IsStable orders d m
     × IsTrue (has_as_good evening c n)
     × IsTrue (has_as_good m c n)
+
+abbrev pub AutomaticEveningsAreStableWitness : Type 0
+AutomaticEveningsAreStableWitness =
+    let orders : List CallOrder = crossed_orders in
+    let d : DossierRows = crossed in
+    let days : List DayRecord = crossed_days in
+    let evening : State = crossed_evening in
+    IsValid d
+    × AreCallOrders d.groups orders
+    × IsAllAutomatic d
+    × (0 < length days)
+    × Days None orders 1 (first_evening d) days evening
+    × IsStable orders d evening

@@ -1,5 +1,5 @@
 //! For each law a worked case that meets all its premises.
-ghost use Rattle.campaign_laws.specs.Witnesses.{AutomaticAnswersClimbWitness, CameByBetterRankWitness, CameFromBeforeWitness, GoesByTheTwoListsWitness, GoneStaysGoneWitness, IsKeptAcceptedWitness, IsKeptOfferedWitness, IsLaterMarkGoneStaysWitness, IsLaterMarkNeverAgainWitness, IsLaterMarkWaitedWitness, NeverDescendsWitness, NeverMoreThanBedsWitness, NeverMoreThanSeatsWitness, NoBedGoesPastBarredWishesWitness, NobodyIsEverPassedOverWitness, NobodyIsPassedOverWithoutBoardingWitness, OffersGoByTheTwoListsWitness, StableMatchingsAreNoWorseWitness, WaitingPlaceNeverWorsensWitness, WhatIsYoursStaysWitness};
+ghost use Rattle.campaign_laws.specs.Witnesses.{AutomaticAnswersClimbWitness, AutomaticEveningsAreStableWitness, CameByBetterRankWitness, CameFromBeforeWitness, GoesByTheTwoListsWitness, GoneStaysGoneWitness, IsKeptAcceptedWitness, IsKeptOfferedWitness, IsLaterMarkGoneStaysWitness, IsLaterMarkNeverAgainWitness, IsLaterMarkWaitedWitness, NeverDescendsWitness, NeverMoreThanBedsWitness, NeverMoreThanSeatsWitness, NoBedGoesPastBarredWishesWitness, NobodyIsEverPassedOverWitness, NobodyIsPassedOverWithoutBoardingWitness, OffersGoByTheTwoListsWitness, StableMatchingsAreNoWorseWitness, WaitingPlaceNeverWorsensWitness, WhatIsYoursStaysWitness};
 
 /// Of the laws of marks.
 pub fn witnesses_of_marks()
@@ -40,7 +40,8 @@ pub fn witnesses_of_room()
     ensures seats { NeverMoreThanSeatsWitness }
 {}
 
-/// Of the law of automatic days.
-pub fn witness_of_automatic_days()
+/// Of the laws of automatic days.
+pub fn witnesses_of_automatic_days()
+    ensures stable { AutomaticEveningsAreStableWitness }
     ensures no_worse { StableMatchingsAreNoWorseWitness }
 {}
