@@ -45,9 +45,9 @@ use Rattle.day_state.proofs.Along.{length-with_marks}
 use Rattle.round.proofs.Members.{among_filtered, distinct_once}
 use Rattle.campaign_laws.specs.AutomaticDay.{IsAllAutomatic, IsMatching, IsStable, NotBothLive, StableMatchingsAreNoWorse, has_as_good}
 use Rattle.campaign_laws.specs.Moments.{Opening, moments, openings}
-use Rattle.campaign_laws.proofs.GoneStays.{live_waits_not, waits_not_gone}
+use Rattle.campaign_laws.proofs.GoneStays.{live_waits_not}
 use Rattle.campaign_laws.proofs.Kept.{least_within, none_least, ranked_live}
-use Rattle.campaign_laws.proofs.OneMark.{proposed_waits}
+use Rattle.campaign_laws.proofs.OneMark.{proposed_open, waiting_not_gone}
 use Rattle.campaign_laws.proofs.Walks.{Nothing, SameDossier, Steps, all_of, both, campaign_steps, same_dossier, throughout}
 
 -- the candidate is live by a wish that they rank below n
@@ -220,11 +220,11 @@ module _ (orders : List CallOrder) (d : DossierRows) (m : State) (valid : IsVali
           | inl below ↦
               let pair = stable.matching.one_each i j e below j_lt in
               let second : get_or (entries m) j e ≡ f = get_or_default (entries m) j e f j_lt ∙ at_j in
-              absurd ((subst (λ (y : Wish × Mark). NotBothLive e y) second (subst (λ (y : Wish × Mark). NotBothLive y (get_or (entries m) j e)) at_i pair)) same e_live f_live)
+              absurd (both_ways (is_live f.1) ((subst (λ (y : Wish × Mark). NotBothLive e y) second (subst (λ (y : Wish × Mark). NotBothLive y (get_or (entries m) j e)) at_i pair)) same e_live) f_live)
           | inr above ↦
               let pair = stable.matching.one_each j i f above i_lt in
               let second : get_or (entries m) i f ≡ e = get_or_default (entries m) i f e i_lt ∙ at_i in
-              absurd ((subst (λ (y : Wish × Mark). NotBothLive f y) second (subst (λ (y : Wish × Mark). NotBothLive y (get_or (entries m) i f)) at_j pair)) (sym same) f_live e_live)
+              absurd (both_ways (is_live e.1) ((subst (λ (y : Wish × Mark). NotBothLive f y) second (subst (λ (y : Wish × Mark). NotBothLive y (get_or (entries m) i f)) at_j pair)) (sym same) f_live) e_live)
         ]
       ]
 
@@ -386,7 +386,7 @@ module _ (orders : List CallOrder) (d : DossierRows) (m : State) (valid : IsVali
           | inr nothing ↦
               let why = refused_there k w at nothing in
               let taken = no_seat_left bars w why in
-              let waits = proposed_waits s orders bars w x offers in
+              let waits = (proposed_open s orders bars w x offers).0 in
               let seat = (and_parts (is_open s bars w x) (needs_no_seat s orders w || nat_lt (ahead s orders bars w) (seats_left s p)) offers).1 in
               elim (or_cases (needs_no_seat s orders w) (nat_lt (ahead s orders bars w) (seats_left s p)) seat) [
                 | inl none_needed ↦ elim (or_cases (holds_seat s c p) (nat_le (position_of s orders w) (limit_of s.dossier p)) none_needed) [
@@ -508,7 +508,7 @@ module _ (orders : List CallOrder) (d : DossierRows) (m : State) (valid : IsVali
   waiting_matched : (w : Wish) (x : Mark) → is_waiting x ≡ true → IsMatched m w x
   waiting_matched w x waits = record {
     live = λ live. absurd (both_ways (is_waiting x) (live_waits_not x.status live) waits);
-    gone = λ gone. absurd (both_ways (is_gone x) (waits_not_gone (is_live x) (is_waiting x) waits) gone);
+    gone = λ gone. absurd (both_ways (is_gone x) (waiting_not_gone (is_live x) (is_waiting x) waits) gone);
   }
 
   all_wait : (ws : List Wish) (sts : List Status) → AllByRecursion (λ (x : Status). is_waiting_status x ≡ true) sts → AllByRecursion (λ (e : Wish × Mark). IsMatched m e.0 e.1) (zip ws (map first_mark sts))

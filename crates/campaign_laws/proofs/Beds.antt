@@ -24,6 +24,7 @@ use Rattle.admit_core.proofs.FilledSeats.{offered_lives}
 use Rattle.admit_core.proofs.Holders.{holds_after, lives_with, marked_by}
 use Rattle.admit_core.proofs.Plain.{waits_open}
 use Rattle.fairness.proofs.PassedOver.{nobody_is_passed_over}
+use Rattle.linked_demand.proofs.Closing.{any_at}
 use Rattle.campaign_laws.specs.Beds.{CameByBetterRank, GoesByTheTwoLists, IsBarredIn, NoBedGoesPastBarredWishes, OffersGoByTheTwoLists, has_bed, ranks_better}
 use Rattle.campaign_laws.specs.Moments.{Opening, moments, openings}
 use Rattle.campaign_laws.specs.PassedOver.{WaitsAt}
@@ -120,11 +121,6 @@ no_bed_goes_past terms orders d old days new w h fit are with_h barred =
     All-from_recursion (CameByBetterRank old h w) xs all.moments
 
 -- ---- the two lists
-any_at : {X : Type 0} (test : X → Bool) (xs : List X) (k : ℕ) (x : X) → slice_get xs k ≡ Some x → test x ≡ true → list_any test xs ≡ true
-any_at test [] k x at t = absurd (cc)
-any_at test (y ∷ ys) zero x at t = or_left (test y) (list_any test ys) (ap test (ap (λ o. unwrap_or o y) at) ∙ t)
-any_at test (y ∷ ys) (suc k) x at t = or_right (test y) (list_any test ys) (any_at test ys k x at t)
-
 -- who is proposed is live in the programme after the offers
 lives_there : (s : State) (orders : List CallOrder) (bars : List ℕ) (stamp : Stamp) (place : ℕ) (y : Wish) (m : Mark) → slice_get (entries s) place ≡ Some (y, m)
     → is_proposed s orders bars y m ≡ true → holds_seat (offered s orders bars stamp) y.candidate y.programme ≡ true

@@ -23,7 +23,7 @@ use Rattle.admit_core.proofs.ByPlaces.{by_places}
 use Rattle.dossier_check.proofs.Valid.{is_valid}
 use Rattle.campaign_laws.specs.AutomaticDay.{IsAllAutomatic, IsStable, NotBothLive}
 use Rattle.campaign_laws.specs.Crossed.{both_first, crossed, crossed_days, crossed_evening, crossed_orders, crossed_rows}
-use Rattle.campaign_laws.specs.Witnesses.{AutomaticEveningsAreStableWitness, StableMatchingsAreNoWorseWitness}
+use Rattle.campaign_laws.specs.Witnesses.{AutomaticEveningsAreStableWitness, IsMatchingRoomWitness, NotBothLiveWitness, StableMatchingsAreNoWorseWitness}
 use Rattle.campaign_laws.proofs.AutomaticDay.{stable_matchings_are_no_worse}
 use Rattle.campaign_laws.proofs.StableEvening.{automatic_evenings_are_stable}
 use Rattle.campaign_laws.proofs.WorkedCampaign.{end_by}
@@ -32,35 +32,35 @@ faultless : first_fault crossed_rows ≡ None
 unfolding first_after
 faultless = refl
 
-number : (n : ℕ) → 1 ≤ n → n ≤ 2000000000 → IsNumber n
-number n low high = record { from_one = low; at_most = high }
+in_range : (n : ℕ) → (1 ≤ n) × (n ≤ 2000000000) → IsNumber n
+in_range n both = record { from_one = both.0; at_most = both.1 }
 
 ranges : AreTables crossed_rows
 ranges = record {
   groups = record {
     size = lit≤ tt;
     each = All-from_recursion IsGroupRow crossed_rows.groups (
-      record { id = number 1 (lit≤ tt) (lit≤ tt); scholar_pct = lit≤ tt; resident_pct = lit≤ tt },
-      (record { id = number 2 (lit≤ tt) (lit≤ tt); scholar_pct = lit≤ tt; resident_pct = lit≤ tt }, tt),
+      record { id = in_range 1 (lit≤ tt, lit≤ tt); scholar_pct = lit≤ tt; resident_pct = lit≤ tt },
+      (record { id = in_range 2 (lit≤ tt, lit≤ tt); scholar_pct = lit≤ tt; resident_pct = lit≤ tt }, tt),
     );
   };
   programmes = record {
     size = lit≤ tt;
     each = All-from_recursion IsProgrammeRow crossed_rows.programmes (
-      record { id = number 10 (lit≤ tt) (lit≤ tt); group = number 1 (lit≤ tt) (lit≤ tt); seats = lit≤ tt; limit = lit≤ tt },
-      (record { id = number 20 (lit≤ tt) (lit≤ tt); group = number 2 (lit≤ tt) (lit≤ tt); seats = lit≤ tt; limit = lit≤ tt }, tt),
+      record { id = in_range 10 (lit≤ tt, lit≤ tt); group = in_range 1 (lit≤ tt, lit≤ tt); seats = lit≤ tt; limit = lit≤ tt },
+      (record { id = in_range 20 (lit≤ tt, lit≤ tt); group = in_range 2 (lit≤ tt, lit≤ tt); seats = lit≤ tt; limit = lit≤ tt }, tt),
     );
   };
   schools = record { size = lit≤ tt; each = All-from_recursion IsSchoolRow [] tt };
   rankings = record {
     size = lit≤ tt;
     each = All-from_recursion IsRankRow crossed_rows.rankings (
-      record { group = number 1 (lit≤ tt) (lit≤ tt); candidate = number 102 (lit≤ tt) (lit≤ tt); rank = number 1 (lit≤ tt) (lit≤ tt) },
+      record { group = in_range 1 (lit≤ tt, lit≤ tt); candidate = in_range 102 (lit≤ tt, lit≤ tt); rank = in_range 1 (lit≤ tt, lit≤ tt) },
       (
-        record { group = number 1 (lit≤ tt) (lit≤ tt); candidate = number 101 (lit≤ tt) (lit≤ tt); rank = number 2 (lit≤ tt) (lit≤ tt) },
+        record { group = in_range 1 (lit≤ tt, lit≤ tt); candidate = in_range 101 (lit≤ tt, lit≤ tt); rank = in_range 2 (lit≤ tt, lit≤ tt) },
         (
-          record { group = number 2 (lit≤ tt) (lit≤ tt); candidate = number 101 (lit≤ tt) (lit≤ tt); rank = number 1 (lit≤ tt) (lit≤ tt) },
-          (record { group = number 2 (lit≤ tt) (lit≤ tt); candidate = number 102 (lit≤ tt) (lit≤ tt); rank = number 2 (lit≤ tt) (lit≤ tt) }, tt),
+          record { group = in_range 2 (lit≤ tt, lit≤ tt); candidate = in_range 101 (lit≤ tt, lit≤ tt); rank = in_range 1 (lit≤ tt, lit≤ tt) },
+          (record { group = in_range 2 (lit≤ tt, lit≤ tt); candidate = in_range 102 (lit≤ tt, lit≤ tt); rank = in_range 2 (lit≤ tt, lit≤ tt) }, tt),
         ),
       ),
     );
@@ -69,12 +69,12 @@ ranges = record {
   wishes = record {
     size = lit≤ tt;
     each = All-from_recursion IsWishRow crossed_rows.wishes (
-      own 1 102 20 1 (number 1 (lit≤ tt) (lit≤ tt)) (number 102 (lit≤ tt) (lit≤ tt)) (number 20 (lit≤ tt) (lit≤ tt)) (lit≤ tt),
+      own 1 102 20 1 (in_range 1 (lit≤ tt, lit≤ tt)) (in_range 102 (lit≤ tt, lit≤ tt)) (in_range 20 (lit≤ tt, lit≤ tt)) (lit≤ tt),
       (
-        own 2 101 10 1 (number 2 (lit≤ tt) (lit≤ tt)) (number 101 (lit≤ tt) (lit≤ tt)) (number 10 (lit≤ tt) (lit≤ tt)) (lit≤ tt),
+        own 2 101 10 1 (in_range 2 (lit≤ tt, lit≤ tt)) (in_range 101 (lit≤ tt, lit≤ tt)) (in_range 10 (lit≤ tt, lit≤ tt)) (lit≤ tt),
         (
-          own 3 102 10 2 (number 3 (lit≤ tt) (lit≤ tt)) (number 102 (lit≤ tt) (lit≤ tt)) (number 10 (lit≤ tt) (lit≤ tt)) (lit≤ tt),
-          (own 4 101 20 2 (number 4 (lit≤ tt) (lit≤ tt)) (number 101 (lit≤ tt) (lit≤ tt)) (number 20 (lit≤ tt) (lit≤ tt)) (lit≤ tt), tt),
+          own 3 102 10 2 (in_range 3 (lit≤ tt, lit≤ tt)) (in_range 102 (lit≤ tt, lit≤ tt)) (in_range 10 (lit≤ tt, lit≤ tt)) (lit≤ tt),
+          (own 4 101 20 2 (in_range 4 (lit≤ tt, lit≤ tt)) (in_range 101 (lit≤ tt, lit≤ tt)) (in_range 20 (lit≤ tt, lit≤ tt)) (lit≤ tt), tt),
         ),
       ),
     );
@@ -112,7 +112,7 @@ days_hold = (
   record {
     lapsed = refl;
     fits = refl;
-    passes = (end_by _ _ _ _ _ (record { are_falls = tt; settled = refl }) refl refl refl refl, refl, refl);
+    passes = (end_by _ _ _ _ _ _ (record { are_falls = tt; settled = refl }) refl refl refl refl, refl, refl);
     left = refl;
     free = refl;
   },
@@ -129,10 +129,10 @@ apart = apart_of _ _ _ _ refl refl refl
     apart_of : (a b c e : Wish × Mark) → nat_eq a.0.candidate b.0.candidate ≡ false → is_live c.1 ≡ false → is_live e.1 ≡ false → AllPairs NotBothLive (a ∷ b ∷ c ∷ e ∷ [])
     apart_of a b c e other not_c not_e =
         all_after a (b ∷ c ∷ e ∷ [])
-        (λ same live also. both_ways (nat_eq a.0.candidate b.0.candidate) other (eq-eqb a.0.candidate b.0.candidate same),
-          (λ same live also. both_ways (is_live c.1) not_c also, (λ same live also. both_ways (is_live e.1) not_e also, tt)))
-        (all_after b (c ∷ e ∷ []) (λ same live also. both_ways (is_live c.1) not_c also, (λ same live also. both_ways (is_live e.1) not_e also, tt))
-        (all_after c (e ∷ []) (λ same live also. both_ways (is_live e.1) not_e also, tt)
+        (λ same live. absurd (both_ways (nat_eq a.0.candidate b.0.candidate) other (eq-eqb a.0.candidate b.0.candidate same)),
+          (λ same live. not_c, (λ same live. not_e, tt)))
+        (all_after b (c ∷ e ∷ []) (λ same live. not_c, (λ same live. not_e, tt))
+        (all_after c (e ∷ []) (λ same live. not_e, tt)
         (all_after e [] tt (λ i j d below lt. absurd (omega (arith, lt))))))
 
 room : (p : ℕ) → p < length crossed.programmes → length (seat_holders both_first p) ≤ seats_of crossed p
@@ -172,3 +172,9 @@ stable_here = (
   days_hold,
   automatic_evenings_are_stable crossed_orders crossed crossed_days crossed_evening valid called automatic (lit< tt) days_hold,
 )
+
+pub not_both : NotBothLiveWitness
+not_both = (refl, refl, refl)
+
+pub has_room : IsMatchingRoomWitness
+has_room = (lit< tt, lit≤ tt)

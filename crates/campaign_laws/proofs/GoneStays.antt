@@ -21,7 +21,7 @@ use Rattle.admit_core.specs.State.{State, entries, is_gone, is_live, is_live_sta
 use Rattle.admit_core.proofs.Statuses.{changed_status}
 use Rattle.campaign_laws.specs.Moments.{Opening, moments}
 use Rattle.campaign_laws.specs.OneMark.{GoneStaysGone, HasLaterMark, IsLater, IsLaterMark}
-use Rattle.campaign_laws.proofs.OneMark.{IsTouched, KeptOrLapsed, KeptOrOffered, KeptOrTouched, Marks, OfOneWish, TouchedOf, a_lapse, an_answer, automatic_answers, lapsed_touched, marks_imply, of_kind, offers_of_a_pass, proposed_waits}
+use Rattle.campaign_laws.proofs.OneMark.{IsTouched, KeptOrLapsed, KeptOrOffered, KeptOrTouched, Marks, OfOneWish, TouchedOf, a_lapse, an_answer, automatic_answers, lapsed_touched, marks_imply, of_kind, offers_of_a_pass, proposed_open, waiting_not_gone}
 use Rattle.campaign_laws.proofs.Walks.{Nothing, SameDossier, Steps, any_two, both, plain_steps, same_dossier}
 
 differs : {P : Type 0} (b : Bool) → b ≡ false → b ≡ true → P
@@ -59,17 +59,13 @@ later_answered : (c : ℕ) (w : Wish) (m n : Mark) → TouchedOf c w m n → IsL
 later_answered c w m n (inl kept) = later_kept m n kept
 later_answered c w m n (inr own) = later_touched m n own.1
 
-pub waits_not_gone : (a b : Bool) → b ≡ true → not (a || b) ≡ false
-waits_not_gone true b t = refl
-waits_not_gone false b t = rw t refl
-
 later_offered : (s : State) (orders : List CallOrder) (bars : List ℕ) (stamp : Stamp) (w : Wish) (m n : Mark) → KeptOrOffered s orders bars stamp w m n → IsLaterMark m n
 later_offered s orders bars stamp w m n (inl kept) = later_kept m n kept.1
 later_offered s orders bars stamp w m n (inr given) =
-    let waits = proposed_waits s orders bars w m given.0 in
+    let waits = (proposed_open s orders bars w m given.0).0 in
     let waits_not : is_waiting n ≡ false = ap is_waiting given.1 ∙ ap is_waiting_status (changed_status Offered stamp m) in
     record {
-      gone_stays = λ gone. differs (is_gone m) (waits_not_gone (is_live m) (is_waiting m) waits) gone;
+      gone_stays = λ gone. differs (is_gone m) (waiting_not_gone (is_live m) (is_waiting m) waits) gone;
       never_again = λ live. waits_not;
       waited = λ again. differs (is_waiting n) waits_not again;
     }

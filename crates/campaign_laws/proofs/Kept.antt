@@ -31,7 +31,7 @@ use Rattle.admit_core.proofs.Tests.{any_implied}
 use Rattle.campaign_laws.specs.Kept.{AnswersThemself, AutomaticAnswersClimb, IsKept, NeverDescends, WhatIsYoursStays}
 use Rattle.campaign_laws.specs.Moments.{moments, openings}
 use Rattle.campaign_laws.proofs.GoneStays.{terms_long}
-use Rattle.campaign_laws.proofs.OneMark.{KeptOrLapsed, KeptOrOffered, Marks, OfOneWish, TouchedOf, a_lapse, an_answer, marked, marks_imply, of_kind, offers_of_a_pass, proposed_waits}
+use Rattle.campaign_laws.proofs.OneMark.{KeptOrLapsed, KeptOrOffered, Marks, OfOneWish, TouchedOf, a_lapse, an_answer, marked, marks_imply, of_kind, offers_of_a_pass, proposed_open}
 use Rattle.campaign_laws.proofs.Walks.{Nothing, Steps, all_of, any_two, campaign_steps}
 
 -- what is kept from step to step
@@ -67,7 +67,7 @@ by_offer : (terms : Option Terms) (c : ℕ) (s : State) (orders : List CallOrder
     → KeptOrOffered s orders bars stamp w m n → Stays terms c w m n
 by_offer terms c s orders bars stamp w m n (inl kept) own = kept_as_is terms m n kept.1
 by_offer terms c s orders bars stamp w m n (inr given) own =
-    let waits = proposed_waits s orders bars w m given.0 in
+    let waits = (proposed_open s orders bars w m given.0).0 in
     record {
       accepted = λ e. absurd (false≢true (ap is_waiting_status (sym e) ∙ waits));
       offered = λ e. absurd (false≢true (ap is_waiting_status (sym e) ∙ waits));

@@ -7,6 +7,7 @@ pub mod Kept
 pub mod MetHere
 pub mod OneMark
 pub mod PassedOver
+pub mod QuietDays
 pub mod Room
 pub mod Shown
 pub mod StableEvening

@@ -14,16 +14,17 @@ use Rattle.campaign_laws.specs.Beds.{IsBarredIn, IsSameWishOffered}
 use Rattle.campaign_laws.specs.Kept.{AnswersThemself, GivesNoAnswer}
 use Rattle.campaign_laws.specs.Moments.{openings}
 use Rattle.campaign_laws.specs.PassedOver.{IsUnbarred, WaitsAt}
-use Rattle.campaign_laws.specs.Witnesses.{AutomaticAnswersClimbWitness, CameByBetterRankWitness, CameFromBeforeWitness, GoesByTheTwoListsWitness, GoneStaysGoneWitness, IsKeptAcceptedWitness, IsKeptOfferedWitness, IsLaterMarkGoneStaysWitness, IsLaterMarkNeverAgainWitness, IsLaterMarkWaitedWitness, NeverDescendsWitness, NeverMoreThanBedsWitness, NeverMoreThanSeatsWitness, NoBedGoesPastBarredWishesWitness, NobodyIsEverPassedOverWitness, NobodyIsPassedOverWithoutBoardingWitness, OffersGoByTheTwoListsWitness, WaitingPlaceNeverWorsensWitness, WhatIsYoursStaysWitness}
-use Rattle.campaign_laws.specs.WorkedCampaign.{barred_first, before_summer, first_day, first_night, next_day, small_days, small_night, small_orders, summer, summer_days, summer_orders, third_night, thirteenth}
+use Rattle.campaign_laws.specs.Witnesses.{AutomaticAnswersClimbWitness, CameByBetterRankWitness, CameFromBeforeWitness, GoesByTheTwoListsWitness, GoneStaysGoneWitness, IsKeptAcceptedWitness, IsKeptOfferedWitness, IsLaterMarkGoneStaysWitness, IsLaterMarkNeverAgainWitness, IsLaterMarkWaitedWitness, NeverDescendsWitness, NeverMoreThanBedsWitness, NeverMoreThanSeatsWitness, NoBedGoesPastBarredWishesWitness, NobodyIsEverPassedOverWitness, NobodyIsPassedOverWithoutBoardingWitness, OffersGoByTheTwoListsWitness, QuietDaysChangeNothingWitness, WaitingPlaceNeverWorsensWitness, WhatIsYoursStaysWitness}
+use Rattle.campaign_laws.specs.WorkedCampaign.{barred_first, before_summer, first_day, first_night, next_day, small_day, small_days, small_next, small_night, small_orders, summer, summer_days, summer_orders, third_night, thirteenth}
 use Rattle.campaign_laws.proofs.Beds.{no_bed_goes_past, offers_go_by_the_two_lists}
 use Rattle.campaign_laws.proofs.GoneStays.{gone_stays_gone}
 use Rattle.campaign_laws.proofs.Kept.{automatic_answers_climb, what_is_yours_stays}
 use Rattle.campaign_laws.proofs.PassedOver.{nobody_is_ever_passed_over, nobody_is_passed_over_without_boarding, without_school}
+use Rattle.campaign_laws.proofs.QuietDays.{quiet_days_change_nothing}
 use Rattle.campaign_laws.proofs.Room.{never_more_than_beds, never_more_than_seats}
 use Rattle.campaign_laws.proofs.WaitingPlace.{waiting_place_never_worsens}
 use Rattle.campaign_laws.proofs.Walks.{all_of}
-use Rattle.campaign_laws.proofs.WorkedCampaign.{first_alone, small_called, small_holds, summer_holds}
+use Rattle.campaign_laws.proofs.WorkedCampaign.{first_alone, small_called, small_holds, small_next_holds, summer_holds}
 
 fit : AreTermsFor summer next_day
 fit = refl
@@ -150,4 +151,19 @@ seats_here = (
   lit< tt,
   refl,
   never_more_than_seats None small_orders 2 (first_evening small_dossier) small_days small_night 0 small_dossier_holds small_called tt small_holds (lit< tt) refl,
+)
+
+pub quiet_here : QuietDaysChangeNothingWitness
+quiet_here = (
+  small_dossier_holds,
+  small_called,
+  tt,
+  refl,
+  small_holds,
+  small_next_holds,
+  refl,
+  refl,
+  refl,
+  quiet_days_change_nothing None small_orders 2 (first_evening small_dossier) small_day small_next small_night small_night
+      small_dossier_holds small_called tt refl small_holds small_next_holds refl refl refl,
 )

@@ -18,7 +18,7 @@ use Rattle.admit_core.specs.Answers.{after, after_kind, candidate_at, fits, kind
 use Rattle.admit_core.specs.AutoAnswer.{auto_all, auto_mark, auto_status, best_live}
 use Rattle.admit_core.specs.Days.{offered}
 use Rattle.admit_core.specs.Lapses.{is_offered, lapse, lapses}
-use Rattle.admit_core.specs.Proposals.{is_open, is_proposed}
+use Rattle.admit_core.specs.Proposals.{is_barred, is_open, is_proposed}
 use Rattle.admit_core.specs.State.{State, changed_to, entries, is_gone, is_live, is_live_status, is_waiting, is_waiting_status, with_marks}
 use Rattle.admit_core.proofs.Holders.{entries_marked, marked_by}
 use Rattle.admit_core.proofs.Statuses.{changed_status}
@@ -89,7 +89,7 @@ who_at (v ∷ ws) (suc k) w at = who_at ws k w at
 live_not_gone : (m : Mark) → is_live m ≡ true → is_gone m ≡ false
 live_not_gone m live = rw live refl
 
-waiting_not_gone : (a b : Bool) → b ≡ true → not (a || b) ≡ false
+pub waiting_not_gone : (a b : Bool) → b ≡ true → not (a || b) ≡ false
 waiting_not_gone true b t = refl
 waiting_not_gone false b t = rw t refl
 
@@ -245,7 +245,7 @@ offers_of_a_pass s orders bars stamp =
     marked (KeptOrOffered s orders bars stamp) s (λ w m. if is_proposed s orders bars w m then changed_to Offered stamp m else m)
     (λ w m. elim (cases_Bool (is_proposed s orders bars w m)) [ inl given ↦ rw given (inr (refl, refl)) | inr none ↦ rw none (inl (refl, refl)) ])
 
--- who is proposed waits, and an offered mark does not
-pub proposed_waits : (s : State) (orders : List CallOrder) (bars : List ℕ) (w : Wish) (m : Mark) → is_proposed s orders bars w m ≡ true → is_waiting m ≡ true
-proposed_waits s orders bars w m offers =
-    (and_parts (is_waiting m) _ (and_parts (is_open s bars w m) _ offers).0).0
+-- who is proposed waits, and waits behind no bar
+pub proposed_open : (s : State) (orders : List CallOrder) (bars : List ℕ) (w : Wish) (m : Mark) → is_proposed s orders bars w m ≡ true
+    → (is_waiting m ≡ true) × (not (is_barred s bars w m) ≡ true)
+proposed_open s orders bars w m offers = and_parts (is_waiting m) (not (is_barred s bars w m)) (and_parts (is_open s bars w m) _ offers).0

@@ -36,7 +36,7 @@ use Rattle.campaign_laws.proofs.AutomaticDay.{StandsAt, no_limit, prefers, stand
 use Rattle.campaign_laws.proofs.GoneStays.{live_waits_not}
 use Rattle.campaign_laws.proofs.Kept.{none_least, ranked_live}
 use Rattle.campaign_laws.proofs.Room.{seats_throughout}
-use Rattle.campaign_laws.proofs.Walks.{Nothing, Steps, all_of, campaign_steps, morning_dossier, throughout}
+use Rattle.campaign_laws.proofs.Walks.{Nothing, Steps, all_of, campaign_steps, morning_of, throughout}
 
 -- ---- an evening is what automatic answers leave
 record IsAnswered (d : DossierRows) (evening : State) : Type 0 where
@@ -66,12 +66,12 @@ answered_days d orders n old [] evening of some are = absurd (omega (arith, some
 answered_days d orders n old (day ∷ []) evening of some are =
     let dawn = morning None day.day old in
     let answered = answered_passes orders (ceilings_of old.dossier n) day.day 1 dawn day.passes are.0 are.2.passes in
-    subst (IsAnswered d) are.3 (answered_day d dawn are.0 (morning_dossier None day.day old ∙ of) answered)
+    subst (IsAnswered d) are.3 (answered_day d dawn are.0 (morning_of d None day.day old of) answered)
 answered_days d orders n old (day ∷ (next ∷ rest)) evening of some are =
     let dawn = morning None day.day old in
     let answered = answered_passes orders (ceilings_of old.dossier n) day.day 1 dawn day.passes are.0 are.2.passes in
     answered_days d orders (n + 1) are.0 (next ∷ rest) evening
-    (dossier_of_answered d are.0 (answered_day d dawn are.0 (morning_dossier None day.day old ∙ of) answered)) (omega arith) are.3
+    (dossier_of_answered d are.0 (answered_day d dawn are.0 (morning_of d None day.day old of) answered)) (omega arith) are.3
 
 -- ---- then each candidate has at most one live wish
 beside_best : (x : Status) (is_behind : Bool) → is_live_status (auto_status x false is_behind) ≡ false
@@ -142,7 +142,8 @@ module _ (d : DossierRows) (valid : IsValid d) (auto : IsAllAutomatic d) (s : St
       let e_is : get_or (entries (auto_all s stamp)) i x ≡ marked_by answered e = ap (λ (l : List (Wish × Mark)). get_or l i x) are ∙ get_or-map (marked_by answered) es i x x i_lt in
       let f_is : get_or (entries (auto_all s stamp)) j x ≡ marked_by answered f = ap (λ (l : List (Wish × Mark)). get_or l j x) are ∙ get_or-map (marked_by answered) es j x x j_lt in
       let here : NotBothLive (marked_by answered e) (marked_by answered f) =
-      λ same e_live f_live. apart i j e f i_lt j_lt (get_or_default es i e x i_lt) (get_or_default es j f x j_lt) below same e_live f_live in
+      λ same e_live. false_from_ne_true (is_live (answered f.0 f.1)) (λ f_live.
+      apart i j e f i_lt j_lt (get_or_default es i e x i_lt) (get_or_default es j f x j_lt) below same e_live f_live) in
       subst (λ (l : Wish × Mark). NotBothLive l (get_or (entries (auto_all s stamp)) j x)) (sym e_is) (subst (λ (l : Wish × Mark). NotBothLive (marked_by answered e) l) (sym f_is) here)
 
 -- ---- no wish is given up by its candidate

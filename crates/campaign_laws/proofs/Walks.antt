@@ -19,6 +19,7 @@ use Rattle.admit_core.specs.DossierRows.{DossierRows}
 use Rattle.admit_core.specs.Falls.{IsGreatest}
 use Rattle.admit_core.specs.Lapses.{lapse}
 use Rattle.admit_core.specs.State.{State}
+use Rattle.day_state.proofs.Independence.{dossier_after_all}
 use Rattle.campaign_laws.specs.Moments.{Opening, after_each, after_passes, day_moments, day_openings, evening_after, evening_of, moments, openings, pass_openings}
 
 -- from one state to another through these moments
@@ -91,17 +92,13 @@ kind_dossier Quit s target stamp = refl
 answer_dossier : (s : State) (stamp : Stamp) (a : Answer) → (after s stamp a).dossier ≡ s.dossier
 answer_dossier s stamp a = kind_dossier a.kind s a.target stamp
 
-answers_dossier : (s : State) (stamp : Stamp) (answers : List Answer) → (after_all s stamp answers).dossier ≡ s.dossier
-answers_dossier s stamp [] = refl
-answers_dossier s stamp (a ∷ rest) = answers_dossier (after s stamp a) stamp rest ∙ answer_dossier s stamp a
+lapsed_of : (d : DossierRows) (terms : Option Terms) (day : ℕ) (s : State) → s.dossier ≡ d → (after_lapse terms day s).dossier ≡ d
+lapsed_of d None day s of = of
+lapsed_of d (Some t) day s of = of
 
-lapse_dossier : (terms : Option Terms) (day : ℕ) (s : State) → (after_lapse terms day s).dossier ≡ s.dossier
-lapse_dossier None day s = refl
-lapse_dossier (Some t) day s = refl
-
-pub morning_dossier : (terms : Option Terms) (day : ℕ) (s : State) → (morning terms day s).dossier ≡ s.dossier
-morning_dossier terms day s =
-    answers_dossier (after_lapse terms day s) (record { day = day; pass = 0 }) (answers_of s.dossier day) ∙ lapse_dossier terms day s
+pub morning_of : (d : DossierRows) (terms : Option Terms) (day : ℕ) (s : State) → s.dossier ≡ d → (morning terms day s).dossier ≡ d
+morning_of d terms day s of =
+    dossier_after_all (after_lapse terms day s) (record { day = day; pass = 0 }) (answers_of s.dossier day) ∙ lapsed_of d terms day s of
 
 evening_dossier : (orders : List CallOrder) (day k : ℕ) (s : State) (passes : List PassEnd) → (evening_after orders day k s passes).dossier ≡ s.dossier
 evening_dossier orders day k s [] = refl
@@ -197,9 +194,9 @@ module _ (d : DossierRows) (terms : Option Terms) (orders : List CallOrder) (Q :
       let answers = answers_of old.dossier day.day in
       let are_ceilings : ceilings_of old.dossier number ≡ ceilings_of d day.day = rw (of, is_number) refl in
       let own : AllByRecursion A answers = subst (λ (x : DossierRows). AllByRecursion A (answers_of x day.day)) (sym of) may in
-      let first = answer_steps 0 lapsed stamp answers (lapse_dossier terms day.day old ∙ of) is.fits own in
+      let first = answer_steps 0 lapsed stamp answers (lapsed_of d terms day.day old of) is.fits own in
       let last = pass_steps (ceilings_of old.dossier number) day.day 1 (morning terms day.day old) day.passes evening are_ceilings
-      (morning_dossier terms day.day old ∙ of) is.passes all in (
+      (morning_of d terms day.day old of) is.passes all in (
         lapse_step terms day.day old refl of,
         joined R lapsed (after_each lapsed stamp answers) (after_passes orders day.day 1 (morning terms day.day old) day.passes)
             (morning terms day.day old) evening first last,
@@ -217,7 +214,7 @@ module _ (d : DossierRows) (terms : Option Terms) (orders : List CallOrder) (Q :
       evening_is orders (ceilings_of old.dossier number) day.day 1 (morning terms day.day old) day.passes evening is_day.passes in
       let kept : evening.dossier ≡ d =
       ap (λ (s : State). s.dossier) left ∙ evening_dossier orders day.day 1 (morning terms day.day old) day.passes
-      ∙ morning_dossier terms day.day old ∙ of in
+      ∙ morning_of d terms day.day old of in
       let openings_there : AllByRecursion Q (openings terms orders evening days) =
       subst (λ (s : State). AllByRecursion Q (openings terms orders s days)) (sym left) parts.1 in
       let later : Walk R evening (moments terms orders evening days) new = campaign_steps (number + 1) evening days new kept rest openings_there may.1 in

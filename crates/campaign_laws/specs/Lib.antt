@@ -6,6 +6,7 @@ pub mod Moments
 pub mod NotPromised
 pub mod OneMark
 pub mod PassedOver
+pub mod QuietDays
 pub mod Room
 pub mod WaitingPlace
 pub mod Witnesses

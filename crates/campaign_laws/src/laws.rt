@@ -4,6 +4,7 @@ ghost use Rattle.campaign_laws.specs.Beds.{NoBedGoesPastBarredWishes, OffersGoBy
 ghost use Rattle.campaign_laws.specs.Kept.{AutomaticAnswersClimb, WhatIsYoursStays};
 ghost use Rattle.campaign_laws.specs.OneMark.{GoneStaysGone};
 ghost use Rattle.campaign_laws.specs.PassedOver.{NobodyIsEverPassedOver, NobodyIsPassedOverWithoutBoarding};
+ghost use Rattle.campaign_laws.specs.QuietDays.{QuietDaysChangeNothing};
 ghost use Rattle.campaign_laws.specs.Room.{NeverMoreThanBeds, NeverMoreThanSeats};
 ghost use Rattle.campaign_laws.specs.WaitingPlace.{WaitingPlaceNeverWorsens};
 
@@ -49,4 +50,10 @@ pub fn laws_of_room()
 pub fn laws_of_automatic_days()
     ensures stable { AutomaticEveningsAreStable }
     ensures no_worse { StableMatchingsAreNoWorse }
+{}
+
+/// A day on which nobody answers, no offer lapses and no ceiling is new, after another day, has one
+/// pass, offers nothing and leaves the evening as it was.
+pub fn law_of_quiet_days()
+    ensures quiet { QuietDaysChangeNothing }
 {}
