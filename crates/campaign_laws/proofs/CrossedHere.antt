@@ -1,6 +1,6 @@
 -- The two crossed candidates meet all that the law of automatic days asks.
 use Rattle.std.proofs.Common.{ℕ, zero, suc, ◌<◌, ◌≤◌, ◌≡◌, true, false, List, [], ◌∷◌, None, length, lit≤, lit<, arith, nat_eq, refl}
-use Rattle.std.specs.Prelude.{All, AllPairs, IsTrue, ◌||◌}
+use Rattle.std.specs.Prelude.{AllPairs, ◌||◌}
 use Rattle.std.specs.List.{AllByRecursion}
 use Rattle.std.proofs.lemmas.Bool.{both_ways, eq-eqb}
 use Rattle.std.proofs.lemmas.List.Elements.{All-from_recursion}
@@ -14,7 +14,7 @@ use Rattle.admit_core.specs.CallOrder.{AreCallOrders}
 use Rattle.admit_core.specs.Days.{Days, first_evening}
 use Rattle.admit_core.specs.DossierRows.{seats_of}
 use Rattle.admit_core.specs.Faults.{first_after}
-use Rattle.admit_core.specs.Ranges.{AreRows, AreTables, IsAnswerRow, IsBoardRow, IsCeilingRow, IsGroupRow, IsNumber, IsProgrammeRow, IsRankRow, IsSchoolRow, IsStateRow, IsWishRow}
+use Rattle.admit_core.specs.Ranges.{AreTables, IsAnswerRow, IsBoardRow, IsCeilingRow, IsGroupRow, IsNumber, IsProgrammeRow, IsRankRow, IsSchoolRow, IsStateRow, IsWishRow}
 use Rattle.admit_core.specs.Relations.{first_fault}
 use Rattle.admit_core.specs.State.{entries, is_live, is_waiting_status, seat_holders}
 use Rattle.admit_core.specs.WorkedFaults.{wish}
@@ -47,20 +47,58 @@ ranges = record {
   programmes = record {
     size = lit≤ tt;
     each = All-from_recursion IsProgrammeRow crossed_rows.programmes (
-      record { id = in_range 10 (lit≤ tt, lit≤ tt); group = in_range 1 (lit≤ tt, lit≤ tt); seats = lit≤ tt; limit = lit≤ tt },
-      (record { id = in_range 20 (lit≤ tt, lit≤ tt); group = in_range 2 (lit≤ tt, lit≤ tt); seats = lit≤ tt; limit = lit≤ tt }, tt),
+      record {
+        id = in_range 10 (lit≤ tt, lit≤ tt);
+        group = in_range 1 (lit≤ tt, lit≤ tt);
+        seats = lit≤ tt;
+        limit =
+            lit≤ tt;
+      },
+      (
+        record {
+          id = in_range 20 (lit≤ tt, lit≤ tt);
+          group = in_range 2 (lit≤ tt, lit≤ tt);
+          seats = lit≤ tt;
+          limit =
+              lit≤ tt;
+        },
+        tt,
+      ),
     );
   };
   schools = record { size = lit≤ tt; each = All-from_recursion IsSchoolRow [] tt };
   rankings = record {
     size = lit≤ tt;
     each = All-from_recursion IsRankRow crossed_rows.rankings (
-      record { group = in_range 1 (lit≤ tt, lit≤ tt); candidate = in_range 102 (lit≤ tt, lit≤ tt); rank = in_range 1 (lit≤ tt, lit≤ tt) },
+      record {
+        group = in_range 1 (lit≤ tt, lit≤ tt);
+        candidate = in_range 102 (lit≤ tt, lit≤ tt);
+        rank =
+            in_range 1 (lit≤ tt, lit≤ tt);
+      },
       (
-        record { group = in_range 1 (lit≤ tt, lit≤ tt); candidate = in_range 101 (lit≤ tt, lit≤ tt); rank = in_range 2 (lit≤ tt, lit≤ tt) },
+        record {
+          group = in_range 1 (lit≤ tt, lit≤ tt);
+          candidate = in_range 101 (lit≤ tt, lit≤ tt);
+          rank =
+              in_range 2 (lit≤ tt, lit≤ tt);
+        },
         (
-          record { group = in_range 2 (lit≤ tt, lit≤ tt); candidate = in_range 101 (lit≤ tt, lit≤ tt); rank = in_range 1 (lit≤ tt, lit≤ tt) },
-          (record { group = in_range 2 (lit≤ tt, lit≤ tt); candidate = in_range 102 (lit≤ tt, lit≤ tt); rank = in_range 2 (lit≤ tt, lit≤ tt) }, tt),
+          record {
+            group = in_range 2 (lit≤ tt, lit≤ tt);
+            candidate = in_range 101 (lit≤ tt, lit≤ tt);
+            rank =
+                in_range 1 (lit≤ tt, lit≤ tt);
+          },
+          (
+            record {
+              group = in_range 2 (lit≤ tt, lit≤ tt);
+              candidate = in_range 102 (lit≤ tt, lit≤ tt);
+              rank =
+                  in_range 2 (lit≤ tt, lit≤ tt);
+            },
+            tt,
+          ),
         ),
       ),
     );
@@ -69,12 +107,19 @@ ranges = record {
   wishes = record {
     size = lit≤ tt;
     each = All-from_recursion IsWishRow crossed_rows.wishes (
-      own 1 102 20 1 (in_range 1 (lit≤ tt, lit≤ tt)) (in_range 102 (lit≤ tt, lit≤ tt)) (in_range 20 (lit≤ tt, lit≤ tt)) (lit≤ tt),
+      own 1 102 20 1 (in_range 1 (lit≤ tt, lit≤ tt)) (in_range 102 (lit≤ tt, lit≤ tt))
+          (in_range 20 (lit≤ tt, lit≤ tt)) (lit≤ tt),
       (
-        own 2 101 10 1 (in_range 2 (lit≤ tt, lit≤ tt)) (in_range 101 (lit≤ tt, lit≤ tt)) (in_range 10 (lit≤ tt, lit≤ tt)) (lit≤ tt),
+        own 2 101 10 1 (in_range 2 (lit≤ tt, lit≤ tt)) (in_range 101 (lit≤ tt, lit≤ tt))
+            (in_range 10 (lit≤ tt, lit≤ tt)) (lit≤ tt),
         (
-          own 3 102 10 2 (in_range 3 (lit≤ tt, lit≤ tt)) (in_range 102 (lit≤ tt, lit≤ tt)) (in_range 10 (lit≤ tt, lit≤ tt)) (lit≤ tt),
-          (own 4 101 20 2 (in_range 4 (lit≤ tt, lit≤ tt)) (in_range 101 (lit≤ tt, lit≤ tt)) (in_range 20 (lit≤ tt, lit≤ tt)) (lit≤ tt), tt),
+          own 3 102 10 2 (in_range 3 (lit≤ tt, lit≤ tt)) (in_range 102 (lit≤ tt, lit≤ tt))
+              (in_range 10 (lit≤ tt, lit≤ tt)) (lit≤ tt),
+          (
+            own 4 101 20 2 (in_range 4 (lit≤ tt, lit≤ tt)) (in_range 101 (lit≤ tt, lit≤ tt))
+                (in_range 20 (lit≤ tt, lit≤ tt)) (lit≤ tt),
+            tt,
+          ),
         ),
       ),
     );
@@ -99,8 +144,10 @@ called = (
 automatic : IsAllAutomatic crossed
 automatic = record {
   schools = All-from_recursion (λ (w : Wish). w.school ≡ None) crossed.wishes (refl, (refl, (refl, (refl, tt))));
-  ranked = All-from_recursion (λ (w : Wish). 0 < w.preference) crossed.wishes (lit< tt, (lit< tt, (lit< tt, (lit< tt, tt))));
-  waiting = All-from_recursion (λ (x : Status). is_waiting_status x ≡ true) crossed.statuses (refl, (refl, (refl, (refl, tt))));
+  ranked = All-from_recursion (λ (w : Wish). 0 < w.preference) crossed.wishes
+      (lit< tt, (lit< tt, (lit< tt, (lit< tt, tt))));
+  waiting = All-from_recursion (λ (x : Status). is_waiting_status x ≡ true) crossed.statuses
+      (refl, (refl, (refl, (refl, tt))));
   no_limits = All-from_recursion (λ (p : Programme). p.limit ≡ 0) crossed.programmes (refl, (refl, tt));
   no_answers = refl;
 }
@@ -120,17 +167,21 @@ days_hold = (
 )
 
 -- in the other matching nobody has two, and no programme more than its one seat
-all_after : (x : Wish × Mark) (xs : List (Wish × Mark)) → AllByRecursion (NotBothLive x) xs → AllPairs NotBothLive xs → AllPairs NotBothLive (x ∷ xs)
+all_after : (x : Wish × Mark) (xs : List (Wish × Mark)) → AllByRecursion (NotBothLive x) xs → AllPairs NotBothLive xs
+    → AllPairs NotBothLive (x ∷ xs)
 all_after x xs each pairs = AllPairs-cons NotBothLive x xs (All-from_recursion (NotBothLive x) xs each) pairs
 
 apart : AllPairs NotBothLive (entries both_first)
 apart = apart_of _ _ _ _ refl refl refl
   where
-    apart_of : (a b c e : Wish × Mark) → nat_eq a.0.candidate b.0.candidate ≡ false → is_live c.1 ≡ false → is_live e.1 ≡ false → AllPairs NotBothLive (a ∷ b ∷ c ∷ e ∷ [])
+    apart_of : (a b c e : Wish × Mark) → nat_eq a.0.candidate b.0.candidate ≡ false → is_live c.1 ≡ false
+        → is_live e.1 ≡ false → AllPairs NotBothLive (a ∷ b ∷ c ∷ e ∷ [])
     apart_of a b c e other not_c not_e =
-        all_after a (b ∷ c ∷ e ∷ [])
-        (λ same live. absurd (both_ways (nat_eq a.0.candidate b.0.candidate) other (eq-eqb a.0.candidate b.0.candidate same)),
-          (λ same live. not_c, (λ same live. not_e, tt)))
+        all_after a (b ∷ c ∷ e ∷ []) (
+          λ same live. absurd
+              (both_ways (nat_eq a.0.candidate b.0.candidate) other (eq-eqb a.0.candidate b.0.candidate same)),
+          (λ same live. not_c, (λ same live. not_e, tt)),
+        )
         (all_after b (c ∷ e ∷ []) (λ same live. not_c, (λ same live. not_e, tt))
         (all_after c (e ∷ []) (λ same live. not_e, tt)
         (all_after e [] tt (λ i j d below lt. absurd (omega (arith, lt))))))
@@ -147,7 +198,8 @@ stable = record {
     marked = refl;
     one_each = apart;
     room = room;
-    given_up = All-from_recursion (λ (x : Mark). (is_live x || is_missed x.status) ≡ true) both_first.marks (refl, (refl, (refl, (refl, tt))));
+    given_up = All-from_recursion (λ (x : Mark). (is_live x || is_missed x.status) ≡ true) both_first.marks
+        (refl, (refl, (refl, (refl, tt))));
   };
   stable = refl;
 }
@@ -160,7 +212,8 @@ no_worse_here = (
   days_hold,
   stable,
   refl,
-  stable_matchings_are_no_worse crossed_orders crossed crossed_days crossed_evening both_first 101 2 valid called automatic days_hold stable refl,
+  stable_matchings_are_no_worse crossed_orders crossed crossed_days crossed_evening both_first 101 2 valid called
+      automatic days_hold stable refl,
 )
 
 pub stable_here : AutomaticEveningsAreStableWitness
@@ -170,7 +223,8 @@ stable_here = (
   automatic,
   lit< tt,
   days_hold,
-  automatic_evenings_are_stable crossed_orders crossed crossed_days crossed_evening valid called automatic (lit< tt) days_hold,
+  automatic_evenings_are_stable crossed_orders crossed crossed_days crossed_evening valid called automatic (lit< tt)
+      days_hold,
 )
 
 pub not_both : NotBothLiveWitness

@@ -2,7 +2,6 @@
 use Rattle.std.proofs.Common.{ℕ, ◌≡◌, List, [], ◌∷◌, None, refl}
 use Rattle.admit_core.specs.declared.ranking.CallOrder.{CallOrder}
 use Rattle.admit_core.specs.declared.records.PassEnd.{PassEnd}
-use Rattle.admit_core.specs.declared.state.Stamp.{Stamp}
 use Rattle.admit_core.specs.Boarding.{boarding}
 use Rattle.admit_core.specs.Days.{Days, IsDay, IsPassEnd, ceilings_of, changes, closing, freed_after, offered}
 use Rattle.admit_core.specs.CallOrder.{AreCallOrders}
@@ -19,8 +18,10 @@ use Rattle.campaign_laws.specs.WorkedCampaign.{before_summer, first_day, first_n
 pub end_by : (s : State) (orders : List CallOrder) (ceilings : List ℕ) (day k : ℕ) (end : PassEnd)
     → IsRun (boarding s orders ceilings) end.pass.falls → end.pass.bars ≡ bars_after ceilings end.pass.falls
     → end.pass.offers ≡ proposed s orders end.pass.bars
-    → end.autos ≡ changes (offered s orders end.pass.bars (record { day = day; pass = k })) (closing s orders end.pass.bars (record { day = day; pass = k }))
-    → end.freed ≡ freed_after s orders end.pass.bars (record { day = day; pass = k }) → IsPassEnd s orders ceilings (record { day = day; pass = k }) end
+    → end.autos ≡ changes (offered s orders end.pass.bars (record { day = day; pass = k }))
+    (closing s orders end.pass.bars (record { day = day; pass = k }))
+    → end.freed ≡ freed_after s orders end.pass.bars (record { day = day; pass = k })
+    → IsPassEnd s orders ceilings (record { day = day; pass = k }) end
 end_by s orders ceilings day k end run bars offers autos freed =
     record { pass = passes_with s orders ceilings end.pass run bars offers; autos = autos; freed = freed }
 
@@ -28,7 +29,12 @@ pub first_holds : IsDay next_day summer_orders (ceilings_of summer 1) before_sum
 first_holds = record {
   lapsed = refl;
   fits = refl;
-  passes = (end_by _ summer_orders (9 ∷ []) _ _ _ (record { are_falls = (refl, refl, tt); settled = refl }) refl refl refl refl, refl, refl);
+  passes = (
+    end_by _ summer_orders (9 ∷ []) _ _ _ (record { are_falls = (refl, refl, tt); settled = refl }) refl refl
+        refl refl,
+    refl,
+    refl,
+  );
   left = refl;
   free = refl;
 }
@@ -37,7 +43,11 @@ pub second_holds : IsDay next_day summer_orders (ceilings_of summer 2) first_nig
 second_holds = record {
   lapsed = refl;
   fits = refl;
-  passes = (end_by _ summer_orders (9 ∷ []) _ _ _ (record { are_falls = tt; settled = refl }) refl refl refl refl, refl, refl);
+  passes = (
+    end_by _ summer_orders (9 ∷ []) _ _ _ (record { are_falls = tt; settled = refl }) refl refl refl refl,
+    refl,
+    refl,
+  );
   left = refl;
   free = refl;
 }
@@ -46,13 +56,18 @@ pub third_holds : IsDay next_day summer_orders (ceilings_of summer 3) second_nig
 third_holds = record {
   lapsed = refl;
   fits = refl;
-  passes = (end_by _ summer_orders (9 ∷ []) _ _ _ (record { are_falls = tt; settled = refl }) refl refl refl refl, refl, refl);
+  passes = (
+    end_by _ summer_orders (9 ∷ []) _ _ _ (record { are_falls = tt; settled = refl }) refl refl refl refl,
+    refl,
+    refl,
+  );
   left = refl;
   free = refl;
 }
 
 pub summer_holds : Days next_day summer_orders 1 before_summer summer_days third_night
-summer_holds = (first_night, refl, first_holds, (second_night, refl, second_holds, (third_night, refl, third_holds, refl)))
+summer_holds =
+    (first_night, refl, first_holds, (second_night, refl, second_holds, (third_night, refl, third_holds, refl)))
 
 pub first_alone : Days next_day summer_orders 1 before_summer (first_day ∷ []) first_night
 first_alone = (first_night, refl, first_holds, refl)
@@ -64,7 +79,11 @@ small_holds = (
   record {
     lapsed = refl;
     fits = refl;
-    passes = (end_by _ small_orders (3 ∷ []) _ _ _ (record { are_falls = tt; settled = refl }) refl refl refl refl, refl, refl);
+    passes = (
+      end_by _ small_orders (3 ∷ []) _ _ _ (record { are_falls = tt; settled = refl }) refl refl refl refl,
+      refl,
+      refl,
+    );
     left = refl;
     free = refl;
   },
@@ -81,7 +100,11 @@ small_next_holds = (
   record {
     lapsed = refl;
     fits = refl;
-    passes = (end_by _ small_orders (3 ∷ []) _ _ _ (record { are_falls = tt; settled = refl }) refl refl refl refl, refl, refl);
+    passes = (
+      end_by _ small_orders (3 ∷ []) _ _ _ (record { are_falls = tt; settled = refl }) refl refl refl refl,
+      refl,
+      refl,
+    );
     left = refl;
     free = refl;
   },
