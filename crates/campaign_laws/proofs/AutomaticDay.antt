@@ -1,14 +1,14 @@
 -- After automatic days every stable matching is no worse for any candidate.
-use Rattle.std.proofs.Common.{ℕ, zero, suc, ◌+◌, ◌-◌, ◌<◌, ◌≤◌, ◌≡◌, ◌≢◌, ◌⊎◌, Bool, true, false, not, ◌&&◌, ◌||◌, cond, filter, List, [], ◌∷◌, ◌++◌, length, map, take, drop, count_by, get_or, Option, Some, None, inl, inr, refl, sym, ◌∙◌, ap, subst, arith, nat_eq, nat_lt, zip}
-use Rattle.std.specs.Prelude.{All, AllPairs, IsTrue, ◌==◌, is_some, if◌then◌else◌, nat_le, option_map, slice_get, slice_index, unwrap_or}
-use Rattle.std.specs.List.{AllByRecursion, AllZip, IsDistinct, before_first, enumerate_from, list_any, position_or_len}
-use Rattle.std.proofs.lemmas.Bool.{and_from, and_parts, and_cases, both_ways, cases_Bool, cases_eq, cases_lt, cases_order, eq-eqb, eqb-true, false≢true, false_from_ne_true, leb-false, leb-true, le-leb, lt-ltb, ltb-false, ltb-true, not_from_false, not-true, or_cases, or_left, or_right, or_parts}
+use Rattle.std.proofs.Common.{ℕ, zero, suc, ◌+◌, ◌<◌, ◌≤◌, ◌≡◌, ◌≢◌, ◌⊎◌, Bool, true, false, not, ◌&&◌, ◌||◌, filter, List, [], ◌∷◌, ◌++◌, length, map, take, drop, get_or, Option, Some, None, inl, inr, refl, sym, ◌∙◌, ap, subst, arith, nat_eq, nat_lt, zip}
+use Rattle.std.specs.Prelude.{All, ◌==◌, is_some, if◌then◌else◌, nat_le, option_map, slice_get, slice_index, unwrap_or}
+use Rattle.std.specs.List.{AllByRecursion, AllZip, before_first, enumerate_from, list_any, position_or_len}
+use Rattle.std.proofs.lemmas.Bool.{and_from, and_parts, and_cases, both_ways, cases_Bool, cases_lt, cases_order, eq-eqb, eqb-true, false≢true, false_from_ne_true, leb-true, le-leb, lt-ltb, ltb-false, ltb-true, not_from_false, or_cases, or_left, or_right, or_parts}
 use Rattle.std.proofs.lemmas.Cmp.{nat_eq_equiv}
 use Rattle.std.proofs.lemmas.List.{drop_all, drop_more, get_or_default, length-append, length-map, length-take-le, take-append-drop}
 use Rattle.std.proofs.lemmas.List.Elements.{All-from_recursion, All-head, All-map, All-same, All-tail, recursion_from_All}
 use Rattle.std.proofs.lemmas.List.Folds.{Any-from_list_any, list_any-append, list_any_at}
 use Rattle.std.proofs.lemmas.List.Sums.{length-filter, passes_at_first, prefix_len-le-length}
-use Rattle.std.proofs.lemmas.Map.Made.{length-le_from_is_member, is_member-filter}
+use Rattle.std.proofs.lemmas.Map.Made.{length-le_from_is_member}
 use Rattle.std.proofs.lemmas.Slice.Zip.{get_or-zip, length-zip}
 use Rattle.admit_core.specs.declared.dossier.Answer.{Answer}
 use Rattle.admit_core.specs.declared.dossier.Programme.{Programme}
@@ -17,20 +17,19 @@ use Rattle.admit_core.specs.declared.ranking.CallOrder.{CallOrder}
 use Rattle.admit_core.specs.declared.ranking.RankGroup.{RankGroup}
 use Rattle.admit_core.specs.declared.ranking.Ranked.{Ranked}
 use Rattle.admit_core.specs.declared.records.DayRecord.{DayRecord}
-use Rattle.admit_core.specs.declared.records.Terms.{Terms}
 use Rattle.admit_core.specs.declared.state.Mark.{Mark}
 use Rattle.admit_core.specs.declared.state.Stamp.{Stamp}
 use Rattle.admit_core.specs.declared.state.Status.{Status}
 use Rattle.admit_core.specs.declared.state.Status.TheVariants.{Waiting, Offered, Accepted, Refused, Withdrawn, Quit, AutoRefused, AutoWithdrawn, Lapsed}
 use Rattle.admit_core.specs.AutoAnswer.{auto_all, auto_mark, auto_status, best_live}
-use Rattle.admit_core.specs.Blocking.{behind, blocking, envied, has_better, has_envy, is_blocking, is_missed, lacks_school, last_of, wants_more}
+use Rattle.admit_core.specs.Blocking.{behind, envied, has_better, has_envy, is_blocking, is_missed, lacks_school, last_of, wants_more}
 use Rattle.admit_core.specs.CallOrder.{AreCallOrders, IsCallOrder}
 use Rattle.admit_core.specs.Days.{Days, answers_of, first_evening, first_mark, offered}
 use Rattle.admit_core.specs.DossierRows.{DossierRows, candidates_of, group_of, limit_of, ranking_of, seats_of}
-use Rattle.admit_core.specs.Lists.{is_among, least_by}
+use Rattle.admit_core.specs.Lists.{is_among}
 use Rattle.admit_core.specs.Proposals.{ahead, before, has_open_wish, is_behind_bar, is_open, is_open_in, is_proposed, needs_no_seat, order_of, position_of, wants_seat}
 use Rattle.admit_core.specs.State.{State, changed_to, entries, holds_seat, is_gone, is_live, is_live_status, is_waiting, is_waiting_status, seat_holders, seats_left}
-use Rattle.admit_core.specs.Validity.{IsApart, IsRanking, IsValid, IsValidGroup}
+use Rattle.admit_core.specs.Validity.{IsApart, IsValid, IsValidGroup}
 use Rattle.admit_core.proofs.ClosedEvenings.{among_filter}
 use Rattle.admit_core.proofs.Counting.{distinct_kept}
 use Rattle.admit_core.proofs.Evenings.{entry_wish}
@@ -43,16 +42,17 @@ use Rattle.admit_core.proofs.Statuses.{changed_status, status_of_auto}
 use Rattle.admit_core.proofs.Tests.{any_implied}
 use Rattle.day_state.proofs.Along.{length-with_marks}
 use Rattle.round.proofs.Members.{among_filtered, distinct_once}
-use Rattle.campaign_laws.specs.AutomaticDay.{IsAllAutomatic, IsMatching, IsStable, NotBothLive, StableMatchingsAreNoWorse, has_as_good}
-use Rattle.campaign_laws.specs.Moments.{Opening, moments, openings}
-use Rattle.campaign_laws.proofs.GoneStays.{live_waits_not, waits_not_gone}
-use Rattle.campaign_laws.proofs.Kept.{least_within, none_least, ranked_live}
-use Rattle.campaign_laws.proofs.OneMark.{proposed_waits}
-use Rattle.campaign_laws.proofs.Walks.{Nothing, SameDossier, Steps, all_of, both, campaign_steps, same_dossier, throughout}
+use Rattle.campaign_laws.specs.AutomaticDay.{IsAllAutomatic, IsStable, NotBothLive, StableMatchingsAreNoWorse, has_as_good}
+use Rattle.campaign_laws.specs.Moments.{moments, openings}
+use Rattle.campaign_laws.proofs.GoneStays.{live_waits_not}
+use Rattle.campaign_laws.proofs.Kept.{least_within, ranked_live}
+use Rattle.campaign_laws.proofs.OneMark.{proposed_open, waiting_not_gone}
+use Rattle.campaign_laws.proofs.Walks.{Nothing, Steps, all_of, both, campaign_steps, throughout}
 
 -- the candidate is live by a wish that they rank below n
 abbrev has_better_than : State → ℕ → ℕ → Bool
-has_better_than s c n = list_any (λ (e : Wish × Mark). is_live e.1 && nat_eq e.0.candidate c && nat_lt e.0.preference n) (entries s)
+has_better_than s c n =
+    list_any (λ (e : Wish × Mark). is_live e.1 && nat_eq e.0.candidate c && nat_lt e.0.preference n) (entries s)
 
 -- what is kept of each wish: a live one is matched by one that is no worse, and what is gone by a better one
 record IsMatched (m : State) (w : Wish) (x : Mark) : Type 0 where
@@ -64,7 +64,8 @@ AllMatched m s = All (λ (e : Wish × Mark). IsMatched m e.0 e.1) (entries s)
 
 -- ---- lists
 -- an index of a list that passes
-none_placed : {X : Type 0} (test : X → Bool) (n : ℕ) (xs : List X) → map (λ (x : ℕ × X). x.0) (filter (λ (x : ℕ × X). test x.1) (enumerate_from n xs)) ≡ []
+none_placed : {X : Type 0} (test : X → Bool) (n : ℕ) (xs : List X)
+    → map (λ (x : ℕ × X). x.0) (filter (λ (x : ℕ × X). test x.1) (enumerate_from n xs)) ≡ []
     → (k : ℕ) (d : X) → k < length xs → test (get_or xs k d) ≡ false
 none_placed test n [] none k d lt = absurd (omega (arith, lt))
 none_placed test n (x ∷ xs) none zero d lt =
@@ -82,19 +83,25 @@ nobody_last (x ∷ (y ∷ ys)) none = let rest = nobody_last (y ∷ ys) none in 
 
 -- who stands in a list stands before the first place of c, is c, or stands behind
 around : (c x : ℕ) (xs : List ℕ) → is_among x xs ≡ true
-    → (is_among x (before_first (nat_eq c) xs) ≡ true) ⊎ ((x ≡ c) ⊎ (is_among x (drop (length (before_first (nat_eq c) xs) + 1) xs) ≡ true))
+    → (is_among x
+    (before_first (nat_eq c) xs) ≡ true) ⊎ ((x ≡ c) ⊎ (is_among x
+    (drop (length (before_first (nat_eq c) xs) + 1) xs) ≡ true))
 around c x xs among =
     let i = position_or_len (nat_eq c) xs in
     let le : i ≤ length xs = prefix_len-le-length (λ y. not (nat_eq c y)) xs in
     let long : length (take i xs) ≡ i = length-take-le i xs le in
-    let parts : (is_among x (take i xs) || is_among x (drop i xs)) ≡ true = sym (list_any-append (nat_eq x) (take i xs) (drop i xs)) ∙ ap (is_among x) (take-append-drop i xs) ∙ among in
+    let parts : (is_among x (take i xs) || is_among x (drop i xs)) ≡ true =
+    sym (list_any-append (nat_eq x) (take i xs) (drop i xs)) ∙ ap (is_among x) (take-append-drop i xs) ∙ among in
     elim (or_cases (is_among x (take i xs)) (is_among x (drop i xs)) parts) [
       | inl first ↦ inl first
       | inr rest ↦ elim (cases_lt i (length xs)) [
         | inl lt ↦
-            let here : is_among x (get_or xs i 0 ∷ drop (i + 1) xs) ≡ true = ap (is_among x) (sym (drop_more xs i 0 lt)) ∙ rest in
+            let here : is_among x (get_or xs i 0 ∷ drop (i + 1) xs) ≡ true =
+            ap (is_among x) (sym (drop_more xs i 0 lt)) ∙ rest in
             elim (or_cases (nat_eq x (get_or xs i 0)) (is_among x (drop (i + 1) xs)) here) [
-              | inl same ↦ inr (inl (eqb-true x (get_or xs i 0) same ∙ sym (eqb-true c (get_or xs i 0) (passes_at_first (nat_eq c) xs 0 lt))))
+              | inl same ↦ inr (inl
+                  (eqb-true x (get_or xs i 0) same
+                  ∙ sym (eqb-true c (get_or xs i 0) (passes_at_first (nat_eq c) xs 0 lt))))
               | inr later ↦ inr (inr (rw long later))
             ]
         | inr past ↦ absurd (false≢true (sym (ap (is_among x) (drop_all i xs past)) ∙ rest))
@@ -103,44 +110,55 @@ around c x xs among =
 
 -- ---- the call order of a programme has everyone who is ranked for it
 ranked_called : (gs : List RankGroup) (os : List CallOrder) → All IsValidGroup gs → AllZip IsCallOrder gs os → (g c : ℕ)
-    → is_among c (map (λ (r : Ranked). r.candidate) (unwrap_or (option_map (λ (x : RankGroup). x.list) (slice_get gs g)) [])) ≡ true
+    → is_among c (map (λ (r : Ranked). r.candidate)
+    (unwrap_or (option_map (λ (x : RankGroup). x.list) (slice_get gs g)) [])) ≡ true
     → is_among c (unwrap_or (option_map (λ (o : CallOrder). o.list) (slice_get os g)) []) ≡ true
 ranked_called [] [] valid calls g c t = t
 ranked_called [] (o ∷ os) valid calls g c t = absurd calls
 ranked_called (x ∷ gs) [] valid calls g c t = absurd calls
-ranked_called (x ∷ gs) (o ∷ os) valid calls zero c t = among-order x o (All-head IsValidGroup x gs valid).ranking calls.0 c ∙ t
-ranked_called (x ∷ gs) (o ∷ os) valid calls (suc g) c t = ranked_called gs os (All-tail IsValidGroup x gs valid) calls.1 g c t
+ranked_called (x ∷ gs) (o ∷ os) valid calls zero c t = among-order x o (All-head IsValidGroup x gs valid).ranking
+    calls.0 c ∙ t
+ranked_called (x ∷ gs) (o ∷ os) valid calls (suc g) c t = ranked_called gs os (All-tail IsValidGroup x gs valid)
+    calls.1 g c t
 
 false_ne : (a b : ℕ) → nat_eq a b ≡ false → a ≢ b
 false_ne a b fails same = false≢true (sym fails ∙ eq-eqb a b same)
 
 -- a wish of the dossier, by its place
-record StandsAt (d : DossierRows) (k : ℕ) (w : Wish) : Type 0 where
-  within : k < length d.wishes
-  here : w ≡ get_or d.wishes k w
+pub record StandsAt (d : DossierRows) (k : ℕ) (w : Wish) : Type 0 where
+  pub within : k < length d.wishes
+  pub here : w ≡ get_or d.wishes k w
 
 -- the wish of an entry stands at the entry's place
-stands : (s : State) (d : DossierRows) → s.dossier ≡ d → (k : ℕ) (e : Wish × Mark) → k < length (entries s) → get_or (entries s) k e ≡ e → StandsAt d k e.0
+pub stands : (s : State) (d : DossierRows) → s.dossier ≡ d → (k : ℕ) (e : Wish × Mark) → k < length (entries s)
+    → get_or (entries s) k e ≡ e → StandsAt d k e.0
 stands s d of k e lt at =
     let place = entry_wish s k e lt at in
-    record { within = subst (λ (x : DossierRows). k < length x.wishes) of place.0; here = subst (λ (x : DossierRows). e.0 ≡ get_or x.wishes k e.0) of place.1 }
+    record {
+      within = subst (λ (x : DossierRows). k < length x.wishes) of place.0;
+      here =
+          subst (λ (x : DossierRows). e.0 ≡ get_or x.wishes k e.0) of place.1;
+    }
 
 module _ (d : DossierRows) (valid : IsValid d) (auto : IsAllAutomatic d) where
   no_school : (k : ℕ) (w : Wish) → StandsAt d k w → w.school ≡ None
   no_school k w at = ap (λ (v : Wish). v.school) at.here ∙ auto.schools k w at.within
 
-  prefers : (k : ℕ) (w : Wish) → StandsAt d k w → 0 < w.preference
+  pub prefers : (k : ℕ) (w : Wish) → StandsAt d k w → 0 < w.preference
   prefers k w at = subst (λ (v : Wish). 0 < v.preference) (sym at.here) (auto.ranked k w at.within)
 
-  apart : (j k : ℕ) (v w : Wish) → StandsAt d j v → StandsAt d k w → v.candidate ≡ w.candidate → v.programme ≡ w.programme → j < k → ⊥
+  apart : (j k : ℕ) (v w : Wish) → StandsAt d j v → StandsAt d k w → v.candidate ≡ w.candidate
+      → v.programme ≡ w.programme → j < k → ⊥
   apart j k v w at_v at_w same_c same_p below =
       let both : IsApart (get_or d.wishes j v) (get_or d.wishes k v) = valid.wishes_apart j k v below at_w.within in
       let second : get_or d.wishes k v ≡ w = get_or_default d.wishes k v w at_w.within ∙ sym at_w.here in
-      let are : IsApart v w = subst (λ (u : Wish). IsApart v u) second (subst (λ (u : Wish). IsApart u (get_or d.wishes k v)) (sym at_v.here) both) in
+      let are : IsApart v w = subst (λ (u : Wish). IsApart v u) second
+      (subst (λ (u : Wish). IsApart u (get_or d.wishes k v)) (sym at_v.here) both) in
       are.named same_c same_p (no_school j v at_v ∙ sym (no_school k w at_w))
 
   -- a candidate has one wish of a programme
-  one_wish : (j k : ℕ) (v w : Wish) → StandsAt d j v → StandsAt d k w → v.candidate ≡ w.candidate → v.programme ≡ w.programme → j ≡ k
+  one_wish : (j k : ℕ) (v w : Wish) → StandsAt d j v → StandsAt d k w → v.candidate ≡ w.candidate
+      → v.programme ≡ w.programme → j ≡ k
   one_wish j k v w at_v at_w same_c same_p =
       elim (cases_order j k) [
         | inl same ↦ same
@@ -151,7 +169,8 @@ module _ (d : DossierRows) (valid : IsValid d) (auto : IsAllAutomatic d) where
       ]
 
 -- the mark of a state at a place
-mark_of : (d : DossierRows) (s : State) → s.dossier ≡ d → length s.marks ≡ length d.wishes → (k : ℕ) (w : Wish) → StandsAt d k w
+mark_of : (d : DossierRows) (s : State) → s.dossier ≡ d → length s.marks ≡ length d.wishes → (k : ℕ) (w : Wish)
+    → StandsAt d k w
     → (x : Mark) × (k < length (entries s)) × (get_or (entries s) k (w, x) ≡ (w, x))
 mark_of d s of long k w at =
     let blank : Mark = first_mark Waiting in
@@ -160,11 +179,16 @@ mark_of d s of long k w at =
     let x_lt : k < length s.marks = rw long at.within in
     let x = get_or s.marks k blank in
     let wish : get_or ws k w ≡ w = ap (λ (y : DossierRows). get_or y.wishes k w) of ∙ sym at.here in
-    let mark : get_or s.marks k x ≡ x = get_or_default s.marks k x blank x_lt in
-    (x, omega (arith, length-zip ws s.marks, w_lt, x_lt), get_or-zip ws s.marks k (w, x) w_lt x_lt ∙ ap (λ (v : Wish). (v, get_or s.marks k x)) wish ∙ ap (λ (y : Mark). (w, y)) mark)
+    let mark : get_or s.marks k x ≡ x = get_or_default s.marks k x blank x_lt in (
+      x,
+      omega (arith, length-zip ws s.marks, w_lt, x_lt),
+      get_or-zip ws s.marks k (w, x) w_lt x_lt
+          ∙ ap (λ (v : Wish). (v, get_or s.marks k x)) wish ∙ ap (λ (y : Mark). (w, y)) mark,
+    )
 
 -- without call limits
-no_limit : (ps : List Programme) (p : ℕ) → AllByRecursion (λ (q : Programme). q.limit ≡ 0) ps → slice_index (map (λ (q : Programme). q.limit) ps) p ≡ 0
+pub no_limit : (ps : List Programme) (p : ℕ) → AllByRecursion (λ (q : Programme). q.limit ≡ 0) ps
+    → slice_index (map (λ (q : Programme). q.limit) ps) p ≡ 0
 no_limit [] p all = refl
 no_limit (q ∷ ps) zero all = all.0
 no_limit (q ∷ ps) (suc p) all = no_limit ps p all.1
@@ -191,27 +215,34 @@ gone_by_answer Lapsed is_best is_behind gone = inl refl
 -- what is as good as n is as good as a greater number, and better than one that is greater still
 as_good_as : (m : State) (c k n : ℕ) → k ≤ n → has_as_good m c k ≡ true → has_as_good m c n ≡ true
 as_good_as m c k n le has =
-    any_implied (λ (e : Wish × Mark). is_live e.1 && nat_eq e.0.candidate c && nat_le e.0.preference k) (λ (e : Wish × Mark). is_live e.1 && nat_eq e.0.candidate c && nat_le e.0.preference n)
+    any_implied (λ (e : Wish × Mark). is_live e.1 && nat_eq e.0.candidate c && nat_le e.0.preference k)
+    (λ (e : Wish × Mark). is_live e.1 && nat_eq e.0.candidate c && nat_le e.0.preference n)
     (λ e t.
     let outer = and_parts (is_live e.1 && nat_eq e.0.candidate c) (nat_le e.0.preference k) t in
     let within = leb-true e.0.preference k outer.1 in
-    and_from (is_live e.1 && nat_eq e.0.candidate c) (nat_le e.0.preference n) outer.0 (le-leb e.0.preference n (omega (arith, within, le)))) (entries m) has
+    and_from (is_live e.1 && nat_eq e.0.candidate c) (nat_le e.0.preference n) outer.0
+    (le-leb e.0.preference n (omega (arith, within, le)))) (entries m) has
 
 better_by : (m : State) (c k n : ℕ) → k < n → has_as_good m c k ≡ true → has_better_than m c n ≡ true
 better_by m c k n lt has =
-    any_implied (λ (e : Wish × Mark). is_live e.1 && nat_eq e.0.candidate c && nat_le e.0.preference k) (λ (e : Wish × Mark). is_live e.1 && nat_eq e.0.candidate c && nat_lt e.0.preference n)
+    any_implied (λ (e : Wish × Mark). is_live e.1 && nat_eq e.0.candidate c && nat_le e.0.preference k)
+    (λ (e : Wish × Mark). is_live e.1 && nat_eq e.0.candidate c && nat_lt e.0.preference n)
     (λ e t.
     let outer = and_parts (is_live e.1 && nat_eq e.0.candidate c) (nat_le e.0.preference k) t in
     let within = leb-true e.0.preference k outer.1 in
-    and_from (is_live e.1 && nat_eq e.0.candidate c) (nat_lt e.0.preference n) outer.0 (lt-ltb e.0.preference n (omega (arith, within, lt)))) (entries m) has
+    and_from (is_live e.1 && nat_eq e.0.candidate c) (nat_lt e.0.preference n) outer.0
+    (lt-ltb e.0.preference n (omega (arith, within, lt)))) (entries m) has
 
-module _ (orders : List CallOrder) (d : DossierRows) (m : State) (valid : IsValid d) (called : AreCallOrders d.groups orders) (auto : IsAllAutomatic d) (stable : IsStable orders d m) where
+module _ (orders : List CallOrder) (d : DossierRows) (m : State) (valid : IsValid d)
+    (called : AreCallOrders d.groups orders) (auto : IsAllAutomatic d) (stable : IsStable orders d m) where
   -- the mark of the matching at a place
-  mark_there : (k : ℕ) (w : Wish) → StandsAt d k w → (x : Mark) × (k < length (entries m)) × (get_or (entries m) k (w, x) ≡ (w, x))
+  mark_there : (k : ℕ) (w : Wish) → StandsAt d k w
+      → (x : Mark) × (k < length (entries m)) × (get_or (entries m) k (w, x) ≡ (w, x))
   mark_there k w at = mark_of d m stable.matching.dossier stable.matching.marked k w at
 
   -- in the matching a candidate has no two live wishes
-  only_live : (i j : ℕ) (e f : Wish × Mark) → i < length (entries m) → j < length (entries m) → get_or (entries m) i e ≡ e → get_or (entries m) j f ≡ f
+  only_live : (i j : ℕ) (e f : Wish × Mark) → i < length (entries m) → j < length (entries m)
+      → get_or (entries m) i e ≡ e → get_or (entries m) j f ≡ f
       → e.0.candidate ≡ f.0.candidate → is_live e.1 ≡ true → is_live f.1 ≡ true → i ≡ j
   only_live i j e f i_lt j_lt at_i at_j same e_live f_live =
       elim (cases_order i j) [
@@ -220,53 +251,79 @@ module _ (orders : List CallOrder) (d : DossierRows) (m : State) (valid : IsVali
           | inl below ↦
               let pair = stable.matching.one_each i j e below j_lt in
               let second : get_or (entries m) j e ≡ f = get_or_default (entries m) j e f j_lt ∙ at_j in
-              absurd ((subst (λ (y : Wish × Mark). NotBothLive e y) second (subst (λ (y : Wish × Mark). NotBothLive y (get_or (entries m) j e)) at_i pair)) same e_live f_live)
+              absurd (both_ways (is_live f.1)
+              ((subst (λ (y : Wish × Mark). NotBothLive e y) second
+              (subst (λ (y : Wish × Mark). NotBothLive y (get_or (entries m) j e)) at_i pair)) same e_live) f_live)
           | inr above ↦
               let pair = stable.matching.one_each j i f above i_lt in
               let second : get_or (entries m) i f ≡ e = get_or_default (entries m) i f e i_lt ∙ at_i in
-              absurd ((subst (λ (y : Wish × Mark). NotBothLive f y) second (subst (λ (y : Wish × Mark). NotBothLive y (get_or (entries m) i f)) at_j pair)) (sym same) f_live e_live)
+              absurd (both_ways (is_live e.1)
+              ((subst (λ (y : Wish × Mark). NotBothLive f y) second
+              (subst (λ (y : Wish × Mark). NotBothLive y (get_or (entries m) i f)) at_j pair)) (sym same) f_live)
+              e_live)
         ]
       ]
 
-  -- a wish whose candidate the matching gives nothing as good does not block it: its programme is full, and nobody behind them is live there
+  -- a wish whose candidate the matching gives nothing as good does not block it: its programme is
+  -- full, and nobody behind them is live there
   record IsRefusedThere (w : Wish) : Type 0 where
     not_live : holds_seat m w.candidate w.programme ≡ false
     full : seats_of d w.programme ≤ length (seat_holders m w.programme)
     nobody_behind : (x : ℕ) → is_among x (behind m orders w) ≡ true → holds_seat m x w.programme ≡ true → ⊥
 
-  refused_there : (k : ℕ) (w : Wish) → StandsAt d k w → has_as_good m w.candidate w.preference ≡ false → IsRefusedThere w
+  refused_there : (k : ℕ) (w : Wish) → StandsAt d k w → has_as_good m w.candidate w.preference ≡ false
+      → IsRefusedThere w
   refused_there k w at nothing =
       let c = w.candidate in
       let p = w.programme in
       let (x, lt, here) = mark_there k w at in
-      let as_good : Wish × Mark → Bool = λ e. is_live e.1 && nat_eq e.0.candidate c && nat_le e.0.preference w.preference in
+      let as_good : Wish × Mark → Bool = λ e. is_live e.1 && nat_eq e.0.candidate c && nat_le e.0.preference
+      w.preference in
       let not_live : is_live x ≡ false = false_from_ne_true (is_live x) (λ live.
-      let passes : as_good (w, x) ≡ true = and_from (is_live x && nat_eq c c) (nat_le w.preference w.preference) (and_from (is_live x) (nat_eq c c) live (eq-eqb c c refl)) (le-leb w.preference w.preference (omega arith)) in
-      both_ways (has_as_good m c w.preference) nothing (list_any_at as_good (entries m) k (w, x) lt (rw here passes))) in
-      let x_at : x ≡ get_or m.marks k x = sym (ap (λ (e : Wish × Mark). e.1) (sym (get_or-zip m.dossier.wishes m.marks k (w, x) (rw stable.matching.dossier at.within) (rw stable.matching.marked at.within)) ∙ here)) in
-      let given : (is_live x || is_missed x.status) ≡ true = subst (λ (y : Mark). (is_live y || is_missed y.status) ≡ true) (sym x_at) (stable.matching.given_up k x (rw stable.matching.marked at.within)) in
+      let passes : as_good (w, x) ≡ true = and_from (is_live x && nat_eq c c) (nat_le w.preference w.preference)
+      (and_from (is_live x) (nat_eq c c) live (eq-eqb c c refl)) (le-leb w.preference w.preference (omega arith)) in
+      both_ways (has_as_good m c w.preference) nothing
+      (list_any_at as_good (entries m) k (w, x) lt (rw here passes))) in
+      let x_at : x ≡ get_or m.marks k x =
+      sym (ap (λ (e : Wish × Mark). e.1)
+      (sym (get_or-zip m.dossier.wishes m.marks k (w, x) (rw stable.matching.dossier at.within)
+      (rw stable.matching.marked at.within)) ∙ here)) in
+      let given : (is_live x || is_missed x.status) ≡ true = subst
+      (λ (y : Mark). (is_live y || is_missed y.status) ≡ true) (sym x_at)
+      (stable.matching.given_up k x (rw stable.matching.marked at.within)) in
       let missed : is_missed x.status ≡ true = rw not_live at given in
       let no_seat : holds_seat m c p ≡ false = false_from_ne_true (holds_seat m c p) (λ held.
-      let (j, e, j_lt, e_at, lives) = Any-from_list_any (λ (e : Wish × Mark). is_live e.1 && nat_eq e.0.candidate c && nat_eq e.0.programme p) (entries m) held in
+      let (j, e, j_lt, e_at, lives) =
+      Any-from_list_any (λ (e : Wish × Mark). is_live e.1 && nat_eq e.0.candidate c && nat_eq e.0.programme p)
+      (entries m) held in
       let outer = and_parts (is_live e.1 && nat_eq e.0.candidate c) (nat_eq e.0.programme p) lives in
       let inner = and_parts (is_live e.1) (nat_eq e.0.candidate c) outer.0 in
-      let same = one_wish d valid auto j k e.0 w (stands m d stable.matching.dossier j e j_lt e_at) at (eqb-true e.0.candidate c inner.1) (eqb-true e.0.programme p outer.1) in
-      let is : e ≡ (w, x) = sym e_at ∙ ap (λ i. get_or (entries m) i e) same ∙ get_or_default (entries m) k e (w, x) lt ∙ here in
+      let same = one_wish d valid auto j k e.0 w
+      (stands m d stable.matching.dossier j e j_lt e_at) at (eqb-true e.0.candidate c inner.1)
+      (eqb-true e.0.programme p outer.1) in
+      let is : e ≡ (w, x) = sym e_at ∙ ap (λ i. get_or (entries m) i e) same
+      ∙ get_or_default (entries m) k e (w, x) lt ∙ here in
       both_ways (is_live x) not_live (ap (λ (y : Wish × Mark). is_live y.1) (sym is) ∙ inner.0)) in
       let none_better : has_better m w ≡ false = false_from_ne_true (has_better m w) (λ has.
-      both_ways (has_as_good m c w.preference) nothing (any_implied (λ (e : Wish × Mark). is_live e.1 && nat_eq e.0.candidate c && nat_lt e.0.preference w.preference) as_good
+      both_ways (has_as_good m c w.preference) nothing
+      (any_implied (λ (e : Wish × Mark). is_live e.1 && nat_eq e.0.candidate c && nat_lt e.0.preference
+      w.preference) as_good
       (λ e t.
       let outer = and_parts (is_live e.1 && nat_eq e.0.candidate c) (nat_lt e.0.preference w.preference) t in
       let lt_there = ltb-true e.0.preference w.preference outer.1 in
-      and_from (is_live e.1 && nat_eq e.0.candidate c) (nat_le e.0.preference w.preference) outer.0 (le-leb e.0.preference w.preference (omega (arith, lt_there)))) (entries m) has)) in
+      and_from (is_live e.1 && nat_eq e.0.candidate c) (nat_le e.0.preference w.preference) outer.0
+      (le-leb e.0.preference w.preference (omega (arith, lt_there)))) (entries m) has)) in
       let lacks : lacks_school w.school ≡ true = rw (no_school d valid auto k w at) refl in
       let ranks : nat_lt 0 w.preference ≡ true = lt-ltb 0 w.preference (prefers d valid auto k w at) in
       let wants : wants_more m w x ≡ true =
-      and_from (lacks_school w.school && nat_lt 0 w.preference && is_missed x.status && not (holds_seat m c p)) (not (has_better m w))
+      and_from (lacks_school w.school && nat_lt 0 w.preference && is_missed x.status && not (holds_seat m c p))
+      (not (has_better m w))
       (and_from (lacks_school w.school && nat_lt 0 w.preference && is_missed x.status) (not (holds_seat m c p))
-      (and_from (lacks_school w.school && nat_lt 0 w.preference) (is_missed x.status) (and_from (lacks_school w.school) (nat_lt 0 w.preference) lacks ranks) missed)
+      (and_from (lacks_school w.school && nat_lt 0 w.preference) (is_missed x.status)
+      (and_from (lacks_school w.school) (nat_lt 0 w.preference) lacks ranks) missed)
       (not_from_false (holds_seat m c p) no_seat)) (not_from_false (has_better m w) none_better) in
-      let blocks_not : is_blocking m orders w x ≡ false = ap (λ (e : Wish × Mark). is_blocking m orders e.0 e.1) (sym here)
+      let blocks_not : is_blocking m orders w x ≡ false = ap (λ (e : Wish × Mark). is_blocking m orders e.0 e.1)
+      (sym here)
       ∙ none_placed (λ (e : Wish × Mark). is_blocking m orders e.0 e.1) 0 (entries m) stable.stable k (w, x) lt in
       let neither : (nat_lt 0 (seats_left m p) || has_envy m orders w) ≡ false =
       elim (and_cases (wants_more m w x) (nat_lt 0 (seats_left m p) || has_envy m orders w) blocks_not) [
@@ -275,12 +332,15 @@ module _ (orders : List CallOrder) (d : DossierRows) (m : State) (valid : IsVali
       ] in
       let parts = or_parts (nat_lt 0 (seats_left m p)) (has_envy m orders w) neither in
       let full = ltb-false 0 (seats_left m p) parts.0 in
-      let seats : seats_of m.dossier p ≡ seats_of d p = ap (λ (y : DossierRows). seats_of y p) stable.matching.dossier in
+      let seats : seats_of m.dossier p ≡ seats_of d p = ap (λ (y : DossierRows). seats_of y p)
+      stable.matching.dossier in
       let none_envied : envied m orders w ≡ [] = nobody_last (envied m orders w) parts.1 in
       record {
         not_live = no_seat;
         full = omega (arith, full, seats);
-        nobody_behind = λ y among held. false≢true (sym (ap (is_among y) none_envied) ∙ among_filter (λ z. holds_seat m z p) y (behind m orders w) among held);
+        nobody_behind =
+            λ y among held. false≢true
+            (sym (ap (is_among y) none_envied) ∙ among_filter (λ z. holds_seat m z p) y (behind m orders w) among held);
       }
 
   -- in a state of the dossier in which all are matched
@@ -289,9 +349,12 @@ module _ (orders : List CallOrder) (d : DossierRows) (m : State) (valid : IsVali
     matched_at k e lt at = subst (λ (f : Wish × Mark). IsMatched m f.0 f.1) at (matched k e lt)
 
     -- who is live in a programme in the matching is live in it here, or wants a seat of it
-    there_or_here : (bars : List ℕ) (p x : ℕ) → holds_seat m x p ≡ true → (holds_seat s x p ≡ true) ⊎ (wants_seat s bars p x ≡ true)
+    there_or_here : (bars : List ℕ) (p x : ℕ) → holds_seat m x p ≡ true
+        → (holds_seat s x p ≡ true) ⊎ (wants_seat s bars p x ≡ true)
     there_or_here bars p x held =
-        let (j, e, j_lt, e_at, lives) = Any-from_list_any (λ (e : Wish × Mark). is_live e.1 && nat_eq e.0.candidate x && nat_eq e.0.programme p) (entries m) held in
+        let (j, e, j_lt, e_at, lives) =
+        Any-from_list_any (λ (e : Wish × Mark). is_live e.1 && nat_eq e.0.candidate x && nat_eq e.0.programme p)
+        (entries m) held in
         let v = e.0 in
         let outer = and_parts (is_live e.1 && nat_eq v.candidate x) (nat_eq v.programme p) lives in
         let inner = and_parts (is_live e.1) (nat_eq v.candidate x) outer.0 in
@@ -300,27 +363,39 @@ module _ (orders : List CallOrder) (d : DossierRows) (m : State) (valid : IsVali
         elim (cases_Bool (is_live y)) [
           | inl live ↦
               let lives_here : (is_live y && nat_eq v.candidate x && nat_eq v.programme p) ≡ true =
-              and_from (is_live y && nat_eq v.candidate x) (nat_eq v.programme p) (and_from (is_live y) (nat_eq v.candidate x) live inner.1) outer.1 in
-              inl (list_any_at (λ (f : Wish × Mark). is_live f.1 && nat_eq f.0.candidate x && nat_eq f.0.programme p) (entries s) j (v, y) lt (rw here lives_here))
+              and_from (is_live y && nat_eq v.candidate x) (nat_eq v.programme p)
+              (and_from (is_live y) (nat_eq v.candidate x) live inner.1) outer.1 in
+              inl (list_any_at (λ (f : Wish × Mark). is_live f.1 && nat_eq f.0.candidate x && nat_eq f.0.programme p)
+              (entries s) j (v, y) lt (rw here lives_here))
           | inr not_live ↦ elim (cases_Bool (is_waiting y)) [
             | inl waits ↦ elim (cases_Bool (holds_seat s x p)) [
               | inl has ↦ inl has
               | inr has_not ↦
                   let unbarred : is_behind_bar s bars v v.school ≡ false = rw (no_school d valid auto j v at) refl in
-                  let opens : is_open s bars v y ≡ true = waits_open (is_waiting y) (is_behind_bar s bars v v.school) waits unbarred in
+                  let opens : is_open s bars v y ≡ true = waits_open (is_waiting y) (is_behind_bar s bars v v.school)
+                  waits unbarred in
                   let open_here : is_open_in s bars p x v y ≡ true =
-                  and_from (is_open s bars v y && nat_eq v.candidate x) (nat_eq v.programme p) (and_from (is_open s bars v y) (nat_eq v.candidate x) opens inner.1) outer.1 in
-                  let some : has_open_wish s bars p x ≡ true = list_any_at (λ (f : Wish × Mark). is_open_in s bars p x f.0 f.1) (entries s) j (v, y) lt (rw here open_here) in
-                  inr (and_from (has_open_wish s bars p x) (not (holds_seat s x p)) some (not_from_false (holds_seat s x p) has_not))
+                  and_from (is_open s bars v y && nat_eq v.candidate x) (nat_eq v.programme p)
+                  (and_from (is_open s bars v y) (nat_eq v.candidate x) opens inner.1) outer.1 in
+                  let some : has_open_wish s bars p x ≡ true =
+                  list_any_at (λ (f : Wish × Mark). is_open_in s bars p x f.0 f.1) (entries s) j (v, y) lt
+                  (rw here open_here) in
+                  inr (and_from (has_open_wish s bars p x) (not (holds_seat s x p)) some
+                  (not_from_false (holds_seat s x p) has_not))
             ]
             | inr waits_not ↦
                 let gone : is_gone y ≡ true = rw (not_live, waits_not) refl in
                 let better = (matched_at j (v, y) lt here).gone gone in
-                let (i, f, i_lt, f_at, is_better) = Any-from_list_any (λ (f : Wish × Mark). is_live f.1 && nat_eq f.0.candidate v.candidate && nat_lt f.0.preference v.preference) (entries m) better in
-                let outer_f = and_parts (is_live f.1 && nat_eq f.0.candidate v.candidate) (nat_lt f.0.preference v.preference) is_better in
+                let (i, f, i_lt, f_at, is_better) = Any-from_list_any
+                (λ (f : Wish × Mark). is_live f.1 && nat_eq f.0.candidate v.candidate && nat_lt f.0.preference
+                v.preference) (entries m) better in
+                let outer_f = and_parts (is_live f.1 && nat_eq f.0.candidate v.candidate)
+                (nat_lt f.0.preference v.preference) is_better in
                 let inner_f = and_parts (is_live f.1) (nat_eq f.0.candidate v.candidate) outer_f.0 in
-                let same = only_live i j f e i_lt j_lt f_at e_at (eqb-true f.0.candidate v.candidate inner_f.1) inner_f.0 inner.0 in
-                let one : f ≡ e = sym f_at ∙ ap (λ z. get_or (entries m) z f) same ∙ get_or_default (entries m) j f e j_lt ∙ e_at in
+                let same = only_live i j f e i_lt j_lt f_at e_at (eqb-true f.0.candidate v.candidate inner_f.1)
+                inner_f.0 inner.0 in
+                let one : f ≡ e = sym f_at ∙ ap (λ z. get_or (entries m) z f) same
+                ∙ get_or_default (entries m) j f e j_lt ∙ e_at in
                 let less = ltb-true f.0.preference v.preference outer_f.1 in
                 let level = ap (λ (g : Wish × Mark). g.0.preference) one in
                 absurd (omega (arith, less, level))
@@ -328,54 +403,71 @@ module _ (orders : List CallOrder) (d : DossierRows) (m : State) (valid : IsVali
         ]
 
     -- whoever is live in the programme of a refused wish stands before its candidate
-    stands_before : (w : Wish) (why : IsRefusedThere w) (x : ℕ) → holds_seat m x w.programme ≡ true → is_among x (before s orders w) ≡ true
+    stands_before : (w : Wish) (why : IsRefusedThere w) (x : ℕ) → holds_seat m x w.programme ≡ true
+        → is_among x (before s orders w) ≡ true
     stands_before w why x held =
         let p = w.programme in
         let c = w.candidate in
-        let (j, e, j_lt, e_at, lives) = Any-from_list_any (λ (e : Wish × Mark). is_live e.1 && nat_eq e.0.candidate x && nat_eq e.0.programme p) (entries m) held in
+        let (j, e, j_lt, e_at, lives) =
+        Any-from_list_any (λ (e : Wish × Mark). is_live e.1 && nat_eq e.0.candidate x && nat_eq e.0.programme p)
+        (entries m) held in
         let v = e.0 in
         let outer = and_parts (is_live e.1 && nat_eq v.candidate x) (nat_eq v.programme p) lives in
         let inner = and_parts (is_live e.1) (nat_eq v.candidate x) outer.0 in
         let at = stands m d stable.matching.dossier j e j_lt e_at in
         let ranked : is_among v.candidate (map (λ (r : Ranked). r.candidate) (ranking_of d v.programme)) ≡ true =
-        subst (λ (u : Wish). is_among u.candidate (map (λ (r : Ranked). r.candidate) (ranking_of d u.programme)) ≡ true) (sym at.here) (valid.wishes j v at.within).ranked in
+        subst (λ (u : Wish). is_among u.candidate
+        (map (λ (r : Ranked). r.candidate) (ranking_of d u.programme)) ≡ true) (sym at.here)
+        (valid.wishes j v at.within).ranked in
         let ranked_x : is_among x (map (λ (r : Ranked). r.candidate) (ranking_of d p)) ≡ true =
-        subst (λ (z : ℕ). is_among z (map (λ (r : Ranked). r.candidate) (ranking_of d p)) ≡ true) (eqb-true v.candidate x inner.1)
-        (subst (λ (q : ℕ). is_among v.candidate (map (λ (r : Ranked). r.candidate) (ranking_of d q)) ≡ true) (eqb-true v.programme p outer.1) ranked) in
-        let called_x : is_among x (order_of d orders p) ≡ true = ranked_called d.groups orders valid.groups called (group_of d p) x ranked_x in
-        let called_m : is_among x (order_of m.dossier orders p) ≡ true = ap (λ (y : DossierRows). is_among x (order_of y orders p)) stable.matching.dossier ∙ called_x in
+        subst (λ (z : ℕ). is_among z (map (λ (r : Ranked). r.candidate) (ranking_of d p)) ≡ true)
+        (eqb-true v.candidate x inner.1)
+        (subst (λ (q : ℕ). is_among v.candidate (map (λ (r : Ranked). r.candidate) (ranking_of d q)) ≡ true)
+        (eqb-true v.programme p outer.1) ranked) in
+        let called_x : is_among x (order_of d orders p) ≡ true =
+        ranked_called d.groups orders valid.groups called (group_of d p) x ranked_x in
+        let called_m : is_among x (order_of m.dossier orders p) ≡ true =
+        ap (λ (y : DossierRows). is_among x (order_of y orders p)) stable.matching.dossier ∙ called_x in
         elim (around c x (order_of m.dossier orders p) called_m) [
           | inl first ↦
-              ap (λ (y : DossierRows). is_among x (before_first (nat_eq c) (order_of y orders p))) (of ∙ sym stable.matching.dossier) ∙ first
+              ap (λ (y : DossierRows). is_among x (before_first (nat_eq c) (order_of y orders p)))
+              (of ∙ sym stable.matching.dossier) ∙ first
           | inr rest ↦ elim rest [
-            | inl same ↦ absurd (both_ways (holds_seat m c p) why.not_live (ap (λ (z : ℕ). holds_seat m z p) (sym same) ∙ held))
+            | inl same ↦ absurd
+                (both_ways (holds_seat m c p) why.not_live (ap (λ (z : ℕ). holds_seat m z p) (sym same) ∙ held))
             | inr later ↦ absurd (why.nobody_behind x later held)
           ]
         ]
 
     -- so the seats are taken up by those who are live and those who stand ahead
-    no_seat_left : (bars : List ℕ) (w : Wish) → IsRefusedThere w → seats_of d w.programme ≤ length (seat_holders s w.programme) + ahead s orders bars w
+    no_seat_left : (bars : List ℕ) (w : Wish) → IsRefusedThere w
+        → seats_of d w.programme ≤ length (seat_holders s w.programme) + ahead s orders bars w
     no_seat_left bars w why =
         let p = w.programme in
         let wants = wants_seat s bars p in
         let those = before s orders w in
         let ys = seat_holders s p ++ filter wants those in
-        let once = distinct_kept (λ c. holds_seat m c p) (candidates_of m.dossier) (distinct_once (map (λ (v : Wish). v.candidate) m.dossier.wishes)) in
+        let once = distinct_kept (λ c. holds_seat m c p) (candidates_of m.dossier)
+        (distinct_once (map (λ (v : Wish). v.candidate) m.dossier.wishes)) in
         let fewer = length-le_from_is_member nat_eq_equiv (seat_holders m p) ys once
         (λ q among.
-        let held : holds_seat m q p ≡ true = (among_filtered (λ c. holds_seat m c p) q (candidates_of m.dossier) among).1 in
+        let held : holds_seat m q p ≡ true =
+        (among_filtered (λ c. holds_seat m c p) q (candidates_of m.dossier) among).1 in
         list_any-append (nat_eq q) (seat_holders s p) (filter wants those)
         ∙ elim (there_or_here bars p q held) [
           | inl here ↦
               or_left (is_among q (seat_holders s p)) (is_among q (filter wants those))
-              (among_filter (λ c. holds_seat s c p) q (candidates_of s.dossier) (holder_has_wish (λ v. nat_eq v.programme p) s q here) here)
+              (among_filter (λ c. holds_seat s c p) q (candidates_of s.dossier)
+              (holder_has_wish (λ v. nat_eq v.programme p) s q here) here)
           | inr wanted ↦
-              or_right (is_among q (seat_holders s p)) (is_among q (filter wants those)) (among_filter wants q those (stands_before w why q held) wanted)
+              or_right (is_among q (seat_holders s p)) (is_among q (filter wants those))
+              (among_filter wants q those (stands_before w why q held) wanted)
         ]) in
         omega (arith, why.full, fewer, length-append (seat_holders s p) (filter wants those), length-filter wants those)
 
     -- hence a proposed wish is matched
-    proposed_matched : (bars : List ℕ) (k : ℕ) (w : Wish) (x : Mark) → k < length (entries s) → get_or (entries s) k (w, x) ≡ (w, x)
+    proposed_matched : (bars : List ℕ) (k : ℕ) (w : Wish) (x : Mark) → k < length (entries s)
+        → get_or (entries s) k (w, x) ≡ (w, x)
         → is_proposed s orders bars w x ≡ true → has_as_good m w.candidate w.preference ≡ true
     proposed_matched bars k w x lt here offers =
         let c = w.candidate in
@@ -386,36 +478,48 @@ module _ (orders : List CallOrder) (d : DossierRows) (m : State) (valid : IsVali
           | inr nothing ↦
               let why = refused_there k w at nothing in
               let taken = no_seat_left bars w why in
-              let waits = proposed_waits s orders bars w x offers in
-              let seat = (and_parts (is_open s bars w x) (needs_no_seat s orders w || nat_lt (ahead s orders bars w) (seats_left s p)) offers).1 in
+              let waits = (proposed_open s orders bars w x offers).0 in
+              let seat = (and_parts (is_open s bars w x)
+              (needs_no_seat s orders w || nat_lt (ahead s orders bars w) (seats_left s p)) offers).1 in
               elim (or_cases (needs_no_seat s orders w) (nat_lt (ahead s orders bars w) (seats_left s p)) seat) [
-                | inl none_needed ↦ elim (or_cases (holds_seat s c p) (nat_le (position_of s orders w) (limit_of s.dossier p)) none_needed) [
-                  | inl held ↦
-                      let (j, e, j_lt, e_at, lives) = Any-from_list_any (λ (e : Wish × Mark). is_live e.1 && nat_eq e.0.candidate c && nat_eq e.0.programme p) (entries s) held in
-                      let outer = and_parts (is_live e.1 && nat_eq e.0.candidate c) (nat_eq e.0.programme p) lives in
-                      let inner = and_parts (is_live e.1) (nat_eq e.0.candidate c) outer.0 in
-                      let same = one_wish d valid auto j k e.0 w (stands s d of j e j_lt e_at) at (eqb-true e.0.candidate c inner.1) (eqb-true e.0.programme p outer.1) in
-                      let one : e ≡ (w, x) = sym e_at ∙ ap (λ z. get_or (entries s) z e) same ∙ get_or_default (entries s) k e (w, x) lt ∙ here in
-                      let live : is_live x ≡ true = ap (λ (y : Wish × Mark). is_live y.1) (sym one) ∙ inner.0 in
-                      absurd (both_ways (is_waiting x) (live_waits_not x.status live) waits)
-                  | inr called_by ↦
-                      let limit : limit_of s.dossier p ≡ 0 = ap (λ (y : DossierRows). limit_of y p) of ∙ no_limit d.programmes p (recursion_from_All (λ (q : Programme). q.limit ≡ 0) d.programmes auto.no_limits) in
-                      absurd (omega (arith, limit, leb-true (position_of s orders w) (limit_of s.dossier p) called_by))
-                ]
+                | inl none_needed ↦
+                    elim (or_cases (holds_seat s c p) (nat_le (position_of s orders w) (limit_of s.dossier p))
+                    none_needed) [
+                      | inl held ↦
+                          let (j, e, j_lt, e_at, lives) = Any-from_list_any
+                          (λ (e : Wish × Mark). is_live e.1 && nat_eq e.0.candidate c && nat_eq e.0.programme p)
+                          (entries s) held in
+                          let outer = and_parts (is_live e.1 && nat_eq e.0.candidate c) (nat_eq e.0.programme p) lives in
+                          let inner = and_parts (is_live e.1) (nat_eq e.0.candidate c) outer.0 in
+                          let same = one_wish d valid auto j k e.0 w
+                          (stands s d of j e j_lt e_at) at (eqb-true e.0.candidate c inner.1)
+                          (eqb-true e.0.programme p outer.1) in
+                          let one : e ≡ (w, x) = sym e_at ∙ ap (λ z. get_or (entries s) z e) same
+                          ∙ get_or_default (entries s) k e (w, x) lt ∙ here in
+                          let live : is_live x ≡ true = ap (λ (y : Wish × Mark). is_live y.1) (sym one) ∙ inner.0 in
+                          absurd (both_ways (is_waiting x) (live_waits_not x.status live) waits)
+                      | inr called_by ↦
+                          let limit : limit_of s.dossier p ≡ 0 = ap (λ (y : DossierRows). limit_of y p) of
+                          ∙ no_limit d.programmes p
+                          (recursion_from_All (λ (q : Programme). q.limit ≡ 0) d.programmes auto.no_limits) in
+                          absurd (omega (arith, limit, leb-true (position_of s orders w) (limit_of s.dossier p) called_by))
+                    ]
                 | inr early ↦
                     let seats : seats_of s.dossier p ≡ seats_of d p = ap (λ (y : DossierRows). seats_of y p) of in
                     absurd (omega (arith, seats, taken, ltb-true (ahead s orders bars w) (seats_left s p) early))
               ]
         ]
 
-    offered_matched : (bars : List ℕ) (stamp : Stamp) (k : ℕ) (e : Wish × Mark) → k < length (entries s) → get_or (entries s) k e ≡ e
+    offered_matched : (bars : List ℕ) (stamp : Stamp) (k : ℕ) (e : Wish × Mark) → k < length (entries s)
+        → get_or (entries s) k e ≡ e
         → IsMatched m e.0 (if is_proposed s orders bars e.0 e.1 then changed_to Offered stamp e.1 else e.1)
     offered_matched bars stamp k e lt at =
         elim (cases_Bool (is_proposed s orders bars e.0 e.1)) [
           | inl offers ↦
               let good = proposed_matched bars k e.0 e.1 lt at offers in
               let status = changed_status Offered stamp e.1 in
-              rw offers (record { live = λ l. good; gone = λ gone. absurd (false≢true (sym (ap gone_status status) ∙ gone)) })
+              rw offers (record
+              { live = λ l. good; gone = λ gone. absurd (false≢true (sym (ap gone_status status) ∙ gone)) })
           | inr none ↦ rw none (matched_at k e lt at)
         ]
 
@@ -424,7 +528,9 @@ module _ (orders : List CallOrder) (d : DossierRows) (m : State) (valid : IsVali
         let P : Wish × Mark → Type 0 = λ e. IsMatched m e.0 e.1 in
         let f : Wish → Mark → Mark = λ v x. if is_proposed s orders bars v x then changed_to Offered stamp x else x in
         All-same P (entries (offered s orders bars stamp)) (map (marked_by f) (entries s)) (entries_marked s f)
-        (All-map P (marked_by f) (entries s) (λ k e lt. offered_matched bars stamp k (get_or (entries s) k e) lt (get_or_default (entries s) k (get_or (entries s) k e) e lt)))
+        (All-map P (marked_by f) (entries s)
+        (λ k e lt. offered_matched bars stamp k (get_or (entries s) k e) lt
+        (get_or_default (entries s) k (get_or (entries s) k e) e lt)))
 
     -- the best live wish of a candidate is matched
     best_matched : (c : ℕ) (b : Wish × Mark) → best_live s c ≡ Some b → has_as_good m c b.0.preference ≡ true
@@ -432,15 +538,18 @@ module _ (orders : List CallOrder) (d : DossierRows) (m : State) (valid : IsVali
         let test = ranked_live c in
         let level = λ (e : Wish × Mark). nat_eq e.0.preference b.0.preference in
         let found : list_any (λ (e : Wish × Mark). test e && level e) (entries s) ≡ true =
-        sym (any-filter level test (entries s)) ∙ least_passes level (λ (e : Wish × Mark). e.0.preference) (filter test (entries s)) b best (eq-eqb b.0.preference b.0.preference refl) in
+        sym (any-filter level test (entries s)) ∙ least_passes level (λ (e : Wish × Mark). e.0.preference)
+        (filter test (entries s)) b best (eq-eqb b.0.preference b.0.preference refl) in
         let (j, e, j_lt, e_at, both) = Any-from_list_any (λ (e : Wish × Mark). test e && level e) (entries s) found in
         let outer = and_parts (test e) (level e) both in
         let inner = and_parts (is_live e.1 && nat_eq e.0.candidate c) (nat_lt 0 e.0.preference) outer.0 in
         let first = and_parts (is_live e.1) (nat_eq e.0.candidate c) inner.0 in
         let good = (matched_at j e j_lt e_at).live first.0 in
-        ap (λ (x : ℕ). has_as_good m x b.0.preference) (sym (eqb-true e.0.candidate c first.1)) ∙ ap (has_as_good m e.0.candidate) (sym (eqb-true e.0.preference b.0.preference outer.1)) ∙ good
+        ap (λ (x : ℕ). has_as_good m x b.0.preference) (sym (eqb-true e.0.candidate c first.1))
+        ∙ ap (has_as_good m e.0.candidate) (sym (eqb-true e.0.preference b.0.preference outer.1)) ∙ good
 
-    answered_matched : (stamp : Stamp) (o : Option (Wish × Mark)) (k : ℕ) (e : Wish × Mark) → k < length (entries s) → get_or (entries s) k e ≡ e
+    answered_matched : (stamp : Stamp) (o : Option (Wish × Mark)) (k : ℕ) (e : Wish × Mark) → k < length (entries s)
+        → get_or (entries s) k e ≡ e
         → best_live s e.0.candidate ≡ o → IsMatched m e.0 (auto_mark stamp o e.0 e.1)
     answered_matched stamp None k e lt at best = matched_at k e lt at
     answered_matched stamp (Some b) k e lt at best =
@@ -452,20 +561,26 @@ module _ (orders : List CallOrder) (d : DossierRows) (m : State) (valid : IsVali
         record {
           live = λ live. now.live (auto_live stamp (Some b) w x live);
           gone = λ gone.
-              elim (gone_by_answer x.status (w.preference == b.0.preference) (nat_lt b.0.preference w.preference) (sym (ap gone_status (status_of_auto stamp b w x)) ∙ gone)) [
+              elim (gone_by_answer x.status (w.preference == b.0.preference) (nat_lt b.0.preference w.preference)
+              (sym (ap gone_status (status_of_auto stamp b w x)) ∙ gone)) [
                 | inl was ↦ now.gone was
                 | inr other ↦ elim other [
                   | inl beside ↦
                       let prefers_some = prefers d valid auto k w (stands s d of k e lt at) in
                       let passes : (ranked_live c e && nat_le w.preference w.preference) ≡ true =
                       and_from (ranked_live c e) (nat_le w.preference w.preference)
-                      (and_from (is_live x && nat_eq c c) (nat_lt 0 w.preference) (and_from (is_live x) (nat_eq c c) beside.0 (eq-eqb c c refl)) (lt-ltb 0 w.preference prefers_some))
+                      (and_from (is_live x && nat_eq c c) (nat_lt 0 w.preference)
+                      (and_from (is_live x) (nat_eq c c) beside.0 (eq-eqb c c refl))
+                      (lt-ltb 0 w.preference prefers_some))
                       (le-leb w.preference w.preference (omega arith)) in
-                      let le = least_within (ranked_live c) (λ (f : Wish × Mark). f.0.preference) w.preference (entries s) b best
-                      (list_any_at (λ (f : Wish × Mark). ranked_live c f && nat_le f.0.preference w.preference) (entries s) k e lt (rw at passes)) in
+                      let le = least_within (ranked_live c) (λ (f : Wish × Mark). f.0.preference) w.preference
+                      (entries s) b best
+                      (list_any_at (λ (f : Wish × Mark). ranked_live c f && nat_le f.0.preference w.preference)
+                      (entries s) k e lt (rw at passes)) in
                       let differ = false_ne w.preference b.0.preference beside.1 in
                       better_by m c b.0.preference w.preference (omega (arith, le, differ)) good
-                  | inr behind_it ↦ better_by m c b.0.preference w.preference (ltb-true b.0.preference w.preference behind_it) good
+                  | inr behind_it ↦ better_by m c b.0.preference w.preference
+                      (ltb-true b.0.preference w.preference behind_it) good
                 ]
               ];
         }
@@ -476,7 +591,8 @@ module _ (orders : List CallOrder) (d : DossierRows) (m : State) (valid : IsVali
         let f : Wish → Mark → Mark = λ v x. auto_mark stamp (best_live s v.candidate) v x in
         All-same P (entries (auto_all s stamp)) (map (marked_by f) (entries s)) (entries_marked s f)
         (All-map P (marked_by f) (entries s)
-        (λ k e lt. let x = get_or (entries s) k e in answered_matched stamp (best_live s x.0.candidate) k x lt (get_or_default (entries s) k x e lt) refl))
+        (λ k e lt. let x = get_or (entries s) k e in answered_matched stamp (best_live s x.0.candidate) k x lt
+        (get_or_default (entries s) k x e lt) refl))
 
   record IsKeptHere (s : State) : Type 0 where
     of : s.dossier ≡ d
@@ -494,13 +610,15 @@ module _ (orders : List CallOrder) (d : DossierRows) (m : State) (valid : IsVali
     offers = λ s day bars stamp of greatest known kept.
         record {
           of = kept.of;
-          long = length-with_marks (λ v x. if is_proposed s orders bars v x then changed_to Offered stamp x else x) s (kept.long ∙ ap (λ (y : DossierRows). length y.wishes) (sym kept.of)) ∙ kept.long;
+          long = length-with_marks (λ v x. if is_proposed s orders bars v x then changed_to Offered stamp x else x) s
+              (kept.long ∙ ap (λ (y : DossierRows). length y.wishes) (sym kept.of)) ∙ kept.long;
           matched = offers_keep s kept.of kept.long kept.matched bars stamp;
         };
     autos = λ s stamp of kept.
         record {
           of = kept.of;
-          long = length-with_marks (λ v x. auto_mark stamp (best_live s v.candidate) v x) s (kept.long ∙ ap (λ (y : DossierRows). length y.wishes) (sym kept.of)) ∙ kept.long;
+          long = length-with_marks (λ v x. auto_mark stamp (best_live s v.candidate) v x) s
+              (kept.long ∙ ap (λ (y : DossierRows). length y.wishes) (sym kept.of)) ∙ kept.long;
           matched = answers_keep s kept.of kept.long kept.matched stamp;
         };
   }
@@ -508,10 +626,11 @@ module _ (orders : List CallOrder) (d : DossierRows) (m : State) (valid : IsVali
   waiting_matched : (w : Wish) (x : Mark) → is_waiting x ≡ true → IsMatched m w x
   waiting_matched w x waits = record {
     live = λ live. absurd (both_ways (is_waiting x) (live_waits_not x.status live) waits);
-    gone = λ gone. absurd (both_ways (is_gone x) (waits_not_gone (is_live x) (is_waiting x) waits) gone);
+    gone = λ gone. absurd (both_ways (is_gone x) (waiting_not_gone (is_live x) (is_waiting x) waits) gone);
   }
 
-  all_wait : (ws : List Wish) (sts : List Status) → AllByRecursion (λ (x : Status). is_waiting_status x ≡ true) sts → AllByRecursion (λ (e : Wish × Mark). IsMatched m e.0 e.1) (zip ws (map first_mark sts))
+  all_wait : (ws : List Wish) (sts : List Status) → AllByRecursion (λ (x : Status). is_waiting_status x ≡ true) sts
+      → AllByRecursion (λ (e : Wish × Mark). IsMatched m e.0 e.1) (zip ws (map first_mark sts))
   all_wait [] sts all = tt
   all_wait (w ∷ ws) [] all = tt
   all_wait (w ∷ ws) (x ∷ sts) all = (waiting_matched w (first_mark x) all.0, all_wait ws sts all.1)
@@ -520,25 +639,38 @@ module _ (orders : List CallOrder) (d : DossierRows) (m : State) (valid : IsVali
   at_first = record {
     of = refl;
     long = length-map d.statuses first_mark ∙ valid.one_status_each;
-    matched = All-from_recursion (λ (e : Wish × Mark). IsMatched m e.0 e.1) (entries (first_evening d)) (all_wait d.wishes d.statuses (recursion_from_All (λ (x : Status). is_waiting_status x ≡ true) d.statuses auto.waiting));
+    matched = All-from_recursion (λ (e : Wish × Mark). IsMatched m e.0 e.1) (entries (first_evening d))
+        (all_wait d.wishes d.statuses
+        (recursion_from_All (λ (x : Status). is_waiting_status x ≡ true) d.statuses auto.waiting));
   }
 
-  no_answers : (days : List DayRecord) → AllByRecursion (λ (day : DayRecord). AllByRecursion Never (answers_of d day.day)) days
+  no_answers : (days : List DayRecord)
+      → AllByRecursion (λ (day : DayRecord). AllByRecursion Never (answers_of d day.day)) days
   no_answers [] = tt
-  no_answers (day ∷ days) = (subst (λ (answers : List Answer). AllByRecursion Never (filter (λ (a : Answer). nat_eq a.day day.day) answers)) (sym auto.no_answers) tt, no_answers days)
+  no_answers (day ∷ days) = (
+    subst (λ (answers : List Answer). AllByRecursion Never (filter (λ (a : Answer). nat_eq a.day day.day) answers))
+        (sym auto.no_answers) tt,
+    no_answers days,
+  )
 
-  kept_at_last : (days : List DayRecord) (evening : State) → Days None orders 1 (first_evening d) days evening → IsKeptHere evening
+  kept_at_last : (days : List DayRecord) (evening : State) → Days None orders 1 (first_evening d) days evening
+      → IsKeptHere evening
   kept_at_last days evening are =
-      let walk = campaign_steps d None orders Nothing Never (λ s t. IsKeptHere s → IsKeptHere t) matched_steps 1 (first_evening d) days evening refl are
+      let walk = campaign_steps d None orders Nothing Never (λ s t. IsKeptHere s → IsKeptHere t) matched_steps 1
+      (first_evening d) days evening refl are
       (all_of Nothing (λ o. tt) (openings None orders (first_evening d) days)) (no_answers days) in
-      (throughout (λ s t. IsKeptHere s → IsKeptHere t) IsKeptHere (λ s t step kept. step kept) (first_evening d) (moments None orders (first_evening d) days) evening walk at_first).end
+      (throughout (λ s t. IsKeptHere s → IsKeptHere t) IsKeptHere (λ s t step kept. step kept) (first_evening d)
+      (moments None orders (first_evening d) days) evening walk at_first).end
 
 pub stable_matchings_are_no_worse : StableMatchingsAreNoWorse
 stable_matchings_are_no_worse orders d days evening m c n valid called auto are stable has =
     let kept = kept_at_last orders d m valid called auto stable days evening are in
-    let (k, e, lt, at, passes) = Any-from_list_any (λ (e : Wish × Mark). is_live e.1 && nat_eq e.0.candidate c && nat_le e.0.preference n) (entries evening) has in
+    let (k, e, lt, at, passes) =
+    Any-from_list_any (λ (e : Wish × Mark). is_live e.1 && nat_eq e.0.candidate c && nat_le e.0.preference n)
+    (entries evening) has in
     let outer = and_parts (is_live e.1 && nat_eq e.0.candidate c) (nat_le e.0.preference n) passes in
     let inner = and_parts (is_live e.1) (nat_eq e.0.candidate c) outer.0 in
     let matched = subst (λ (f : Wish × Mark). IsMatched m f.0 f.1) at (kept.matched k e lt) in
-    let own : has_as_good m c e.0.preference ≡ true = ap (λ (x : ℕ). has_as_good m x e.0.preference) (sym (eqb-true e.0.candidate c inner.1)) ∙ matched.live inner.0 in
+    let own : has_as_good m c e.0.preference ≡ true = ap (λ (x : ℕ). has_as_good m x e.0.preference)
+    (sym (eqb-true e.0.candidate c inner.1)) ∙ matched.live inner.0 in
     as_good_as m c e.0.preference n (leb-true e.0.preference n outer.1) own

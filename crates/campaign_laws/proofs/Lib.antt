@@ -1,13 +1,16 @@
 pub mod AutomaticDay
 pub mod Beds
+pub mod CrossedHere
 pub mod GoneStays
 pub mod Holding
 pub mod Kept
 pub mod MetHere
 pub mod OneMark
 pub mod PassedOver
+pub mod QuietDays
 pub mod Room
 pub mod Shown
+pub mod StableEvening
 pub mod WaitingPlace
 pub mod Walks
 pub mod WorkedCampaign

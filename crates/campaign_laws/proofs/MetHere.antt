@@ -14,22 +14,24 @@ use Rattle.campaign_laws.specs.Beds.{IsBarredIn, IsSameWishOffered}
 use Rattle.campaign_laws.specs.Kept.{AnswersThemself, GivesNoAnswer}
 use Rattle.campaign_laws.specs.Moments.{openings}
 use Rattle.campaign_laws.specs.PassedOver.{IsUnbarred, WaitsAt}
-use Rattle.campaign_laws.specs.Witnesses.{AutomaticAnswersClimbWitness, CameByBetterRankWitness, CameFromBeforeWitness, GoesByTheTwoListsWitness, GoneStaysGoneWitness, IsKeptAcceptedWitness, IsKeptOfferedWitness, IsLaterMarkGoneStaysWitness, IsLaterMarkNeverAgainWitness, IsLaterMarkWaitedWitness, NeverDescendsWitness, NeverMoreThanBedsWitness, NeverMoreThanSeatsWitness, NoBedGoesPastBarredWishesWitness, NobodyIsEverPassedOverWitness, NobodyIsPassedOverWithoutBoardingWitness, OffersGoByTheTwoListsWitness, WaitingPlaceNeverWorsensWitness, WhatIsYoursStaysWitness}
-use Rattle.campaign_laws.specs.WorkedCampaign.{barred_first, before_summer, first_day, first_night, next_day, small_days, small_night, small_orders, summer, summer_days, summer_orders, third_night, thirteenth}
+use Rattle.campaign_laws.specs.Witnesses.{AutomaticAnswersClimbWitness, CameByBetterRankWitness, CameFromBeforeWitness, GoesByTheTwoListsWitness, GoneStaysGoneWitness, IsKeptAcceptedWitness, IsKeptOfferedWitness, IsLaterMarkGoneStaysWitness, IsLaterMarkNeverAgainWitness, IsLaterMarkWaitedWitness, NeverDescendsWitness, NeverMoreThanBedsWitness, NeverMoreThanSeatsWitness, NoBedGoesPastBarredWishesWitness, NobodyIsEverPassedOverWitness, NobodyIsPassedOverWithoutBoardingWitness, OffersGoByTheTwoListsWitness, QuietDaysChangeNothingWitness, WaitingPlaceNeverWorsensWitness, WhatIsYoursStaysWitness}
+use Rattle.campaign_laws.specs.WorkedCampaign.{barred_first, before_summer, first_day, first_night, next_day, small_day, small_days, small_next, small_night, small_orders, summer, summer_days, summer_orders, third_night, thirteenth}
 use Rattle.campaign_laws.proofs.Beds.{no_bed_goes_past, offers_go_by_the_two_lists}
 use Rattle.campaign_laws.proofs.GoneStays.{gone_stays_gone}
 use Rattle.campaign_laws.proofs.Kept.{automatic_answers_climb, what_is_yours_stays}
 use Rattle.campaign_laws.proofs.PassedOver.{nobody_is_ever_passed_over, nobody_is_passed_over_without_boarding, without_school}
+use Rattle.campaign_laws.proofs.QuietDays.{quiet_days_change_nothing}
 use Rattle.campaign_laws.proofs.Room.{never_more_than_beds, never_more_than_seats}
 use Rattle.campaign_laws.proofs.WaitingPlace.{waiting_place_never_worsens}
 use Rattle.campaign_laws.proofs.Walks.{all_of}
-use Rattle.campaign_laws.proofs.WorkedCampaign.{first_alone, small_called, small_holds, summer_holds}
+use Rattle.campaign_laws.proofs.WorkedCampaign.{first_alone, small_called, small_holds, small_next_holds, summer_holds}
 
 fit : AreTermsFor summer next_day
 fit = refl
 
 pub gone_stays_gone_here : GoneStaysGoneWitness
-gone_stays_gone_here = (fit, summer_holds, gone_stays_gone next_day summer_orders 1 before_summer summer_days third_night fit summer_holds)
+gone_stays_gone_here =
+    (fit, summer_holds, gone_stays_gone next_day summer_orders 1 before_summer summer_days third_night fit summer_holds)
 
 pub gone_stays : IsLaterMarkGoneStaysWitness
 gone_stays = (refl, refl)
@@ -41,14 +43,20 @@ pub waited : IsLaterMarkWaitedWitness
 waited = (refl, refl)
 
 pub waiting_place_here : WaitingPlaceNeverWorsensWitness
-waiting_place_here = (fit, summer_holds, waiting_place_never_worsens next_day summer_orders 1 before_summer summer_days third_night fit summer_holds)
+waiting_place_here = (
+  fit,
+  summer_holds,
+  waiting_place_never_worsens next_day summer_orders 1 before_summer summer_days third_night fit
+      summer_holds,
+)
 
 still_waits : WaitsAt third_night 2 thirteenth
 still_waits = record { mark = marked Waiting 0 0; there = refl; waits = refl }
 
 unbarred : All (IsUnbarred thirteenth) (openings next_day summer_orders before_summer summer_days)
 unbarred = All-from_recursion (IsUnbarred thirteenth) (openings next_day summer_orders before_summer summer_days)
-    (all_of (IsUnbarred thirteenth) (λ o. without_school thirteenth o refl) (openings next_day summer_orders before_summer summer_days))
+    (all_of (IsUnbarred thirteenth) (λ o. without_school thirteenth o refl)
+    (openings next_day summer_orders before_summer summer_days))
 
 pub never_passed_over_here : NobodyIsEverPassedOverWitness
 never_passed_over_here = (
@@ -56,7 +64,8 @@ never_passed_over_here = (
   summer_holds,
   still_waits,
   unbarred,
-  nobody_is_ever_passed_over next_day summer_orders 1 before_summer summer_days third_night 2 thirteenth fit summer_holds still_waits unbarred,
+  nobody_is_ever_passed_over next_day summer_orders 1 before_summer summer_days third_night 2 thirteenth fit
+      summer_holds still_waits unbarred,
 )
 
 pub without_boarding_here : NobodyIsPassedOverWithoutBoardingWitness
@@ -65,14 +74,16 @@ without_boarding_here = (
   summer_holds,
   still_waits,
   refl,
-  nobody_is_passed_over_without_boarding next_day summer_orders 1 before_summer summer_days third_night 2 thirteenth fit summer_holds still_waits refl,
+  nobody_is_passed_over_without_boarding next_day summer_orders 1 before_summer summer_days third_night 2 thirteenth
+      fit summer_holds still_waits refl,
 )
 
 pub came_from_before : CameFromBeforeWitness
 came_from_before = (refl, refl, refl)
 
 barred : All (IsBarredIn barred_first) (openings next_day summer_orders before_summer (first_day ∷ []))
-barred = All-from_recursion (IsBarredIn barred_first) (openings next_day summer_orders before_summer (first_day ∷ [])) (refl, tt)
+barred = All-from_recursion (IsBarredIn barred_first) (openings next_day summer_orders before_summer (first_day ∷ []))
+    (refl, tt)
 
 pub no_bed_goes_past_here : NoBedGoesPastBarredWishesWitness
 no_bed_goes_past_here = (
@@ -80,7 +91,8 @@ no_bed_goes_past_here = (
   first_alone,
   refl,
   barred,
-  no_bed_goes_past next_day summer_orders 1 before_summer (first_day ∷ []) first_night barred_first 0 fit first_alone refl barred,
+  no_bed_goes_past next_day summer_orders 1 before_summer (first_day ∷ []) first_night barred_first 0 fit first_alone
+      refl barred,
 )
 
 pub came_by_better_rank : CameByBetterRankWitness
@@ -94,29 +106,60 @@ two_lists_here = (
   fit,
   first_alone,
   barred_waits,
-  offers_go_by_the_two_lists next_day summer_orders 1 before_summer (first_day ∷ []) first_night 3 barred_first fit first_alone barred_waits,
+  offers_go_by_the_two_lists next_day summer_orders 1 before_summer (first_day ∷ []) first_night 3 barred_first fit
+      first_alone barred_waits,
 )
 
-same_wish : IsSameWishOffered summer_orders barred_first (record { state = before_summer; bars = 1 ∷ [] }) (boarder 5 12 1 0 1 0)
-same_wish = record { place = 4; mark = marked Waiting 0 0; there = refl; proposed = refl; programme = refl; school = refl; no_seat = refl; no_bed = refl }
+same_wish : IsSameWishOffered summer_orders barred_first (record { state = before_summer; bars = 1 ∷ [] })
+    (boarder 5 12 1 0 1 0)
+same_wish = record {
+  place = 4;
+  mark = marked Waiting 0 0;
+  there = refl;
+  proposed = refl;
+  programme = refl;
+  school = refl;
+  no_seat =
+      refl;
+  no_bed = refl;
+}
 
 pub goes_by_the_two_lists : GoesByTheTwoListsWitness
 goes_by_the_two_lists = (same_wish, inr (lit< tt))
 
 -- 12 and 14 never answer, and 12 ranks nothing
 ranks_nothing : AnswersThemself summer 12
-ranks_nothing = All-from_recursion (λ (w : Wish). w.candidate ≡ 12 → w.preference ≡ 0) summer.wishes
-    (λ e. refl, (λ e. refl, (λ e. refl, (λ e. refl, (λ e. refl, (λ e. absurd (omega (arith, e)), (λ e. absurd (omega (arith, e)), (λ e. refl, tt))))))))
+ranks_nothing = All-from_recursion (λ (w : Wish). w.candidate ≡ 12 → w.preference ≡ 0) summer.wishes (
+  λ e. refl,
+  (
+    λ e. refl,
+    (
+      λ e. refl,
+      (
+        λ e. refl,
+        (λ e. refl, (λ e. absurd (omega (arith, e)), (λ e. absurd (omega (arith, e)), (λ e. refl, tt)))),
+      ),
+    ),
+  ),
+)
 
-silent : (c : ℕ) → own before_summer c (answers_of summer 1) ≡ [] → own before_summer c (answers_of summer 2) ≡ [] → own before_summer c (answers_of summer 3) ≡ []
+silent : (c : ℕ) → own before_summer c (answers_of summer 1) ≡ [] → own before_summer c (answers_of summer 2) ≡ []
+    → own before_summer c (answers_of summer 3) ≡ []
     → GivesNoAnswer before_summer c summer_days
 silent c first second third =
-    All-from_recursion (λ (day : DayRecord). own before_summer c (answers_of summer day.day) ≡ []) summer_days (first, (second, (third, tt)))
+    All-from_recursion (λ (day : DayRecord). own before_summer c (answers_of summer day.day) ≡ []) summer_days
+    (first, (second, (third, tt)))
 
 pub yours_stays_here : WhatIsYoursStaysWitness
 yours_stays_here =
-    let none = silent 12 refl refl refl in
-    (fit, summer_holds, ranks_nothing, none, what_is_yours_stays next_day summer_orders 1 before_summer summer_days third_night 12 fit summer_holds ranks_nothing none)
+    let none = silent 12 refl refl refl in (
+      fit,
+      summer_holds,
+      ranks_nothing,
+      none,
+      what_is_yours_stays next_day summer_orders 1 before_summer summer_days
+          third_night 12 fit summer_holds ranks_nothing none,
+    )
 
 pub kept_accepted : IsKeptAcceptedWitness
 kept_accepted = (refl, refl)
@@ -126,8 +169,13 @@ kept_offered = (refl, inr (refl, refl))
 
 pub climb_here : AutomaticAnswersClimbWitness
 climb_here =
-    let none = silent 14 refl refl refl in
-    (fit, summer_holds, none, automatic_answers_climb next_day summer_orders 1 before_summer summer_days third_night 14 fit summer_holds none)
+    let none = silent 14 refl refl refl in (
+      fit,
+      summer_holds,
+      none,
+      automatic_answers_climb next_day summer_orders 1 before_summer summer_days third_night
+          14 fit summer_holds none,
+    )
 
 pub never_descends : NeverDescendsWitness
 never_descends = (refl, refl)
@@ -138,7 +186,8 @@ beds_here = (
   tt,
   small_holds,
   lit< tt,
-  never_more_than_beds None small_orders 2 (first_evening small_dossier) small_days small_night 0 small_dossier_holds tt small_holds (lit< tt),
+  never_more_than_beds None small_orders 2 (first_evening small_dossier) small_days small_night 0 small_dossier_holds
+      tt small_holds (lit< tt),
 )
 
 pub seats_here : NeverMoreThanSeatsWitness
@@ -149,5 +198,22 @@ seats_here = (
   small_holds,
   lit< tt,
   refl,
-  never_more_than_seats None small_orders 2 (first_evening small_dossier) small_days small_night 0 small_dossier_holds small_called tt small_holds (lit< tt) refl,
+  never_more_than_seats None small_orders 2 (first_evening small_dossier) small_days small_night 0 small_dossier_holds
+      small_called tt small_holds (lit< tt) refl,
+)
+
+pub quiet_here : QuietDaysChangeNothingWitness
+quiet_here = (
+  small_dossier_holds,
+  small_called,
+  tt,
+  refl,
+  small_holds,
+  small_next_holds,
+  refl,
+  refl,
+  refl,
+  quiet_days_change_nothing None small_orders 2 (first_evening small_dossier) small_day small_next small_night
+      small_night
+      small_dossier_holds small_called tt refl small_holds small_next_holds refl refl refl,
 )

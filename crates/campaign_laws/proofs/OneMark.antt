@@ -18,7 +18,7 @@ use Rattle.admit_core.specs.Answers.{after, after_kind, candidate_at, fits, kind
 use Rattle.admit_core.specs.AutoAnswer.{auto_all, auto_mark, auto_status, best_live}
 use Rattle.admit_core.specs.Days.{offered}
 use Rattle.admit_core.specs.Lapses.{is_offered, lapse, lapses}
-use Rattle.admit_core.specs.Proposals.{is_open, is_proposed}
+use Rattle.admit_core.specs.Proposals.{is_barred, is_open, is_proposed}
 use Rattle.admit_core.specs.State.{State, changed_to, entries, is_gone, is_live, is_live_status, is_waiting, is_waiting_status, with_marks}
 use Rattle.admit_core.proofs.Holders.{entries_marked, marked_by}
 use Rattle.admit_core.proofs.Statuses.{changed_status}
@@ -46,7 +46,8 @@ TouchedOf c w m n = (n ≡ m) ⊎ ((w.candidate ≡ c) × IsTouched m n)
 -- the offers of a pass leave a mark, or offer a wish that is proposed
 abbrev pub KeptOrOffered : State → List CallOrder → List ℕ → Stamp → Wish → Mark → Mark → Type 0
 KeptOrOffered s orders bars stamp w m n =
-    ((is_proposed s orders bars w m ≡ false) × (n ≡ m)) ⊎ ((is_proposed s orders bars w m ≡ true) × (n ≡ changed_to Offered stamp m))
+    ((is_proposed s orders bars w m ≡ false) × (n ≡ m)) ⊎ ((is_proposed s orders bars w m ≡ true) × (n ≡ changed_to
+    Offered stamp m))
 
 -- a lapse leaves a mark, or ends an offer
 abbrev pub KeptOrLapsed : Wish → Mark → Mark → Type 0
@@ -65,7 +66,8 @@ mapped : (T : Wish → Mark → Mark → Type 0) (f : Wish → Mark → Mark) �
 mapped T f each [] = tt
 mapped T f each (x ∷ xs) = ((refl, each x.0 x.1), mapped T f each xs)
 
-pub marked : (T : Wish → Mark → Mark → Type 0) (s : State) (f : Wish → Mark → Mark) → ((w : Wish) (m : Mark) → T w m (f w m)) → Marks T s (with_marks s f)
+pub marked : (T : Wish → Mark → Mark → Type 0) (s : State) (f : Wish → Mark → Mark)
+    → ((w : Wish) (m : Mark) → T w m (f w m)) → Marks T s (with_marks s f)
 marked T s f each = rw (entries_marked s f) (mapped T f each (entries s))
 
 -- and those in which one is set
@@ -81,7 +83,8 @@ one_set T (w ∷ ws) (m ∷ ms) (x ∷ ns) zero n all there = ((refl, there w m 
 one_set T (w ∷ ws) (m ∷ ms) (x ∷ ns) (suc place) n all there = (all.0, one_set T ws ms ns place n all.1 there)
 
 -- who a wish at a place is of
-who_at : (ws : List Wish) (k : ℕ) (w : Wish) → slice_get ws k ≡ Some w → slice_index (map (λ (v : Wish). v.candidate) ws) k ≡ w.candidate
+who_at : (ws : List Wish) (k : ℕ) (w : Wish) → slice_get ws k ≡ Some w
+    → slice_index (map (λ (v : Wish). v.candidate) ws) k ≡ w.candidate
 who_at [] k w at = absurd (cc)
 who_at (v ∷ ws) zero w at = ap (λ (o : Option Wish). (unwrap_or o v).candidate) at
 who_at (v ∷ ws) (suc k) w at = who_at ws k w at
@@ -89,12 +92,13 @@ who_at (v ∷ ws) (suc k) w at = who_at ws k w at
 live_not_gone : (m : Mark) → is_live m ≡ true → is_gone m ≡ false
 live_not_gone m live = rw live refl
 
-waiting_not_gone : (a b : Bool) → b ≡ true → not (a || b) ≡ false
+pub waiting_not_gone : (a b : Bool) → b ≡ true → not (a || b) ≡ false
 waiting_not_gone true b t = refl
 waiting_not_gone false b t = rw t refl
 
 -- a status that a mark is changed to
-touched_by : (x : Status) (stamp : Stamp) (m : Mark) → is_gone m ≡ false → is_waiting_status x ≡ false → (is_live_status x ≡ true → is_live m ≡ true)
+touched_by : (x : Status) (stamp : Stamp) (m : Mark) → is_gone m ≡ false → is_waiting_status x ≡ false
+    → (is_live_status x ≡ true → is_live m ≡ true)
     → IsTouched m (changed_to x stamp m)
 touched_by x stamp m not_gone waits_not lived =
     let is = changed_status x stamp m in
@@ -108,7 +112,8 @@ never : {P : Type 0} → false ≡ true → P
 never e = absurd (false≢true e)
 
 -- a lapse
-offered_not_gone : (x : Status) (stamp : Stamp) → is_offered x ≡ true → is_gone (record { status = x; stamp = stamp }) ≡ false
+offered_not_gone : (x : Status) (stamp : Stamp) → is_offered x ≡ true
+    → is_gone (record { status = x; stamp = stamp }) ≡ false
 offered_not_gone Waiting stamp t = refl
 offered_not_gone Offered stamp t = refl
 offered_not_gone Accepted stamp t = refl
@@ -140,13 +145,17 @@ lapsed_at term day stamp before m w =
     ]
 
 lapsed_marks : (term day : ℕ) (stamp : Stamp) (ws : List Wish) (bs : List ℤ) (ms : List Mark) → length bs ≡ length ws
-    → AllZip (OfOneWish KeptOrLapsed) (zip ws ms) (zip ws (map (λ (x : ℤ × Mark). if lapses term day x.0 x.1 then changed_to Lapsed stamp x.1 else x.1) (zip bs ms)))
+    → AllZip (OfOneWish KeptOrLapsed) (zip ws ms)
+    (zip ws (map (λ (x : ℤ × Mark). if lapses term day x.0 x.1 then changed_to Lapsed stamp x.1 else x.1)
+    (zip bs ms)))
 lapsed_marks term day stamp [] bs ms long = tt
 lapsed_marks term day stamp (w ∷ ws) [] ms long = absurd (omega (arith, long))
 lapsed_marks term day stamp (w ∷ ws) (b ∷ bs) [] long = tt
-lapsed_marks term day stamp (w ∷ ws) (b ∷ bs) (m ∷ ms) long = ((refl, lapsed_at term day stamp b m w), lapsed_marks term day stamp ws bs ms (omega (arith, long)))
+lapsed_marks term day stamp (w ∷ ws) (b ∷ bs) (m ∷ ms) long =
+    ((refl, lapsed_at term day stamp b m w), lapsed_marks term day stamp ws bs ms (omega (arith, long)))
 
-pub a_lapse : (t : Terms) (day : ℕ) (s : State) → length t.before ≡ length s.dossier.wishes → Marks KeptOrLapsed s (lapse t day s)
+pub a_lapse : (t : Terms) (day : ℕ) (s : State) → length t.before ≡ length s.dossier.wishes
+    → Marks KeptOrLapsed s (lapse t day s)
 a_lapse t day s long = lapsed_marks t.term day (record { day = day; pass = 0 }) s.dossier.wishes t.before s.marks long
 
 -- an answer, by its kind
@@ -156,16 +165,22 @@ of_kind Refuse s target = candidate_at s target
 of_kind Withdraw s target = candidate_at s target
 of_kind Quit s target = target
 
-refused_one : (c : ℕ) (stamp : Stamp) (w : Wish) (m : Mark) → TouchedOf c w m (if is_live m && (w.candidate == c) then changed_to Refused stamp m else m)
+refused_one : (c : ℕ) (stamp : Stamp) (w : Wish) (m : Mark) → TouchedOf c w m
+    (if is_live m && (w.candidate == c) then changed_to Refused stamp m else m)
 refused_one c stamp w m =
     elim (cases_Bool (is_live m && (w.candidate == c))) [
       | inl own ↦
           let parts = and_parts (is_live m) (w.candidate == c) own in
-          rw own (inr (eqb-true w.candidate c parts.1, touched_by Refused stamp m (live_not_gone m parts.0) refl (λ e. never e)))
+          rw own (inr (
+            eqb-true w.candidate c parts.1,
+            touched_by Refused stamp m (live_not_gone m parts.0) refl
+                (λ e. never e),
+          ))
       | inr other ↦ rw other (inl refl)
     ]
 
-quit_one : (c : ℕ) (stamp : Stamp) (w : Wish) (m : Mark) → TouchedOf c w m (if (is_live m || is_waiting m) && (w.candidate == c) then changed_to HasQuit stamp m else m)
+quit_one : (c : ℕ) (stamp : Stamp) (w : Wish) (m : Mark) → TouchedOf c w m
+    (if (is_live m || is_waiting m) && (w.candidate == c) then changed_to HasQuit stamp m else m)
 quit_one c stamp w m =
     elim (cases_Bool ((is_live m || is_waiting m) && (w.candidate == c))) [
       | inl own ↦
@@ -175,21 +190,34 @@ quit_one c stamp w m =
     ]
 
 -- a wish at the place that an answer speaks of
-module _ (s : State) (place : ℕ) (stamp : Stamp) (x : Status) (w : Wish) (m : Mark) (there : slice_get s.dossier.wishes place ≡ Some w) (marked_there : slice_get s.marks place ≡ Some m) where
+module _ (s : State) (place : ℕ) (stamp : Stamp) (x : Status) (w : Wish) (m : Mark)
+    (there : slice_get s.dossier.wishes place ≡ Some w) (marked_there : slice_get s.marks place ≡ Some m) where
   mark_is : mark_at s place ≡ m
-  mark_is = ap (λ (o : Option Mark). unwrap_or o (record { status = Waiting; stamp = record { day = 0; pass = 0 } })) marked_there
+  mark_is = ap (λ (o : Option Mark). unwrap_or o (record { status = Waiting; stamp = record { day = 0; pass = 0 } }))
+      marked_there
 
-  live_answered : is_live (mark_at s place) ≡ true → is_waiting_status x ≡ false → TouchedOf (candidate_at s place) w m (changed_to x stamp (mark_at s place))
+  live_answered : is_live (mark_at s place) ≡ true → is_waiting_status x ≡ false
+      → TouchedOf (candidate_at s place) w m (changed_to x stamp (mark_at s place))
   live_answered live waits_not =
       let lives : is_live m ≡ true = ap is_live (sym mark_is) ∙ live in
-      rw mark_is (inr (sym (who_at s.dossier.wishes place w there), touched_by x stamp m (live_not_gone m lives) waits_not (λ e. lives)))
+      rw mark_is (inr (
+        sym (who_at s.dossier.wishes place w there),
+        touched_by x stamp m (live_not_gone m lives) waits_not
+            (λ e. lives),
+      ))
 
-  withdrawn : is_waiting (mark_at s place) ≡ true → TouchedOf (candidate_at s place) w m (changed_to Withdrawn stamp (mark_at s place))
+  withdrawn : is_waiting (mark_at s place) ≡ true → TouchedOf (candidate_at s place) w m
+      (changed_to Withdrawn stamp (mark_at s place))
   withdrawn waits =
       let waited : is_waiting m ≡ true = ap is_waiting (sym mark_is) ∙ waits in
-      rw mark_is (inr (sym (who_at s.dossier.wishes place w there), touched_by Withdrawn stamp m (waiting_not_gone (is_live m) (is_waiting m) waited) refl (λ e. never e)))
+      rw mark_is (inr (
+        sym (who_at s.dossier.wishes place w there),
+        touched_by Withdrawn stamp m
+            (waiting_not_gone (is_live m) (is_waiting m) waited) refl (λ e. never e),
+      ))
 
-kept_all : (T : Wish → Mark → Mark → Type 0) → ((w : Wish) (m : Mark) → T w m m) → (xs : List (Wish × Mark)) → AllZip (OfOneWish T) xs xs
+kept_all : (T : Wish → Mark → Mark → Type 0) → ((w : Wish) (m : Mark) → T w m m) → (xs : List (Wish × Mark))
+    → AllZip (OfOneWish T) xs xs
 kept_all T keep [] = tt
 kept_all T keep (x ∷ xs) = ((refl, keep x.0 x.1), kept_all T keep xs)
 
@@ -197,8 +225,10 @@ by_kind : (kind : AnswerKind) (s : State) (target : ℕ) (stamp : Stamp) → kin
     → Marks (TouchedOf (of_kind kind s target)) s (after_kind kind s target stamp)
 by_kind Accept s target stamp fit =
     let c = candidate_at s target in
-    one_set (TouchedOf c) s.dossier.wishes s.marks (refuse_live s c stamp).marks target (changed_to Accepted stamp (mark_at s target))
-    (marked (TouchedOf c) s (λ w m. if is_live m && (w.candidate == c) then changed_to Refused stamp m else m) (refused_one c stamp))
+    one_set (TouchedOf c) s.dossier.wishes s.marks (refuse_live s c stamp).marks target
+    (changed_to Accepted stamp (mark_at s target))
+    (marked (TouchedOf c) s (λ w m. if is_live m && (w.candidate == c) then changed_to Refused stamp m else m)
+    (refused_one c stamp))
     (λ w m there marked_there. live_answered s target stamp Accepted w m there marked_there fit refl)
 by_kind Refuse s target stamp fit =
     let c = candidate_at s target in
@@ -211,20 +241,29 @@ by_kind Withdraw s target stamp fit =
     (kept_all (TouchedOf c) (λ w m. inl refl) (entries s))
     (λ w m there marked_there. withdrawn s target stamp Withdrawn w m there marked_there fit)
 by_kind Quit s target stamp fit =
-    marked (TouchedOf target) s (λ w m. if (is_live m || is_waiting m) && (w.candidate == target) then changed_to HasQuit stamp m else m) (quit_one target stamp)
+    marked (TouchedOf target) s
+    (λ w m. if (is_live m || is_waiting m) && (w.candidate == target) then changed_to HasQuit stamp m else m)
+    (quit_one target stamp)
 
-pub an_answer : (s : State) (stamp : Stamp) (a : Answer) → fits s a ≡ true → Marks (TouchedOf (of_kind a.kind s a.target)) s (after s stamp a)
+pub an_answer : (s : State) (stamp : Stamp) (a : Answer) → fits s a ≡ true
+    → Marks (TouchedOf (of_kind a.kind s a.target)) s (after s stamp a)
 an_answer s stamp a fit = by_kind a.kind s a.target stamp fit
 
 -- automatic answers
 auto_status_touches : (x : Status) (is_best is_behind : Bool) (stamp old : Stamp)
-    → let m : Mark = record { status = x; stamp = old } in (changed_to (auto_status x is_best is_behind) stamp m ≡ m) ⊎ IsTouched m (changed_to (auto_status x is_best is_behind) stamp m)
-auto_status_touches Waiting is_best true stamp old = inr (record { not_gone = refl; not_waiting = refl; lived = λ e. never e })
+    → let m : Mark =
+    record { status = x; stamp = old } in (changed_to (auto_status x is_best is_behind) stamp m ≡ m) ⊎ IsTouched m
+    (changed_to (auto_status x is_best is_behind) stamp m)
+auto_status_touches Waiting is_best true stamp old =
+    inr (record { not_gone = refl; not_waiting = refl; lived = λ e. never e })
 auto_status_touches Waiting is_best false stamp old = inl refl
-auto_status_touches Offered true is_behind stamp old = inr (record { not_gone = refl; not_waiting = refl; lived = λ e. refl })
-auto_status_touches Offered false is_behind stamp old = inr (record { not_gone = refl; not_waiting = refl; lived = λ e. refl })
+auto_status_touches Offered true is_behind stamp old =
+    inr (record { not_gone = refl; not_waiting = refl; lived = λ e. refl })
+auto_status_touches Offered false is_behind stamp old =
+    inr (record { not_gone = refl; not_waiting = refl; lived = λ e. refl })
 auto_status_touches Accepted true is_behind stamp old = inl refl
-auto_status_touches Accepted false is_behind stamp old = inr (record { not_gone = refl; not_waiting = refl; lived = λ e. refl })
+auto_status_touches Accepted false is_behind stamp old =
+    inr (record { not_gone = refl; not_waiting = refl; lived = λ e. refl })
 auto_status_touches Refused is_best is_behind stamp old = inl refl
 auto_status_touches Withdrawn is_best is_behind stamp old = inl refl
 auto_status_touches HasQuit is_best is_behind stamp old = inl refl
@@ -232,20 +271,31 @@ auto_status_touches AutoRefused is_best is_behind stamp old = inl refl
 auto_status_touches AutoWithdrawn is_best is_behind stamp old = inl refl
 auto_status_touches Lapsed is_best is_behind stamp old = inl refl
 
-auto_touches : (stamp : Stamp) (best : Option (Wish × Mark)) (w : Wish) (m : Mark) → KeptOrTouched w m (auto_mark stamp best w m)
+auto_touches : (stamp : Stamp) (best : Option (Wish × Mark)) (w : Wish) (m : Mark)
+    → KeptOrTouched w m (auto_mark stamp best w m)
 auto_touches stamp None w m = inl refl
-auto_touches stamp (Some best) w m = auto_status_touches m.status (w.preference == best.0.preference) (nat_lt best.0.preference w.preference) stamp m.stamp
+auto_touches stamp (Some best) w m = auto_status_touches m.status (w.preference == best.0.preference)
+    (nat_lt best.0.preference w.preference) stamp m.stamp
 
 pub automatic_answers : (s : State) (stamp : Stamp) → Marks KeptOrTouched s (auto_all s stamp)
-automatic_answers s stamp = marked KeptOrTouched s (λ w m. auto_mark stamp (best_live s w.candidate) w m) (λ w m. auto_touches stamp (best_live s w.candidate) w m)
+automatic_answers s stamp = marked KeptOrTouched s (λ w m. auto_mark stamp (best_live s w.candidate) w m)
+    (λ w m. auto_touches stamp (best_live s w.candidate) w m)
 
 -- the offers of a pass
-pub offers_of_a_pass : (s : State) (orders : List CallOrder) (bars : List ℕ) (stamp : Stamp) → Marks (KeptOrOffered s orders bars stamp) s (offered s orders bars stamp)
+pub offers_of_a_pass : (s : State) (orders : List CallOrder) (bars : List ℕ) (stamp : Stamp)
+    → Marks (KeptOrOffered s orders bars stamp) s (offered s orders bars stamp)
 offers_of_a_pass s orders bars stamp =
-    marked (KeptOrOffered s orders bars stamp) s (λ w m. if is_proposed s orders bars w m then changed_to Offered stamp m else m)
-    (λ w m. elim (cases_Bool (is_proposed s orders bars w m)) [ inl given ↦ rw given (inr (refl, refl)) | inr none ↦ rw none (inl (refl, refl)) ])
+    marked (KeptOrOffered s orders bars stamp) s
+    (λ w m. if is_proposed s orders bars w m then changed_to Offered stamp m else m)
+    (λ w m. elim (cases_Bool (is_proposed s orders bars w m)) [
+      | inl given ↦ rw given (inr (refl, refl))
+      | inr none ↦
+          rw none (inl (refl, refl))
+    ])
 
--- who is proposed waits, and an offered mark does not
-pub proposed_waits : (s : State) (orders : List CallOrder) (bars : List ℕ) (w : Wish) (m : Mark) → is_proposed s orders bars w m ≡ true → is_waiting m ≡ true
-proposed_waits s orders bars w m offers =
-    (and_parts (is_waiting m) _ (and_parts (is_open s bars w m) _ offers).0).0
+-- who is proposed waits, and waits behind no bar
+pub proposed_open : (s : State) (orders : List CallOrder) (bars : List ℕ) (w : Wish) (m : Mark)
+    → is_proposed s orders bars w m ≡ true
+    → (is_waiting m ≡ true) × (not (is_barred s bars w m) ≡ true)
+proposed_open s orders bars w m offers = and_parts (is_waiting m) (not (is_barred s bars w m))
+    (and_parts (is_open s bars w m) _ offers).0

@@ -1,87 +1,606 @@
 -- What is not promised of whole days is shown by computation.
-use Rattle.std.proofs.Common.{ℕ, ◌≡◌, List, [], ◌∷◌, None, Some, refl}
-use Rattle.admit_core.specs.declared.dossier.AnswerKind.TheVariants.{Accept, Quit, Withdraw}
-use Rattle.admit_core.specs.declared.state.Status.TheVariants.{Accepted, AutoRefused, AutoWithdrawn, Offered, Quit as HasQuit, Refused, Waiting, Withdrawn}
+use Rattle.std.proofs.Common.{[], ◌∷◌, refl}
+use Rattle.admit_core.specs.declared.dossier.AnswerKind.TheVariants.{Accept, Quit}
+use Rattle.admit_core.specs.declared.state.Status.TheVariants.{Accepted, Offered, Quit as HasQuit, Waiting}
 use Rattle.admit_core.specs.Faults.{first_after}
 use Rattle.admit_core.specs.Standing.{dossier_of}
 use Rattle.admit_core.specs.WorkedRows.{marked}
 use Rattle.admit_core.proofs.ByPlaces.{by_places}
-use Rattle.campaign_laws.specs.NotPromised.{BedMoreCanPlaceFewer, SeatMoreCanPlaceFewer, AcceptingCanCost, AcceptingEarlierCanCost, AnswersCannotBeSplit, BedMoreCanLowerBar, BetterRankCanHarm, LeavingOutCanPay, QuittingCanCost, SeatMoreCanEmpty, WithdrawingCanCost, if_accepted, if_accepted_on, if_answered, if_split, if_withdrawn, with_beds, with_first_order, with_more_seats, with_own_wishes}
+use Rattle.campaign_laws.specs.NotPromised.{BedMoreCanPlaceFewer, SeatMoreCanPlaceFewer, AcceptingCanCost, AcceptingEarlierCanCost, AnswersCannotBeSplit, BedMoreCanLowerBar, BetterRankCanHarm, LeavingOutCanPay, QuittingCanCost, SeatMoreCanEmpty, WithdrawingCanCost, if_accepted_on, if_split}
 use Rattle.campaign_laws.proofs.WorkedCampaign.{end_by}
 
 pub quitting_can_cost : QuittingCanCost
 unfolding first_after
 quitting_can_cost = (
-  record { faultless = refl; called = (record { as_long = refl; each_next = by_places 3 _ (refl, (refl, (refl, tt))) (λ k. refl) }, tt); are_days = (_, refl, record { lapsed = refl; fits = refl; passes = (end_by _ _ _ _ _ (record { are_falls = tt; settled = refl }) refl refl refl refl, refl, refl); left = refl; free = refl }, refl) },
-  record { faultless = refl; called = (record { as_long = refl; each_next = by_places 3 _ (refl, (refl, (refl, tt))) (λ k. refl) }, tt); are_days = (_, refl, record { lapsed = refl; fits = refl; passes = (end_by _ _ _ _ _ (record { are_falls = (refl, refl, tt); settled = refl }) refl refl refl refl, refl, refl); left = refl; free = refl }, refl) },
+  record {
+    faultless = refl;
+    called =
+        (record { as_long = refl; each_next = by_places 3 _ (refl, (refl, (refl, tt))) (λ k. refl) }, tt);
+    are_days = (
+      _,
+      refl,
+      record {
+        lapsed = refl;
+        fits = refl;
+        passes =
+            (end_by _ _ _ _ _ _ (record { are_falls = tt; settled = refl }) refl refl refl refl, refl, refl);
+        left =
+            refl;
+        free = refl;
+      },
+      refl,
+    );
+  },
+  record {
+    faultless = refl;
+    called =
+        (record { as_long = refl; each_next = by_places 3 _ (refl, (refl, (refl, tt))) (λ k. refl) }, tt);
+    are_days = (
+      _,
+      refl,
+      record {
+        lapsed = refl;
+        fits = refl;
+        passes =
+            (end_by _ _ _ _ _ _ (record { are_falls = (refl, refl, tt); settled = refl }) refl refl refl refl, refl, refl);
+        left = refl;
+        free = refl;
+      },
+      refl,
+    );
+  },
 )
 
 pub seat_more_can_empty : SeatMoreCanEmpty
 unfolding first_after
 seat_more_can_empty = (
-  record { faultless = refl; called = (record { as_long = refl; each_next = by_places 3 _ (refl, (refl, (refl, tt))) (λ k. refl) }, tt); are_days = (_, refl, record { lapsed = refl; fits = refl; passes = (end_by _ _ _ _ _ (record { are_falls = tt; settled = refl }) refl refl refl refl, refl, refl); left = refl; free = refl }, refl) },
-  record { faultless = refl; called = (record { as_long = refl; each_next = by_places 3 _ (refl, (refl, (refl, tt))) (λ k. refl) }, tt); are_days = (_, refl, record { lapsed = refl; fits = refl; passes = (end_by _ _ _ _ _ (record { are_falls = (refl, refl, (refl, refl, tt)); settled = refl }) refl refl refl refl, refl, refl); left = refl; free = refl }, refl) },
+  record {
+    faultless = refl;
+    called =
+        (record { as_long = refl; each_next = by_places 3 _ (refl, (refl, (refl, tt))) (λ k. refl) }, tt);
+    are_days = (
+      _,
+      refl,
+      record {
+        lapsed = refl;
+        fits = refl;
+        passes =
+            (end_by _ _ _ _ _ _ (record { are_falls = tt; settled = refl }) refl refl refl refl, refl, refl);
+        left =
+            refl;
+        free = refl;
+      },
+      refl,
+    );
+  },
+  record {
+    faultless = refl;
+    called =
+        (record { as_long = refl; each_next = by_places 3 _ (refl, (refl, (refl, tt))) (λ k. refl) }, tt);
+    are_days = (
+      _,
+      refl,
+      record {
+        lapsed = refl;
+        fits = refl;
+        passes = (
+          end_by _ _ _ _ _ _ (record { are_falls = (refl, refl, (refl, refl, tt)); settled = refl }) refl refl refl refl,
+          refl,
+          refl,
+        );
+        left = refl;
+        free = refl;
+      },
+      refl,
+    );
+  },
 )
 
 pub leaving_out_can_pay : LeavingOutCanPay
 unfolding first_after
 leaving_out_can_pay = (
-  record { faultless = refl; called = (record { as_long = refl; each_next = by_places 2 _ (refl, (refl, tt)) (λ k. refl) }, (record { as_long = refl; each_next = by_places 2 _ (refl, (refl, tt)) (λ k. refl) }, tt)); are_days = (_, refl, record { lapsed = refl; fits = refl; passes = (end_by _ _ _ _ _ (record { are_falls = tt; settled = refl }) refl refl refl refl, refl, refl); left = refl; free = refl }, refl) },
-  record { faultless = refl; called = (record { as_long = refl; each_next = by_places 2 _ (refl, (refl, tt)) (λ k. refl) }, (record { as_long = refl; each_next = by_places 2 _ (refl, (refl, tt)) (λ k. refl) }, tt)); are_days = (_, refl, record { lapsed = refl; fits = refl; passes = (end_by _ _ _ _ _ (record { are_falls = tt; settled = refl }) refl refl refl refl, refl, (end_by _ _ _ _ _ (record { are_falls = tt; settled = refl }) refl refl refl refl, refl, refl)); left = refl; free = refl }, refl) },
+  record {
+    faultless = refl;
+    called = (
+      record { as_long = refl; each_next = by_places 2 _ (refl, (refl, tt)) (λ k. refl) },
+      (record { as_long = refl; each_next = by_places 2 _ (refl, (refl, tt)) (λ k. refl) }, tt),
+    );
+    are_days = (
+      _,
+      refl,
+      record {
+        lapsed = refl;
+        fits = refl;
+        passes =
+            (end_by _ _ _ _ _ _ (record { are_falls = tt; settled = refl }) refl refl refl refl, refl, refl);
+        left =
+            refl;
+        free = refl;
+      },
+      refl,
+    );
+  },
+  record {
+    faultless = refl;
+    called = (
+      record { as_long = refl; each_next = by_places 2 _ (refl, (refl, tt)) (λ k. refl) },
+      (record { as_long = refl; each_next = by_places 2 _ (refl, (refl, tt)) (λ k. refl) }, tt),
+    );
+    are_days = (
+      _,
+      refl,
+      record {
+        lapsed = refl;
+        fits = refl;
+        passes = (
+          end_by _ _ _ _ _ _ (record { are_falls = tt; settled = refl }) refl refl refl refl,
+          refl,
+          (end_by _ _ _ _ _ _ (record { are_falls = tt; settled = refl }) refl refl refl refl, refl, refl),
+        );
+        left =
+            refl;
+        free = refl;
+      },
+      refl,
+    );
+  },
 )
 
 pub better_rank_can_harm : BetterRankCanHarm
 unfolding first_after
 better_rank_can_harm = (
-  record { faultless = refl; called = (record { as_long = refl; each_next = by_places 2 _ (refl, (refl, tt)) (λ k. refl) }, (record { as_long = refl; each_next = by_places 2 _ (refl, (refl, tt)) (λ k. refl) }, tt)); are_days = (_, refl, record { lapsed = refl; fits = refl; passes = (end_by _ _ _ _ _ (record { are_falls = tt; settled = refl }) refl refl refl refl, refl, (end_by _ _ _ _ _ (record { are_falls = tt; settled = refl }) refl refl refl refl, refl, refl)); left = refl; free = refl }, refl) },
-  record { faultless = refl; called = (record { as_long = refl; each_next = by_places 2 _ (refl, (refl, tt)) (λ k. refl) }, (record { as_long = refl; each_next = by_places 2 _ (refl, (refl, tt)) (λ k. refl) }, tt)); are_days = (_, refl, record { lapsed = refl; fits = refl; passes = (end_by _ _ _ _ _ (record { are_falls = tt; settled = refl }) refl refl refl refl, refl, refl); left = refl; free = refl }, refl) },
+  record {
+    faultless = refl;
+    called = (
+      record { as_long = refl; each_next = by_places 2 _ (refl, (refl, tt)) (λ k. refl) },
+      (record { as_long = refl; each_next = by_places 2 _ (refl, (refl, tt)) (λ k. refl) }, tt),
+    );
+    are_days = (
+      _,
+      refl,
+      record {
+        lapsed = refl;
+        fits = refl;
+        passes = (
+          end_by _ _ _ _ _ _ (record { are_falls = tt; settled = refl }) refl refl refl refl,
+          refl,
+          (end_by _ _ _ _ _ _ (record { are_falls = tt; settled = refl }) refl refl refl refl, refl, refl),
+        );
+        left =
+            refl;
+        free = refl;
+      },
+      refl,
+    );
+  },
+  record {
+    faultless = refl;
+    called = (
+      record { as_long = refl; each_next = by_places 2 _ (refl, (refl, tt)) (λ k. refl) },
+      (record { as_long = refl; each_next = by_places 2 _ (refl, (refl, tt)) (λ k. refl) }, tt),
+    );
+    are_days = (
+      _,
+      refl,
+      record {
+        lapsed = refl;
+        fits = refl;
+        passes =
+            (end_by _ _ _ _ _ _ (record { are_falls = tt; settled = refl }) refl refl refl refl, refl, refl);
+        left =
+            refl;
+        free = refl;
+      },
+      refl,
+    );
+  },
 )
 
 pub accepting_can_cost : AcceptingCanCost
 unfolding first_after
 accepting_can_cost = (
-  record { faultless = refl; called = (record { as_long = refl; each_next = by_places 1 _ (refl, tt) (λ k. refl) }, tt); are_days = (_, refl, record { lapsed = refl; fits = refl; passes = (end_by _ _ _ _ _ (record { are_falls = tt; settled = refl }) refl refl refl refl, refl, refl); left = refl; free = refl }, refl) },
-  record { faultless = refl; called = (record { as_long = refl; each_next = by_places 1 _ (refl, tt) (λ k. refl) }, tt); are_days = (_, refl, record { lapsed = refl; fits = refl; passes = (end_by _ _ _ _ _ (record { are_falls = tt; settled = refl }) refl refl refl refl, refl, refl); left = refl; free = refl }, refl) },
+  record {
+    faultless = refl;
+    called =
+        (record { as_long = refl; each_next = by_places 1 _ (refl, tt) (λ k. refl) }, tt);
+    are_days = (
+      _,
+      refl,
+      record {
+        lapsed = refl;
+        fits = refl;
+        passes =
+            (end_by _ _ _ _ _ _ (record { are_falls = tt; settled = refl }) refl refl refl refl, refl, refl);
+        left =
+            refl;
+        free = refl;
+      },
+      refl,
+    );
+  },
+  record {
+    faultless = refl;
+    called =
+        (record { as_long = refl; each_next = by_places 1 _ (refl, tt) (λ k. refl) }, tt);
+    are_days = (
+      _,
+      refl,
+      record {
+        lapsed = refl;
+        fits = refl;
+        passes =
+            (end_by _ _ _ _ _ _ (record { are_falls = tt; settled = refl }) refl refl refl refl, refl, refl);
+        left =
+            refl;
+        free = refl;
+      },
+      refl,
+    );
+  },
 )
 
 pub withdrawing_can_cost : WithdrawingCanCost
 unfolding first_after
 withdrawing_can_cost = (
-  record { faultless = refl; called = (record { as_long = refl; each_next = by_places 2 _ (refl, (refl, tt)) (λ k. refl) }, tt); are_days = (_, refl, record { lapsed = refl; fits = refl; passes = (end_by _ _ _ _ _ (record { are_falls = (refl, refl, tt); settled = refl }) refl refl refl refl, refl, refl); left = refl; free = refl }, refl) },
-  record { faultless = refl; called = (record { as_long = refl; each_next = by_places 2 _ (refl, (refl, tt)) (λ k. refl) }, tt); are_days = (_, refl, record { lapsed = refl; fits = refl; passes = (end_by _ _ _ _ _ (record { are_falls = tt; settled = refl }) refl refl refl refl, refl, refl); left = refl; free = refl }, refl) },
+  record {
+    faultless = refl;
+    called =
+        (record { as_long = refl; each_next = by_places 2 _ (refl, (refl, tt)) (λ k. refl) }, tt);
+    are_days = (
+      _,
+      refl,
+      record {
+        lapsed = refl;
+        fits = refl;
+        passes =
+            (end_by _ _ _ _ _ _ (record { are_falls = (refl, refl, tt); settled = refl }) refl refl refl refl, refl, refl);
+        left = refl;
+        free = refl;
+      },
+      refl,
+    );
+  },
+  record {
+    faultless = refl;
+    called =
+        (record { as_long = refl; each_next = by_places 2 _ (refl, (refl, tt)) (λ k. refl) }, tt);
+    are_days = (
+      _,
+      refl,
+      record {
+        lapsed = refl;
+        fits = refl;
+        passes =
+            (end_by _ _ _ _ _ _ (record { are_falls = tt; settled = refl }) refl refl refl refl, refl, refl);
+        left =
+            refl;
+        free = refl;
+      },
+      refl,
+    );
+  },
 )
 
 pub accepting_earlier_can_cost : AcceptingEarlierCanCost
 unfolding first_after
 accepting_earlier_can_cost = (
-  record { faultless = refl; called = (record { as_long = refl; each_next = by_places 2 _ (refl, (refl, tt)) (λ k. refl) }, tt); are_days = (record { dossier = dossier_of (if_accepted_on (record { day = 1; kind = Accept; target = 2 } ∷ [])); marks = marked Offered 1 1 ∷ marked Accepted 1 0 ∷ marked Waiting 0 0 ∷ [] }, refl, record { lapsed = refl; fits = refl; passes = (end_by _ _ _ _ _ (record { are_falls = tt; settled = refl }) refl refl refl refl, refl, refl); left = refl; free = refl }, (_, refl, record { lapsed = refl; fits = refl; passes = (end_by _ _ _ _ _ (record { are_falls = tt; settled = refl }) refl refl refl refl, refl, refl); left = refl; free = refl }, refl)) },
-  record { faultless = refl; called = (record { as_long = refl; each_next = by_places 2 _ (refl, (refl, tt)) (λ k. refl) }, tt); are_days = (record { dossier = dossier_of (if_accepted_on (record { day = 2; kind = Accept; target = 2 } ∷ [])); marks = marked Offered 1 1 ∷ marked Offered 0 0 ∷ marked Waiting 0 0 ∷ [] }, refl, record { lapsed = refl; fits = refl; passes = (end_by _ _ _ _ _ (record { are_falls = tt; settled = refl }) refl refl refl refl, refl, refl); left = refl; free = refl }, (_, refl, record { lapsed = refl; fits = refl; passes = (end_by _ _ _ _ _ (record { are_falls = tt; settled = refl }) refl refl refl refl, refl, refl); left = refl; free = refl }, refl)) },
+  record {
+    faultless = refl;
+    called =
+        (record { as_long = refl; each_next = by_places 2 _ (refl, (refl, tt)) (λ k. refl) }, tt);
+    are_days = (
+      record {
+        dossier = dossier_of (if_accepted_on (record { day = 1; kind = Accept; target = 2 } ∷ []));
+        marks =
+            marked Offered 1 1 ∷ marked Accepted 1 0 ∷ marked Waiting 0 0 ∷ [];
+      },
+      refl,
+      record {
+        lapsed = refl;
+        fits = refl;
+        passes =
+            (end_by _ _ _ _ _ _ (record { are_falls = tt; settled = refl }) refl refl refl refl, refl, refl);
+        left =
+            refl;
+        free = refl;
+      },
+      (
+        _,
+        refl,
+        record {
+          lapsed = refl;
+          fits = refl;
+          passes =
+              (end_by _ _ _ _ _ _ (record { are_falls = tt; settled = refl }) refl refl refl refl, refl, refl);
+          left =
+              refl;
+          free = refl;
+        },
+        refl,
+      ),
+    );
+  },
+  record {
+    faultless = refl;
+    called =
+        (record { as_long = refl; each_next = by_places 2 _ (refl, (refl, tt)) (λ k. refl) }, tt);
+    are_days = (
+      record {
+        dossier = dossier_of (if_accepted_on (record { day = 2; kind = Accept; target = 2 } ∷ []));
+        marks =
+            marked Offered 1 1 ∷ marked Offered 0 0 ∷ marked Waiting 0 0 ∷ [];
+      },
+      refl,
+      record {
+        lapsed = refl;
+        fits = refl;
+        passes =
+            (end_by _ _ _ _ _ _ (record { are_falls = tt; settled = refl }) refl refl refl refl, refl, refl);
+        left =
+            refl;
+        free = refl;
+      },
+      (
+        _,
+        refl,
+        record {
+          lapsed = refl;
+          fits = refl;
+          passes =
+              (end_by _ _ _ _ _ _ (record { are_falls = tt; settled = refl }) refl refl refl refl, refl, refl);
+          left =
+              refl;
+          free = refl;
+        },
+        refl,
+      ),
+    );
+  },
 )
 
 pub answers_cannot_be_split : AnswersCannotBeSplit
 unfolding first_after
 answers_cannot_be_split = (
-  record { faultless = refl; called = (record { as_long = refl; each_next = by_places 2 _ (refl, (refl, tt)) (λ k. refl) }, tt); are_days = (record { dossier = dossier_of (if_split (record { day = 2; kind = Quit; target = 101 } ∷ record { day = 2; kind = Accept; target = 2 } ∷ [])); marks = marked Waiting 0 0 ∷ marked Offered 1 1 ∷ marked Offered 1 1 ∷ [] }, refl, record { lapsed = refl; fits = refl; passes = (end_by _ _ _ _ _ (record { are_falls = tt; settled = refl }) refl refl refl refl, refl, refl); left = refl; free = refl }, (record { dossier = dossier_of (if_split (record { day = 2; kind = Quit; target = 101 } ∷ record { day = 2; kind = Accept; target = 2 } ∷ [])); marks = marked Offered 2 1 ∷ marked Accepted 2 0 ∷ marked HasQuit 2 0 ∷ [] }, refl, record { lapsed = refl; fits = refl; passes = (end_by _ _ _ _ _ (record { are_falls = tt; settled = refl }) refl refl refl refl, refl, refl); left = refl; free = refl }, (_, refl, record { lapsed = refl; fits = refl; passes = (end_by _ _ _ _ _ (record { are_falls = tt; settled = refl }) refl refl refl refl, refl, refl); left = refl; free = refl }, refl))) },
-  record { faultless = refl; called = (record { as_long = refl; each_next = by_places 2 _ (refl, (refl, tt)) (λ k. refl) }, tt); are_days = (record { dossier = dossier_of (if_split (record { day = 2; kind = Quit; target = 101 } ∷ record { day = 3; kind = Accept; target = 2 } ∷ [])); marks = marked Waiting 0 0 ∷ marked Offered 1 1 ∷ marked Offered 1 1 ∷ [] }, refl, record { lapsed = refl; fits = refl; passes = (end_by _ _ _ _ _ (record { are_falls = tt; settled = refl }) refl refl refl refl, refl, refl); left = refl; free = refl }, (record { dossier = dossier_of (if_split (record { day = 2; kind = Quit; target = 101 } ∷ record { day = 3; kind = Accept; target = 2 } ∷ [])); marks = marked Offered 2 1 ∷ marked Offered 1 1 ∷ marked HasQuit 2 0 ∷ [] }, refl, record { lapsed = refl; fits = refl; passes = (end_by _ _ _ _ _ (record { are_falls = tt; settled = refl }) refl refl refl refl, refl, refl); left = refl; free = refl }, (_, refl, record { lapsed = refl; fits = refl; passes = (end_by _ _ _ _ _ (record { are_falls = tt; settled = refl }) refl refl refl refl, refl, refl); left = refl; free = refl }, refl))) },
+  record {
+    faultless = refl;
+    called =
+        (record { as_long = refl; each_next = by_places 2 _ (refl, (refl, tt)) (λ k. refl) }, tt);
+    are_days = (
+      record {
+        dossier =
+            dossier_of (if_split
+            (record { day = 2; kind = Quit; target = 101 } ∷ record { day = 2; kind = Accept; target = 2 } ∷ []));
+        marks =
+            marked Waiting 0 0 ∷ marked Offered 1 1 ∷ marked Offered 1 1 ∷ [];
+      },
+      refl,
+      record {
+        lapsed = refl;
+        fits = refl;
+        passes =
+            (end_by _ _ _ _ _ _ (record { are_falls = tt; settled = refl }) refl refl refl refl, refl, refl);
+        left =
+            refl;
+        free = refl;
+      },
+      (
+        record {
+          dossier =
+              dossier_of (if_split
+              (record { day = 2; kind = Quit; target = 101 } ∷ record { day = 2; kind = Accept; target = 2 } ∷ []));
+          marks =
+              marked Offered 2 1 ∷ marked Accepted 2 0 ∷ marked HasQuit 2 0 ∷ [];
+        },
+        refl,
+        record {
+          lapsed = refl;
+          fits = refl;
+          passes =
+              (end_by _ _ _ _ _ _ (record { are_falls = tt; settled = refl }) refl refl refl refl, refl, refl);
+          left =
+              refl;
+          free = refl;
+        },
+        (
+          _,
+          refl,
+          record {
+            lapsed = refl;
+            fits = refl;
+            passes =
+                (end_by _ _ _ _ _ _ (record { are_falls = tt; settled = refl }) refl refl refl refl, refl, refl);
+            left =
+                refl;
+            free = refl;
+          },
+          refl,
+        ),
+      ),
+    );
+  },
+  record {
+    faultless = refl;
+    called =
+        (record { as_long = refl; each_next = by_places 2 _ (refl, (refl, tt)) (λ k. refl) }, tt);
+    are_days = (
+      record {
+        dossier =
+            dossier_of (if_split
+            (record { day = 2; kind = Quit; target = 101 } ∷ record { day = 3; kind = Accept; target = 2 } ∷ []));
+        marks =
+            marked Waiting 0 0 ∷ marked Offered 1 1 ∷ marked Offered 1 1 ∷ [];
+      },
+      refl,
+      record {
+        lapsed = refl;
+        fits = refl;
+        passes =
+            (end_by _ _ _ _ _ _ (record { are_falls = tt; settled = refl }) refl refl refl refl, refl, refl);
+        left =
+            refl;
+        free = refl;
+      },
+      (
+        record {
+          dossier =
+              dossier_of (if_split
+              (record { day = 2; kind = Quit; target = 101 } ∷ record { day = 3; kind = Accept; target = 2 } ∷ []));
+          marks =
+              marked Offered 2 1 ∷ marked Offered 1 1 ∷ marked HasQuit 2 0 ∷ [];
+        },
+        refl,
+        record {
+          lapsed = refl;
+          fits = refl;
+          passes =
+              (end_by _ _ _ _ _ _ (record { are_falls = tt; settled = refl }) refl refl refl refl, refl, refl);
+          left =
+              refl;
+          free = refl;
+        },
+        (
+          _,
+          refl,
+          record {
+            lapsed = refl;
+            fits = refl;
+            passes =
+                (end_by _ _ _ _ _ _ (record { are_falls = tt; settled = refl }) refl refl refl refl, refl, refl);
+            left =
+                refl;
+            free = refl;
+          },
+          refl,
+        ),
+      ),
+    );
+  },
 )
 
 pub bed_more_can_lower_bar : BedMoreCanLowerBar
 unfolding first_after
 bed_more_can_lower_bar = (
-  record { faultless = refl; called = (record { as_long = refl; each_next = by_places 2 _ (refl, (refl, tt)) (λ k. refl) }, tt); are_days = (_, refl, record { lapsed = refl; fits = refl; passes = (end_by _ _ _ _ _ (record { are_falls = (refl, refl, tt); settled = refl }) refl refl refl refl, refl, refl); left = refl; free = refl }, refl) },
-  record { faultless = refl; called = (record { as_long = refl; each_next = by_places 2 _ (refl, (refl, tt)) (λ k. refl) }, tt); are_days = (_, refl, record { lapsed = refl; fits = refl; passes = (end_by _ _ _ _ _ (record { are_falls = tt; settled = refl }) refl refl refl refl, refl, (end_by _ _ _ _ _ (record { are_falls = (refl, refl, tt); settled = refl }) refl refl refl refl, refl, refl)); left = refl; free = refl }, refl) },
+  record {
+    faultless = refl;
+    called =
+        (record { as_long = refl; each_next = by_places 2 _ (refl, (refl, tt)) (λ k. refl) }, tt);
+    are_days = (
+      _,
+      refl,
+      record {
+        lapsed = refl;
+        fits = refl;
+        passes =
+            (end_by _ _ _ _ _ _ (record { are_falls = (refl, refl, tt); settled = refl }) refl refl refl refl, refl, refl);
+        left = refl;
+        free = refl;
+      },
+      refl,
+    );
+  },
+  record {
+    faultless = refl;
+    called =
+        (record { as_long = refl; each_next = by_places 2 _ (refl, (refl, tt)) (λ k. refl) }, tt);
+    are_days = (
+      _,
+      refl,
+      record {
+        lapsed = refl;
+        fits = refl;
+        passes = (
+          end_by _ _ _ _ _ _ (record { are_falls = tt; settled = refl }) refl refl refl refl,
+          refl,
+          (end_by _ _ _ _ _ _ (record { are_falls = (refl, refl, tt); settled = refl }) refl refl refl refl, refl, refl),
+        );
+        left = refl;
+        free = refl;
+      },
+      refl,
+    );
+  },
 )
 
 pub seat_more_can_place_fewer : SeatMoreCanPlaceFewer
 unfolding first_after
 seat_more_can_place_fewer = (
-  record { faultless = refl; called = (record { as_long = refl; each_next = by_places 2 _ (refl, (refl, tt)) (λ k. refl) }, tt); are_days = (_, refl, record { lapsed = refl; fits = refl; passes = (end_by _ _ _ _ _ (record { are_falls = tt; settled = refl }) refl refl refl refl, refl, refl); left = refl; free = refl }, refl) },
-  record { faultless = refl; called = (record { as_long = refl; each_next = by_places 2 _ (refl, (refl, tt)) (λ k. refl) }, tt); are_days = (_, refl, record { lapsed = refl; fits = refl; passes = (end_by _ _ _ _ _ (record { are_falls = (refl, refl, tt); settled = refl }) refl refl refl refl, refl, refl); left = refl; free = refl }, refl) },
+  record {
+    faultless = refl;
+    called =
+        (record { as_long = refl; each_next = by_places 2 _ (refl, (refl, tt)) (λ k. refl) }, tt);
+    are_days = (
+      _,
+      refl,
+      record {
+        lapsed = refl;
+        fits = refl;
+        passes =
+            (end_by _ _ _ _ _ _ (record { are_falls = tt; settled = refl }) refl refl refl refl, refl, refl);
+        left =
+            refl;
+        free = refl;
+      },
+      refl,
+    );
+  },
+  record {
+    faultless = refl;
+    called =
+        (record { as_long = refl; each_next = by_places 2 _ (refl, (refl, tt)) (λ k. refl) }, tt);
+    are_days = (
+      _,
+      refl,
+      record {
+        lapsed = refl;
+        fits = refl;
+        passes =
+            (end_by _ _ _ _ _ _ (record { are_falls = (refl, refl, tt); settled = refl }) refl refl refl refl, refl, refl);
+        left = refl;
+        free = refl;
+      },
+      refl,
+    );
+  },
 )
 
 pub bed_more_can_place_fewer : BedMoreCanPlaceFewer
 unfolding first_after
 bed_more_can_place_fewer = (
-  record { faultless = refl; called = (record { as_long = refl; each_next = by_places 2 _ (refl, (refl, tt)) (λ k. refl) }, tt); are_days = (_, refl, record { lapsed = refl; fits = refl; passes = (end_by _ _ _ _ _ (record { are_falls = (refl, refl, tt); settled = refl }) refl refl refl refl, refl, refl); left = refl; free = refl }, refl) },
-  record { faultless = refl; called = (record { as_long = refl; each_next = by_places 2 _ (refl, (refl, tt)) (λ k. refl) }, tt); are_days = (_, refl, record { lapsed = refl; fits = refl; passes = (end_by _ _ _ _ _ (record { are_falls = tt; settled = refl }) refl refl refl refl, refl, refl); left = refl; free = refl }, refl) },
+  record {
+    faultless = refl;
+    called =
+        (record { as_long = refl; each_next = by_places 2 _ (refl, (refl, tt)) (λ k. refl) }, tt);
+    are_days = (
+      _,
+      refl,
+      record {
+        lapsed = refl;
+        fits = refl;
+        passes =
+            (end_by _ _ _ _ _ _ (record { are_falls = (refl, refl, tt); settled = refl }) refl refl refl refl, refl, refl);
+        left = refl;
+        free = refl;
+      },
+      refl,
+    );
+  },
+  record {
+    faultless = refl;
+    called =
+        (record { as_long = refl; each_next = by_places 2 _ (refl, (refl, tt)) (λ k. refl) }, tt);
+    are_days = (
+      _,
+      refl,
+      record {
+        lapsed = refl;
+        fits = refl;
+        passes =
+            (end_by _ _ _ _ _ _ (record { are_falls = tt; settled = refl }) refl refl refl refl, refl, refl);
+        left =
+            refl;
+        free = refl;
+      },
+      refl,
+    );
+  },
 )

@@ -19,6 +19,7 @@ use Rattle.admit_core.specs.DossierRows.{DossierRows}
 use Rattle.admit_core.specs.Falls.{IsGreatest}
 use Rattle.admit_core.specs.Lapses.{lapse}
 use Rattle.admit_core.specs.State.{State}
+use Rattle.day_state.proofs.Independence.{dossier_after_all}
 use Rattle.campaign_laws.specs.Moments.{Opening, after_each, after_passes, day_moments, day_openings, evening_after, evening_of, moments, openings, pass_openings}
 
 -- from one state to another through these moments
@@ -26,7 +27,8 @@ abbrev pub Walk : (State → State → Type 0) → State → List State → Stat
 Walk R s [] e = s ≡ e
 Walk R s (x ∷ xs) e = R s x × Walk R x xs e
 
-joined : (R : State → State → Type 0) (s : State) (xs ys : List State) (m e : State) → Walk R s xs m → Walk R m ys e → Walk R s (xs ++ ys) e
+joined : (R : State → State → Type 0) (s : State) (xs ys : List State) (m e : State) → Walk R s xs m → Walk R m ys e
+    → Walk R s (xs ++ ys) e
 joined R s [] ys m e first rest = subst (λ (t : State). Walk R t ys e) (sym first) rest
 joined R s (x ∷ xs) ys m e first rest = (first.0, joined R x xs ys m e first.1 rest)
 
@@ -56,14 +58,19 @@ all_along R P needs s (x ∷ xs) e walk p =
     record { moments = (rest.start, rest.moments); start = needs s x walk.0 rest.start }
 
 -- then each step may be taken with it
-pub with_fact : (R : State → State → Type 0) (P : State → Type 0) (s : State) (xs : List State) (e : State) → Walk R s xs e → HeldThroughout P s xs
+pub with_fact : (R : State → State → Type 0) (P : State → Type 0) (s : State) (xs : List State) (e : State)
+    → Walk R s xs e → HeldThroughout P s xs
     → Walk (λ a b. R a b × P a × P b) s xs e
 with_fact R P s [] e walk held = walk
-with_fact R P s (x ∷ xs) e walk held =
-    ((walk.0, held.start, held.moments.0), with_fact R P x xs e walk.1 (record { moments = held.moments.1; start = held.moments.0 }))
+with_fact R P s (x ∷ xs) e walk held = (
+  (walk.0, held.start, held.moments.0),
+  with_fact R P x xs e walk.1
+      (record { moments = held.moments.1; start = held.moments.0 }),
+)
 
 -- a relation of each step that can be joined holds between any two moments
-pairs_cons : (R : State → State → Type 0) (s : State) (xs : List State) → AllByRecursion (R s) xs → AllPairs R xs → AllPairs R (s ∷ xs)
+pairs_cons : (R : State → State → Type 0) (s : State) (xs : List State) → AllByRecursion (R s) xs → AllPairs R xs
+    → AllPairs R (s ∷ xs)
 pairs_cons R s xs from pairs zero zero d below lt = absurd (omega arith)
 pairs_cons R s xs from pairs zero (suc j) d below lt = at xs from j d (omega arith)
   where
@@ -82,7 +89,8 @@ any_two R join s (x ∷ xs) e walk =
     pairs_cons R s (x ∷ xs) (walk.0, rest.moments) (any_two R join x xs e walk.1)
 
 -- answers leave the dossier as it is
-kind_dossier : (kind : AnswerKind) (s : State) (target : ℕ) (stamp : Stamp) → (after_kind kind s target stamp).dossier ≡ s.dossier
+kind_dossier : (kind : AnswerKind) (s : State) (target : ℕ) (stamp : Stamp)
+    → (after_kind kind s target stamp).dossier ≡ s.dossier
 kind_dossier Accept s target stamp = refl
 kind_dossier Refuse s target stamp = refl
 kind_dossier Withdraw s target stamp = refl
@@ -91,60 +99,69 @@ kind_dossier Quit s target stamp = refl
 answer_dossier : (s : State) (stamp : Stamp) (a : Answer) → (after s stamp a).dossier ≡ s.dossier
 answer_dossier s stamp a = kind_dossier a.kind s a.target stamp
 
-answers_dossier : (s : State) (stamp : Stamp) (answers : List Answer) → (after_all s stamp answers).dossier ≡ s.dossier
-answers_dossier s stamp [] = refl
-answers_dossier s stamp (a ∷ rest) = answers_dossier (after s stamp a) stamp rest ∙ answer_dossier s stamp a
+lapsed_of : (d : DossierRows) (terms : Option Terms) (day : ℕ) (s : State) → s.dossier ≡ d
+    → (after_lapse terms day s).dossier ≡ d
+lapsed_of d None day s of = of
+lapsed_of d (Some t) day s of = of
 
-lapse_dossier : (terms : Option Terms) (day : ℕ) (s : State) → (after_lapse terms day s).dossier ≡ s.dossier
-lapse_dossier None day s = refl
-lapse_dossier (Some t) day s = refl
+pub morning_of : (d : DossierRows) (terms : Option Terms) (day : ℕ) (s : State) → s.dossier ≡ d
+    → (morning terms day s).dossier ≡ d
+morning_of d terms day s of =
+    dossier_after_all (after_lapse terms day s) (record { day = day; pass = 0 }) (answers_of s.dossier day)
+    ∙ lapsed_of d terms day s of
 
-morning_dossier : (terms : Option Terms) (day : ℕ) (s : State) → (morning terms day s).dossier ≡ s.dossier
-morning_dossier terms day s =
-    answers_dossier (after_lapse terms day s) (record { day = day; pass = 0 }) (answers_of s.dossier day) ∙ lapse_dossier terms day s
-
-evening_dossier : (orders : List CallOrder) (day k : ℕ) (s : State) (passes : List PassEnd) → (evening_after orders day k s passes).dossier ≡ s.dossier
+evening_dossier : (orders : List CallOrder) (day k : ℕ) (s : State) (passes : List PassEnd)
+    → (evening_after orders day k s passes).dossier ≡ s.dossier
 evening_dossier orders day k s [] = refl
 evening_dossier orders day k s (pass ∷ rest) =
     evening_dossier orders day (k + 1) (closing s orders pass.pass.bars (record { day = day; pass = k })) rest
 
 -- the evening of a day is the one that its passes leave
-evening_is : (orders : List CallOrder) (ceilings : List ℕ) (day k : ℕ) (s : State) (passes : List PassEnd) (evening : State)
+evening_is : (orders : List CallOrder) (ceilings : List ℕ) (day k : ℕ) (s : State) (passes : List PassEnd)
+    (evening : State)
     → Passes orders ceilings day k s passes evening → evening ≡ evening_after orders day k s passes
 evening_is orders ceilings day k s [] evening are = absurd are
 evening_is orders ceilings day k s (pass ∷ []) evening are = are.2
 evening_is orders ceilings day k s (pass ∷ (next ∷ rest)) evening are =
-    evening_is orders ceilings day (k + 1) (closing s orders pass.pass.bars (record { day = day; pass = k })) (next ∷ rest) evening are.2
+    evening_is orders ceilings day (k + 1) (closing s orders pass.pass.bars (record { day = day; pass = k }))
+    (next ∷ rest) evening are.2
 
-all_split : {X : Type 0} (P : X → Type 0) (xs ys : List X) → AllByRecursion P (xs ++ ys) → AllByRecursion P xs × AllByRecursion P ys
+all_split : {X : Type 0} (P : X → Type 0) (xs ys : List X) → AllByRecursion P (xs ++ ys)
+    → AllByRecursion P xs × AllByRecursion P ys
 all_split P [] ys all = (tt, all)
 all_split P (x ∷ xs) ys all = let rest = all_split P xs ys all.1 in ((all.0, rest.0), rest.1)
 
--- what relates the state before each kind of step to that after it: of the openings, and of the answers, something may be known
-pub record Steps (d : DossierRows) (terms : Option Terms) (orders : List CallOrder) (Q : Opening → Type 0) (A : Answer → Type 0)
+-- what relates the state before each kind of step to that after it: of the openings, and of the
+-- answers, something may be known
+pub record Steps (d : DossierRows) (terms : Option Terms) (orders : List CallOrder) (Q : Opening → Type 0)
+    (A : Answer → Type 0)
     (R : State → State → Type 0) : Type 0 where
   pub stays : (s : State) → R s s
   pub lapses : (t : Terms) (day : ℕ) (s : State) → terms ≡ Some t → s.dossier ≡ d → R s (lapse t day s)
   pub answers : (s : State) (stamp : Stamp) (a : Answer) → s.dossier ≡ d → fits s a ≡ true → A a → R s (after s stamp a)
-  pub offers : (s : State) (day : ℕ) (bars : List ℕ) (stamp : Stamp) → s.dossier ≡ d → IsGreatest (boarding s orders (ceilings_of d day)) bars
+  pub offers : (s : State) (day : ℕ) (bars : List ℕ) (stamp : Stamp) → s.dossier ≡ d
+      → IsGreatest (boarding s orders (ceilings_of d day)) bars
       → Q (record { state = s; bars = bars }) → R s (offered s orders bars stamp)
   pub autos : (s : State) (stamp : Stamp) → s.dossier ≡ d → R s (auto_all s stamp)
 
 -- two relations at once
-pub both : (d : DossierRows) (terms : Option Terms) (orders : List CallOrder) (Q : Opening → Type 0) (A : Answer → Type 0) (R S : State → State → Type 0)
+pub both : (d : DossierRows) (terms : Option Terms) (orders : List CallOrder) (Q : Opening → Type 0)
+    (A : Answer → Type 0) (R S : State → State → Type 0)
     → Steps d terms orders Q A R → Steps d terms orders Q A S → Steps d terms orders Q A (λ s t. R s t × S s t)
 both d terms orders Q A R S first second = record {
   stays = λ s. (first.stays s, second.stays s);
   lapses = λ t day s is of. (first.lapses t day s is of, second.lapses t day s is of);
   answers = λ s stamp a of fit known. (first.answers s stamp a of fit known, second.answers s stamp a of fit known);
-  offers = λ s day bars stamp of greatest known. (first.offers s day bars stamp of greatest known, second.offers s day bars stamp of greatest known);
+  offers = λ s day bars stamp of greatest known.
+      (first.offers s day bars stamp of greatest known, second.offers s day bars stamp of greatest known);
   autos = λ s stamp of. (first.autos s stamp of, second.autos s stamp of);
 }
 
 abbrev pub SameDossier : State → State → Type 0
 SameDossier s t = t.dossier ≡ s.dossier
 
-pub same_dossier : (d : DossierRows) (terms : Option Terms) (orders : List CallOrder) (Q : Opening → Type 0) (A : Answer → Type 0) → Steps d terms orders Q A SameDossier
+pub same_dossier : (d : DossierRows) (terms : Option Terms) (orders : List CallOrder) (Q : Opening → Type 0)
+    (A : Answer → Type 0) → Steps d terms orders Q A SameDossier
 same_dossier d terms orders Q A = record {
   stays = λ s. refl;
   lapses = λ t day s is of. refl;
@@ -155,11 +172,13 @@ same_dossier d terms orders Q A = record {
 
 module _ (d : DossierRows) (terms : Option Terms) (orders : List CallOrder) (Q : Opening → Type 0) (A : Answer → Type 0)
     (R : State → State → Type 0) (steps : Steps d terms orders Q A R) where
-  lapse_step : (given : Option Terms) (day : ℕ) (s : State) → terms ≡ given → s.dossier ≡ d → R s (after_lapse given day s)
+  lapse_step : (given : Option Terms) (day : ℕ) (s : State) → terms ≡ given → s.dossier ≡ d
+      → R s (after_lapse given day s)
   lapse_step None day s is of = steps.stays s
   lapse_step (Some t) day s is of = steps.lapses t day s is of
 
-  answer_steps : (i : ℕ) (s : State) (stamp : Stamp) (answers : List Answer) → s.dossier ≡ d → first_unfit i s stamp answers ≡ None
+  answer_steps : (i : ℕ) (s : State) (stamp : Stamp) (answers : List Answer) → s.dossier ≡ d
+      → first_unfit i s stamp answers ≡ None
       → AllByRecursion A answers → Walk R s (after_each s stamp answers) (after_all s stamp answers)
   answer_steps i s stamp [] of none all = refl
   answer_steps i s stamp (a ∷ rest) of none all =
@@ -171,7 +190,8 @@ module _ (d : DossierRows) (terms : Option Terms) (orders : List CallOrder) (Q :
         | inr unfit ↦ let some = rw unfit at none in absurd (cc)
       ]
 
-  pass_steps : (ceilings : List ℕ) (day k : ℕ) (s : State) (passes : List PassEnd) (evening : State) → ceilings ≡ ceilings_of d day → s.dossier ≡ d
+  pass_steps : (ceilings : List ℕ) (day k : ℕ) (s : State) (passes : List PassEnd) (evening : State)
+      → ceilings ≡ ceilings_of d day → s.dossier ≡ d
       → Passes orders ceilings day k s passes evening → AllByRecursion Q (pass_openings orders day k s passes)
       → Walk R s (after_passes orders day k s passes) evening
   pass_steps ceilings day k s [] evening are_ceilings of are all = absurd are
@@ -184,7 +204,8 @@ module _ (d : DossierRows) (terms : Option Terms) (orders : List CallOrder) (Q :
       let stamp : Stamp = record { day = day; pass = k } in
       let bars = pass.pass.bars in
       let greatest = subst (λ (cs : List ℕ). IsGreatest (boarding s orders cs) bars) are_ceilings are.0.pass.greatest in
-      let after = pass_steps ceilings day (k + 1) (closing s orders bars stamp) (next ∷ rest) evening are_ceilings of are.2 all.1 in
+      let after = pass_steps ceilings day (k + 1) (closing s orders bars stamp) (next ∷ rest) evening are_ceilings of
+      are.2 all.1 in
       (steps.offers s day bars stamp of greatest all.0, (steps.autos (offered s orders bars stamp) stamp of, after))
 
   day_steps : (number : ℕ) (old : State) (day : DayRecord) (evening : State) → old.dossier ≡ d → day.day ≡ number
@@ -196,32 +217,40 @@ module _ (d : DossierRows) (terms : Option Terms) (orders : List CallOrder) (Q :
       let stamp : Stamp = record { day = day.day; pass = 0 } in
       let answers = answers_of old.dossier day.day in
       let are_ceilings : ceilings_of old.dossier number ≡ ceilings_of d day.day = rw (of, is_number) refl in
-      let own : AllByRecursion A answers = subst (λ (x : DossierRows). AllByRecursion A (answers_of x day.day)) (sym of) may in
-      let first = answer_steps 0 lapsed stamp answers (lapse_dossier terms day.day old ∙ of) is.fits own in
-      let last = pass_steps (ceilings_of old.dossier number) day.day 1 (morning terms day.day old) day.passes evening are_ceilings
-      (morning_dossier terms day.day old ∙ of) is.passes all in (
+      let own : AllByRecursion A answers = subst (λ (x : DossierRows). AllByRecursion A (answers_of x day.day))
+      (sym of) may in
+      let first = answer_steps 0 lapsed stamp answers (lapsed_of d terms day.day old of) is.fits own in
+      let last = pass_steps (ceilings_of old.dossier number) day.day 1 (morning terms day.day old) day.passes evening
+      are_ceilings
+      (morning_of d terms day.day old of) is.passes all in (
         lapse_step terms day.day old refl of,
-        joined R lapsed (after_each lapsed stamp answers) (after_passes orders day.day 1 (morning terms day.day old) day.passes)
+        joined R lapsed (after_each lapsed stamp answers)
+            (after_passes orders day.day 1 (morning terms day.day old) day.passes)
             (morning terms day.day old) evening first last,
       )
 
   pub campaign_steps : (number : ℕ) (old : State) (days : List DayRecord) (new : State) → old.dossier ≡ d
       → Days terms orders number old days new
-      → AllByRecursion Q (openings terms orders old days) → AllByRecursion (λ day. AllByRecursion A (answers_of d day.day)) days
+      → AllByRecursion Q (openings terms orders old days) → AllByRecursion
+      (λ day. AllByRecursion A (answers_of d day.day)) days
       → Walk R old (moments terms orders old days) new
   campaign_steps number old [] new of are all may = are
   campaign_steps number old (day ∷ days) new of are all may =
       let (evening, is_number, is_day, rest) = are in
-      let parts = all_split Q (day_openings terms orders old day) (openings terms orders (evening_of terms orders old day) days) all in
+      let parts = all_split Q (day_openings terms orders old day)
+      (openings terms orders (evening_of terms orders old day) days) all in
       let left : evening ≡ evening_of terms orders old day =
-      evening_is orders (ceilings_of old.dossier number) day.day 1 (morning terms day.day old) day.passes evening is_day.passes in
+      evening_is orders (ceilings_of old.dossier number) day.day 1 (morning terms day.day old) day.passes evening
+      is_day.passes in
       let kept : evening.dossier ≡ d =
       ap (λ (s : State). s.dossier) left ∙ evening_dossier orders day.day 1 (morning terms day.day old) day.passes
-      ∙ morning_dossier terms day.day old ∙ of in
+      ∙ morning_of d terms day.day old of in
       let openings_there : AllByRecursion Q (openings terms orders evening days) =
       subst (λ (s : State). AllByRecursion Q (openings terms orders s days)) (sym left) parts.1 in
-      let later : Walk R evening (moments terms orders evening days) new = campaign_steps (number + 1) evening days new kept rest openings_there may.1 in
-      joined R old (day_moments terms orders old day) (moments terms orders (evening_of terms orders old day) days) evening new
+      let later : Walk R evening (moments terms orders evening days) new =
+      campaign_steps (number + 1) evening days new kept rest openings_there may.1 in
+      joined R old (day_moments terms orders old day) (moments terms orders (evening_of terms orders old day) days)
+      evening new
       (day_steps number old day evening of is_number is_day parts.0 may.0)
       (subst (λ (s : State). Walk R evening (moments terms orders s days) new) left later)
 
@@ -233,20 +262,26 @@ pub all_of : {X : Type 0} (P : X → Type 0) → ((x : X) → P x) → (xs : Lis
 all_of P each [] = tt
 all_of P each (x ∷ xs) = (each x, all_of P each xs)
 
-pub plain_steps : (terms : Option Terms) (orders : List CallOrder) (R : State → State → Type 0) (number : ℕ) (old : State) (days : List DayRecord) (new : State)
-    → Steps old.dossier terms orders Nothing Nothing R → Days terms orders number old days new → Walk R old (moments terms orders old days) new
+pub plain_steps : (terms : Option Terms) (orders : List CallOrder) (R : State → State → Type 0) (number : ℕ)
+    (old : State) (days : List DayRecord) (new : State)
+    → Steps old.dossier terms orders Nothing Nothing R → Days terms orders number old days new
+    → Walk R old (moments terms orders old days) new
 plain_steps terms orders R number old days new steps are =
     campaign_steps old.dossier terms orders Nothing Nothing R steps number old days new refl are
     (all_of Nothing (λ o. tt) (openings terms orders old days))
-    (all_of (λ (day : DayRecord). AllByRecursion Nothing (answers_of old.dossier day.day)) (λ day. all_of Nothing (λ a. tt) (answers_of old.dossier day.day)) days)
+    (all_of (λ (day : DayRecord). AllByRecursion Nothing (answers_of old.dossier day.day))
+    (λ day. all_of Nothing (λ a. tt) (answers_of old.dossier day.day)) days)
 
 -- where something is known of the openings alone
-pub steps_by_openings : (terms : Option Terms) (orders : List CallOrder) (Q : Opening → Type 0) (R : State → State → Type 0) (number : ℕ) (old : State) (days : List DayRecord) (new : State)
-    → Steps old.dossier terms orders Q Nothing R → Days terms orders number old days new → AllByRecursion Q (openings terms orders old days)
+pub steps_by_openings : (terms : Option Terms) (orders : List CallOrder) (Q : Opening → Type 0)
+    (R : State → State → Type 0) (number : ℕ) (old : State) (days : List DayRecord) (new : State)
+    → Steps old.dossier terms orders Q Nothing R → Days terms orders number old days new
+    → AllByRecursion Q (openings terms orders old days)
     → Walk R old (moments terms orders old days) new
 steps_by_openings terms orders Q R number old days new steps are all =
     campaign_steps old.dossier terms orders Q Nothing R steps number old days new refl are all
-    (all_of (λ (day : DayRecord). AllByRecursion Nothing (answers_of old.dossier day.day)) (λ day. all_of Nothing (λ a. tt) (answers_of old.dossier day.day)) days)
+    (all_of (λ (day : DayRecord). AllByRecursion Nothing (answers_of old.dossier day.day))
+    (λ day. all_of Nothing (λ a. tt) (answers_of old.dossier day.day)) days)
 
 -- the openings stand among the moments: what holds at all of them holds before and after the offers of each pass
 pub record Around (P : State → Type 0) (orders : List CallOrder) (o : Opening) : Type 0 where
@@ -254,25 +289,33 @@ pub record Around (P : State → Type 0) (orders : List CallOrder) (o : Opening)
   pub before : P o.state
   pub after : P (offered o.state orders o.bars stamp)
 
-all_joined : {X : Type 0} (P : X → Type 0) (xs ys : List X) → AllByRecursion P xs → AllByRecursion P ys → AllByRecursion P (xs ++ ys)
+all_joined : {X : Type 0} (P : X → Type 0) (xs ys : List X) → AllByRecursion P xs → AllByRecursion P ys
+    → AllByRecursion P (xs ++ ys)
 all_joined P [] ys first rest = rest
 all_joined P (x ∷ xs) ys first rest = (first.0, all_joined P xs ys first.1 rest)
 
 module _ (P : State → Type 0) (terms : Option Terms) (orders : List CallOrder) where
-  after_answers : (s : State) (stamp : Stamp) (answers : List Answer) → P s → AllByRecursion P (after_each s stamp answers) → P (after_all s stamp answers)
+  after_answers : (s : State) (stamp : Stamp) (answers : List Answer) → P s
+      → AllByRecursion P (after_each s stamp answers) → P (after_all s stamp answers)
   after_answers s stamp [] p all = p
   after_answers s stamp (a ∷ rest) p all = after_answers (after s stamp a) stamp rest all.0 all.1
 
-  at_evening : (day k : ℕ) (s : State) (passes : List PassEnd) → P s → AllByRecursion P (after_passes orders day k s passes) → P (evening_after orders day k s passes)
+  at_evening : (day k : ℕ) (s : State) (passes : List PassEnd) → P s
+      → AllByRecursion P (after_passes orders day k s passes) → P (evening_after orders day k s passes)
   at_evening day k s [] p all = p
-  at_evening day k s (pass ∷ rest) p all = at_evening day (k + 1) (closing s orders pass.pass.bars (record { day = day; pass = k })) rest all.1.0 all.1.1
+  at_evening day k s (pass ∷ rest) p all = at_evening day (k + 1)
+      (closing s orders pass.pass.bars (record { day = day; pass = k })) rest all.1.0 all.1.1
 
-  around_passes : (day k : ℕ) (s : State) (passes : List PassEnd) → P s → AllByRecursion P (after_passes orders day k s passes)
+  around_passes : (day k : ℕ) (s : State) (passes : List PassEnd) → P s
+      → AllByRecursion P (after_passes orders day k s passes)
       → AllByRecursion (Around P orders) (pass_openings orders day k s passes)
   around_passes day k s [] p all = tt
   around_passes day k s (pass ∷ rest) p all =
-      let stamp : Stamp = record { day = day; pass = k } in
-      (record { stamp = stamp; before = p; after = all.0 }, around_passes day (k + 1) (closing s orders pass.pass.bars stamp) rest all.1.0 all.1.1)
+      let stamp : Stamp = record { day = day; pass = k } in (
+        record { stamp = stamp; before = p; after = all.0 },
+        around_passes day (k + 1)
+            (closing s orders pass.pass.bars stamp) rest all.1.0 all.1.1,
+      )
 
   pub around_openings : (old : State) (days : List DayRecord) → P old → AllByRecursion P (moments terms orders old days)
       → AllByRecursion (Around P orders) (openings terms orders old days)
@@ -282,18 +325,24 @@ module _ (P : State → Type 0) (terms : Option Terms) (orders : List CallOrder)
       let stamp : Stamp = record { day = day.day; pass = 0 } in
       let answers = answers_of old.dossier day.day in
       let dawn = morning terms day.day old in
-      let whole = all_split P (day_moments terms orders old day) (moments terms orders (evening_of terms orders old day) days) all in
-      let parts = all_split P (after_each lapsed stamp answers) (after_passes orders day.day 1 dawn day.passes) whole.0.1 in
+      let whole = all_split P (day_moments terms orders old day)
+      (moments terms orders (evening_of terms orders old day) days) all in
+      let parts = all_split P (after_each lapsed stamp answers) (after_passes orders day.day 1 dawn day.passes)
+      whole.0.1 in
       let there = after_answers lapsed stamp answers whole.0.0 parts.0 in
-      all_joined (Around P orders) (day_openings terms orders old day) (openings terms orders (evening_of terms orders old day) days)
+      all_joined (Around P orders) (day_openings terms orders old day)
+      (openings terms orders (evening_of terms orders old day) days)
       (around_passes day.day 1 dawn day.passes there parts.1)
-      (around_openings (evening_of terms orders old day) days (at_evening day.day 1 dawn day.passes there parts.1) whole.1)
+      (around_openings (evening_of terms orders old day) days (at_evening day.day 1 dawn day.passes there parts.1)
+      whole.1)
 
 -- two facts at once
-pub all_both : {X : Type 0} (P Q : X → Type 0) (xs : List X) → AllByRecursion P xs → AllByRecursion Q xs → AllByRecursion (λ x. P x × Q x) xs
+pub all_both : {X : Type 0} (P Q : X → Type 0) (xs : List X) → AllByRecursion P xs → AllByRecursion Q xs
+    → AllByRecursion (λ x. P x × Q x) xs
 all_both P Q [] first second = tt
 all_both P Q (x ∷ xs) first second = ((first.0, second.0), all_both P Q xs first.1 second.1)
 
-pub all_imply : {X : Type 0} (P Q : X → Type 0) → ((x : X) → P x → Q x) → (xs : List X) → AllByRecursion P xs → AllByRecursion Q xs
+pub all_imply : {X : Type 0} (P Q : X → Type 0) → ((x : X) → P x → Q x) → (xs : List X) → AllByRecursion P xs
+    → AllByRecursion Q xs
 all_imply P Q h [] all = tt
 all_imply P Q h (x ∷ xs) all = (h x all.0, all_imply P Q h xs all.1)

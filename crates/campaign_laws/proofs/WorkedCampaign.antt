@@ -2,7 +2,6 @@
 use Rattle.std.proofs.Common.{ℕ, ◌≡◌, List, [], ◌∷◌, None, refl}
 use Rattle.admit_core.specs.declared.ranking.CallOrder.{CallOrder}
 use Rattle.admit_core.specs.declared.records.PassEnd.{PassEnd}
-use Rattle.admit_core.specs.declared.state.Stamp.{Stamp}
 use Rattle.admit_core.specs.Boarding.{boarding}
 use Rattle.admit_core.specs.Days.{Days, IsDay, IsPassEnd, ceilings_of, changes, closing, freed_after, offered}
 use Rattle.admit_core.specs.CallOrder.{AreCallOrders}
@@ -13,21 +12,29 @@ use Rattle.admit_core.specs.State.{State}
 use Rattle.admit_core.specs.WorkedRows.{small_dossier}
 use Rattle.admit_core.proofs.ByPlaces.{by_places}
 use Rattle.admit_core.proofs.Rows.{passes_with}
-use Rattle.campaign_laws.specs.WorkedCampaign.{before_summer, first_day, first_night, next_day, second_day, second_night, small_days, small_night, small_orders, summer, summer_days, summer_orders, third_day, third_night}
+use Rattle.campaign_laws.specs.WorkedCampaign.{before_summer, first_day, first_night, next_day, second_day, second_night, small_days, small_next, small_night, small_orders, summer, summer_days, summer_orders, third_day, third_night}
 
 -- a pass with its automatic answers, by its run of falls
-pub end_by : (s : State) (orders : List CallOrder) (ceilings : List ℕ) (stamp : Stamp) (end : PassEnd) → IsRun (boarding s orders ceilings) end.pass.falls
-    → end.pass.bars ≡ bars_after ceilings end.pass.falls → end.pass.offers ≡ proposed s orders end.pass.bars
-    → end.autos ≡ changes (offered s orders end.pass.bars stamp) (closing s orders end.pass.bars stamp)
-    → end.freed ≡ freed_after s orders end.pass.bars stamp → IsPassEnd s orders ceilings stamp end
-end_by s orders ceilings stamp end run bars offers autos freed =
+pub end_by : (s : State) (orders : List CallOrder) (ceilings : List ℕ) (day k : ℕ) (end : PassEnd)
+    → IsRun (boarding s orders ceilings) end.pass.falls → end.pass.bars ≡ bars_after ceilings end.pass.falls
+    → end.pass.offers ≡ proposed s orders end.pass.bars
+    → end.autos ≡ changes (offered s orders end.pass.bars (record { day = day; pass = k }))
+    (closing s orders end.pass.bars (record { day = day; pass = k }))
+    → end.freed ≡ freed_after s orders end.pass.bars (record { day = day; pass = k })
+    → IsPassEnd s orders ceilings (record { day = day; pass = k }) end
+end_by s orders ceilings day k end run bars offers autos freed =
     record { pass = passes_with s orders ceilings end.pass run bars offers; autos = autos; freed = freed }
 
 pub first_holds : IsDay next_day summer_orders (ceilings_of summer 1) before_summer first_day first_night
 first_holds = record {
   lapsed = refl;
   fits = refl;
-  passes = (end_by _ summer_orders (9 ∷ []) _ _ (record { are_falls = (refl, refl, tt); settled = refl }) refl refl refl refl, refl, refl);
+  passes = (
+    end_by _ summer_orders (9 ∷ []) _ _ _ (record { are_falls = (refl, refl, tt); settled = refl }) refl refl
+        refl refl,
+    refl,
+    refl,
+  );
   left = refl;
   free = refl;
 }
@@ -36,7 +43,11 @@ pub second_holds : IsDay next_day summer_orders (ceilings_of summer 2) first_nig
 second_holds = record {
   lapsed = refl;
   fits = refl;
-  passes = (end_by _ summer_orders (9 ∷ []) _ _ (record { are_falls = tt; settled = refl }) refl refl refl refl, refl, refl);
+  passes = (
+    end_by _ summer_orders (9 ∷ []) _ _ _ (record { are_falls = tt; settled = refl }) refl refl refl refl,
+    refl,
+    refl,
+  );
   left = refl;
   free = refl;
 }
@@ -45,13 +56,18 @@ pub third_holds : IsDay next_day summer_orders (ceilings_of summer 3) second_nig
 third_holds = record {
   lapsed = refl;
   fits = refl;
-  passes = (end_by _ summer_orders (9 ∷ []) _ _ (record { are_falls = tt; settled = refl }) refl refl refl refl, refl, refl);
+  passes = (
+    end_by _ summer_orders (9 ∷ []) _ _ _ (record { are_falls = tt; settled = refl }) refl refl refl refl,
+    refl,
+    refl,
+  );
   left = refl;
   free = refl;
 }
 
 pub summer_holds : Days next_day summer_orders 1 before_summer summer_days third_night
-summer_holds = (first_night, refl, first_holds, (second_night, refl, second_holds, (third_night, refl, third_holds, refl)))
+summer_holds =
+    (first_night, refl, first_holds, (second_night, refl, second_holds, (third_night, refl, third_holds, refl)))
 
 pub first_alone : Days next_day summer_orders 1 before_summer (first_day ∷ []) first_night
 first_alone = (first_night, refl, first_holds, refl)
@@ -63,7 +79,11 @@ small_holds = (
   record {
     lapsed = refl;
     fits = refl;
-    passes = (end_by _ small_orders (3 ∷ []) _ _ (record { are_falls = tt; settled = refl }) refl refl refl refl, refl, refl);
+    passes = (
+      end_by _ small_orders (3 ∷ []) _ _ _ (record { are_falls = tt; settled = refl }) refl refl refl refl,
+      refl,
+      refl,
+    );
     left = refl;
     free = refl;
   },
@@ -72,3 +92,21 @@ small_holds = (
 
 pub small_called : AreCallOrders small_dossier.groups small_orders
 small_called = (record { as_long = refl; each_next = by_places 1 _ (refl, tt) (λ k. refl) }, tt)
+
+pub small_next_holds : Days None small_orders 3 small_night (small_next ∷ []) small_night
+small_next_holds = (
+  small_night,
+  refl,
+  record {
+    lapsed = refl;
+    fits = refl;
+    passes = (
+      end_by _ small_orders (3 ∷ []) _ _ _ (record { are_falls = tt; settled = refl }) refl refl refl refl,
+      refl,
+      refl,
+    );
+    left = refl;
+    free = refl;
+  },
+  refl,
+)

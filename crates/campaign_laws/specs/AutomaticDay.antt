@@ -1,5 +1,5 @@
 -- What an automatic day is: its evening is the worst stable matching for every candidate.
-use Rattle.std.specs.Prelude.{◌≡◌, ◌≤◌, ◌<◌, ◌&&◌, ◌||◌, ◌==◌, ℕ, All, AllPairs, Bool, IsTrue, List, None, [], length, nat_le}
+use Rattle.std.specs.Prelude.{◌≡◌, ◌≤◌, ◌<◌, ◌&&◌, ◌||◌, ◌==◌, ℕ, All, AllPairs, Bool, IsTrue, List, None, [], false, length, nat_le}
 use Rattle.std.specs.List.{list_any}
 use Rattle.admit_core.specs.declared.dossier.Wish.{Wish}
 use Rattle.admit_core.specs.declared.ranking.CallOrder.{CallOrder}
@@ -23,7 +23,7 @@ pub record IsAllAutomatic (d : DossierRows) : Type 0 where
 
 -- two wishes of one candidate are not both live
 abbrev pub NotBothLive : Wish × Mark → Wish × Mark → Type 0
-NotBothLive e f = e.0.candidate ≡ f.0.candidate → IsTrue (is_live e.1) → IsTrue (is_live f.1) → ⊥
+NotBothLive e f = e.0.candidate ≡ f.0.candidate → IsTrue (is_live e.1) → is_live f.1 ≡ false
 
 -- a matching of the dossier, as a state: each candidate has at most one live wish, no programme
 -- more candidates than seats, and no wish was given up by its candidate
@@ -57,3 +57,14 @@ StableMatchingsAreNoWorse =
     → IsStable orders d m
     → IsTrue (has_as_good evening c n)
     → IsTrue (has_as_good m c n)
+
+-- and the evening is such a matching itself
+abbrev pub AutomaticEveningsAreStable : Type 0
+AutomaticEveningsAreStable =
+    (orders : List CallOrder) (d : DossierRows) (days : List DayRecord) (evening : State)
+    → IsValid d
+    → AreCallOrders d.groups orders
+    → IsAllAutomatic d
+    → 0 < length days
+    → Days None orders 1 (first_evening d) days evening
+    → IsStable orders d evening

@@ -1,10 +1,12 @@
 pub mod AutomaticDay
 pub mod Beds
+pub mod Crossed
 pub mod Kept
 pub mod Moments
 pub mod NotPromised
 pub mod OneMark
 pub mod PassedOver
+pub mod QuietDays
 pub mod Room
 pub mod WaitingPlace
 pub mod Witnesses

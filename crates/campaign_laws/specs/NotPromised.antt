@@ -123,8 +123,11 @@ if_accepted answers =
     ∷ []) (by_rank 1 (101 ∷ []))
     (boarded 51 (101 ∷ [])) (wish 1 101 10 (Some 51) 0 ∷ wish 2 101 20 None 0
     ∷ wish 3 101 10 None 0
-    ∷ [])) { answers = answers; state = record { wish = 1; status = Offered; since = None }
-    ∷ record { wish = 2; status = Accepted; since = None } ∷ [] }
+    ∷ [])) {
+      answers = answers;
+      state = record { wish = 1; status = Offered; since = None }
+          ∷ record { wish = 2; status = Accepted; since = None } ∷ [];
+    }
 
 abbrev pub AcceptingCanCost : Type 0
 AcceptingCanCost =

@@ -1,6 +1,6 @@
 -- For each law a worked case that meets all its premises, with what it concludes there: the law's
 -- text, with a value for each variable and a product for each arrow.
-use Rattle.std.specs.Prelude.{◌≡◌, ◌∷◌, ◌<◌, ◌⊎◌, ℕ, All, AllPairs, IsSome, IsTrue, List, None, Option, Some, [], false, length}
+use Rattle.std.specs.Prelude.{◌≡◌, ◌∷◌, ◌<◌, ◌≤◌, ◌⊎◌, ◌+◌, ℕ, All, AllPairs, IsSome, IsTrue, List, None, Option, Some, [], false, length}
 use Rattle.admit_core.specs.declared.dossier.Wish.{Wish}
 use Rattle.admit_core.specs.declared.ranking.CallOrder.{CallOrder}
 use Rattle.admit_core.specs.declared.records.DayRecord.{DayRecord}
@@ -8,22 +8,25 @@ use Rattle.admit_core.specs.declared.records.Terms.{Terms}
 use Rattle.admit_core.specs.declared.state.Mark.{Mark}
 use Rattle.admit_core.specs.declared.state.Status.TheVariants.{Accepted, Lapsed, Offered, Refused, Waiting}
 use Rattle.admit_core.specs.CallOrder.{AreCallOrders}
-use Rattle.admit_core.specs.Days.{Days, first_evening}
-use Rattle.admit_core.specs.DossierRows.{limit_of}
+use Rattle.admit_core.specs.Days.{Days, answers_of, ceilings_of, first_evening}
+use Rattle.admit_core.specs.DossierRows.{DossierRows, limit_of, seats_of}
 use Rattle.admit_core.specs.Lapses.{AreTermsFor}
 use Rattle.admit_core.specs.Lists.{is_among}
 use Rattle.admit_core.specs.Proposals.{before}
-use Rattle.admit_core.specs.State.{State, holds_bed, holds_seat, is_gone, is_live, is_waiting}
+use Rattle.admit_core.specs.State.{State, holds_bed, holds_seat, is_gone, is_live, is_waiting, seat_holders}
 use Rattle.admit_core.specs.Validity.{IsValid}
-use Rattle.admit_core.specs.WorkedRows.{boarder, marked, small_dossier}
+use Rattle.admit_core.specs.WorkedRows.{boarder, marked, small_dossier, wish}
+use Rattle.campaign_laws.specs.AutomaticDay.{IsAllAutomatic, IsStable, has_as_good}
 use Rattle.campaign_laws.specs.Beds.{CameByBetterRank, GoesByTheTwoLists, IsBarredIn, IsSameWishOffered, ranks_better}
+use Rattle.campaign_laws.specs.Crossed.{both_first, crossed, crossed_days, crossed_evening, crossed_orders}
 use Rattle.campaign_laws.specs.Kept.{AnswersThemself, GivesNoAnswer, KeepsOwn, NeverDescends, has_accepted}
 use Rattle.campaign_laws.specs.Moments.{Opening, moments, openings}
 use Rattle.campaign_laws.specs.OneMark.{IsLater}
 use Rattle.campaign_laws.specs.PassedOver.{CameFromBefore, IsUnbarred, WaitsAt}
+use Rattle.campaign_laws.specs.QuietDays.{ChangesNothing}
 use Rattle.campaign_laws.specs.Room.{FitsBedsOf, FitsSeatsOf}
 use Rattle.campaign_laws.specs.WaitingPlace.{NoMoreWaitBefore}
-use Rattle.campaign_laws.specs.WorkedCampaign.{barred_first, before_summer, first_day, first_night, next_day, second_night, small_days, small_night, small_orders, summer_days, summer_orders, third_night, thirteenth}
+use Rattle.campaign_laws.specs.WorkedCampaign.{barred_first, before_summer, first_day, first_night, next_day, second_night, small_day, small_days, small_next, small_night, small_orders, summer_days, summer_orders, third_night, thirteenth}
 
 -- ---- one mark: the refused wish, the one that 12 is offered, and that of 13
 abbrev pub GoneStaysGoneWitness : Type 0
@@ -251,3 +254,70 @@ NeverMoreThanSeatsWitness =
     × (p < length old.dossier.programmes)
     × (limit_of old.dossier p ≡ 0)
     × All (FitsSeatsOf old p) (moments terms orders old days)
+
+-- ---- an automatic day: each of the two gets their second, though both would have their first in
+-- another stable matching
+abbrev pub StableMatchingsAreNoWorseWitness : Type 0
+StableMatchingsAreNoWorseWitness =
+    let orders : List CallOrder = crossed_orders in
+    let d : DossierRows = crossed in
+    let days : List DayRecord = crossed_days in
+    let evening : State = crossed_evening in
+    let m : State = both_first in
+    let c : ℕ = 101 in
+    let n : ℕ = 2 in
+    IsValid d
+    × AreCallOrders d.groups orders
+    × IsAllAutomatic d
+    × Days None orders 1 (first_evening d) days evening
+    × IsStable orders d m
+    × IsTrue (has_as_good evening c n)
+    × IsTrue (has_as_good m c n)
+
+abbrev pub AutomaticEveningsAreStableWitness : Type 0
+AutomaticEveningsAreStableWitness =
+    let orders : List CallOrder = crossed_orders in
+    let d : DossierRows = crossed in
+    let days : List DayRecord = crossed_days in
+    let evening : State = crossed_evening in
+    IsValid d
+    × AreCallOrders d.groups orders
+    × IsAllAutomatic d
+    × (0 < length days)
+    × Days None orders 1 (first_evening d) days evening
+    × IsStable orders d evening
+
+abbrev pub NotBothLiveWitness : Type 0
+NotBothLiveWitness =
+    let e : Wish × Mark = (wish 1 101 1 2, marked Accepted 1 1) in
+    let f : Wish × Mark = (wish 2 101 0 1, marked Waiting 0 0) in
+    (e.0.candidate ≡ f.0.candidate) × IsTrue (is_live e.1) × (is_live f.1 ≡ false)
+
+abbrev pub IsMatchingRoomWitness : Type 0
+IsMatchingRoomWitness =
+    let d : DossierRows = crossed in
+    let m : State = both_first in
+    let p : ℕ = 0 in
+    (p < length d.programmes) × (length (seat_holders m p) ≤ seats_of d p)
+
+-- ---- a quiet day: the day after, on which nothing is left to do
+abbrev pub QuietDaysChangeNothingWitness : Type 0
+QuietDaysChangeNothingWitness =
+    let terms : Option Terms = None in
+    let orders : List CallOrder = small_orders in
+    let d : ℕ = 2 in
+    let old : State = first_evening small_dossier in
+    let day : DayRecord = small_day in
+    let next : DayRecord = small_next in
+    let evening : State = small_night in
+    let new : State = small_night in
+    IsValid old.dossier
+    × AreCallOrders old.dossier.groups orders
+    × AreTermsFor old.dossier terms
+    × (length old.marks ≡ length old.dossier.wishes)
+    × Days terms orders d old (day ∷ []) evening
+    × Days terms orders (d + 1) evening (next ∷ []) new
+    × (ceilings_of old.dossier (d + 1) ≡ ceilings_of old.dossier d)
+    × (next.lapsed ≡ [])
+    × (answers_of old.dossier (d + 1) ≡ [])
+    × ChangesNothing evening next new

@@ -99,8 +99,15 @@ third_night = record {
 abbrev pub small_orders : List CallOrder
 small_orders = in_order (11 ∷ []) ∷ []
 
+abbrev pub small_day : DayRecord
+small_day = day 2 (quiet (3 ∷ []) [] (0 ∷ []) ∷ []) (0 ∷ []) (0 ∷ [])
+
 abbrev pub small_days : List DayRecord
-small_days = day 2 (quiet (3 ∷ []) [] (0 ∷ []) ∷ []) (0 ∷ []) (0 ∷ []) ∷ []
+small_days = small_day ∷ []
+
+-- and day 3, on which nothing happens
+abbrev pub small_next : DayRecord
+small_next = day 3 (quiet (3 ∷ []) [] [] ∷ []) (0 ∷ []) (0 ∷ [])
 
 abbrev pub small_night : State
 small_night = record { dossier = small_dossier; marks = marked Offered 2 1 ∷ [] }

@@ -1,9 +1,10 @@
 //! What holds of every campaign, as theorems over the definitions.
-ghost use Rattle.campaign_laws.specs.AutomaticDay.{StableMatchingsAreNoWorse};
+ghost use Rattle.campaign_laws.specs.AutomaticDay.{AutomaticEveningsAreStable, StableMatchingsAreNoWorse};
 ghost use Rattle.campaign_laws.specs.Beds.{NoBedGoesPastBarredWishes, OffersGoByTheTwoLists};
 ghost use Rattle.campaign_laws.specs.Kept.{AutomaticAnswersClimb, WhatIsYoursStays};
 ghost use Rattle.campaign_laws.specs.OneMark.{GoneStaysGone};
 ghost use Rattle.campaign_laws.specs.PassedOver.{NobodyIsEverPassedOver, NobodyIsPassedOverWithoutBoarding};
+ghost use Rattle.campaign_laws.specs.QuietDays.{QuietDaysChangeNothing};
 ghost use Rattle.campaign_laws.specs.Room.{NeverMoreThanBeds, NeverMoreThanSeats};
 ghost use Rattle.campaign_laws.specs.WaitingPlace.{WaitingPlaceNeverWorsens};
 
@@ -44,8 +45,15 @@ pub fn laws_of_room()
     ensures seats { NeverMoreThanSeats }
 {}
 
-/// Where all answer automatically, all wait at first and no wish has a school, the evening is the
-/// worst stable matching for every candidate.
-pub fn law_of_automatic_days()
+/// Where all answer automatically, all wait at first, no wish has a school and no programme a call
+/// limit, the evening is a stable matching, and the worst one for every candidate.
+pub fn laws_of_automatic_days()
+    ensures stable { AutomaticEveningsAreStable }
     ensures no_worse { StableMatchingsAreNoWorse }
+{}
+
+/// A day on which nobody answers, no offer lapses and no ceiling is new, after another day, has one
+/// pass, offers nothing and leaves the evening as it was.
+pub fn law_of_quiet_days()
+    ensures quiet { QuietDaysChangeNothing }
 {}

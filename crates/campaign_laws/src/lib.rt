@@ -10,8 +10,11 @@ mod laws;
 mod witnesses;
 
 pub use cases::days_not_promised;
-pub use laws::{law_of_automatic_days, laws_of_beds, laws_of_marks, laws_of_room, laws_of_silence, laws_of_turns};
+pub use laws::{
+    law_of_quiet_days, laws_of_automatic_days, laws_of_beds, laws_of_marks, laws_of_room,
+    laws_of_silence, laws_of_turns,
+};
 pub use witnesses::{
-    witnesses_of_beds, witnesses_of_marks, witnesses_of_room, witnesses_of_silence,
-    witnesses_of_turns,
+    witness_of_quiet_days, witnesses_of_automatic_days, witnesses_of_beds, witnesses_of_marks,
+    witnesses_of_room, witnesses_of_silence, witnesses_of_turns,
 };

@@ -1,5 +1,5 @@
 //! For each law a worked case that meets all its premises.
-ghost use Rattle.campaign_laws.specs.Witnesses.{AutomaticAnswersClimbWitness, CameByBetterRankWitness, CameFromBeforeWitness, GoesByTheTwoListsWitness, GoneStaysGoneWitness, IsKeptAcceptedWitness, IsKeptOfferedWitness, IsLaterMarkGoneStaysWitness, IsLaterMarkNeverAgainWitness, IsLaterMarkWaitedWitness, NeverDescendsWitness, NeverMoreThanBedsWitness, NeverMoreThanSeatsWitness, NoBedGoesPastBarredWishesWitness, NobodyIsEverPassedOverWitness, NobodyIsPassedOverWithoutBoardingWitness, OffersGoByTheTwoListsWitness, WaitingPlaceNeverWorsensWitness, WhatIsYoursStaysWitness};
+ghost use Rattle.campaign_laws.specs.Witnesses.{AutomaticAnswersClimbWitness, AutomaticEveningsAreStableWitness, CameByBetterRankWitness, CameFromBeforeWitness, GoesByTheTwoListsWitness, GoneStaysGoneWitness, IsKeptAcceptedWitness, IsKeptOfferedWitness, IsLaterMarkGoneStaysWitness, IsLaterMarkNeverAgainWitness, IsLaterMarkWaitedWitness, IsMatchingRoomWitness, NeverDescendsWitness, NeverMoreThanBedsWitness, NeverMoreThanSeatsWitness, NoBedGoesPastBarredWishesWitness, NobodyIsEverPassedOverWitness, NobodyIsPassedOverWithoutBoardingWitness, NotBothLiveWitness, OffersGoByTheTwoListsWitness, QuietDaysChangeNothingWitness, StableMatchingsAreNoWorseWitness, WaitingPlaceNeverWorsensWitness, WhatIsYoursStaysWitness};
 
 /// Of the laws of marks.
 pub fn witnesses_of_marks()
@@ -38,4 +38,17 @@ pub fn witnesses_of_silence()
 pub fn witnesses_of_room()
     ensures beds { NeverMoreThanBedsWitness }
     ensures seats { NeverMoreThanSeatsWitness }
+{}
+
+/// Of the laws of automatic days.
+pub fn witnesses_of_automatic_days()
+    ensures stable { AutomaticEveningsAreStableWitness }
+    ensures not_both { NotBothLiveWitness }
+    ensures room { IsMatchingRoomWitness }
+    ensures no_worse { StableMatchingsAreNoWorseWitness }
+{}
+
+/// Of the law of quiet days.
+pub fn witness_of_quiet_days()
+    ensures quiet { QuietDaysChangeNothingWitness }
 {}
