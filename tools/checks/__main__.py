@@ -9,7 +9,7 @@ from functools import partial
 from dossier.program import program
 from dossier.wording import Words
 
-from . import days, disks, exporting, hostile, killing, lemmas, rounds, script, sheets, stored, whys
+from . import days, disks, exporting, hostile, killing, lemmas, rechecking, rounds, script, sheets, stored, whys
 from .harness import EXAMPLES, Tally, until_told
 
 Checks = Callable[[Tally], None]
@@ -31,6 +31,10 @@ def topics(program: str) -> dict[str, list[Checks]]:
         "rounds": [partial(rounds.check_small_rounds, program=program), partial(rounds.check_finds, program=program),
                    partial(rounds.check_unknown_modes, program=program),
                    rounds.check_endless, partial(rounds.check_stopped, program=program)],
+        "recheck": [rechecking.check_said, partial(rechecking.check_worked, program=program),
+                    partial(rechecking.check_random, program=program),
+                    partial(rechecking.check_broken, program=program),
+                    partial(rechecking.check_large, program=program)],
         "script": [script.check_script],
         "exporting": [exporting.check_round_trips, partial(exporting.check_acceptance, program=program)],
         "days": [partial(days.check_seven_days, program=program), days.check_answers_that_do_not_fit,

@@ -26,6 +26,7 @@ from .reports import MUTATIONS, Case, Lines, first_wrong, run_text, word
 from .runs import SLOTS, all_jobs, file_of, put
 from .samples import sample_slots
 
+MODES = ("replay", "order", "chain", "market")
 PICKERS = ("first", "last", "turn", "each")
 SEED = 20260602
 RIGHT, WRONG, UNTESTED = "right", "wrong", "untested"
@@ -77,7 +78,8 @@ class Round:
         found = told(folder, text, words)
         # In `chain` the line of an unfit answer stands without the days before it, which cannot be tested then.
         is_lone = b" reason 18 " in text and text.count(b"\n") == 1
-        kind = f"{words[0]}, as it is" + (", refused" if status == 1 else "")
+        mode = next(each for each in words if each in MODES)
+        kind = f"{mode}, as it is" + (", refused" if status == 1 else "")
         self.check(kind, name, status > 1 or found == (RIGHT, text.count(b"\n")) or is_lone and found[0] == UNTESTED, found)
         return text.splitlines(keepends=True)
 
@@ -147,7 +149,7 @@ def check_worked(tally: Tally, program: str) -> None:
     tally.begin("recheck: the worked cases, right and changed")
     rounds = Round(tally, program, SEED)
     for number, job in enumerate(all_jobs()):
-        if job.mode in ("replay", "order", "chain", "market"):
+        if job.mode in MODES:
             with scratch() as folder:
                 put(job.files, folder / "slots")
                 lines = rounds.right_text(folder / "slots", job.title, job.words)
@@ -167,7 +169,7 @@ def check_random(tally: Tally, program: str, number: int = 120, changes: int = 1
 def check_broken(tally: Tally, program: str, number: int = 400, seed: int = SEED) -> Counter:
     """Slots that are no dossier: the first fault is the program's."""
     tally.begin(f"recheck: {number} dossiers with broken slots")
-    jobs = [job for job in all_jobs() if job.mode in ("replay", "order", "chain", "market")]
+    jobs = [job for job in all_jobs() if job.mode in MODES]
     rounds = Round(tally, program, seed)
     for each in range(number):
         job = chance.Random(seed + each).choice(jobs)

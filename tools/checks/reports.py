@@ -124,7 +124,14 @@ MUTATIONS: dict[str, Callable[[Random, Lines], Lines]] = {
 
 
 def first_wrong(case: Case, lines: Lines) -> int | None:
-    """The number of the first line that no run of the case could have written, or None where there is none."""
+    """The number of the first line that no run of the case could have written, or None where there is none.
+
+    A report of several days that is cut behind its call orders is a right text of `order`; and where a refusal stands
+    first, it may be that of another mode, so that it is what follows that is wrong.
+    """
+    orders = [line for line in case.lines if word(line) in (b"order", b"rule")]
+    if lines == orders or lines and word(lines[0]) == b"refused" and lines[0] in case.lines:
+        return None if len(lines) == len(orders) or len(lines) == 1 else 2
     right = [line for line in case.lines if word(line) != b"fall"]
     number, wrong, may_fall = 0, None, False
     for place, line in enumerate(lines, 1):
