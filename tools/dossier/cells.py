@@ -53,13 +53,13 @@ FLAGS = {
 }
 STATUSES = {
     "waiting": ("en attente", "attente"),
-    "offered": ("proposition", "propose", "proposee", "proposition d'admission"),
+    "offered": ("proposition", "propose", "proposee", "proposition d'admission", "offer"),
     "accepted": ("accepte", "acceptee"),
     "refused": ("refuse", "refusee"),
     "withdrawn": ("retire", "retiree"),
     "quit": ("demission", "demissionne"),
-    "auto_refused": ("refuse automatiquement", "refusee automatiquement"),
-    "auto_withdrawn": ("retire automatiquement", "retiree automatiquement"),
+    "auto_refused": ("refuse automatiquement", "refusee automatiquement", "refused automatically"),
+    "auto_withdrawn": ("retire automatiquement", "retiree automatiquement", "withdrawn automatically"),
     "lapsed": ("caduc", "caduque", "expire", "expiree"),
 }
 ANSWERS = {
@@ -68,7 +68,12 @@ ANSWERS = {
     "withdraw": ("retire", "retirer", "retrait"),
     "quit": ("demission", "demissionne", "demissionner"),
 }
-# How the words are written in French, for those who are to write them.
+# How the words are written for those who read or are to write them.
+IN_ENGLISH = {
+    "waiting": "waiting", "offered": "offer", "accepted": "accepted", "refused": "refused", "withdrawn": "withdrawn",
+    "quit": "quit", "auto_refused": "refused automatically", "auto_withdrawn": "withdrawn automatically",
+    "lapsed": "lapsed",
+}
 IN_FRENCH = {
     "waiting": "en attente", "offered": "proposition", "accepted": "accepté", "refused": "refusé", "withdrawn": "retiré",
     "quit": "démission", "auto_refused": "refusé automatiquement", "auto_withdrawn": "retiré automatiquement",

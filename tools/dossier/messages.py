@@ -37,6 +37,9 @@ NAME_COLUMN = Text('name each column as in examples/blank, or say which one it i
                    '--column "{name}={column}".')
 NAME_COLUMNS = Text("name the columns as in examples/blank, each once.",
                     "donnez aux colonnes les titres de examples/blank, chacun une fois.")
+NO_NAMES = Text("{file} has no sheet with ids of candidates, programmes or schools beside their names.",
+                "{file} n'a pas de feuille où des identifiants de candidats, de formations ou d'internats soient à côté "
+                "de leurs noms.")
 TWO_SLOTS = Text("it has the columns of {one} and of {other}.", "il a les colonnes de {one} et de {other}.")
 RENAME_COLUMNS = Text("leave in it the columns of one of the two.", "n'y laissez que les colonnes de l'un des deux.")
 SLOT_TWICE = Text("{other} has the columns of {slot} too.", "{other} a aussi les colonnes de {slot}.")
