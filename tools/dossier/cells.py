@@ -25,6 +25,7 @@ WHOLE_TAIL = re.compile(r"(.*[0-9])[.,]0{1,2}", re.DOTALL)
 THOUSANDS_OR_DECIMALS = re.compile(r"[0-9]{1,3}(?:[.,][0-9]{3})+")
 LOST_DIGITS = re.compile(r"[0-9]+(?:[.,][0-9]+)?[eE][+-][0-9]+")
 NUMBER_LIKE = re.compile(rf"[+-]?[0-9][0-9.,'’{BLANKS}]*|[+-][0-9.,'’{BLANKS}]+|[.,'’][0-9]+")
+SHORT_NUMBER = re.compile(r"[0-9]{1,3}")
 DECIMAL = re.compile(r"[0-9]{1,6}(?:\.[0-9]{1,20})?")
 MOST_DIGITS = 1000
 ERROR = re.compile(r"#.*|Err:[0-9]+", re.DOTALL)
@@ -144,6 +145,10 @@ def read_cell(text: str, column: Column, dates: DateOrder | None, rates: Rates |
         case Content.ANSWER:
             return read_word(trimmed, ANSWERS)
         case Content.DATE:
+            return read_date(trimmed, dates)
+        case Content.DAY if SHORT_NUMBER.fullmatch(trimmed):
+            return _in_range(int(trimmed), column)
+        case Content.DAY:
             return read_date(trimmed, dates)
 
 

@@ -163,6 +163,35 @@ GIVE_ANOTHER = Text("give it another number, or prepare without --ids.",
 UNTESTED = Text("What names rows of {file} is tested when all of these can be read.",
                 "Ce qui nomme des lignes de {file} sera vérifié quand elles pourront toutes être lues.")
 
+NO_TARGET = Text("neither a wish nor a candidate is named by a column.",
+                 "aucune colonne ne nomme un vœu ou un candidat.")
+NAME_TARGET = Text("name a column wish, candidate or target, as in examples/blank/answers.csv.",
+                   "donnez à une colonne le titre vœu, candidat ou cible, comme dans examples/blank/answers.csv.")
+NO_DATES = Text("the campaign has no dates, so {date} is none of its days.",
+                "la campagne n'a pas de dates : {date} n'est pas un de ses jours.")
+NUMBER_DAY = Text("write the number of the day, 1 for the coming one, or leave the cell empty for it.",
+                  "écrivez le numéro du jour, 1 pour celui qui vient, ou laissez la cellule vide pour lui.")
+PAST_DAY = Text("{date} is over: the coming day is {coming}.", "{date} est passé : le jour qui vient est {coming}.")
+FAR_DAY = Text("{date} is more than a year from the coming day, {coming}.",
+               "{date} est à plus d'un an du jour qui vient, {coming}.")
+NO_WISH_NAMED = Text("the answer names no wish.", "la réponse ne nomme pas de vœu.")
+NO_CANDIDATE_NAMED = Text("who quits is not named.", "la démission ne dit pas de qui.")
+OTHER_CANDIDATE = Text("the wish {wish} is of candidate {candidate}, and not of {other}.",
+                       "le vœu {wish} est du candidat {candidate}, et non de {other}.")
+CORRECT_WISH = Text("correct the wish or the candidate.", "corrigez le vœu ou le candidat.")
+UNFIT = Text("the wish {wish} of candidate {candidate}, for {programme}, is then: {status}. It cannot be {done}.",
+             "le vœu {wish} du candidat {candidate}, pour {programme}, en est alors là : {status}. On ne peut pas {done}.")
+DONE = {"accept": Text("accepted", "l'accepter"), "refuse": Text("refused", "le refuser"),
+        "withdraw": Text("withdrawn", "le retirer")}
+REFUSE_IT = Text("write refuse: an offer is refused, and what waits is withdrawn.",
+                 "écrivez refuser : on refuse une proposition, et on retire un vœu en attente.")
+WITHDRAW_IT = Text("write withdraw: what waits is withdrawn, and an offer is refused.",
+                   "écrivez retirer : on retire un vœu en attente, et on refuse une proposition.")
+TAKE_OUT_WAITING = Text("take the answer out: there is no offer to accept.",
+                        "retirez la réponse : il n'y a pas de proposition à accepter.")
+TAKE_OUT = Text("take the answer out: the wish is over, or this was answered already.",
+                "retirez la réponse : le vœu est terminé, ou la réponse a déjà été donnée.")
+
 THINGS = {
     "group": Text("group", "le groupe"), "programme": Text("programme", "la formation"),
     "school": Text("school", "l'internat"), "candidate": Text("candidate", "le candidat"),
