@@ -9,7 +9,8 @@ from functools import partial
 from dossier.program import program
 from dossier.wording import Words
 
-from . import days, disks, exporting, hostile, killing, lemmas, rechecking, rounds, script, sheets, stored, whys
+from . import answered, days, disks, exporting, hostile, installing, killing, lemmas, rechecking, rounds, script, sheets
+from . import stored, tabled, whys, workbooks
 from .harness import EXAMPLES, Tally, until_told
 
 Checks = Callable[[Tally], None]
@@ -40,6 +41,10 @@ def topics(program: str) -> dict[str, list[Checks]]:
         "days": [partial(days.check_seven_days, program=program), days.check_answers_that_do_not_fit,
                  days.check_stopped_days, days.check_changes_after_a_stop, days.check_days_anew,
                  days.check_rights, days.check_killed_while_running, days.check_full_disk],
+        "installing": [installing.check_installed],
+        "workbooks": [workbooks.check_workbooks],
+        "answered": [answered.check_taken, answered.check_faults, partial(answered.check_random, program=program)],
+        "tabled": [tabled.check_lycee, partial(tabled.check_queues, program=program), tabled.check_ids_stay],
         "whys": [whys.check_lycee, whys.check_by_hand, partial(whys.check_campaigns, program=program)],
     }
 

@@ -90,7 +90,7 @@ def expected(found: Explanation, calendar: Calendar, since: str) -> dict[str, st
         limit = calendar.today.fromisoformat(since) + timedelta(days=calendar.term)
         deadline = Deadline(limit, limit <= calendar.today)
     setting = Setting(moment=lambda stamp: Moment(day_of(max(stamp.day, 1)), is_before=stamp.day == 0),
-                      deadline=deadline)
+                      deadline=deadline, may_lapse=calendar.today is not None)
     return {"en": " ".join(words_en.sentences(found, setting)), "fr": " ".join(words_fr.sentences(found, setting))}
 
 

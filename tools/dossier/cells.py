@@ -25,6 +25,7 @@ WHOLE_TAIL = re.compile(r"(.*[0-9])[.,]0{1,2}", re.DOTALL)
 THOUSANDS_OR_DECIMALS = re.compile(r"[0-9]{1,3}(?:[.,][0-9]{3})+")
 LOST_DIGITS = re.compile(r"[0-9]+(?:[.,][0-9]+)?[eE][+-][0-9]+")
 NUMBER_LIKE = re.compile(rf"[+-]?[0-9][0-9.,'’{BLANKS}]*|[+-][0-9.,'’{BLANKS}]+|[.,'’][0-9]+")
+SHORT_NUMBER = re.compile(r"[0-9]{1,3}")
 DECIMAL = re.compile(r"[0-9]{1,6}(?:\.[0-9]{1,20})?")
 MOST_DIGITS = 1000
 ERROR = re.compile(r"#.*|Err:[0-9]+", re.DOTALL)
@@ -53,13 +54,13 @@ FLAGS = {
 }
 STATUSES = {
     "waiting": ("en attente", "attente"),
-    "offered": ("proposition", "propose", "proposee", "proposition d'admission"),
+    "offered": ("proposition", "propose", "proposee", "proposition d'admission", "offer"),
     "accepted": ("accepte", "acceptee"),
     "refused": ("refuse", "refusee"),
     "withdrawn": ("retire", "retiree"),
     "quit": ("demission", "demissionne"),
-    "auto_refused": ("refuse automatiquement", "refusee automatiquement"),
-    "auto_withdrawn": ("retire automatiquement", "retiree automatiquement"),
+    "auto_refused": ("refuse automatiquement", "refusee automatiquement", "refused automatically"),
+    "auto_withdrawn": ("retire automatiquement", "retiree automatiquement", "withdrawn automatically"),
     "lapsed": ("caduc", "caduque", "expire", "expiree"),
 }
 ANSWERS = {
@@ -68,7 +69,12 @@ ANSWERS = {
     "withdraw": ("retire", "retirer", "retrait"),
     "quit": ("demission", "demissionne", "demissionner"),
 }
-# How the words are written in French, for those who are to write them.
+# How the words are written for those who read or are to write them.
+IN_ENGLISH = {
+    "waiting": "waiting", "offered": "offer", "accepted": "accepted", "refused": "refused", "withdrawn": "withdrawn",
+    "quit": "quit", "auto_refused": "refused automatically", "auto_withdrawn": "withdrawn automatically",
+    "lapsed": "lapsed",
+}
 IN_FRENCH = {
     "waiting": "en attente", "offered": "proposition", "accepted": "accepté", "refused": "refusé", "withdrawn": "retiré",
     "quit": "démission", "auto_refused": "refusé automatiquement", "auto_withdrawn": "retiré automatiquement",
@@ -139,6 +145,10 @@ def read_cell(text: str, column: Column, dates: DateOrder | None, rates: Rates |
         case Content.ANSWER:
             return read_word(trimmed, ANSWERS)
         case Content.DATE:
+            return read_date(trimmed, dates)
+        case Content.DAY if SHORT_NUMBER.fullmatch(trimmed):
+            return _in_range(int(trimmed), column)
+        case Content.DAY:
             return read_date(trimmed, dates)
 
 

@@ -108,7 +108,8 @@ class Evening:
             found = replace(found, stamp=Stamp(found.stamp.day, turn))
         return language.sentences(found, Setting(
             lambda wish: self.names.spelled(Thing.WISH, wish), lambda school: self.names.spelled(Thing.SCHOOL, school),
-            lambda _: moment, self.deadline(found.wish) if isinstance(found, OfferedWish) else None))
+            lambda _: moment, self.deadline(found.wish) if isinstance(found, OfferedWish) else None,
+            self.last.calendar.today is not None))
 
 
 def explained(wish: Wish, day: KeptDay, slots: Path) -> Explanation:

@@ -15,10 +15,9 @@ from .sources import SEPARATORS, AnySheet, TextSheet, first_row, likeliest, read
 from .tables import PROGRESS, Choices, Reading, Table
 from .texts import Language, said
 from .values import Spellings, things
-from .workbooks import sheets_of_workbook
+from .workbooks import WORKBOOK_ENDINGS, sheets_of_workbook
 
 EXPORT_ENDINGS = (".csv", ".tsv", ".txt")
-WORKBOOK_ENDINGS = (".xlsx", ".xlsm", ".ods")
 OTHER_WORKBOOKS = (".xls", ".xlsb", ".numbers", ".fods")
 # Files with such names are not the user's: a system's own, and those that say that a sheet is open.
 HIDDEN = (".", "~$")

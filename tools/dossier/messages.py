@@ -37,6 +37,9 @@ NAME_COLUMN = Text('name each column as in examples/blank, or say which one it i
                    '--column "{name}={column}".')
 NAME_COLUMNS = Text("name the columns as in examples/blank, each once.",
                     "donnez aux colonnes les titres de examples/blank, chacun une fois.")
+NO_NAMES = Text("{file} has no sheet with ids of candidates, programmes or schools beside their names.",
+                "{file} n'a pas de feuille où des identifiants de candidats, de formations ou d'internats soient à côté "
+                "de leurs noms.")
 TWO_SLOTS = Text("it has the columns of {one} and of {other}.", "il a les colonnes de {one} et de {other}.")
 RENAME_COLUMNS = Text("leave in it the columns of one of the two.", "n'y laissez que les colonnes de l'un des deux.")
 SLOT_TWICE = Text("{other} has the columns of {slot} too.", "{other} a aussi les colonnes de {slot}.")
@@ -159,6 +162,35 @@ GIVE_ANOTHER = Text("give it another number, or prepare without --ids.",
                     "donnez-lui un autre numéro, ou préparez sans --ids.")
 UNTESTED = Text("What names rows of {file} is tested when all of these can be read.",
                 "Ce qui nomme des lignes de {file} sera vérifié quand elles pourront toutes être lues.")
+
+NO_TARGET = Text("neither a wish nor a candidate is named by a column.",
+                 "aucune colonne ne nomme un vœu ou un candidat.")
+NAME_TARGET = Text("name a column wish, candidate or target, as in examples/blank/answers.csv.",
+                   "donnez à une colonne le titre vœu, candidat ou cible, comme dans examples/blank/answers.csv.")
+NO_DATES = Text("the campaign has no dates, so {date} is none of its days.",
+                "la campagne n'a pas de dates : {date} n'est pas un de ses jours.")
+NUMBER_DAY = Text("write the number of the day, 1 for the coming one, or leave the cell empty for it.",
+                  "écrivez le numéro du jour, 1 pour celui qui vient, ou laissez la cellule vide pour lui.")
+PAST_DAY = Text("{date} is over: the coming day is {coming}.", "{date} est passé : le jour qui vient est {coming}.")
+FAR_DAY = Text("{date} is more than a year from the coming day, {coming}.",
+               "{date} est à plus d'un an du jour qui vient, {coming}.")
+NO_WISH_NAMED = Text("the answer names no wish.", "la réponse ne nomme pas de vœu.")
+NO_CANDIDATE_NAMED = Text("who quits is not named.", "la démission ne dit pas de qui.")
+OTHER_CANDIDATE = Text("the wish {wish} is of candidate {candidate}, and not of {other}.",
+                       "le vœu {wish} est du candidat {candidate}, et non de {other}.")
+CORRECT_WISH = Text("correct the wish or the candidate.", "corrigez le vœu ou le candidat.")
+UNFIT = Text("the wish {wish} of candidate {candidate}, for {programme}, is then: {status}. It cannot be {done}.",
+             "le vœu {wish} du candidat {candidate}, pour {programme}, en est alors là : {status}. On ne peut pas {done}.")
+DONE = {"accept": Text("accepted", "l'accepter"), "refuse": Text("refused", "le refuser"),
+        "withdraw": Text("withdrawn", "le retirer")}
+REFUSE_IT = Text("write refuse: an offer is refused, and what waits is withdrawn.",
+                 "écrivez refuser : on refuse une proposition, et on retire un vœu en attente.")
+WITHDRAW_IT = Text("write withdraw: what waits is withdrawn, and an offer is refused.",
+                   "écrivez retirer : on retire un vœu en attente, et on refuse une proposition.")
+TAKE_OUT_WAITING = Text("take the answer out: there is no offer to accept.",
+                        "retirez la réponse : il n'y a pas de proposition à accepter.")
+TAKE_OUT = Text("take the answer out: the wish is over, or this was answered already.",
+                "retirez la réponse : le vœu est terminé, ou la réponse a déjà été donnée.")
 
 THINGS = {
     "group": Text("group", "le groupe"), "programme": Text("programme", "la formation"),

@@ -2,6 +2,7 @@
 
 import csv
 import io
+from collections.abc import Iterator
 from dataclasses import dataclass
 from datetime import timedelta
 from functools import cached_property
@@ -52,28 +53,49 @@ class KeptDay:
     @cached_property
     def last_passes(self) -> dict[int, int]:
         """The last pass in which each wish was offered, or answered for automatically."""
-        passes: dict[int, int] = {}
-        number = 0
-        for line in self.report.partition(b"\nfinal\n")[0].splitlines():
-            word, _, rest = line.partition(b" ")
-            if word == b"pass":
-                number = int(rest)
-            elif word in (b"offer", b"auto"):
-                passes[int(rest.partition(b" ")[0])] = number
-        return passes
+        return {int(rest.partition(" ")[0]): number for number, word, rest in self._lines() if word in ("offer", "auto")}
 
     @property
     def number(self) -> int:
         return self.calendar.day
 
-    def put_slots(self, dossier: Path, place: Path) -> None:
-        """Makes the place hold the slots as they were for this day; those that may not change must be as then."""
+    @cached_property
+    def offers(self) -> list[tuple[int, int]]:
+        """The pass and the wish of each offer, in the order of the report."""
+        return [(number, int(rest)) for number, word, rest in self._lines() if word == "offer"]
+
+    @cached_property
+    def bars(self) -> list[tuple[int, int, int]]:
+        """The pass, the school and the bar of each line on a bar."""
+        return [(number, *map(int, rest.split())) for number, word, rest in self._lines() if word == "bar"]
+
+    @cached_property
+    def orders(self) -> dict[int, list[int]]:
+        """The call order of each group."""
+        return {int(group): list(map(int, order.split())) for _, word, rest in self._lines() if word == "order"
+                for group, _, order in [rest.partition(":")]}
+
+    def _lines(self) -> Iterator[tuple[int, str, str]]:
+        """The lines of the report before the final state: the pass, the first word and the rest of each."""
+        number = 0
+        for line in self.report.partition(b"\nfinal\n")[0].decode().splitlines():
+            word, _, rest = line.partition(" ")
+            if word == "pass":
+                number = int(rest)
+            yield number, word, rest
+
+    def test_slots(self, dossier: Path) -> None:
+        """The slots that do not change from day to day must be as they were for this one."""
         then = (self.folder / CHECKSUMS).read_bytes().splitlines()
         changed = [line.split()[-1].decode() for line in checksums(dossier).splitlines() if line not in then]
         if changed:
             raise Stopped(READ_FAULT, f"{', '.join(changed)} changed since day {self.number} was made, so what the "
-                                      "program said of that day cannot be asked again; put it back as it was, or make "
-                                      "the next day.")
+                                      "program said of that day cannot be told; put it back as it was, or make the next "
+                                      "day.")
+
+    def put_slots(self, dossier: Path, place: Path) -> None:
+        """Makes the place hold the slots as they were for this day."""
+        self.test_slots(dossier)
         for name in CHANGING:
             (place / name).write_bytes((self.folder / "before" / name).read_bytes())
         for name in LASTING:

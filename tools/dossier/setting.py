@@ -32,13 +32,14 @@ def moment_of_run(stamp: Stamp) -> Moment:
 
 @dataclass(frozen=True)
 class Setting:
-    """How wishes and schools are called, when a stamp was, and by when an offer is to be answered, where that is
-    known."""
+    """How wishes and schools are called, when a stamp was, by when an offer is to be answered, where that is known, and
+    whether it may lapse at all."""
 
     wish: Callable[[int], str] = str
     school: Callable[[int], str] = str
     moment: Callable[[Stamp], Moment] = moment_of_run
     deadline: Deadline | None = None
+    may_lapse: bool = True
 
 
 OF_A_RUN = Setting()

@@ -23,7 +23,8 @@ class Thing(Enum):
 
 
 class Content(Enum):
-    """What the cells of a column hold. A target is a candidate's id where somebody quits, else a wish's."""
+    """What the cells of a column hold. A target is a candidate's id where somebody quits, else a wish's; a day is a number
+    or a date."""
 
     ID = "id"
     TARGET = "target"
@@ -33,6 +34,7 @@ class Content(Enum):
     STATUS = "status"
     ANSWER = "answer"
     DATE = "date"
+    DAY = "day"
 
 
 @dataclass(frozen=True)
@@ -145,3 +147,13 @@ ANSWERS = Slot("answers", (
 ))
 
 SLOTS = (GROUPS, PROGRAMMES, SCHOOLS, RANKINGS, BOARDING, WISHES, STATE, CEILINGS, ANSWERS)
+# A sheet of answers as people keep them; it is no slot. It names wishes and candidates in one column, or in two.
+ANSWER_SHEET = Slot("answers", (
+    Column("day", Content.DAY, ("jour", "date", "date de reponse", "jour de reponse"), ("answered on",), least=1,
+           greatest=GREATEST_DAY, is_optional=True, may_be_empty=True),
+    Column("kind", Content.ANSWER, ("type", "reponse", "decision", "choix", "reponse du candidat"), ("answer", "choice")),
+    Column("target", Content.TARGET, ANSWERS.column("target").french, ANSWERS.column("target").english, least=1,
+           is_optional=True),
+    Column("wish", Content.ID, *WISH_NAMES, Thing.WISH, least=1, is_optional=True, may_be_empty=True),
+    Column("candidate", Content.ID, *CANDIDATE_NAMES, Thing.CANDIDATE, least=1, is_optional=True, may_be_empty=True),
+))

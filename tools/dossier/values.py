@@ -80,7 +80,7 @@ def coded(value: Value, column: Column, spellings: Spellings) -> int:
             return NOTHING
         case Id():
             return spellings.code_of(value)
-        case str() if column.content is Content.DATE:
+        case str() if column.content in (Content.DATE, Content.DAY):
             return date.fromisoformat(value).toordinal()
         case str():
             return (STATUS_WORDS if column.content is Content.STATUS else ANSWER_WORDS).index(value)

@@ -1,9 +1,18 @@
 """The words of a tool: its help is at most 80 columns wide, and an error in them is told with what to do."""
 
 import argparse
+import os
 from typing import NoReturn
 
+from .texts import Language
+
 WIDTH = 80
+
+
+def language_here() -> Language:
+    """The language of the user's surroundings: French where they say so, else English."""
+    named = next((os.environ[name] for name in ("LC_ALL", "LC_MESSAGES", "LANG") if os.environ.get(name)), "")
+    return "fr" if named.lower().startswith("fr") else "en"
 
 
 class Formatter(argparse.HelpFormatter):

@@ -58,7 +58,8 @@ def offered(found: OfferedWish, setting: Setting) -> list[str]:
     if limit is not None and limit.is_over:
         return [*told, f"It was to be answered by {of_day(limit.day)}; that day is over, and the offer lapses next."]
     by = "by its deadline, if there is one" if limit is None else f"by {of_day(limit.day)}"
-    return [*told, f"Accept it or refuse it, {by}: after that it lapses, and is lost.",
+    lapse = f", {by}: after that it lapses, and is lost" if setting.may_lapse else ""
+    return [*told, f"Accept it or refuse it{lapse}.",
             "If you accept it, your other offers are refused, and your waiting wishes go on waiting."]
 
 

@@ -65,7 +65,8 @@ def offered(found: OfferedWish, setting: Setting) -> list[str]:
         return [*told, f"Il fallait y répondre {of_day(limit.day)} au plus tard ; ce jour est passé, et elle va devenir "
                        "caduque."]
     by = "au plus tard à l'échéance, s'il y en a une" if limit is None else f"{of_day(limit.day)} au plus tard"
-    return [*told, f"Acceptez-la ou refusez-la, {by} : ensuite, elle devient caduque, et elle est perdue.",
+    lapse = f", {by} : ensuite, elle devient caduque, et elle est perdue" if setting.may_lapse else ""
+    return [*told, f"Acceptez-la ou refusez-la{lapse}.",
             "Si vous l'acceptez, vos autres propositions sont refusées, et vos vœux en attente restent en attente."]
 
 

@@ -12,6 +12,7 @@ from .decoding import Unreadable
 from .messages import BROKEN_WORKBOOK, SAVE_WORKBOOK
 from .sources import WorkbookSheet
 
+WORKBOOK_ENDINGS = (".xlsx", ".xlsm", ".ods")
 # A workbook repeats its last empty cells and rows up to its edge.
 MOST_COLUMNS = 1000
 MOST_ROWS = 17_000_000

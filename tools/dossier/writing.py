@@ -22,12 +22,13 @@ def csv_bytes(header: Iterable[str], rows: Iterable[Iterable[object]]) -> bytes:
     return text.getvalue().encode()
 
 
-def write_file(path: Path, data: bytes | Iterable[bytes]) -> None:
-    """Writes a new file, and answers when the disk has it."""
+def write_file(path: Path, data: bytes | Iterable[bytes], is_kept: bool = True) -> None:
+    """Writes a new file, and if it is to be kept answers when the disk has it."""
     with open(path, "wb") as file:
         file.writelines([data] if isinstance(data, bytes) else data)
         file.flush()
-        os.fsync(file.fileno())
+        if is_kept:
+            os.fsync(file.fileno())
 
 
 def open_mode() -> int:
@@ -60,13 +61,17 @@ def replace_file(path: Path, data: bytes) -> None:
     settle(path.parent)
 
 
-def write_folder(folder: Path, files: Mapping[str, bytes | Iterable[bytes]]) -> None:
-    """Makes a folder with these files; it appears when all of them are whole."""
+def write_folder(folder: Path, files: Mapping[str, bytes | Iterable[bytes]], is_kept: bool = True) -> None:
+    """Makes a folder with these files; it appears when all of them are whole. What can be made anew need not outlast a
+    power cut."""
     fresh = Path(tempfile.mkdtemp(prefix=f".{folder.name}.", dir=folder.parent))
     try:
         fresh.chmod(open_mode())
         for name, data in files.items():
-            write_file(fresh / name, data)
+            if is_kept:
+                write_file(fresh / name, data)
+            else:
+                write_file(fresh / name, data, is_kept)
         settle(fresh)
         os.rename(fresh, folder)
     except BaseException:

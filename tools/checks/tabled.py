@@ -1,0 +1,137 @@
+"""From numbers back to names: the tables of a campaign, ids that stay, and a campaign's own state prepared again."""
+
+import csv
+import io
+import shutil
+from pathlib import Path
+from random import Random
+
+from dossier.campaign import next_day
+from dossier.dating import Calendar
+from dossier.naming import IDS
+from dossier.outputs import DIALECTS
+
+from .days import DAYS, grown
+from .dossiers import FIRST_DAY
+from .harness import DATA, EXAMPLES, TOOLS, Ended, Tally, contents, run, scratch
+from .whys import DATED, made
+
+CAMPAIGNS = 4
+SEED = 31
+NAMES = "N° candidat;Nom;Prénom;Ville\r\nE01;Durand;Zoé;Lyon\r\nE08;=1+1;Léa;Nice\r\n"
+LYCEE = EXAMPLES / "lycee"
+
+
+def tables(folder: Path, out: Path, *words: str | Path) -> Ended:
+    return run(TOOLS / "tables", folder, out, *words, environment={"LC_ALL": "C.UTF-8"})
+
+
+def table_in(out: Path, name: str, dialect: str = "semicolons") -> list[dict[str, str]]:
+    """The rows of a table by title."""
+    how = DIALECTS[dialect]
+    text = (out / name).read_bytes().removeprefix(how.mark).decode(how.codec)
+    return list(csv.DictReader(io.StringIO(text, newline=""), delimiter=how.separator))
+
+
+def check_lycee(tally: Tally) -> None:
+    tally.begin("tables, stored examples")
+    with scratch() as place:
+        folder = made(place, DATED, (), ())
+        (place / "names.csv").write_bytes(NAMES.encode("cp1252"))
+        ended = tables(folder, place / "fr", "--lang", "fr", "--names", place / "names.csv")
+        tally.equal("French: status", (ended.status, ended.complaint), (0, ""))
+        tally.equal("French", contents(place / "fr"), contents(DATA / "tables-fr"))
+        ended = tables(folder, place / "plain", "--dialect", "plain")
+        tally.equal("plain", contents(place / "plain"), contents(DATA / "tables-plain"))
+        for dialect in DIALECTS:
+            tables(folder, place / dialect, "--dialect", dialect) if dialect != "plain" else None
+            rows = table_in(place / dialect, "wishes.csv", dialect)
+            tally.check(dialect, len(rows) == 14 and rows[13]["Answer by"] == "2026-06-05", rows)
+        check_refusals(tally, folder, place)
+
+
+def check_refusals(tally: Tally, folder: Path, place: Path) -> None:
+    (place / "none.csv").write_text("Ville\nLyon\n")
+    for words, status, sentence in (
+        ((folder, place / "fr"), 3, "is there already"), ((folder, place / "no/new"), 3, "no folder to be in"),
+        ((place / "no", place / "new"), 3, "there is no folder"), ((LYCEE / "slots", place / "new"), 3, "no day has been"),
+        ((folder, place / "new", "--names", place / "none.csv"), 1, "no sheet with ids"),
+        ((folder, place / "new", "--names", place / "no.csv"), 3, "no.csv"), ((folder,), 2, "usage"),
+        ((folder, place / "new", "--dialect", "dots"), 2, "--dialect"),
+    ):
+        ended = run(TOOLS / "tables", *words)
+        tally.check(f"{[str(word) for word in words[1:]]}", ended.status == status and sentence in ended.complaint, ended)
+        tally.check("nothing is written", not (place / "new").exists())
+    ended = run(TOOLS / "tables", folder, place / "new", greatest_file=100)
+    is_told = ended.status == 4 and "Traceback" not in ended.complaint
+    tally.check("a full disk", is_told and not (place / "new").exists(), ended)
+
+
+def check_queues(tally: Tally, program: str) -> None:
+    """A place in the waiting list never gets worse, and statuses are those of the state."""
+    tally.begin(f"tables after each of {DAYS} days, {CAMPAIGNS} random campaigns")
+    random = Random(SEED)
+    moved = 0
+    for number in range(CAMPAIGNS):
+        term = (None, 1)[number % 2]
+        with scratch() as place:
+            grown(program, random, place / "dossier", term)
+            before: dict[str, int] = {}
+            for day in range(DAYS):
+                next_day(place / "dossier", Calendar(1, FIRST_DAY, term) if term and day == 0 else Calendar())
+                out = place / f"out-{day}"
+                tables(place / "dossier", out, "--dialect", "plain")
+                rows = table_in(out, "wishes.csv", "plain")
+                places = {row["Wish"]: int(row["Place in the waiting list"]) for row in rows
+                          if row["Place in the waiting list"]}
+                worse = {wish for wish in places if wish in before and places[wish] > before[wish]}
+                tally.equal(f"campaign {number}, day {day + 1}: no place is worse", worse, set())
+                moved += sum(places[wish] < before.get(wish, 0) for wish in places)
+                before = places
+                check_state(tally, f"campaign {number}, day {day + 1}", rows, place / "dossier/state.csv", places)
+    tally.check("some places are better from day to day", moved > 0, moved)
+
+
+def check_state(tally: Tally, name: str, rows: list[dict[str, str]], state: Path, places: dict[str, int]) -> None:
+    with open(state, newline="") as file:
+        held = {row["wish"]: row["status"] for row in csv.DictReader(file)}
+    words = {"offered": "offer", "auto_refused": "refused automatically", "auto_withdrawn": "withdrawn automatically"}
+    tally.equal(f"{name}: statuses", {row["Wish"]: row["Status"] for row in rows},
+                {wish: words.get(status, status) for wish, status in held.items()})
+    tally.equal(f"{name}: who waits has a place", set(places), {wish for wish in held if held[wish] == "waiting"})
+
+
+def check_ids_stay(tally: Tally) -> None:
+    """With --ids, or with ids.csv among the sheets, an id keeps its number; a state of numbers is read back."""
+    tally.begin("prepare, ids that stay")
+    with scratch() as place:
+        folder = made(place, DATED, (), ())
+        exports = place / "exports"
+        shutil.copytree(LYCEE / "exports", exports)
+        header, *rows = (exports / "classements.csv").read_text().split("\n")
+        added = ["0;E00;CPGE;FAUX;FAUX", *(row for row in reversed(rows) if row.strip())]
+        (exports / "classements.csv").write_text("\n".join([header, *added, ""]).replace("0;E00", "9;E00"))
+        for name in ("state.csv", "ceilings.csv", "answers.csv"):
+            shutil.copy(folder / name, exports)
+        for name in ("etat.csv", "plafonds.csv", "reponses.csv"):
+            (exports / name).unlink()
+        refused = run(TOOLS / "prepare", exports, place / "new")
+        told = refused.status == 1 and "--ids" in refused.complaint
+        tally.check("numbers of a campaign without its ids", told, refused)
+        for name, words in (("by the folder", ("--ids", folder)), ("by the file", ("--ids", folder / IDS)),
+                            ("among the sheets", ())):
+            if not words:
+                shutil.copy(folder / IDS, exports)
+            ended = run(TOOLS / "prepare", exports, place / "new", *words)
+            tally.equal(f"{name}: status", (ended.status, ended.complaint), (0, ""))
+            ids = (place / "new" / IDS).read_text()
+            tally.equal(name, ids.replace("9,,,,E00,V09", "9,,,,,V09"), (folder / IDS).read_text())
+            tally.equal(f"{name}: the state", (place / "new/state.csv").read_bytes(), (folder / "state.csv").read_bytes())
+            shutil.rmtree(place / "new")
+        other = (exports / "voeux.csv").read_bytes().decode("utf-16").replace("V14", "3")
+        (exports / "voeux.csv").write_bytes(other.encode("utf-16"))
+        ended = run(TOOLS / "prepare", exports, place / "new", "--lang", "en")
+        tally.check("a number that is taken", "has the number that an earlier dossier gave to V03" in ended.complaint, ended)
+        (exports / IDS).write_text("number;group\n")
+        ended = run(TOOLS / "prepare", exports, place / "new")
+        tally.check("a broken table of ids", ended.status == 3 and "no table of ids" in ended.complaint, ended)

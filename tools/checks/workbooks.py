@@ -1,0 +1,128 @@
+"""Real workbooks: made by LibreOffice, as `.ods` and `.xlsx` and as exports of all their sheets, and prepared."""
+
+import shutil
+from pathlib import Path
+from xml.sax.saxutils import escape
+
+from .harness import EXAMPLES, TOOLS, Tally, contents, run, scratch
+
+LYCEE = EXAMPLES / "lycee/slots"
+SPACES = " ".join(f'xmlns:{name}="urn:oasis:names:tc:opendocument:xmlns:{of}:1.0"' for name, of in (
+    ("office", "office"), ("table", "table"), ("text", "text"), ("style", "style"), ("number", "datastyle"),
+    ("fo", "xsl-fo-compatible")))
+STYLES = """<number:percentage-style style:name="N1"><number:number number:decimal-places="0" number:min-integer-digits="1"/>
+<number:text>%</number:text></number:percentage-style>
+<number:date-style style:name="N2"><number:day number:style="long"/><number:text>/</number:text>
+<number:month number:style="long"/><number:text>/</number:text><number:year number:style="long"/></number:date-style>
+<number:boolean-style style:name="N3"><number:boolean/></number:boolean-style>
+<style:style style:name="percentage" style:family="table-cell" style:data-style-name="N1"/>
+<style:style style:name="date" style:family="table-cell" style:data-style-name="N2"/>
+<style:style style:name="boolean" style:family="table-cell" style:data-style-name="N3"/>"""
+Cell = tuple[str, str]
+
+SHEETS: dict[str, list[str]] = {
+    "Groupes": ["Code groupe|Libellé|Taux boursiers|Taux secteur", "CPGE|Prépas|%0.2|%0", "BTS|BTS|%0|%0.4"],
+    "Formations": ["Code formation|Code groupe|Nb places|Rang limite|Ville", "MPSI|CPGE|#2||Lyon", "BTS SIO|BTS|#1|#2|Lyon",
+                   "BTS CG|BTS|#1||Lyon"],
+    "Internats": ["Internat|Nb lits|Plafond", "Nord|#1|#1000", "Sud|#1|#2"],
+    "Classements": ["Rang|N° candidat|Nom|Code groupe|Boursier|Secteur", *(
+        f"#{rank}|E0{number}|Nom {number}|{group}|?{scholar}|?{resident}" for group, rows in (
+            ("CPGE", ((1, 1, 0, 1), (2, 2, 0, 0), (3, 3, 1, 0), (4, 4, 0, 1), (5, 5, 0, 0))),
+            ("BTS", ((1, 6, 0, 0), (2, 4, 0, 1), (3, 7, 1, 0), (4, 8, 0, 1), (5, 5, 0, 0))))
+        for rank, number, scholar, resident in rows)],
+    "Rangs internat": ["Internat|N° candidat|Rang internat", "Nord|E01|#2", "Nord|E03|#1", "Nord|E05|#3", "Sud|E07|#1",
+                       "Sud|E08|#3"],
+    "Vœux": ["N° vœu|N° candidat|Formation|Internat|Préférence", "V01|E01|MPSI|Nord|#0", "V02|E01|MPSI||#0",
+             "V03|E02|MPSI||#0", "V04|E03|MPSI|Nord|#0", "V05|E04|MPSI||#1", "V06|E04|BTS SIO||#2", "V07|E04|BTS CG||#3",
+             "V08|E05|MPSI|Nord|#0", "V09|E05|BTS SIO||#0", "", "V10|E06|BTS CG||#0", "V11|E06|BTS SIO||#0",
+             "V12|E07|BTS CG|Sud|#0", "V13|E08|BTS SIO|Sud|#0", "V14|E08|BTS CG||#0"],
+    "État": ["N° vœu|Statut|Depuis le", "V03|proposition|@2026-06-01", "V10|en attente|"],
+    "Plafonds": ["Jour|Internat|Plafond", "#2|Sud|#3"],
+    "Réponses": ["Jour|Réponse|Vœu ou candidat", "#2|accepter|V04", "#2|accepter|V10", "#3|accepter|V02",
+                 "#3|démission|E06"],
+    "Notes": ["À faire", "appeler le rectorat"],
+}
+
+
+def cell_of(text: str) -> str:
+    """A cell of a flat workbook; the first letter says of which type it is."""
+    kind, value = text[:1], text[1:]
+    if kind == "%":
+        return f'<table:table-cell table:style-name="percentage" office:value-type="percentage" office:value="{value}"/>'
+    if kind == "#":
+        return f'<table:table-cell office:value-type="float" office:value="{value}"/>'
+    if kind == "?":
+        flag = "true" if value == "1" else "false"
+        return f'<table:table-cell table:style-name="boolean" office:value-type="boolean" office:boolean-value="{flag}"/>'
+    if kind == "@":
+        return f'<table:table-cell table:style-name="date" office:value-type="date" office:date-value="{value}"/>'
+    return f'<table:table-cell office:value-type="string"><text:p>{escape(text)}</text:p></table:table-cell>' if text else \
+        "<table:table-cell/>"
+
+
+def flat_workbook() -> str:
+    tables = "".join(
+        f'<table:table table:name="{escape(name)}">' + "".join(
+            f"<table:table-row>{''.join(map(cell_of, row.split('|')))}</table:table-row>" for row in rows) + "</table:table>"
+        for name, rows in SHEETS.items())
+    return (f'<?xml version="1.0" encoding="UTF-8"?><office:document {SPACES} office:version="1.3" '
+            'office:mimetype="application/vnd.oasis.opendocument.spreadsheet"><office:automatic-styles>'
+            f"{STYLES}</office:automatic-styles><office:body><office:spreadsheet>{tables}</office:spreadsheet>"
+            "</office:body></office:document>")
+
+
+def converted(place: Path, source: str, kind: str) -> bool:
+    """Has LibreOffice save a workbook as another kind, in a folder of that name."""
+    office = shutil.which("soffice") or ""
+    ended = run(office, f"-env:UserInstallation=file://{place}/profile", "--headless", "--convert-to", kind, "--outdir",
+                place / kind.partition(":")[0], place / source)
+    return ended.status == 0 and (place / kind.partition(":")[0]).exists()
+
+
+def check_workbooks(tally: Tally) -> None:
+    tally.begin("prepare, workbooks of LibreOffice")
+    if not shutil.which("soffice"):
+        print("  skipped: LibreOffice is not installed")
+        return
+    with scratch() as place:
+        (place / "lycée.fods").write_text(flat_workbook(), encoding="utf-8")
+        expected = contents(LYCEE)
+        for kind in ("ods", "xlsx"):
+            tally.check(f"{kind}: it is made", converted(place, "lycée.fods", kind))
+            ended = run(TOOLS / "prepare", place / kind, place / f"from-{kind}")
+            tally.equal(f"{kind}: status", (ended.status, ended.complaint), (0, ""))
+            tally.equal(f"{kind}: the slots", contents(place / f"from-{kind}"), expected)
+            tally.check(f"{kind}: what is passed over", b"Notes" in ended.output and b"Ville" in ended.output, ended)
+            answers = place / kind / f"lycée.{kind}"
+            shutil.copytree(LYCEE, place / f"taken-{kind}")
+            ended = run(TOOLS / "take_in", place / f"taken-{kind}", answers)
+            tally.check(f"{kind}: its answers", ended.status == 0 and b"4" in ended.output, ended)
+        check_exports(tally, place, expected)
+        check_broken(tally, place)
+
+
+def check_exports(tally: Tally, place: Path, expected: dict[str, bytes]) -> None:
+    """All sheets as LibreOffice exports them: as shown, in Windows-1252 with semicolons, and as values with tabs."""
+    for name, options in (("shown", "59,34,ANSI,1,,0,false,true,false,false,false,-1"),
+                          ("values", "9,34,76,1,,0,false,false,false,false,false,-1")):
+        made = converted(place, "ods/lycée.ods", f"csv:Text - txt - csv (StarCalc):{options}")
+        tally.check(f"{name}: they are exported", made and len(list((place / "csv").iterdir())) == len(SHEETS))
+        for path in (place / "csv").glob("*Notes*"):
+            path.unlink()
+        words = ("--dates", "month-first", "--rates", "percent" if name == "shown" else "fraction")
+        ended = run(TOOLS / "prepare", place / "csv", place / f"from-{name}", *words)
+        tally.equal(f"{name}: status", (ended.status, ended.complaint), (0, ""))
+        if ended.status == 0:
+            tally.equal(f"{name}: the slots", contents(place / f"from-{name}"), expected)
+        shutil.rmtree(place / "csv")
+
+
+def check_broken(tally: Tally, place: Path) -> None:
+    """A workbook that is cut, or none, is told."""
+    for kind in ("ods", "xlsx"):
+        whole = (place / kind / f"lycée.{kind}").read_bytes()
+        for size in (0, 10, len(whole) // 2, len(whole) - 1):
+            (place / kind / f"lycée.{kind}").write_bytes(whole[:size])
+            ended = run(TOOLS / "prepare", place / kind, place / "new")
+            is_told = ended.status == 1 and "workbook" in ended.complaint and "Traceback" not in ended.complaint
+            tally.check(f"{kind}: {size} bytes of it", is_told, ended)

@@ -1,0 +1,205 @@
+"""The answers of a sheet: read, held against the dossier, and tried by the program on the coming day."""
+
+import csv
+import re
+import tempfile
+from collections.abc import Iterator
+from dataclasses import dataclass
+from datetime import date
+from pathlib import Path
+
+from . import program
+from .campaign import CALENDAR, Stopped, complaint
+from .cells import IN_ENGLISH, IN_FRENCH
+from .dating import Calendar
+from .explaining import Wish
+from .faults import Faults, Row, shown
+from .messages import (CORRECT_WISH, DONE, FAR_DAY, NAME_TARGET, NAME_WISH, NO_CANDIDATE_NAMED, NO_DATES, NO_TARGET,
+                       NO_WISH, NO_WISH_NAMED, NO_WISH_OF, NUMBER_DAY, OTHER_CANDIDATE, PAST_DAY, QUIT_CANDIDATE,
+                       REFUSE_IT, TAKE_OUT, TAKE_OUT_WAITING, UNFIT, WITHDRAW_IT)
+from .naming import Names
+from .slots import GREATEST_DAY, SLOTS, Thing
+from .tables import Table
+from .texts import Text
+from .values import ANSWER_WORDS, NOTHING, QUIT, Spellings
+from .writing import csv_bytes
+
+ANSWERS = "answers.csv"
+HEADER = ("day", "kind", "target")
+UNFIT_LINE = re.compile(rb"refused answers row ([0-9]+) reason 18 UnfitAnswer ([a-z_]+)\n?")
+
+
+@dataclass(frozen=True)
+class Answer:
+    """An answer as the slot has it."""
+
+    day: int
+    kind: str
+    target: int
+
+    def cells(self) -> tuple[int, str, int]:
+        return self.day, self.kind, self.target
+
+
+@dataclass(frozen=True)
+class SlotSheet:
+    """The answers that the dossier has already, as a sheet whose rows a fault may show."""
+
+    label: str
+    rows: list[list[str]]
+
+    def cells_of(self, numbers: set[int]) -> dict[int, list[str]]:
+        return {number: self.rows[number - 1] for number in numbers}
+
+
+def answers_in(dossier: Path) -> tuple[SlotSheet, list[Answer]]:
+    """The answers that are there already."""
+    with open(dossier / ANSWERS, newline="", encoding="utf-8-sig") as file:
+        rows = [cells for cells in csv.reader(file) if cells]
+    try:
+        return SlotSheet(ANSWERS, rows), [Answer(int(day), kind, int(target)) for day, kind, target in rows[1:]]
+    except ValueError:
+        raise Stopped(program.READ_FAULT, f"{dossier / ANSWERS} is no slot of answers; correct it (docs/FORMATS.md), or "
+                                          "copy the one of examples/blank.") from None
+
+
+@dataclass
+class SheetOfAnswers:
+    """What a sheet says of a dossier's wishes and candidates."""
+
+    table: Table
+    spellings: dict[Thing, Spellings]
+    names: Names
+    wishes: dict[int, Wish]
+    calendar: Calendar
+    faults: Faults
+
+    def __post_init__(self) -> None:
+        self.candidates = {wish.candidate for wish in self.wishes.values()}
+
+    def answers(self) -> Iterator[tuple[int, Answer]]:
+        """The place and the answer of each row that has no fault."""
+        if not any(name in self.table.values for name in ("target", "wish", "candidate")):
+            self.faults.in_file(self.table.sheet.label, NO_TARGET.of(), NAME_TARGET.of())
+            return
+        for place in self.table.places(*(column.name for column in self.table.columns)):
+            kind = self.table.values["kind"][place]
+            day = self.day(place)
+            target = self.candidate(place) if kind == QUIT else self.wish(place, ANSWER_WORDS[kind])
+            if day is not None and target is not None:
+                yield place, Answer(day, ANSWER_WORDS[kind], target)
+
+    def value(self, name: str, place: int) -> int:
+        """The code in a column of a row, nothing where the sheet has no such column."""
+        return self.table.values[name][place] if name in self.table.values else NOTHING
+
+    def day(self, place: int) -> int | None:
+        """The day of a row counted from the coming one; the coming one where none is named."""
+        value = self.value("day", place)
+        if value <= GREATEST_DAY:
+            return value or 1
+        named, today = date.fromordinal(value), self.calendar.today
+        if today is None:
+            self.tell(place, NO_DATES, NUMBER_DAY, "day", date=named)
+            return None
+        day = (named - today).days + 1
+        if not 1 <= day <= GREATEST_DAY:
+            self.tell(place, PAST_DAY if day < 1 else FAR_DAY, NUMBER_DAY, "day", date=named, coming=today)
+            return None
+        return day
+
+    def number(self, thing: Thing, name: str, place: int) -> int | None:
+        """The number of the id in a column; none where the cell is empty."""
+        code = self.value(name, place)
+        if code == NOTHING:
+            return None
+        return code if code > 0 else self.names.number(thing, self.spellings[thing].of(code)) or -1
+
+    def id_at(self, thing: Thing, *columns: str, place: int) -> tuple[int | None, str]:
+        """The number of the id in the first of these columns that has one, and how it is spelled."""
+        for name in columns:
+            if (number := self.number(thing, name, place)) is not None:
+                return number, self.spellings[thing].of(self.value(name, place))
+        return None, ""
+
+    def wish(self, place: int, kind: str) -> int | None:
+        number, spelled = self.id_at(Thing.WISH, "target", "wish", place=place)
+        if number is None:
+            self.tell(place, NO_WISH_NAMED, NAME_WISH)
+        elif number not in self.wishes:
+            self.tell(place, NO_WISH, NAME_WISH, id=spelled)
+        else:
+            other, named = self.id_at(Thing.CANDIDATE, "candidate", place=place)
+            wish = self.wishes[number]
+            if other is None or other == wish.candidate:
+                return number
+            self.tell(place, OTHER_CANDIDATE, CORRECT_WISH, wish=spelled, other=named,
+                      candidate=self.names.spelled(Thing.CANDIDATE, wish.candidate))
+        return None
+
+    def candidate(self, place: int) -> int | None:
+        number, spelled = self.id_at(Thing.CANDIDATE, "target", "candidate", place=place)
+        if number is None:
+            self.tell(place, NO_CANDIDATE_NAMED, QUIT_CANDIDATE)
+        elif number not in self.candidates:
+            self.tell(place, NO_WISH_OF, QUIT_CANDIDATE, id=spelled)
+        else:
+            return number
+        return None
+
+    def tell(self, place: int, what: Text, to_do: Text, column: str = "", **values: object) -> None:
+        title = self.table.title(column) if column else ""
+        self.faults.at(self.table.row(place), what.of(**values), to_do.of(), title)
+
+
+def advice(kind: str, status: str) -> Text:
+    if kind == "withdraw" and status in ("offered", "accepted"):
+        return REFUSE_IT
+    if kind == "refuse" and status == "waiting":
+        return WITHDRAW_IT
+    return TAKE_OUT_WAITING if kind == "accept" and status == "waiting" else TAKE_OUT
+
+
+def first_unfit(dossier: Path, answers: list[Answer], calendar: Calendar) -> tuple[int, str] | None:
+    """The place of the first answer that does not fit on the coming day, and the status that the program found."""
+    with tempfile.TemporaryDirectory(prefix="take_in.") as place:
+        for slot in SLOTS:
+            if slot.file != ANSWERS:
+                (Path(place) / slot.file).symlink_to((dossier / slot.file).resolve())
+        (Path(place) / ANSWERS).write_bytes(csv_bytes(HEADER, (answer.cells() for answer in answers)))
+        with tempfile.TemporaryFile() as output:
+            status = program.run(["envy", "--days", "1", *calendar.words()], Path(place), output)
+            output.seek(0)
+            text = output.read()
+        if match := UNFIT_LINE.fullmatch(text):
+            return int(match[1]) - 2, match[2].decode()
+        if status != program.DONE:
+            raise Stopped(status if 0 < status < 256 else program.READ_FAULT, complaint(Path(place), status, text))
+    return None
+
+
+def tell_unfit(rows: list[tuple[Row, Answer]], dossier: Path, calendar: Calendar, wishes: dict[int, Wish], names: Names,
+               faults: Faults) -> None:
+    """Tells all answers that do not fit on the coming day: each that the program refuses, one after another."""
+    rows = list(rows)
+    while found := first_unfit(dossier, [answer for _, answer in rows], calendar):
+        place, status = found
+        row, answer = rows.pop(place)
+        wish = wishes[answer.target]
+        what = UNFIT.of(wish=names.spelled(Thing.WISH, wish.wish), done=DONE[answer.kind],
+                        candidate=names.spelled(Thing.CANDIDATE, wish.candidate),
+                        programme=names.spelled(Thing.PROGRAMME, wish.programme),
+                        status=Text(IN_ENGLISH[status], IN_FRENCH[status]))
+        faults.at(row, what, advice(answer.kind, status).of(), cause=("unfit", row))
+
+
+def coming_day(dossier: Path, asked: Calendar) -> Calendar:
+    """The coming day of a dossier: as next_day keeps it, else day 1 as the user says."""
+    kept = dossier / CALENDAR
+    if not kept.exists():
+        return asked
+    try:
+        return Calendar.from_bytes(kept.read_bytes())
+    except ValueError:
+        raise Stopped(program.READ_FAULT, f"{shown(str(kept))} is not as next_day wrote it; put the last one back, from "
+                                          "the folder `after` of the latest day.") from None

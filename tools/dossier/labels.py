@@ -1,0 +1,79 @@
+"""The names of people, programmes and schools, where a sheet has them beside their ids."""
+
+from collections.abc import Iterator, Sequence
+from pathlib import Path
+
+from .cells import Unclear, read_id
+from .decoding import Unreadable
+from .faults import shown
+from .headers import candidates_for, fold
+from .messages import NAME_COLUMNS, NO_NAMES
+from .naming import Names
+from .slots import WISHES, Thing
+from .sources import AnySheet, first_row, likeliest, readings_of, records_of
+from .workbooks import WORKBOOK_ENDINGS, sheets_of_workbook
+
+NAMED = (Thing.CANDIDATE, Thing.PROGRAMME, Thing.SCHOOL)
+OF_A_NAME = frozenset(("nom", "prenom", "name", "surname", "firstname", "lastname", "libelle", "intitule", "denomination"))
+
+Labels = dict[Thing, dict[int, str]]
+
+
+def name_places(titles: Sequence[str]) -> list[int]:
+    """The places of the columns that have names or parts of names."""
+    return [place for place, title in enumerate(titles) if OF_A_NAME.intersection(fold(title).split())]
+
+
+def id_place(titles: Sequence[str]) -> tuple[Thing, int] | None:
+    """What the sheet names, and the place of its ids."""
+    folded = [fold(title) for title in titles]
+    parts = set(name_places(titles))
+    for thing in NAMED:
+        found = [place for place in candidates_for(WISHES.column(thing.value), folded, {}) if place not in parts]
+        if len(found) == 1:
+            return thing, found[0]
+    return None
+
+
+def sheets_of(path: Path) -> Iterator[AnySheet]:
+    """The sheets of a file, each in its likeliest reading with names."""
+    if path.suffix.lower() in WORKBOOK_ENDINGS:
+        yield from sheets_of_workbook(path)
+        return
+    readings = [sheet for sheet in readings_of(path) if has_names(first_row(sheet)[1])]
+    yield from likeliest(readings)[:1]
+
+
+def has_names(titles: Sequence[str]) -> bool:
+    return id_place(titles) is not None and bool(name_places(titles))
+
+
+def read_labels(path: Path, names: Names) -> Labels:
+    """The names in a file by number; raises Unreadable where no sheet of it has ids and names."""
+    labels: Labels = {}
+    for sheet in sheets_of(path):
+        number, titles = first_row(sheet)
+        place = id_place(titles)
+        parts = name_places(titles)
+        if place is None or not parts:
+            continue
+        thing, of_id = place
+        known = labels.setdefault(thing, {})
+        for count, cells in enumerate(records_of(sheet), start=1):
+            if count > number and len(cells) > of_id and (wanted := number_of(cells[of_id], thing, names)) is not None:
+                label = " ".join(cells[part].strip() for part in parts if part < len(cells) and cells[part].strip())
+                if label:
+                    known.setdefault(wanted, label)
+    if not labels:
+        raise Unreadable(NO_NAMES.of(file=shown(path.name)), NAME_COLUMNS.of())
+    return labels
+
+
+def number_of(text: str, thing: Thing, names: Names) -> int | None:
+    """The number of the id in a cell; none where it is no id."""
+    try:
+        identifier = read_id(text.strip())
+    except Unclear:
+        return None
+    number = names.by_id[thing].get(identifier.spelled)
+    return identifier.number if number is None else number

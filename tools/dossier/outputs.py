@@ -1,0 +1,222 @@
+"""What a campaign has come to, as tables for people: their titles, their rows, and how spreadsheets open them."""
+
+import csv
+import io
+from collections.abc import Iterable, Iterator
+from dataclasses import dataclass
+from datetime import date, timedelta
+
+from .cells import IN_ENGLISH, IN_FRENCH
+from .labels import Labels
+from .naming import Names
+from .records import WAITING, Held, KeptDay
+from .slots import Thing
+from .texts import Language, Text
+
+OFFERED = "offered"
+Row = list[object]
+
+WISH = Text("Wish", "Vœu")
+CANDIDATE = Text("Candidate", "Candidat")
+PROGRAMME = Text("Programme", "Formation")
+SCHOOL = Text("Boarding school", "Internat")
+LABELS = {Thing.CANDIDATE: Text("Name of the candidate", "Nom du candidat"),
+          Thing.PROGRAMME: Text("Name of the programme", "Nom de la formation"),
+          Thing.SCHOOL: Text("Name of the boarding school", "Nom de l'internat")}
+PREFERENCE = Text("Preference", "Préférence")
+STATUS = Text("Status", "Statut")
+SINCE = Text("Offer of", "Proposition du")
+ANSWER_BY = Text("Answer by", "Réponse au plus tard le")
+CALL = Text("Place in the call order", "Place dans l'ordre d'appel")
+QUEUE = Text("Place in the waiting list", "Place dans la liste d'attente")
+RANK = Text("Rank", "Rang")
+SCHOLAR = Text("Scholar", "Boursier")
+RESIDENT = Text("Resident", "Secteur")
+DAY = Text("Day", "Jour")
+DATE = Text("Date", "Date")
+PASS = Text("Pass", "Passage")
+BAR = Text("Bar", "Barre")
+FLAGS = {"en": ("no", "yes"), "fr": ("non", "oui")}
+STATUSES = {"en": IN_ENGLISH, "fr": IN_FRENCH}
+
+
+@dataclass(frozen=True)
+class Dialect:
+    """How a table is written for a spreadsheet."""
+
+    separator: str
+    codec: str
+    mark: bytes
+    line_end: str
+
+    def bytes_of(self, rows: Iterable[Row]) -> bytes:
+        text = io.StringIO(newline="")
+        writer = csv.writer(text, delimiter=self.separator, lineterminator=self.line_end)
+        writer.writerows([harmless(cell) for cell in row] for row in rows)
+        return self.mark + text.getvalue().encode(self.codec)
+
+
+DIALECTS = {
+    "semicolons": Dialect(";", "utf-8", b"\xef\xbb\xbf", "\r\n"),
+    "commas": Dialect(",", "utf-8", b"\xef\xbb\xbf", "\r\n"),
+    "tabs": Dialect("\t", "utf-16-le", b"\xff\xfe", "\r\n"),
+    "plain": Dialect(",", "utf-8", b"", "\n"),
+}
+
+
+def harmless(cell: object) -> object:
+    """A cell that no spreadsheet takes for a formula."""
+    return f"'{cell}" if isinstance(cell, str) and cell.startswith(("=", "+", "-", "@", "\t", "\r")) else cell
+
+
+@dataclass(frozen=True)
+class WishRow:
+    """A row of the wishes, by numbers."""
+
+    wish: int
+    candidate: int
+    programme: int
+    school: int | None
+    preference: int
+
+
+@dataclass(frozen=True)
+class Ranked:
+    """A candidate in a group's ranking."""
+
+    rank: int
+    scholar: int
+    resident: int
+
+
+@dataclass(frozen=True)
+class Campaign:
+    """What the tables tell of: the days that were made, the wishes, the lists, and what everything is called."""
+
+    days: list[KeptDay]
+    wishes: list[WishRow]
+    groups: dict[int, int]  # of the programmes
+    rankings: dict[tuple[int, int], Ranked]  # by group and candidate
+    boarding: dict[int, dict[int, int]]  # of the schools, the rank of each candidate
+    names: Names
+    labels: Labels
+    language: Language
+
+    def said(self, text: Text) -> str:
+        return text.of().said(self.language)
+
+    def titles(self, *texts: Text) -> Row:
+        """The titles of a table; beside ids stand names where a file has them."""
+        things = {CANDIDATE: Thing.CANDIDATE, PROGRAMME: Thing.PROGRAMME, SCHOOL: Thing.SCHOOL}
+        row: Row = []
+        for text in texts:
+            row.append(self.said(text))
+            if text in things and things[text] in self.labels:
+                row.append(self.said(LABELS[things[text]]))
+        return row
+
+    def id_cells(self, thing: Thing, number: int | None) -> Row:
+        """An id as the sheets have it, with its name where a file has names."""
+        cells: Row = ["" if number is None else self.names.spelled(thing, number)]
+        if thing in self.labels:
+            cells.append("" if number is None else self.labels[thing].get(number, ""))
+        return cells
+
+    @property
+    def last(self) -> KeptDay:
+        return self.days[-1]
+
+    def held(self, wish: int) -> Held:
+        return self.last.after.get(wish, Held(WAITING))
+
+    def status_cells(self, wish: int) -> Row:
+        """The status, the date of an offer, and the date to answer it by."""
+        held = self.held(wish)
+        term = self.last.calendar.term
+        by = date.fromisoformat(held.since) + timedelta(days=term) if held.since and term is not None else ""
+        return [STATUSES[self.language][held.status], held.since, by]
+
+    def calls(self) -> dict[int, dict[int, int]]:
+        """The place of each candidate in each group's call order, as the program wrote it."""
+        return {group: {candidate: place for place, candidate in enumerate(order, start=1)}
+                for group, order in self.last.orders.items()}
+
+    def queues(self, calls: dict[int, dict[int, int]]) -> dict[tuple[int, int], int]:
+        """The place of each who waits for a programme among all who do, in its call order."""
+        waiting: dict[int, set[int]] = {}
+        for row in self.wishes:
+            if self.held(row.wish).status == WAITING:
+                waiting.setdefault(row.programme, set()).add(row.candidate)
+        return {(programme, candidate): place for programme, candidates in waiting.items()
+                for place, candidate in enumerate(sorted(candidates, key=calls[self.groups[programme]].__getitem__),
+                                                  start=1)}
+
+
+@dataclass(frozen=True)
+class Tables:
+    """The tables of a campaign, each with the rows below its titles."""
+
+    campaign: Campaign
+    calls: dict[int, dict[int, int]]
+    queues: dict[tuple[int, int], int]
+
+    def place_cells(self, row: WishRow) -> Row:
+        call = self.calls[self.campaign.groups[row.programme]][row.candidate]
+        is_waiting = self.campaign.held(row.wish).status == WAITING
+        return [call, self.queues[row.programme, row.candidate] if is_waiting else ""]
+
+    def wishes(self) -> Iterator[Row]:
+        campaign = self.campaign
+        yield campaign.titles(WISH, CANDIDATE, PROGRAMME, SCHOOL, PREFERENCE, STATUS, SINCE, ANSWER_BY, CALL, QUEUE)
+        for row in campaign.wishes:
+            yield [*campaign.id_cells(Thing.WISH, row.wish), *campaign.id_cells(Thing.CANDIDATE, row.candidate),
+                   *campaign.id_cells(Thing.PROGRAMME, row.programme), *campaign.id_cells(Thing.SCHOOL, row.school),
+                   row.preference, *campaign.status_cells(row.wish), *self.place_cells(row)]
+
+    def programme(self, number: int, rows: list[WishRow]) -> Iterator[Row]:
+        """A programme's wishes in the call order."""
+        campaign = self.campaign
+        group = campaign.groups[number]
+        yield campaign.titles(CALL, CANDIDATE, RANK, SCHOLAR, RESIDENT, WISH, SCHOOL, PREFERENCE, STATUS, SINCE,
+                              ANSWER_BY, QUEUE)
+        for row in sorted(rows, key=lambda row: (self.calls[group][row.candidate], row.wish)):
+            ranked = campaign.rankings[group, row.candidate]
+            flags = FLAGS[campaign.language]
+            call, queue = self.place_cells(row)
+            yield [call, *campaign.id_cells(Thing.CANDIDATE, row.candidate), ranked.rank, flags[ranked.scholar],
+                   flags[ranked.resident], *campaign.id_cells(Thing.WISH, row.wish),
+                   *campaign.id_cells(Thing.SCHOOL, row.school), row.preference, *campaign.status_cells(row.wish), queue]
+
+    def school(self, number: int, rows: list[WishRow]) -> Iterator[Row]:
+        """A boarding school's wishes by its own ranking."""
+        campaign = self.campaign
+        ranks = campaign.boarding.get(number, {})
+        yield campaign.titles(RANK, CANDIDATE, WISH, PROGRAMME, PREFERENCE, STATUS, SINCE, ANSWER_BY, CALL, QUEUE)
+        for row in sorted(rows, key=lambda row: (ranks[row.candidate], row.wish)):
+            yield [ranks[row.candidate], *campaign.id_cells(Thing.CANDIDATE, row.candidate),
+                   *campaign.id_cells(Thing.WISH, row.wish), *campaign.id_cells(Thing.PROGRAMME, row.programme),
+                   row.preference, *campaign.status_cells(row.wish), *self.place_cells(row)]
+
+    def offers(self, day: KeptDay) -> Iterator[Row]:
+        """The offers of a day, and how each stood in that day's evening."""
+        campaign = self.campaign
+        by_wish = {row.wish: row for row in campaign.wishes}
+        today, term = day.calendar.today, day.calendar.term
+        by = today + timedelta(days=term) if today and term is not None else ""
+        yield campaign.titles(PASS, WISH, CANDIDATE, PROGRAMME, SCHOOL, STATUS, ANSWER_BY)
+        for number, wish in day.offers:
+            row = by_wish.get(wish)
+            held = day.after[wish]
+            yield [number, *campaign.id_cells(Thing.WISH, wish),
+                   *campaign.id_cells(Thing.CANDIDATE, row and row.candidate),
+                   *campaign.id_cells(Thing.PROGRAMME, row and row.programme),
+                   *campaign.id_cells(Thing.SCHOOL, row and row.school), STATUSES[campaign.language][held.status],
+                   by if held.status == OFFERED else ""]
+
+    def bars(self) -> Iterator[Row]:
+        """The bars of all passes of all days."""
+        campaign = self.campaign
+        yield campaign.titles(DAY, DATE, PASS, SCHOOL, BAR)
+        for day in campaign.days:
+            for number, school, bar in day.bars:
+                yield [day.number, day.calendar.today or "", number, *campaign.id_cells(Thing.SCHOOL, school), bar]

@@ -1,0 +1,161 @@
+"""From the numbers of a campaign to tables that a spreadsheet opens, with the ids and names of those who brought them."""
+
+import csv
+import gc
+import os
+import sys
+from collections.abc import Iterator
+from pathlib import Path
+
+from . import program
+from .campaign import Stopped, unread
+from .decoding import Unreadable
+from .labels import Labels, read_labels
+from .naming import Names, NotIds, names_in
+from .outputs import DIALECTS, Campaign, Dialect, Ranked, Row, Tables, WishRow
+from .records import made_days
+from .slots import Thing
+from .texts import Language, Text
+from .wording import Words, language_here
+from .writing import Told, is_folder, named_folder, say, stop_cleanly, write_folder
+
+DONE, FAULTY = 0, 1
+LONGEST_NAME = 80
+
+WISHES = Text("wishes", "voeux")
+PROGRAMME = Text("programme", "formation")
+SCHOOL = Text("boarding school", "internat")
+OFFERS = Text("offers of day", "propositions du jour")
+BARS = Text("bars", "barres")
+WRITTEN = Text("{count} tables of the evening of day {day} are in {folder}.",
+               "{count} tableaux du soir du jour {day} sont dans {folder}.")
+
+
+def words() -> Words:
+    parser = Words(
+        "tables",
+        "Writes what the campaign in FOLDER has come to, in the evening of the last day that next_day made, as tables "
+        "that a spreadsheet opens, to the new folder OUT: one of all wishes, one a programme, one a boarding school, one "
+        "a day of offers, and one of bars; with the ids of the sheets, and with names where a file has them.",
+        "Status: 0 written, 1 a file of names has none, 2 bad words, 3 not read, 4 not written.")
+    parser.add_argument("folder", type=named_folder, metavar="FOLDER", help="the folder that next_day keeps")
+    parser.add_argument("out", type=named_folder, metavar="OUT", help="the new folder for the tables")
+    parser.add_argument("--names", action="append", default=[], type=named_folder, metavar="FILE",
+                        help="a sheet with ids and names of candidates, programmes or schools; may be given again")
+    parser.add_argument("--dialect", choices=list(DIALECTS), default="semicolons",
+                        help="semicolons where it is left out; plain is for programs: commas, and no mark")
+    parser.add_argument("--lang", choices=("en", "fr"), default=language_here(),
+                        help="the language of titles and statuses; else that of the surroundings")
+    return parser
+
+
+def rows_of(dossier: Path, slot: str) -> Iterator[list[int]]:
+    """The rows of a slot of numbers that the program has accepted; an empty cell is 0."""
+    with open(dossier / f"{slot}.csv", newline="", encoding="utf-8-sig") as file:
+        records = (cells for cells in csv.reader(file) if cells)
+        next(records)
+        for cells in records:
+            yield [int(cell or 0) for cell in cells]
+
+
+def campaign_of(dossier: Path, names: Names, labels: Labels, language: Language) -> Campaign:
+    days = made_days(dossier)
+    days[-1].test_slots(dossier)
+    wishes = [WishRow(wish, candidate, programme, school or None, preference)
+              for wish, candidate, programme, school, preference in rows_of(dossier, "wishes")]
+    boarding: dict[int, dict[int, int]] = {row[0]: {} for row in rows_of(dossier, "schools")}
+    for school, candidate, rank in rows_of(dossier, "boarding"):
+        boarding[school][candidate] = rank
+    return Campaign(days, wishes, {row[0]: row[1] for row in rows_of(dossier, "programmes")},
+                    {(group, candidate): Ranked(rank, scholar, resident)
+                     for group, candidate, rank, scholar, resident in rows_of(dossier, "rankings")},
+                    boarding, names, labels, language)
+
+
+def file_name(kind: Text, name: str, language: Language, taken: set[str]) -> str:
+    """A name that every system allows for a file, and that no other file has."""
+    plain = "".join(letter if letter.isalnum() or letter in " -_.()" else "_" for letter in f"{kind.of().said(language)} {name}")
+    base = plain.strip()[:LONGEST_NAME].rstrip(" .").replace(" ", "-")
+    found, count = base, 1
+    while found.casefold() in taken:
+        count += 1
+        found = f"{base}-{count}"
+    taken.add(found.casefold())
+    return f"{found}.csv"
+
+
+def files_of(campaign: Campaign, dialect: Dialect) -> dict[str, Iterator[bytes]]:
+    """The tables by the names of their files, each made when it is written."""
+    calls = campaign.calls()
+    tables = Tables(campaign, calls, campaign.queues(calls))
+    files: dict[str, Iterator[bytes]] = {}
+    taken: set[str] = set()
+    spelled = campaign.names.spelled
+
+    def put(kind: Text, name: str, rows: Iterator[Row]) -> None:
+        files[file_name(kind, name, campaign.language, taken)] = (dialect.bytes_of(each) for each in (rows,))
+
+    put(WISHES, "", tables.wishes())
+    put(BARS, "", tables.bars())
+    for day in campaign.days:
+        put(OFFERS, f"{day.number:03}", tables.offers(day))
+    of_programmes: dict[int, list[WishRow]] = {number: [] for number in campaign.groups}
+    of_schools: dict[int, list[WishRow]] = {number: [] for number in campaign.boarding}
+    for row in campaign.wishes:
+        of_programmes[row.programme].append(row)
+        if row.school is not None:
+            of_schools[row.school].append(row)
+    for number, rows in of_programmes.items():
+        put(PROGRAMME, spelled(Thing.PROGRAMME, number), tables.programme(number, rows))
+    for number, rows in of_schools.items():
+        put(SCHOOL, spelled(Thing.SCHOOL, number), tables.school(number, rows))
+    return files
+
+
+def labels_in(paths: list[Path], names: Names) -> Labels:
+    labels: Labels = {}
+    for path in paths:
+        for thing, known in read_labels(path, names).items():
+            labels.setdefault(thing, {}).update(known)
+    return labels
+
+
+def tabulate(folder: Path, out: Path, paths: list[Path], dialect: Dialect, language: Language) -> int:
+    names = names_in(folder)
+    campaign = campaign_of(folder, names, labels_in(paths, names), language)
+    files = files_of(campaign, dialect)
+    write_folder(out, files, is_kept=False)
+    say("tables", WRITTEN.of(count=len(files), day=campaign.last.number, folder=out).said(language))
+    return DONE
+
+
+def main(arguments: list[str]) -> int:
+    given = words().of(arguments)
+    if os.path.lexists(given.out) or not is_folder(given.out.parent):
+        why = "is there already; name a new folder" if os.path.lexists(given.out) else "has no folder to be in; make it first"
+        print(f"tables: {given.out} {why}.", file=sys.stderr)
+        return program.READ_FAULT
+    if not is_folder(given.folder):
+        print(f"tables: there is no folder {given.folder}; name the folder of the campaign.", file=sys.stderr)
+        return program.READ_FAULT
+    try:
+        stop_cleanly()
+        gc.disable()
+        return tabulate(given.folder, given.out, given.names, DIALECTS[given.dialect], given.lang)
+    except Stopped as stop:
+        print(f"tables: {stop}", file=sys.stderr)
+        return stop.status
+    except Unreadable as error:
+        print(f"tables: {error.what.said(given.lang)}", file=sys.stderr)
+        return FAULTY
+    except NotIds as error:
+        print(f"tables: {error}", file=sys.stderr)
+        return program.READ_FAULT
+    except OSError as error:
+        is_written = error.filename and str(error.filename).startswith(f"{given.out.parent / '.'}{given.out.name}")
+        told = f"{error.filename or given.out}: {error.strerror}; nothing is written."
+        print(f"tables: {told if is_written or not error.filename else unread(error)}", file=sys.stderr)
+        return program.WRITE_FAULT if is_written or not error.filename else program.READ_FAULT
+    except Told as stop:
+        print("tables: stopped; nothing is written.", file=sys.stderr)
+        return stop.status

@@ -1,0 +1,138 @@
+"""The day's answers, from a sheet into the slot of a campaign."""
+
+import os
+import sys
+from pathlib import Path
+
+from . import program
+from .answering import ANSWERS, HEADER, Answer, SheetOfAnswers, answers_in, coming_day, tell_unfit
+from .campaign import Stopped, alone, unread
+from .cells import DateOrder
+from .dating import Calendar
+from .decoding import Unreadable
+from .explaining import wishes_in
+from .faults import Faults, Row, shown
+from .folders import one_table
+from .going_on import start_date, term_of_days
+from .naming import NotIds, names_in
+from .preparing import LEFT_OUT, chosen_column
+from .slots import ANSWER_SHEET
+from .tables import Choices, Table
+from .texts import Language, Text
+from .values import things
+from .wording import Words
+from .writing import Told, csv_bytes, is_folder, named_folder, replace_file, say, stop_cleanly
+
+DONE, FAULTY = 0, 1
+TAKEN = Text("{count} answers of {file} are taken in for the coming day{dated}, {later} for later days; {known} were there "
+             "already.",
+             "{count} réponses de {file} sont prises pour le jour qui vient{dated}, {later} pour plus tard ; {known} y "
+             "étaient déjà.")
+REPLACED = Text("{count} answers that were there are replaced.", "{count} réponses qui y étaient sont remplacées.")
+LATER = Text("Whether an answer of a later day fits is told when that day comes.",
+             "Si une réponse convient un jour plus lointain, on le saura ce jour-là.")
+
+
+def words() -> Words:
+    parser = Words(
+        "take_in",
+        "Takes the answers of SHEET (.csv, .tsv, .txt, .ods, .xlsx) into FOLDER/answers.csv. Each row has an answer, its "
+        "wish or, to quit, its candidate, by id or number, and if it is not for the coming day its day or date. What "
+        "does not fit on the coming day is told at once, by the program, and then nothing is written.",
+        "Status: 0 taken in, 1 faults, 2 bad words, 3 not read, 4 not written; else the program's.")
+    parser.add_argument("folder", type=named_folder, metavar="FOLDER", help="the folder of the dossier")
+    parser.add_argument("sheet", type=named_folder, metavar="SHEET", help="the sheet of answers")
+    parser.add_argument("--replace", action="store_true",
+                        help="puts the sheet in the place of the answers that are there for its days")
+    parser.add_argument("--start", type=start_date, metavar="DATE", help="the date of day 1, where no day is made yet")
+    parser.add_argument("--term", type=term_of_days, metavar="N", help="the days that an offer stands; with --start")
+    parser.add_argument("--dates", type=DateOrder, choices=list(DateOrder), metavar="day-first|month-first",
+                        help="how dates such as 02/06/2025 are to be read")
+    parser.add_argument("--column", action="append", default=[], type=chosen_column, metavar="TITLE=COLUMN",
+                        help="which column a title names; may be given again")
+    parser.add_argument("--lang", choices=("en", "fr"), help="the language of faults; else that of the titles")
+    return parser
+
+
+def merged(old: list[tuple[Row, Answer]], new: list[tuple[Row, Answer]], is_replaced: bool) -> list[tuple[Row, Answer]]:
+    """The answers of both by day, those that were there first; what is there already is taken once."""
+    days = {answer.day for _, answer in new} if is_replaced else set()
+    kept = [(row, answer) for row, answer in old if answer.day not in days]
+    known = {answer for _, answer in kept}
+    both = kept + [(row, answer) for row, answer in new if answer not in known]
+    return sorted(both, key=lambda each: each[1].day)
+
+
+def summary(table: Table, old: list[tuple[Row, Answer]], new: list[tuple[Row, Answer]], both: list[tuple[Row, Answer]],
+            calendar: Calendar, language: Language) -> str:
+    added = [answer for row, answer in both if row.sheet is table.sheet]
+    later = sum(answer.day > 1 for answer in added)
+    replaced = len(old) - (len(both) - len(added))
+    dated = f" ({calendar.today})" if calendar.today else ""
+    lines = [TAKEN.of(count=len(added) - later, later=later, known=len(new) - len(added), dated=dated,
+                      file=shown(table.sheet.label))]
+    lines += [REPLACED.of(count=replaced)] if replaced else []
+    lines += [LATER.of()] if later else []
+    if table.header.left_out:
+        names = ", ".join(shown(table.header.titles[place].strip()) for place in sorted(table.header.left_out))
+        lines.append(LEFT_OUT.of(file=shown(table.sheet.label), names=names))
+    return "\n".join(line.said(language) for line in lines)
+
+
+def take_in(folder: Path, sheet: Path, choices: Choices, calendar: Calendar, is_replaced: bool,
+            asked: Language | None) -> int:
+    faults = Faults()
+    names = names_in(folder)
+    wishes = {wish.wish: wish for wish in wishes_in(folder)}
+    spellings = things()
+    table = one_table(sheet, ANSWER_SHEET, choices, faults, spellings)
+    language: Language = asked or ("fr" if table.header.language() > 0 else "en")
+    answers = SheetOfAnswers(table, spellings, names, wishes, calendar, faults)
+    new = [(table.row(place), answer) for place, answer in answers.answers()]
+    slot, there = answers_in(folder)
+    old = [(Row(slot, number), answer) for number, answer in enumerate(there, start=2)]
+    both = merged(old, new, is_replaced)
+    tell_unfit(both, folder, calendar, wishes, names, faults)
+    if faults.found:
+        print(faults.told([slot.label, table.sheet.label], language), file=sys.stderr)
+        return FAULTY
+    replace_file(folder / ANSWERS, csv_bytes(HEADER, (answer.cells() for _, answer in both)))
+    say("take_in", summary(table, old, new, both, calendar, language))
+    return DONE
+
+
+def main(arguments: list[str]) -> int:
+    parser = words()
+    given = parser.of(arguments)
+    if (given.start is None) != (given.term is None):
+        parser.bad("--start and --term are given together or not at all")
+    if not is_folder(given.folder):
+        print(f"take_in: there is no folder {given.folder}; name the folder of the dossier.", file=sys.stderr)
+        return program.READ_FAULT
+    try:
+        stop_cleanly()
+        with alone(given.folder):
+            calendar = coming_day(given.folder, Calendar(1, given.start, given.term))
+            choices = Choices(given.dates, None, dict(given.column))
+            return take_in(given.folder, given.sheet, choices, calendar, given.replace, given.lang)
+    except Stopped as stop:
+        print(f"take_in: {stop}", file=sys.stderr)
+        return stop.status
+    except Unreadable as error:
+        language: Language = given.lang or "en"
+        print(f"{shown(str(given.sheet))}\n    {error.what.said(language)}\n    {error.to_do.said(language)}",
+              file=sys.stderr)
+        return FAULTY
+    except NotIds as error:
+        print(f"take_in: {error}", file=sys.stderr)
+        return program.READ_FAULT
+    except OSError as error:
+        is_written = os.path.basename(str(error.filename)) == f".{ANSWERS}.new" or not error.filename
+        told = f"{error.filename or given.folder}: {error.strerror}; the answers are as they were."
+        print(f"take_in: {told if is_written else unread(error)}", file=sys.stderr)
+        return program.WRITE_FAULT if is_written else program.READ_FAULT
+    except Told as stop:
+        print("take_in: stopped; the answers are as they were, or all taken in.", file=sys.stderr)
+        return stop.status
+
+
