@@ -1,5 +1,5 @@
 -- The witnesses of the laws of automatic days, by computation and by the laws.
-use Rattle.std.proofs.Common.{ℕ, ◌<◌, ◌≡◌, true, not, List, [], ◌∷◌, refl, lit<, Option, Some, None, nat_lt}
+use Rattle.std.proofs.Common.{◌<◌, ◌≡◌, not, [], ◌∷◌, refl, lit<, None, nat_lt}
 use Rattle.std.specs.Prelude.{IsTrue}
 use Rattle.std.specs.List.{All}
 use Rattle.std.proofs.lemmas.Bool.{ltb-true, not-true}
@@ -7,9 +7,8 @@ use Rattle.std.proofs.lemmas.List.Elements.{All-from_recursion}
 use Rattle.admit_core.specs.declared.dossier.Wish.{Wish}
 use Rattle.admit_core.specs.declared.records.DayRecord.{DayRecord}
 use Rattle.admit_core.specs.declared.state.Mark.{Mark}
-use Rattle.admit_core.specs.declared.state.Stamp.{Stamp}
 use Rattle.admit_core.specs.CallOrder.{AreCallOrders}
-use Rattle.admit_core.specs.Days.{Days, IsDay, Passes, answers_of, first_evening}
+use Rattle.admit_core.specs.Days.{Days, IsDay, Passes, first_evening}
 use Rattle.admit_core.specs.State.{State, holds_seat, is_waiting, is_waiting_status}
 use Rattle.admit_core.specs.WorkedDays.{day, quiet}
 use Rattle.admit_core.proofs.Rows.{passes_with}

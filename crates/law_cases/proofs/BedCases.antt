@@ -1,5 +1,5 @@
 -- The witnesses of the laws of beds, by computation.
-use Rattle.std.proofs.Common.{ℕ, ◌≤◌, List, [], ◌∷◌, refl, lit≤}
+use Rattle.std.proofs.Common.{[], ◌∷◌, refl, lit≤}
 use Rattle.admit_core.specs.LeastBeds.{with_beds}
 use Rattle.admit_core.specs.WorkedRows.{greatest_bar, greatest_bar_orders}
 use Rattle.admit_core.proofs.ChainRows.{beds_needed_hold}

@@ -2,6 +2,7 @@ pub mod AnswerCases
 pub mod AutomaticCases
 pub mod BarCases
 pub mod BedCases
+pub mod ChainCases
 pub mod DayCases
 pub mod DefinitionCases
 pub mod MarketCases

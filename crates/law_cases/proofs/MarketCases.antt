@@ -1,14 +1,14 @@
 -- The witnesses of the laws of markets, by computation and by the laws.
-use Rattle.std.proofs.Common.{ℕ, zero, suc, ◌≤◌, ◌<◌, ◌≡◌, true, false, List, [], ◌∷◌, length, refl, sym, subst, arith, lit≤, Option, Some, None, nat_lt}
-use Rattle.std.specs.Prelude.{◌≢◌, IsTrue, slice_index}
+use Rattle.std.proofs.Common.{ℕ, zero, suc, ◌≡◌, true, List, [], ◌∷◌, refl, subst, arith, lit≤, Some, nat_lt}
+use Rattle.std.specs.Prelude.{◌≢◌, IsTrue}
 use Rattle.std.proofs.lemmas.Bool.{false≢true}
 use Rattle.admit_core.specs.Falls.{IsGreatest, Leads, bars_after, falls_by}
 use Rattle.admit_core.proofs.ByPlaces.{by_places}
 use Rattle.admit_core.proofs.FallsLaw.{run_is_greatest}
-use Rattle.markets.specs.Bars.{market_system, matched_under}
+use Rattle.markets.specs.Bars.{market_system}
 use Rattle.markets.specs.Lawful.{market_is_lawful}
-use Rattle.markets.specs.Markets.{IsMarket, MarketRows, is_list, is_order, list_of, lists_it, position_of}
-use Rattle.markets.specs.Matchings.{IsBestForAll, IsMatching, IsStable, block_of, holders, place_of}
+use Rattle.markets.specs.Markets.{IsMarket, MarketRows, list_of, lists_it, position_of}
+use Rattle.markets.specs.Matchings.{IsBestForAll, IsMatching, IsStable, place_of}
 use Rattle.markets.proofs.Best.{greatest_is_best}
 use Rattle.markets.proofs.SamePlaced.{any_two, placed_in_all, there_is_a_best}
 use Rattle.markets.proofs.Stable.{greatest_is_stable}

@@ -1,5 +1,5 @@
 -- The witnesses of the laws of passes, evenings and chains, by computation.
-use Rattle.std.proofs.Common.{ℕ, ◌≡◌, List, [], ◌∷◌, refl, lit≤, lit<}
+use Rattle.std.proofs.Common.{List, [], ◌∷◌, refl, lit≤, lit<}
 use Rattle.admit_core.specs.declared.ranking.CallOrder.{CallOrder}
 use Rattle.admit_core.specs.Boarding.{boarding}
 use Rattle.admit_core.specs.CallOrder.{AreCallOrders}

@@ -17,7 +17,7 @@ use Rattle.admit_core.specs.Lapses.{AreTermsFor}
 use Rattle.admit_core.specs.State.{State, holds_seat, is_waiting}
 use Rattle.admit_core.specs.Validity.{IsValid}
 use Rattle.admit_core.specs.WorkedDays.{change, day, freeing, in_order}
-use Rattle.admit_core.specs.WorkedRows.{first_pass, group, marked, programme, ranked, wish}
+use Rattle.admit_core.specs.WorkedRows.{group, marked, programme, ranked, wish}
 use Rattle.envy.specs.AutomaticDays.{IsFair, IsFairEvening, IsFirstEvening, IsLaterEvening, IsRankedPlainly, is_given_up}
 
 abbrev pub ranked_plainly : DossierRows

@@ -1,5 +1,5 @@
 -- Worked cases of definitions whose other cases leave an error room.
-use Rattle.std.specs.Prelude.{◌≡◌, ℕ, List, [], ◌∷◌, Some, None}
+use Rattle.std.specs.Prelude.{◌≡◌, List, [], ◌∷◌, Some, None}
 use Rattle.admit_core.specs.declared.chain.CheckReason.TheVariants.{StillOver}
 use Rattle.admit_core.specs.declared.dossier.AnswerKind.TheVariants.{Accept, Refuse, Withdraw}
 use Rattle.admit_core.specs.declared.explanation.Explanation.TheVariants.{Live, NoSeat}

@@ -8,3 +8,4 @@ pub mod Definitions
 pub mod Explanations
 pub mod Fairness
 pub mod Markets
+pub mod WrittenChains

@@ -11,6 +11,7 @@ mod automatic_days;
 mod bars;
 mod beds;
 mod call_orders;
+mod chains;
 mod definitions;
 mod matchings;
 mod passes;
@@ -22,6 +23,7 @@ pub use automatic_days::witnesses_of_automatic_days;
 pub use bars::{witnesses_of_bars, witnesses_of_runs};
 pub use beds::witnesses_of_beds;
 pub use call_orders::{witnesses_of_call_orders, witnesses_of_least_orders};
+pub use chains::witnesses_of_written_chains;
 pub use definitions::{worked_definitions, worked_relations};
 pub use matchings::{
     witnesses_of_markets, witnesses_of_stable_matchings, worked_market_of_dossier,
