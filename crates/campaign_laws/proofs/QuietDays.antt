@@ -1,11 +1,11 @@
 -- A quiet day changes nothing.
-use Rattle.std.proofs.Common.{ℕ, ◌+◌, ◌≡◌, Bool, true, false, not, ◌&&◌, ◌||◌, filter, List, [], ◌∷◌, length, map, get_or, count_by, Option, Some, None, inl, inr, refl, sym, ◌∙◌, ap, subst, arith, nat_eq, zip}
+use Rattle.std.proofs.Common.{ℕ, ◌+◌, ◌≡◌, Bool, true, not, ◌&&◌, ◌||◌, filter, List, [], ◌∷◌, length, map, Option, Some, None, inl, inr, refl, sym, ◌∙◌, ap, subst, arith, nat_eq, zip}
 use Rattle.std.specs.Prelude.{ℤ, All, ◌==◌, if◌then◌else◌, sum}
-use Rattle.std.specs.List.{enumerate_from, range_with_len}
+use Rattle.std.specs.List.{AllByRecursion, enumerate_from, range_with_len}
 use Rattle.std.proofs.lemmas.Bool.{and_from, both_ways, cases_Bool, eq-eqb, not-true}
 use Rattle.std.proofs.lemmas.List.{length-map, length-set}
 use Rattle.std.proofs.lemmas.List.Elements.{All-from_recursion}
-use Rattle.std.proofs.lemmas.List.Sums.{length-filter, sum-map, sum_by-cons}
+use Rattle.std.proofs.lemmas.List.Sums.{sum-map, sum_by-cons}
 use Rattle.std.proofs.lemmas.Slice.Zip.{length-zip}
 use Rattle.admit_core.specs.declared.dossier.Answer.{Answer}
 use Rattle.admit_core.specs.declared.dossier.AnswerKind.{AnswerKind}
@@ -29,9 +29,11 @@ use Rattle.admit_core.specs.Proposals.{is_proposed, proposed}
 use Rattle.admit_core.specs.State.{State, changed_to, holds_bed, holds_seat, is_live, is_waiting, with_marks}
 use Rattle.admit_core.specs.Validity.{IsValid}
 use Rattle.admit_core.proofs.ClosedEvenings.{evenings_are_closed}
-use Rattle.admit_core.proofs.Plain.{and_not, filter_none}
+use Rattle.admit_core.proofs.Plain.{and_not}
 use Rattle.auto_answer.proofs.Again.{answered_once}
+use Rattle.auto_answer.proofs.Bounds.{count_none}
 use Rattle.day_state.proofs.Along.{length-with_marks}
+use Rattle.campaign_laws.proofs.Walks.{all_of}
 use Rattle.campaign_laws.specs.QuietDays.{QuietDaysChangeNothing}
 
 -- ---- each wish keeps a mark
@@ -158,22 +160,21 @@ no_offer d s orders bars stamp whole none =
     (sym (marked_here d s whole)) none)
 
 -- what frees nothing
-none_counted : (test : ℕ → Bool) → ((x : ℕ) → test x ≡ false) → (xs : List ℕ) → count_by test xs ≡ 0
-none_counted test fails xs = sym (length-filter test xs) ∙ ap length
-    (filter_none test xs (λ k x lt. fails (get_or xs k x)))
-
-no_sum : (f : ℕ → ℕ) → ((x : ℕ) → f x ≡ 0) → (xs : List ℕ) → sum (map f xs) ≡ 0
-no_sum f none [] = refl
-no_sum f none (x ∷ xs) = omega (arith, sum-map f (x ∷ xs), sum_by-cons f x xs, sum-map f xs, none x, no_sum f none xs)
+zeros : (f : ℕ → ℕ) (cs : List ℕ) → AllByRecursion (λ (c : ℕ). f c ≡ 0) cs → sum (map f cs) ≡ 0
+zeros f [] all = refl
+zeros f (c ∷ cs) all = omega (arith, sum-map f (c ∷ cs), sum_by-cons f c cs, sum-map f cs, all.0, zeros f cs all.1)
 
 nothing_freed_here : (s : State) → frees_nothing (freed s s) ≡ true
 nothing_freed_here s =
-    let seats = no_sum (seats_freed s s)
-    (λ c. none_counted (λ p. holds_seat s c p && not (holds_seat s c p)) (λ p. and_not (holds_seat s c p))
-    (range_with_len 0 (length s.dossier.programmes))) (candidates_of s.dossier) in
-    let beds = no_sum (beds_freed s s)
-    (λ c. none_counted (λ h. holds_bed s c h && not (holds_bed s c h)) (λ h. and_not (holds_bed s c h))
-    (range_with_len 0 (length s.dossier.schools))) (candidates_of s.dossier) in
+    let cs = candidates_of s.dossier in
+    let seats = zeros (seats_freed s s) cs
+    (all_of (λ (c : ℕ). seats_freed s s c ≡ 0)
+    (λ c. count_none (λ p. holds_seat s c p && not (holds_seat s c p)) (λ p. and_not (holds_seat s c p))
+    (range_with_len 0 (length s.dossier.programmes))) cs) in
+    let beds = zeros (beds_freed s s) cs
+    (all_of (λ (c : ℕ). beds_freed s s c ≡ 0)
+    (λ c. count_none (λ h. holds_bed s c h && not (holds_bed s c h)) (λ h. and_not (holds_bed s c h))
+    (range_with_len 0 (length s.dossier.schools))) cs) in
     and_from (nat_eq (freed s s).seats 0) (nat_eq (freed s s).beds 0) (eq-eqb (freed s s).seats 0 seats)
     (eq-eqb (freed s s).beds 0 beds)
 
