@@ -4,12 +4,14 @@ pub mod CrossedHere
 pub mod GoneStays
 pub mod Holding
 pub mod Kept
+pub mod Matchings
 pub mod MetHere
 pub mod OneMark
 pub mod PassedOver
 pub mod QuietDays
 pub mod Room
 pub mod Shown
+pub mod ShownAnswers
 pub mod StableEvening
 pub mod WaitingPlace
 pub mod Walks

@@ -31,7 +31,7 @@ use Rattle.day_state.proofs.Along.{length-with_marks}
 use Rattle.envy.proofs.AutomaticDays.{later_evening_blocks_none}
 use Rattle.campaign_laws.specs.AutomaticDay.{AutomaticEveningsAreStable, IsAllAutomatic, NotBothLive}
 use Rattle.campaign_laws.specs.Moments.{moments, openings}
-use Rattle.campaign_laws.proofs.AutomaticDay.{no_limit, prefers, stands}
+use Rattle.campaign_laws.proofs.Matchings.{no_limit, prefers, stands}
 use Rattle.campaign_laws.proofs.GoneStays.{live_waits_not}
 use Rattle.campaign_laws.proofs.Kept.{none_least, ranked_live}
 use Rattle.campaign_laws.proofs.Room.{seats_throughout}

@@ -1,0 +1,333 @@
+-- What is not promised of answers is shown by computation.
+use Rattle.std.proofs.Common.{[], ◌∷◌, refl}
+use Rattle.admit_core.specs.declared.dossier.AnswerKind.TheVariants.{Accept, Quit}
+use Rattle.admit_core.specs.declared.state.Status.TheVariants.{Accepted, Offered, Quit as HasQuit, Waiting}
+use Rattle.admit_core.specs.Faults.{first_after}
+use Rattle.admit_core.specs.Standing.{dossier_of}
+use Rattle.admit_core.specs.WorkedRows.{marked}
+use Rattle.admit_core.proofs.ByPlaces.{by_places}
+use Rattle.campaign_laws.specs.NotPromised.{AcceptingCanCost, AcceptingEarlierCanCost, AnswersCannotBeSplit, QuittingCanCost, WithdrawingCanCost, if_accepted_on, if_split}
+use Rattle.campaign_laws.proofs.WorkedCampaign.{end_by}
+
+pub quitting_can_cost : QuittingCanCost
+unfolding first_after
+quitting_can_cost = (
+  record {
+    faultless = refl;
+    called =
+        (record { as_long = refl; each_next = by_places 3 _ (refl, (refl, (refl, tt))) (λ k. refl) }, tt);
+    are_days = (
+      _,
+      refl,
+      record {
+        lapsed = refl;
+        fits = refl;
+        passes =
+            (end_by _ _ _ _ _ _ (record { are_falls = tt; settled = refl }) refl refl refl refl, refl, refl);
+        left =
+            refl;
+        free = refl;
+      },
+      refl,
+    );
+  },
+  record {
+    faultless = refl;
+    called =
+        (record { as_long = refl; each_next = by_places 3 _ (refl, (refl, (refl, tt))) (λ k. refl) }, tt);
+    are_days = (
+      _,
+      refl,
+      record {
+        lapsed = refl;
+        fits = refl;
+        passes =
+            (end_by _ _ _ _ _ _ (record { are_falls = (refl, refl, tt); settled = refl }) refl refl refl refl, refl, refl);
+        left = refl;
+        free = refl;
+      },
+      refl,
+    );
+  },
+)
+
+pub accepting_can_cost : AcceptingCanCost
+unfolding first_after
+accepting_can_cost = (
+  record {
+    faultless = refl;
+    called =
+        (record { as_long = refl; each_next = by_places 1 _ (refl, tt) (λ k. refl) }, tt);
+    are_days = (
+      _,
+      refl,
+      record {
+        lapsed = refl;
+        fits = refl;
+        passes =
+            (end_by _ _ _ _ _ _ (record { are_falls = tt; settled = refl }) refl refl refl refl, refl, refl);
+        left =
+            refl;
+        free = refl;
+      },
+      refl,
+    );
+  },
+  record {
+    faultless = refl;
+    called =
+        (record { as_long = refl; each_next = by_places 1 _ (refl, tt) (λ k. refl) }, tt);
+    are_days = (
+      _,
+      refl,
+      record {
+        lapsed = refl;
+        fits = refl;
+        passes =
+            (end_by _ _ _ _ _ _ (record { are_falls = tt; settled = refl }) refl refl refl refl, refl, refl);
+        left =
+            refl;
+        free = refl;
+      },
+      refl,
+    );
+  },
+)
+
+pub withdrawing_can_cost : WithdrawingCanCost
+unfolding first_after
+withdrawing_can_cost = (
+  record {
+    faultless = refl;
+    called =
+        (record { as_long = refl; each_next = by_places 2 _ (refl, (refl, tt)) (λ k. refl) }, tt);
+    are_days = (
+      _,
+      refl,
+      record {
+        lapsed = refl;
+        fits = refl;
+        passes =
+            (end_by _ _ _ _ _ _ (record { are_falls = (refl, refl, tt); settled = refl }) refl refl refl refl, refl, refl);
+        left = refl;
+        free = refl;
+      },
+      refl,
+    );
+  },
+  record {
+    faultless = refl;
+    called =
+        (record { as_long = refl; each_next = by_places 2 _ (refl, (refl, tt)) (λ k. refl) }, tt);
+    are_days = (
+      _,
+      refl,
+      record {
+        lapsed = refl;
+        fits = refl;
+        passes =
+            (end_by _ _ _ _ _ _ (record { are_falls = tt; settled = refl }) refl refl refl refl, refl, refl);
+        left =
+            refl;
+        free = refl;
+      },
+      refl,
+    );
+  },
+)
+
+pub accepting_earlier_can_cost : AcceptingEarlierCanCost
+unfolding first_after
+accepting_earlier_can_cost = (
+  record {
+    faultless = refl;
+    called =
+        (record { as_long = refl; each_next = by_places 2 _ (refl, (refl, tt)) (λ k. refl) }, tt);
+    are_days = (
+      record {
+        dossier = dossier_of (if_accepted_on (record { day = 1; kind = Accept; target = 2 } ∷ []));
+        marks =
+            marked Offered 1 1 ∷ marked Accepted 1 0 ∷ marked Waiting 0 0 ∷ [];
+      },
+      refl,
+      record {
+        lapsed = refl;
+        fits = refl;
+        passes =
+            (end_by _ _ _ _ _ _ (record { are_falls = tt; settled = refl }) refl refl refl refl, refl, refl);
+        left =
+            refl;
+        free = refl;
+      },
+      (
+        _,
+        refl,
+        record {
+          lapsed = refl;
+          fits = refl;
+          passes =
+              (end_by _ _ _ _ _ _ (record { are_falls = tt; settled = refl }) refl refl refl refl, refl, refl);
+          left =
+              refl;
+          free = refl;
+        },
+        refl,
+      ),
+    );
+  },
+  record {
+    faultless = refl;
+    called =
+        (record { as_long = refl; each_next = by_places 2 _ (refl, (refl, tt)) (λ k. refl) }, tt);
+    are_days = (
+      record {
+        dossier = dossier_of (if_accepted_on (record { day = 2; kind = Accept; target = 2 } ∷ []));
+        marks =
+            marked Offered 1 1 ∷ marked Offered 0 0 ∷ marked Waiting 0 0 ∷ [];
+      },
+      refl,
+      record {
+        lapsed = refl;
+        fits = refl;
+        passes =
+            (end_by _ _ _ _ _ _ (record { are_falls = tt; settled = refl }) refl refl refl refl, refl, refl);
+        left =
+            refl;
+        free = refl;
+      },
+      (
+        _,
+        refl,
+        record {
+          lapsed = refl;
+          fits = refl;
+          passes =
+              (end_by _ _ _ _ _ _ (record { are_falls = tt; settled = refl }) refl refl refl refl, refl, refl);
+          left =
+              refl;
+          free = refl;
+        },
+        refl,
+      ),
+    );
+  },
+)
+
+pub answers_cannot_be_split : AnswersCannotBeSplit
+unfolding first_after
+answers_cannot_be_split = (
+  record {
+    faultless = refl;
+    called =
+        (record { as_long = refl; each_next = by_places 2 _ (refl, (refl, tt)) (λ k. refl) }, tt);
+    are_days = (
+      record {
+        dossier =
+            dossier_of (if_split
+            (record { day = 2; kind = Quit; target = 101 } ∷ record { day = 2; kind = Accept; target = 2 } ∷ []));
+        marks =
+            marked Waiting 0 0 ∷ marked Offered 1 1 ∷ marked Offered 1 1 ∷ [];
+      },
+      refl,
+      record {
+        lapsed = refl;
+        fits = refl;
+        passes =
+            (end_by _ _ _ _ _ _ (record { are_falls = tt; settled = refl }) refl refl refl refl, refl, refl);
+        left =
+            refl;
+        free = refl;
+      },
+      (
+        record {
+          dossier =
+              dossier_of (if_split
+              (record { day = 2; kind = Quit; target = 101 } ∷ record { day = 2; kind = Accept; target = 2 } ∷ []));
+          marks =
+              marked Offered 2 1 ∷ marked Accepted 2 0 ∷ marked HasQuit 2 0 ∷ [];
+        },
+        refl,
+        record {
+          lapsed = refl;
+          fits = refl;
+          passes =
+              (end_by _ _ _ _ _ _ (record { are_falls = tt; settled = refl }) refl refl refl refl, refl, refl);
+          left =
+              refl;
+          free = refl;
+        },
+        (
+          _,
+          refl,
+          record {
+            lapsed = refl;
+            fits = refl;
+            passes =
+                (end_by _ _ _ _ _ _ (record { are_falls = tt; settled = refl }) refl refl refl refl, refl, refl);
+            left =
+                refl;
+            free = refl;
+          },
+          refl,
+        ),
+      ),
+    );
+  },
+  record {
+    faultless = refl;
+    called =
+        (record { as_long = refl; each_next = by_places 2 _ (refl, (refl, tt)) (λ k. refl) }, tt);
+    are_days = (
+      record {
+        dossier =
+            dossier_of (if_split
+            (record { day = 2; kind = Quit; target = 101 } ∷ record { day = 3; kind = Accept; target = 2 } ∷ []));
+        marks =
+            marked Waiting 0 0 ∷ marked Offered 1 1 ∷ marked Offered 1 1 ∷ [];
+      },
+      refl,
+      record {
+        lapsed = refl;
+        fits = refl;
+        passes =
+            (end_by _ _ _ _ _ _ (record { are_falls = tt; settled = refl }) refl refl refl refl, refl, refl);
+        left =
+            refl;
+        free = refl;
+      },
+      (
+        record {
+          dossier =
+              dossier_of (if_split
+              (record { day = 2; kind = Quit; target = 101 } ∷ record { day = 3; kind = Accept; target = 2 } ∷ []));
+          marks =
+              marked Offered 2 1 ∷ marked Offered 1 1 ∷ marked HasQuit 2 0 ∷ [];
+        },
+        refl,
+        record {
+          lapsed = refl;
+          fits = refl;
+          passes =
+              (end_by _ _ _ _ _ _ (record { are_falls = tt; settled = refl }) refl refl refl refl, refl, refl);
+          left =
+              refl;
+          free = refl;
+        },
+        (
+          _,
+          refl,
+          record {
+            lapsed = refl;
+            fits = refl;
+            passes =
+                (end_by _ _ _ _ _ _ (record { are_falls = tt; settled = refl }) refl refl refl refl, refl, refl);
+            left =
+                refl;
+            free = refl;
+          },
+          refl,
+        ),
+      ),
+    );
+  },
+)
