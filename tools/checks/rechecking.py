@@ -75,12 +75,14 @@ class Round:
     def right_text(self, folder: Path, name: str, words: tuple[str, ...]) -> Lines:
         """The program's own text passes; its lines."""
         status, text = run_text(self.program, words, folder)
+        if status > 1:
+            return []
         found = told(folder, text, words)
         # In `chain` the line of an unfit answer stands without the days before it, which cannot be tested then.
         is_lone = b" reason 18 " in text and text.count(b"\n") == 1
         mode = next(each for each in words if each in MODES)
         kind = f"{mode}, as it is" + (", refused" if status == 1 else "")
-        self.check(kind, name, status > 1 or found == (RIGHT, text.count(b"\n")) or is_lone and found[0] == UNTESTED, found)
+        self.check(kind, name, found == (RIGHT, text.count(b"\n")) or is_lone and found[0] == UNTESTED, found)
         return text.splitlines(keepends=True)
 
     def changed_text(self, case: Case, name: str, kind: str, lines: Lines) -> None:
@@ -106,7 +108,7 @@ class Round:
                 self.changes(random, Case(slots, (mode,), self.right_text(slots, name, (mode,)), self.program), name,
                              changes // 4)
             lines: Lines = []
-            for picker in random.sample(PICKERS, 2):
+            for picker in random.sample(PICKERS, 2 if changes else 1):
                 self.right_text(slots, name, (*asked.words("chain"), "--picker", picker))
                 lines = self.right_text(slots, name, (*asked.words("replay"), "--picker", picker))
             case = Case(slots, asked.words("replay"), lines, self.program)
@@ -153,11 +155,11 @@ def check_worked(tally: Tally, program: str) -> None:
             with scratch() as folder:
                 put(job.files, folder / "slots")
                 lines = rounds.right_text(folder / "slots", job.title, job.words)
-                if job.mode == "replay" and lines and word(lines[0]) != b"refused":
-                    rounds.changes(Random(number), Case(folder / "slots", job.words, lines, program), job.title, 12)
+                if job.mode == "replay" and lines and word(lines[0]) in (b"order", b"day"):
+                    rounds.changes(Random(number), Case(folder / "slots", job.words, lines, program), job.title, 4)
 
 
-def check_random(tally: Tally, program: str, number: int = 120, changes: int = 12, seed: int = SEED) -> Counter:
+def check_random(tally: Tally, program: str, number: int = 80, changes: int = 8, seed: int = SEED) -> Counter:
     """Random dossiers: by every picker right, and changed."""
     tally.begin(f"recheck: {number} random dossiers, right and changed")
     rounds = Round(tally, program, seed)
@@ -166,7 +168,7 @@ def check_random(tally: Tally, program: str, number: int = 120, changes: int = 1
     return rounds.counts
 
 
-def check_broken(tally: Tally, program: str, number: int = 400, seed: int = SEED) -> Counter:
+def check_broken(tally: Tally, program: str, number: int = 300, seed: int = SEED) -> Counter:
     """Slots that are no dossier: the first fault is the program's."""
     tally.begin(f"recheck: {number} dossiers with broken slots")
     jobs = [job for job in all_jobs() if job.mode in MODES]

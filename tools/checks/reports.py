@@ -36,11 +36,10 @@ def word(line: bytes) -> bytes:
 
 def one_off(random: Random, lines: Lines) -> Lines:
     """A number is one more or less."""
-    place, numbers = 0, []
-    while not numbers:
-        place = random.randrange(len(lines))
-        numbers = list(re.finditer(rb"\d+", lines[place]))
-    number = random.choice(numbers)
+    place = random.choice([place for place, line in enumerate(lines) if re.search(rb"\d", line)] or [0])
+    number = random.choice(list(re.finditer(rb"\d+|$", lines[place])))
+    if not number.group():
+        return lines
     changed = max(0, int(number.group()) + random.choice((-1, 1)))
     line = lines[place][:number.start()] + str(changed).encode() + lines[place][number.end():]
     return [*lines[:place], line, *lines[place + 1:]]
@@ -130,7 +129,7 @@ def first_wrong(case: Case, lines: Lines) -> int | None:
     first, it may be that of another mode, so that it is what follows that is wrong.
     """
     orders = [line for line in case.lines if word(line) in (b"order", b"rule")]
-    if lines == orders or lines and word(lines[0]) == b"refused" and lines[0] in case.lines:
+    if lines == orders and word(case.lines[0]) != b"refused" or lines and word(lines[0]) == b"refused" and lines[0] in case.lines:
         return None if len(lines) == len(orders) or len(lines) == 1 else 2
     right = [line for line in case.lines if word(line) != b"fall"]
     number, wrong, may_fall = 0, None, False
@@ -150,6 +149,8 @@ def first_wrong(case: Case, lines: Lines) -> int | None:
 
 def first_wrong_fall(case: Case, lines: Lines) -> int | None:
     """The line of the first fall, or of what stands in its place, that `check` finds wrong."""
+    if lines == case.lines[:len(lines)]:
+        return None
     places = [place for place, line in enumerate(lines, 1) if word(line) in CHAIN_WORDS]
     if not any(word(lines[place - 1]) == b"fall" for place in places) and not any(word(line) == b"pass" for line in lines):
         return None
