@@ -14,7 +14,7 @@ use Rattle.campaign_laws.specs.Beds.{IsBarredIn, IsSameWishOffered}
 use Rattle.campaign_laws.specs.Kept.{AnswersThemself, GivesNoAnswer}
 use Rattle.campaign_laws.specs.Moments.{openings}
 use Rattle.campaign_laws.specs.PassedOver.{IsUnbarred, WaitsAt}
-use Rattle.campaign_laws.specs.Witnesses.{AutomaticAnswersClimbWitness, CameByBetterRankWitness, CameFromBeforeWitness, GoesByTheTwoListsWitness, GoneStaysGoneWitness, IsKeptAcceptedWitness, IsKeptOfferedWitness, IsLaterMarkGoneStaysWitness, IsLaterMarkNeverAgainWitness, IsLaterMarkWaitedWitness, NeverDescendsWitness, NeverMoreThanBedsWitness, NeverMoreThanSeatsWitness, NoBedGoesPastBarredWishesWitness, NobodyIsEverPassedOverWitness, NobodyIsPassedOverWithoutBoardingWitness, OffersGoByTheTwoListsWitness, QuietDaysChangeNothingWitness, WaitingPlaceNeverWorsensWitness, WhatIsYoursStaysWitness}
+use Rattle.campaign_laws.specs.Witnesses.{AutomaticAnswersClimbWitness, CameByBetterRankWitness, CameFromBeforeWitness, GoesByTheTwoListsWitness, GoneStaysGoneWitness, IsKeptAcceptedWitness, IsKeptOfferedWitness, IsLaterMarkGoneStaysWitness, IsLaterMarkNeverAgainWitness, IsLaterMarkWaitedWitness, NeverDescendsWitness, NeverMoreThanBedsWitness, NeverMoreThanSeatsWitness, NoBedGoesPastBarredWishesWitness, NobodyIsEverPassedOverWitness, NobodyIsPassedOverWithoutBoardingWitness, OffersGoByTheTwoListsWitness, PlacesOfThirteen, QuietDaysChangeNothingWitness, WaitingPlaceNeverWorsensWitness, WhatIsYoursStaysWitness}
 use Rattle.campaign_laws.specs.WorkedCampaign.{barred_first, before_summer, first_day, first_night, next_day, small_day, small_days, small_next, small_night, small_orders, summer, summer_days, summer_orders, third_night, thirteenth}
 use Rattle.campaign_laws.proofs.Beds.{no_bed_goes_past, offers_go_by_the_two_lists}
 use Rattle.campaign_laws.proofs.GoneStays.{gone_stays_gone}
@@ -217,3 +217,6 @@ quiet_here = (
       small_night
       small_dossier_holds small_called tt refl small_holds small_next_holds refl refl refl,
 )
+
+pub places_of_thirteen : PlacesOfThirteen
+places_of_thirteen = (refl, refl, refl)

@@ -1,5 +1,5 @@
--- Pairs of dossiers, alike but for one thing, that show what the rules do not promise of whole days:
--- what each ends with.
+-- Pairs of dossiers, alike but for one thing, that show what the rules do not promise of whole
+-- days: what each ends with.
 use Rattle.std.specs.Prelude.{◌≡◌, ◌∷◌, ◌++◌, ℕ, List, None, Some, []}
 use Rattle.admit_core.specs.declared.dossier.AnswerKind.TheVariants.{Accept, Quit, Withdraw}
 use Rattle.admit_core.specs.declared.ranking.CallOrder.{CallOrder}
@@ -224,8 +224,8 @@ BedMoreCanLowerBar =
     ∷ []) 1 0 ∷ quiet (0 ∷ []) (fall 0 9 0 (2 ∷ []) ∷ []) [] ∷ []) (0 ∷ 1 ∷ []) (0 ∷ []) ∷ [])
     (marked Accepted 1 1 ∷ marked AutoRefused 1 1 ∷ marked Waiting 0 0 ∷ [])
 
--- ---- a seat more can leave fewer placed: without a seat in the first programme both get one of the
--- second, 101 with the one bed; with one, 102 is called there with the bed, in which they rank
+-- ---- a seat more can leave fewer placed: without a seat in the first programme both get one of
+-- the second, 101 with the one bed; with one, 102 is called there with the bed, in which they rank
 -- first, and keeps both seats, while 101 is barred
 abbrev pub with_first_seats : ℕ → Tables
 with_first_seats seats =

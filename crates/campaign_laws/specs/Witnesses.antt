@@ -25,7 +25,7 @@ use Rattle.campaign_laws.specs.OneMark.{IsLater}
 use Rattle.campaign_laws.specs.PassedOver.{CameFromBefore, IsUnbarred, WaitsAt}
 use Rattle.campaign_laws.specs.QuietDays.{ChangesNothing}
 use Rattle.campaign_laws.specs.Room.{FitsBedsOf, FitsSeatsOf}
-use Rattle.campaign_laws.specs.WaitingPlace.{NoMoreWaitBefore}
+use Rattle.campaign_laws.specs.WaitingPlace.{NoMoreWaitBefore, waiting_before}
 use Rattle.campaign_laws.specs.WorkedCampaign.{barred_first, before_summer, first_day, first_night, next_day, second_night, small_day, small_days, small_next, small_night, small_orders, summer_days, summer_orders, third_night, thirteenth}
 
 -- ---- one mark: the refused wish, the one that 12 is offered, and that of 13
@@ -71,6 +71,12 @@ WaitingPlaceNeverWorsensWitness =
     AreTermsFor old.dossier terms
     × Days terms orders d old days new
     × AllPairs (NoMoreWaitBefore orders) (old ∷ moments terms orders old days)
+
+abbrev pub PlacesOfThirteen : Type 0
+PlacesOfThirteen =
+    (waiting_before before_summer summer_orders thirteenth ≡ 2)
+    × (waiting_before first_night summer_orders thirteenth ≡ 1)
+    × (waiting_before second_night summer_orders thirteenth ≡ 0)
 
 -- ---- nobody is passed over: 13 waits, and 12, who comes in on day 2, is called before them
 abbrev pub NobodyIsEverPassedOverWitness : Type 0
@@ -144,7 +150,8 @@ CameByBetterRankWitness =
     × (holds_bed old c h ≡ false)
     × IsTrue (ranks_better old.dossier h w c)
 
--- ---- the two lists: 12's wish is 11's very wish; 12 is called later, and ranks better in the school
+-- ---- the two lists: 12 is offered the very wish of 11; they are called later, and rank better in
+-- the school
 abbrev pub OffersGoByTheTwoListsWitness : Type 0
 OffersGoByTheTwoListsWitness =
     let terms : Option Terms = next_day in

@@ -2,8 +2,8 @@
 ghost use Rattle.campaign_laws.specs.NotPromised.{AcceptingCanCost, BedMoreCanPlaceFewer, SeatMoreCanPlaceFewer, AcceptingEarlierCanCost, AnswersCannotBeSplit, BedMoreCanLowerBar, BetterRankCanHarm, LeavingOutCanPay, QuittingCanCost, SeatMoreCanEmpty, WithdrawingCanCost};
 
 /// Eleven pairs of dossiers, alike but for one thing: somebody quits, a seat or a bed more, a wish
-/// left out, a better rank, an answer given, given earlier or a day later. In each somebody loses by
-/// what seems good, or what seems to change nothing changes the evening.
+/// left out, a better rank, an answer given, given earlier or a day later. In each somebody loses
+/// by what seems good, or what seems to change nothing changes the evening.
 pub fn days_not_promised()
     ensures quitting_can_cost { QuittingCanCost }
     ensures seat_more_can_empty { SeatMoreCanEmpty }

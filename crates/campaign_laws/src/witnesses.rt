@@ -1,5 +1,5 @@
 //! For each law a worked case that meets all its premises.
-ghost use Rattle.campaign_laws.specs.Witnesses.{AutomaticAnswersClimbWitness, AutomaticEveningsAreStableWitness, CameByBetterRankWitness, CameFromBeforeWitness, GoesByTheTwoListsWitness, GoneStaysGoneWitness, IsKeptAcceptedWitness, IsKeptOfferedWitness, IsLaterMarkGoneStaysWitness, IsLaterMarkNeverAgainWitness, IsLaterMarkWaitedWitness, IsMatchingRoomWitness, NeverDescendsWitness, NeverMoreThanBedsWitness, NeverMoreThanSeatsWitness, NoBedGoesPastBarredWishesWitness, NobodyIsEverPassedOverWitness, NobodyIsPassedOverWithoutBoardingWitness, NotBothLiveWitness, OffersGoByTheTwoListsWitness, QuietDaysChangeNothingWitness, StableMatchingsAreNoWorseWitness, WaitingPlaceNeverWorsensWitness, WhatIsYoursStaysWitness};
+ghost use Rattle.campaign_laws.specs.Witnesses.{AutomaticAnswersClimbWitness, AutomaticEveningsAreStableWitness, CameByBetterRankWitness, CameFromBeforeWitness, GoesByTheTwoListsWitness, GoneStaysGoneWitness, IsKeptAcceptedWitness, IsKeptOfferedWitness, IsLaterMarkGoneStaysWitness, IsLaterMarkNeverAgainWitness, IsLaterMarkWaitedWitness, IsMatchingRoomWitness, NeverDescendsWitness, NeverMoreThanBedsWitness, NeverMoreThanSeatsWitness, NoBedGoesPastBarredWishesWitness, NobodyIsEverPassedOverWitness, NobodyIsPassedOverWithoutBoardingWitness, NotBothLiveWitness, OffersGoByTheTwoListsWitness, PlacesOfThirteen, QuietDaysChangeNothingWitness, StableMatchingsAreNoWorseWitness, WaitingPlaceNeverWorsensWitness, WhatIsYoursStaysWitness};
 
 /// Of the laws of marks.
 pub fn witnesses_of_marks()
@@ -8,6 +8,7 @@ pub fn witnesses_of_marks()
     ensures never_again { IsLaterMarkNeverAgainWitness }
     ensures waited { IsLaterMarkWaitedWitness }
     ensures place { WaitingPlaceNeverWorsensWitness }
+    ensures places { PlacesOfThirteen }
 {}
 
 /// Of the laws of turns.
