@@ -14,8 +14,7 @@ use Rattle.admit_core.specs.Standing.{dossier_of}
 use Rattle.admit_core.proofs.ByPlaces.{EachBelow, after, by_places}
 use Rattle.admit_core.proofs.DemandLaws.{boarding_is_lawful}
 use Rattle.admit_core.proofs.FallsLaw.{run_is_greatest}
-use Rattle.admit_core.proofs.Rows.{passes_with}
-use Rattle.fairness.specs.NotPromised.{Gives, offers_of, plain, BetterBoardingRank, BetterRank, LeavingOut, OneBedMore, OneSeatMore, SharedGroup, ToBeAScholar}
+use Rattle.fairness.specs.NotPromised.{Gives, offers_of, BetterBoardingRank, BetterRank, OneBedMore, OneSeatMore, SharedGroup, ToBeAScholar}
 
 -- a call order by its first calls, one after another
 pub called : (n : ℕ) (g : RankGroup) (o : CallOrder) → length o.trace ≡ length o.list
@@ -93,45 +92,3 @@ shared_group = (
   gives_by _ _ [] _ _ refl (called 3 _ _ refl (refl, (refl, (refl, tt))) (λ k. refl), tt)
       (record { are_falls = tt; settled = refl }) refl refl,
 )
-
-pub leaving_out : LeavingOut
-unfolding first_after
-leaving_out =
-    let orders : List CallOrder = plain (102 ∷ 101 ∷ []) ∷ plain (101 ∷ 102 ∷ []) ∷ [] in (
-      record {
-        faultless = refl;
-        called = (called 2 _ _ refl (refl, (refl, tt)) (λ k. refl), (called 2 _ _ refl (refl, (refl, tt)) (λ k. refl), tt));
-        leave = (
-          _,
-          refl,
-          record {
-            lapsed = refl;
-            fits = refl;
-            passes = (record { pass = passes_with _ orders [] _ (record { are_falls = tt; settled = refl }) refl refl; autos = refl; freed = refl }, refl, refl);
-            left = refl;
-            free = refl;
-          },
-          refl,
-        );
-      },
-      record {
-        faultless = refl;
-        called = (called 2 _ _ refl (refl, (refl, tt)) (λ k. refl), (called 2 _ _ refl (refl, (refl, tt)) (λ k. refl), tt));
-        leave = (
-          _,
-          refl,
-          record {
-            lapsed = refl;
-            fits = refl;
-            passes = (
-              record { pass = passes_with _ orders [] _ (record { are_falls = tt; settled = refl }) refl refl; autos = refl; freed = refl },
-              refl,
-              (record { pass = passes_with _ orders [] _ (record { are_falls = tt; settled = refl }) refl refl; autos = refl; freed = refl }, refl, refl),
-            );
-            left = refl;
-            free = refl;
-          },
-          refl,
-        );
-      },
-    )

@@ -4,9 +4,6 @@ use Rattle.std.specs.Prelude.{◌≡◌, ℕ, Bool, true, false, List, [], ◌�
 use Rattle.std.specs.List.{enumerate_from}
 use Rattle.admit_core.specs.declared.ranking.Bound.TheVariants.{Alone, Both, Free, Resident, Scholar}
 use Rattle.admit_core.specs.declared.ranking.CallOrder.{CallOrder}
-use Rattle.admit_core.specs.declared.records.DayRecord.{DayRecord}
-use Rattle.admit_core.specs.declared.state.Mark.{Mark}
-use Rattle.admit_core.specs.declared.state.Status.TheVariants.{Accepted, AutoRefused, Waiting}
 use Rattle.admit_core.specs.declared.tables.BoardRow.{BoardRow}
 use Rattle.admit_core.specs.declared.tables.GroupRow.{GroupRow}
 use Rattle.admit_core.specs.declared.tables.ProgrammeRow.{ProgrammeRow}
@@ -22,9 +19,8 @@ use Rattle.admit_core.specs.Falls.{IsGreatest}
 use Rattle.admit_core.specs.Proposals.{proposed}
 use Rattle.admit_core.specs.Relations.{first_fault}
 use Rattle.admit_core.specs.Standing.{dossier_of}
-use Rattle.admit_core.specs.WorkedDays.{Leave, change, day, freeing}
 use Rattle.admit_core.specs.WorkedFaults.{wish}
-use Rattle.admit_core.specs.WorkedRows.{marked, order}
+use Rattle.admit_core.specs.WorkedRows.{order}
 
 -- the ids of the wishes that are proposed as a dossier comes in
 abbrev pub offers_of : DossierRows → List CallOrder → List ℕ → List ℕ
@@ -178,36 +174,3 @@ SharedGroup =
     (1 ∷ 3 ∷ [])
     × Gives (with_one_ranking (12 ∷ 13 ∷ 11 ∷ [])) (plain (12 ∷ 13 ∷ 11 ∷ []) ∷ []) (9 ∷ [])
     (2 ∷ 4 ∷ [])
-
--- ---- to leave a wish out: each of two candidates who are answered for comes first in the programme
--- that the other prefers; each is offered the second one, keeps it, and waits for the first for good.
--- Once 101 leaves wish 4 out, that seat goes to 102, who gives up the one that 101 prefers
-abbrev pub both_ranked : List WishRow → Tables
-both_ranked wishes =
-    tables (group 1 0 ∷ group 2 0 ∷ []) (programme 10 1 1 ∷ programme 20 2 1 ∷ []) []
-    (by_rank 1 (102 ∷ 101 ∷ []) ++ by_rank 2 (101 ∷ 102 ∷ [])) [] wishes
-
-abbrev pub three_wishes : List WishRow
-three_wishes = wish 1 102 20 None 1 ∷ wish 2 101 10 None 1 ∷ wish 3 102 10 None 2 ∷ []
-
--- what days of a dossier without faults lead to
-pub record Ends (t : Tables) (orders : List CallOrder) (days : List DayRecord)
-    (marks : List Mark) : Type 0 where
-  pub faultless : first_fault t ≡ None
-  pub called : AreCallOrders (dossier_of t).groups orders
-  pub leave : Leave (dossier_of t) orders days marks
-
-abbrev pub LeavingOut : Type 0
-LeavingOut =
-    let orders : List CallOrder = plain (102 ∷ 101 ∷ []) ∷ plain (101 ∷ 102 ∷ []) ∷ [] in
-    Ends (both_ranked (three_wishes ++ wish 4 101 20 None 2 ∷ [])) orders
-    (day 1
-    (freeing [] [] (2 ∷ 3 ∷ []) (change 2 Accepted ∷ change 3 Accepted ∷ []) 0 0 ∷ [])
-    (0 ∷ 0 ∷ []) [] ∷ [])
-    (marked Waiting 0 0 ∷ marked Waiting 0 0 ∷ marked Accepted 1 1 ∷ marked Accepted 1 1 ∷ [])
-    × Ends (both_ranked three_wishes) orders
-    (day 1
-    (freeing [] [] (0 ∷ 2 ∷ []) (change 0 Accepted ∷ change 2 AutoRefused ∷ []) 1 0
-    ∷ freeing [] [] (1 ∷ []) (change 1 Accepted ∷ []) 0 0 ∷ [])
-    (0 ∷ 0 ∷ []) [] ∷ [])
-    (marked Accepted 1 1 ∷ marked Accepted 1 2 ∷ marked AutoRefused 1 1 ∷ [])

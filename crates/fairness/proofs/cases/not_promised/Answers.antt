@@ -1,4 +1,4 @@
-use Rattle.fairness.proofs.Shown.{better_boarding_rank, better_rank, leaving_out, one_bed_more, one_seat_more, shared_group, to_be_a_scholar}
+use Rattle.fairness.proofs.Shown.{better_boarding_rank, better_rank, one_bed_more, one_seat_more, shared_group, to_be_a_scholar}
 use Rattle.fairness.proofs.cases.not_promised.Goals as goal
 
 pub returns : goal.returns
@@ -9,5 +9,4 @@ returns c = record {
   better_boarding_rank = better_boarding_rank;
   to_be_a_scholar = to_be_a_scholar;
   shared_group = shared_group;
-  leaving_out = leaving_out;
 }
