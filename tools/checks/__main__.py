@@ -9,7 +9,7 @@ from functools import partial
 
 from dossier.program import program
 
-from . import days, disks, exporting, hostile, killing, lemmas, rechecking, rounds, script, sheets, stored
+from . import auditing, days, disks, exporting, hostile, killing, lemmas, rechecking, rounds, script, sheets, stored
 from .harness import EXAMPLES, Tally, until_told
 
 Checks = Callable[[Tally], None]
@@ -30,6 +30,7 @@ def topics(program: str) -> dict[str, list[Checks]]:
         "rounds": [partial(rounds.check_small_rounds, program=program), partial(rounds.check_finds, program=program),
                    partial(rounds.check_unknown_modes, program=program),
                    rounds.check_endless, partial(rounds.check_stopped, program=program)],
+        "audit": [auditing.check_audits],
         "recheck": [rechecking.check_said, partial(rechecking.check_worked, program=program),
                     partial(rechecking.check_random, program=program),
                     partial(rechecking.check_broken, program=program),
