@@ -9,8 +9,8 @@ from functools import partial
 from dossier.program import program
 from dossier.wording import Words
 
-from . import answered, days, disks, exporting, hostile, installing, killing, lemmas, rechecking, rounds, script, sheets
-from . import stored, tabled, whys, workbooks
+from . import answered, auditing, days, disks, exporting, hostile, installing, killing, lemmas, rechecking, rounds
+from . import script, sheets, stored, tabled, whys, workbooks
 from .harness import EXAMPLES, Tally, until_told
 
 Checks = Callable[[Tally], None]
@@ -32,6 +32,7 @@ def topics(program: str) -> dict[str, list[Checks]]:
         "rounds": [partial(rounds.check_small_rounds, program=program), partial(rounds.check_finds, program=program),
                    partial(rounds.check_unknown_modes, program=program),
                    rounds.check_endless, partial(rounds.check_stopped, program=program)],
+        "audit": [auditing.check_audits],
         "recheck": [rechecking.check_said, partial(rechecking.check_worked, program=program),
                     partial(rechecking.check_random, program=program),
                     partial(rechecking.check_broken, program=program),

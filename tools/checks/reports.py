@@ -129,7 +129,8 @@ def first_wrong(case: Case, lines: Lines) -> int | None:
     first, it may be that of another mode, so that it is what follows that is wrong.
     """
     orders = [line for line in case.lines if word(line) in (b"order", b"rule")]
-    if lines == orders and word(case.lines[0]) != b"refused" or lines and word(lines[0]) == b"refused" and lines[0] in case.lines:
+    is_order = lines == orders and (bool(orders) or "replay" in case.words and word(case.lines[0]) == b"day")
+    if is_order or lines and word(lines[0]) == b"refused" and lines[0] in case.lines:
         return None if len(lines) == len(orders) or len(lines) == 1 else 2
     right = [line for line in case.lines if word(line) != b"fall"]
     number, wrong, may_fall = 0, None, False

@@ -1,0 +1,95 @@
+"""Does `audit_day` see? Kept days as `next_day` leaves them pass, and each with one thing changed does not."""
+
+import shutil
+from collections.abc import Callable
+from pathlib import Path
+
+from .harness import EXAMPLES, TOOLS, Tally, contents, run, scratch
+
+AUDIT = TOOLS / "audit_day"
+
+
+def replaced(name: str, old: bytes, new: bytes) -> Callable[[Path], None]:
+    """A change of a file of the campaign, which has the old bytes."""
+    def change(campaign: Path) -> None:
+        path = campaign / name
+        text = path.read_bytes()
+        assert old in text, f"{name} has no {old!r}"
+        path.write_bytes(text.replace(old, new, 1))
+    return change
+
+
+def removed(name: str) -> Callable[[Path], None]:
+    def change(campaign: Path) -> None:
+        path = campaign / name
+        shutil.rmtree(path) if path.is_dir() else path.unlink()
+    return change
+
+
+# What is changed in a campaign of three days, the day that is audited, its status, and what is said.
+CHANGES: tuple[tuple[Callable[[Path], None], int, int, str], ...] = (
+    (replaced("days/day-001/report.txt", b"offer 7\n", b"offer 5\n"), 1, 1, "report     WRONG: line 16 is wrong"),
+    (replaced("days/day-002/report.txt", b"day 2\n", b"day 3\n"), 2, 1, "report     WRONG: it has no line `day 2`"),
+    (replaced("days/day-001/before/answers.csv", b"2,refuse,7\n", b"1,refuse,7\n"), 1, 1, "the rules give: refused answers"),
+    (replaced("programmes.csv", b"20,1,1\n", b"20,1,2\n"), 2, 1, "slots      WRONG: programmes.csv"),
+    (replaced("days/day-002/before/state.csv", b"8,waiting", b"8,withdrawn"), 2, 1, "morning    WRONG: the state is not"),
+    (replaced("days/day-002/after/state.csv", b"5,offered", b"5,accepted"), 2, 1, "evening    WRONG: the state for day 3"),
+    (replaced("days/day-002/after/campaign.csv", b"3,", b"4,"), 2, 3, "says that day"),
+    (replaced("days/day-002/after/campaign.csv", b"3,", b"x,"), 2, 3, "audit_day:"),
+    (replaced("days/day-002/slots.sha256", b"  groups.csv", b""), 2, 3, "audit_day:"),
+    (replaced("days/day-002/slots.sha256", b"groups.csv", b"../groups.csv"), 2, 3, "no such file"),
+    (removed("days/day-002/report.txt"), 2, 3, "report.txt"),
+    (removed("days/day-001"), 2, 0, "morning    not tested: there is no record of day 1"),
+    (removed("days/day-002"), 2, 3, "no such record"),
+    (removed("wishes.csv"), 2, 3, "wishes.csv"),
+    (removed("state.csv"), 2, 0, "slots      ok: 6"),
+)
+
+
+def campaign_of(folder: Path, *deadlines: str) -> None:
+    shutil.copytree(EXAMPLES / "two-days", folder)
+    for words in (deadlines, (), ()):
+        ended = run(TOOLS / "next_day", folder, *words)
+        assert ended.status == 0, ended.complaint
+
+
+def check_audits(tally: Tally) -> None:
+    tally.begin("audit_day: kept days, right and changed")
+    with scratch() as place:
+        campaign_of(place / "campaign")
+        campaign_of(place / "dated", "--start", "2026-06-02", "--term", "1")
+        for name, dated in (("campaign", "without deadlines"), ("dated", "2026-06-03, term 1")):
+            was = contents(place / name)
+            for day in (1, 2, 3):
+                ended = run(AUDIT, place / name, str(day))
+                said = ended.output.decode()
+                tally.check(f"{name}, day {day}", ended.status == 0 and said.count(" ok: ") == (4 if day == 1 else 5)
+                            and "chain      ok: proved by" in said and (day != 2 or dated in said), said + ended.complaint)
+            tally.equal(f"{name} is left as it was", contents(place / name), was)
+        for number, (change, day, status, sentence) in enumerate(CHANGES):
+            shutil.copytree(place / "campaign", place / "changed")
+            change(place / "changed")
+            ended = run(AUDIT, place / "changed", str(day))
+            said = ended.output.decode() + ended.complaint
+            tally.check(f"change {number}, {sentence}", (ended.status, sentence in said, "Traceback" in said)
+                        == (status, True, False), f"status {ended.status}\n{said}")
+            shutil.rmtree(place / "changed")
+        check_words(tally, place / "campaign", place)
+
+
+def check_words(tally: Tally, campaign: Path, place: Path) -> None:
+    def says(name: str, status: int, sentence: str, *words: str | Path, program: str | None = None) -> None:
+        ended = run(AUDIT, *words, environment={"PARCOURS": program} if program else None)
+        said = ended.output.decode() + ended.complaint
+        tally.check(name, (ended.status, sentence in said, "Traceback" in said) == (status, True, False), said)
+
+    says("help", 0, "usage: audit_day FOLDER N", "--help")
+    says("no words", 2, "usage: audit_day")
+    says("day 0", 2, "numbered from 1", campaign, "0")
+    says("a day that is no number", 2, "usage: audit_day", campaign, "one")
+    says("no folder", 3, "no such record", place / "missing", "1")
+    says("a program that is not there", 0, "chain      not tested: ", campaign, "1", program=str(place / "none"))
+    says("a program that is none", 1, "chain      WRONG", campaign, "1", program="/bin/false")
+    says("a folder to keep", 0, "ok", campaign, "2", "--keep", place / "kept")
+    tally.check("what is kept", (place / "kept/report.txt").is_file() and (place / "kept/wishes.csv").is_file())
+    says("a folder that is there", 3, "File exists", campaign, "2", "--keep", place / "kept")
