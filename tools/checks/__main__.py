@@ -10,8 +10,10 @@ from functools import partial
 from dossier.program import program
 from dossier.wording import Words
 
-from . import answered, days, disks, exporting, hostile, installing, killing, lemmas, rounds, script, sheets, stored, tabled, whys, workbooks
+from . import days, disks, exporting, hostile, killing, lemmas, rounds, script, sheets, stored
 from .harness import EXAMPLES, Tally, until_told
+
+from . import answered, installing, tabled, whys, workbooks  # isort: skip
 
 Checks = Callable[[Tally], None]
 
@@ -24,8 +26,8 @@ def topics(program: str) -> dict[str, list[Checks]]:
                    partial(stored.check_sample, program=program)],
         "sheets": [sheets.check_sheets, sheets.check_headers, sheets.check_codes, sheets.check_groups_of_faults,
                    sheets.check_states, sheets.check_rates, sheets.check_flags],
-        "hostile": [hostile.check_help, hostile.check_old_python, hostile.check_words, hostile.check_folders, hostile.check_names,
-                    hostile.check_broken_dossiers, hostile.check_lines],
+        "hostile": [hostile.check_help, hostile.check_old_python, hostile.check_words, hostile.check_folders,
+                    hostile.check_names, hostile.check_broken_dossiers, hostile.check_lines],
         "disks": [disks.check_full_devices, disks.check_small_disks],
         "killing": list(killing.CHECKS),
         "lemmas": [lemmas.check_same_lemmas],
@@ -57,8 +59,8 @@ def is_there() -> bool:
 def main(given: list[str]) -> int:
     os.environ["PARCOURS"] = program()
     all_topics = topics(program())
-    words = Words("check.sh", "Runs all checks of the tools, or those of the topics named, in some minutes. The last line "
-                  "is `N passed, M failed`.", "Status: 0 all passed, 1 some failed, 2 bad words.")
+    words = Words("check.sh", "Runs all checks of the tools, or those of the topics named, in some minutes. The last "
+                  "line is `N passed, M failed`.", "Status: 0 all passed, 1 some failed, 2 bad words.")
     words.add_argument("topics", nargs="*", metavar="TOPIC", help=", ".join(all_topics))
     named = words.of(given).topics
     if unknown := [name for name in named if name not in all_topics]:
