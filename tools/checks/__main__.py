@@ -2,6 +2,7 @@
 
 import os
 import subprocess
+import sys
 import time
 from collections.abc import Callable
 from functools import partial
@@ -24,8 +25,8 @@ def topics(program: str) -> dict[str, list[Checks]]:
                    partial(stored.check_sample, program=program)],
         "sheets": [sheets.check_sheets, sheets.check_headers, sheets.check_codes, sheets.check_groups_of_faults,
                    sheets.check_states, sheets.check_rates, sheets.check_flags],
-        "hostile": [hostile.check_help, hostile.check_old_python, hostile.check_words, hostile.check_folders, hostile.check_names,
-                    hostile.check_broken_dossiers, hostile.check_lines],
+        "hostile": [hostile.check_help, hostile.check_old_python, hostile.check_words, hostile.check_folders,
+                    hostile.check_names, hostile.check_broken_dossiers, hostile.check_lines],
         "disks": [disks.check_full_devices, disks.check_small_disks],
         "killing": list(killing.CHECKS),
         "lemmas": [lemmas.check_same_lemmas, lemmas.check_witnesses],
@@ -62,8 +63,8 @@ def is_there() -> bool:
 def main(given: list[str]) -> int:
     os.environ["PARCOURS"] = program()
     all_topics = topics(program())
-    words = Words("check.sh", "Runs all checks of the tools, or those of the topics named, in some minutes. The last line "
-                  "is `N passed, M failed`.", "Status: 0 all passed, 1 some failed, 2 bad words.")
+    words = Words("check.sh", "Runs all checks of the tools, or those of the topics named, in some minutes. The last "
+                  "line is `N passed, M failed`.", "Status: 0 all passed, 1 some failed, 2 bad words.")
     words.add_argument("topics", nargs="*", metavar="TOPIC", help=", ".join(all_topics))
     named = words.of(given).topics
     if unknown := [name for name in named if name not in all_topics]:
@@ -85,3 +86,7 @@ def run_topics(named: list[str], all_topics: dict[str, list[Checks]]) -> int:
     print(f"in {time.monotonic() - begun:.0f} s")
     print(f"{tally.passed} passed, {tally.failed} failed")
     return 0 if tally.failed == 0 else 1
+
+
+if __name__ == "__main__":
+    sys.exit(main(sys.argv[1:]))

@@ -2,7 +2,7 @@
 
 from pathlib import Path
 
-from .harness import EXAMPLES, TOOLS, Ended, Tally, contents, run, scratch
+from .harness import DATA, EXAMPLES, TOOLS, Ended, Tally, contents, run, scratch
 
 FULL_DEVICE = Path("/dev/full")
 BLANK = EXAMPLES / "blank"
@@ -45,7 +45,7 @@ def check_full_devices(tally: Tally) -> None:
 def check_output_full(tally: Tally, full: int) -> None:
     """What is done is done, also where it cannot be said."""
     with scratch() as folder:
-        ended = run(TOOLS / "prepare", EXAMPLES / "two-days", "slots", folder=EXAMPLES, output=full)
+        ended = run(TOOLS / "prepare", DATA / "faulty", "slots", folder=folder, output=full)
         tally.check("prepare: faults are told all the same", is_told(ended, (1,)), ended)
         ended = run(TOOLS / "prepare", BLANK, "slots", folder=folder, output=full)
         tally.check("prepare: the dossier is written", ended.status == 0 and "it is done" in ended.complaint, ended)

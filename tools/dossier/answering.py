@@ -3,7 +3,7 @@
 import csv
 import re
 import tempfile
-from collections.abc import Iterator
+from collections.abc import Iterable, Iterator
 from dataclasses import dataclass
 from datetime import date
 from pathlib import Path
@@ -48,7 +48,7 @@ class SlotSheet:
     label: str
     rows: list[list[str]]
 
-    def cells_of(self, numbers: set[int]) -> dict[int, list[str]]:
+    def cells_of(self, numbers: Iterable[int]) -> dict[int, list[str]]:
         return {number: self.rows[number - 1] for number in numbers}
 
 
@@ -59,8 +59,8 @@ def answers_in(dossier: Path) -> tuple[SlotSheet, list[Answer]]:
     try:
         return SlotSheet(ANSWERS, rows), [Answer(int(day), kind, int(target)) for day, kind, target in rows[1:]]
     except ValueError:
-        raise Stopped(program.READ_FAULT, f"{dossier / ANSWERS} is no slot of answers; correct it (docs/FORMATS.md), or "
-                                          "copy the one of examples/blank.") from None
+        raise Stopped(program.READ_FAULT, f"{dossier / ANSWERS} is no slot of answers; correct it "
+                                          "(docs/FORMATS.md), or copy the one of examples/blank.") from None
 
 
 @dataclass
@@ -201,5 +201,5 @@ def coming_day(dossier: Path, asked: Calendar) -> Calendar:
     try:
         return Calendar.from_bytes(kept.read_bytes())
     except ValueError:
-        raise Stopped(program.READ_FAULT, f"{shown(str(kept))} is not as next_day wrote it; put the last one back, from "
-                                          "the folder `after` of the latest day.") from None
+        raise Stopped(program.READ_FAULT, f"{shown(str(kept))} is not as next_day wrote it; put the last one back, "
+                                          "from the folder `after` of the latest day.") from None

@@ -9,12 +9,12 @@ from enum import Enum
 
 from .faults import shown
 from .headers import fold
-from .messages import (BECAME_DATE, CORRECT_DATE, CORRECT_NUMBER, CORRECT_RATE, DATE_READINGS, DIGITS_ALONE, DIGITS_LOST,
-                       EMPTY, ENTER_ANEW, EXPORT_VALUES, FAR_YEAR, FILL_IN, FORMAT_NUMBER, FORMAT_TEXT,
-                       FORMAT_TEXT_AGAIN, FORMULA, HIDDEN_LETTER, LEAVE_EMPTY, MEND_FORMULA, NO_DAY, NOT_DATE, NOT_FLAG,
-                       NOT_WHOLE, OUT_OF_RANGE, PART_OF_PERCENT, RATE_READINGS, SAY_ORDER, SHEET_ERROR, SIGN_RATE,
-                       THOUSANDS, TWO_WORDS, UNKNOWN_WORD, WITHOUT_POINTS, WRITE_DATE, WRITE_FLAG, WRITE_WORD, WRITE_ZERO,
-                       ZERO_ID)
+from .messages import (BECAME_DATE, CORRECT_DATE, CORRECT_NUMBER, CORRECT_RATE, DATE_READINGS, DIGITS_ALONE,
+                       DIGITS_LOST, EMPTY, ENTER_ANEW, EXPORT_VALUES, FAR_YEAR, FILL_IN, FORMAT_NUMBER, FORMAT_TEXT,
+                       FORMAT_TEXT_AGAIN, FORMULA, HIDDEN_LETTER, LEAVE_EMPTY, MEND_FORMULA, NO_DAY, NOT_DATE,
+                       NOT_FLAG, NOT_WHOLE, OUT_OF_RANGE, PART_OF_PERCENT, RATE_READINGS, SAY_ORDER, SHEET_ERROR,
+                       SIGN_RATE, THOUSANDS, TWO_WORDS, UNKNOWN_WORD, WITHOUT_POINTS, WRITE_DATE, WRITE_FLAG,
+                       WRITE_WORD, WRITE_ZERO, ZERO_ID)
 from .slots import GREATEST_NUMBER, Column, Content
 from .texts import Filled
 
@@ -43,8 +43,9 @@ MONTHS = {name: number for number, names in enumerate((
     "november novembre nov", "december decembre dec"), start=1) for name in names.split()}
 WEEKDAYS = "|".join(("lundi", "mardi", "mercredi", "jeudi", "vendredi", "samedi", "dimanche", "monday", "tuesday",
                      "wednesday", "thursday", "friday", "saturday", "sunday"))
-WRITTEN_DATE = re.compile(rf"(?:(?:{WEEKDAYS}) )?(?:(?P<day>[0-9]{{1,2}})(?:er|st|nd|rd|th)? (?P<month>{'|'.join(MONTHS)})"
-                          rf"|(?P<first_month>{'|'.join(MONTHS)}) (?P<second_day>[0-9]{{1,2}})(?:st|nd|rd|th)?)"
+ANY_MONTH = "|".join(MONTHS)
+WRITTEN_DATE = re.compile(rf"(?:(?:{WEEKDAYS}) )?(?:(?P<day>[0-9]{{1,2}})(?:er|st|nd|rd|th)? (?P<month>{ANY_MONTH})"
+                          rf"|(?P<first_month>{ANY_MONTH}) (?P<second_day>[0-9]{{1,2}})(?:st|nd|rd|th)?)"
                           rf" (?P<year>[0-9]{{4}}|[0-6][0-9])")
 EARLIEST_YEAR, LATEST_YEAR = 1900, 2299
 
@@ -144,12 +145,9 @@ def read_cell(text: str, column: Column, dates: DateOrder | None, rates: Rates |
             return read_word(trimmed, STATUSES)
         case Content.ANSWER:
             return read_word(trimmed, ANSWERS)
-        case Content.DATE:
-            return read_date(trimmed, dates)
         case Content.DAY if SHORT_NUMBER.fullmatch(trimmed):
             return _in_range(int(trimmed), column)
-        case Content.DAY:
-            return read_date(trimmed, dates)
+    return read_date(trimmed, dates)
 
 
 def _test_letters(text: str) -> None:

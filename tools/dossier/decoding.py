@@ -10,8 +10,8 @@ MARKS = ((b"\xef\xbb\xbf", "utf-8", "UTF-8"), (b"\xff\xfe", "utf-16-le", "UTF-16
          (b"\xfe\xff", "utf-16-be", "UTF-16"))
 WORKBOOKS = (b"PK\x03\x04", b"\xd0\xcf\x11\xe0")
 HEAD = 1 << 18
-# Quotes, dashes, the dots, the euro and the letters of "œuvre", which Windows-1252 has where Mac Roman has letters that
-# French hardly needs; and the same inside a word, where they would be such letters.
+# Quotes, dashes, the dots, the euro and the letters of "œuvre", which Windows-1252 has where Mac Roman has letters
+# that French hardly needs; and the same inside a word, where they would be such letters.
 TYPOGRAPHIC = b"\x80\x82\x84\x85\x8b\x8c\x91\x92\x93\x94\x95\x96\x97\x9b\x9c"
 IN_WORD = re.compile(rb"[A-Za-z][\x84\x91\x93\x94\x96\x97][a-z]")
 WINDOWS_ALONE = re.compile(rb"[\x80-\x9f]")

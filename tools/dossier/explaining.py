@@ -52,7 +52,8 @@ def asked_wishes(given: list[str], candidates: list[str], wishes: list[Wish], na
     for word in given:
         number = names.number(Thing.WISH, word)
         if number not in by_number:
-            raise LookupError(f"there is no wish {shown(word)} in the dossier; give the id of its sheet, or its number.")
+            raise LookupError(f"there is no wish {shown(word)} in the dossier; give the id of its sheet, or its "
+                              "number.")
         found.append(by_number[number])
     for word in candidates:
         number = names.number(Thing.CANDIDATE, word)

@@ -10,7 +10,8 @@ WIDEST = 160
 MOST_SHOWN = 3
 
 ROW = Text("{file}, row {row}: {cells}", "{file}, ligne {row} : {cells}")
-ROWS = Text("{file}, {count} rows ({rows}); row {row}: {cells}", "{file}, {count} lignes ({rows}) ; ligne {row} : {cells}")
+ROWS = Text("{file}, {count} rows ({rows}); row {row}: {cells}",
+            "{file}, {count} lignes ({rows}) ; ligne {row} : {cells}")
 OTHERS = Text("others", "d'autres")
 SEE = Text("see ", "voir ")
 TO_DO = Text("What to do: {to_do}", "Que faire : {to_do}")
@@ -27,7 +28,10 @@ def shown(text: str) -> str:
 class Sheet(Protocol):
     """What has rows that a fault may show, numbered as the spreadsheet numbers them."""
 
-    label: str
+    @property
+    def label(self) -> str:
+        """What the sheet is called."""
+        ...
 
     def cells_of(self, numbers: Iterable[int]) -> dict[int, list[str]]:
         """The cells of these rows."""
@@ -110,7 +114,8 @@ class Faults:
 
     def _cells(self) -> dict[Row, list[str]]:
         """The cells of all rows that are shown; each sheet is read once for them."""
-        shown_rows = {row for fault in self.found.values() for row in (*fault.rows[:1], fault.beside) if row is not None}
+        shown_rows = {row for fault in self.found.values() for row in (*fault.rows[:1], fault.beside)
+                      if row is not None}
         by_sheet: dict[int, list[Row]] = {}
         for row in shown_rows:
             by_sheet.setdefault(id(row.sheet), []).append(row)

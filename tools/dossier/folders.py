@@ -69,7 +69,8 @@ def sheets_in(folder: Path, exports: Exports, faults: Faults) -> Iterator[list[A
             elif path.name == IDS:
                 continue
             elif ending in WORKBOOK_ENDINGS and path.is_file():
-                yield from ([sheet] for sheet in sheets_of_workbook(path))
+                for sheet in sheets_of_workbook(path):
+                    yield [sheet]
             elif ending in EXPORT_ENDINGS and path.is_file():
                 yield list(readings_of(path))
             else:
@@ -98,7 +99,7 @@ def named_sheet(readings: list[AnySheet], slots: tuple[Slot, ...], choices: Choi
 
 
 def read_folder(folder: Path, choices: Choices, faults: Faults) -> Exports:
-    """Reads all sheets of a folder, one for each slot. A sheet that names no slot is passed over, if no slot is missing."""
+    """Reads all sheets of a folder, one for each slot. A sheet that names no slot is passed over, if none is missing."""
     exports = Exports()
     found: dict[str, Named] = {}
     others: list[tuple[str, list[str]]] = []
@@ -149,8 +150,8 @@ def tell_missing(folder: Path, exports: Exports, others: list[tuple[str, list[st
 
 def one_table(path: Path, slot: Slot, choices: Choices, faults: Faults, spellings: dict[Thing, Spellings]) -> Table:
     """Reads the one sheet of a file that has the columns of this slot."""
-    readings = [[sheet] for sheet in sheets_of_workbook(path)] if path.suffix.lower() in WORKBOOK_ENDINGS else \
-        [list(readings_of(path))]
+    readings: list[list[AnySheet]] = [[sheet] for sheet in sheets_of_workbook(path)] \
+        if path.suffix.lower() in WORKBOOK_ENDINGS else [[*readings_of(path)]]
     titles: list[str] = []
     for sheets in readings:
         named = named_sheet(sheets, (slot,), choices)

@@ -13,8 +13,8 @@ from .slots import Column, Slot
 from .texts import Filled, Language, said
 
 # Words of a title that tell nothing of which column it is.
-FILLERS = frozenset(("n", "no", "num", "numero", "number", "code", "id", "identifiant", "nb", "nbre", "nombre", "of", "the",
-                     "de", "du", "des", "d", "la", "le", "les", "l", "a", "au", "total"))
+FILLERS = frozenset(("n", "no", "num", "numero", "number", "code", "id", "identifiant", "nb", "nbre", "nombre", "of",
+                     "the", "de", "du", "des", "d", "la", "le", "les", "l", "a", "au", "total"))
 ALIKE = 0.8
 PARTS = str.maketrans({letter: " " for letter in "_-.,/:°()[]'’"})
 

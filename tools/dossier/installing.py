@@ -1,4 +1,4 @@
-"""Installs the program, the script, the tools, their pages and bash's completion below a prefix, and takes them away."""
+"""Installs the program, the script, the tools, their pages and completion below a prefix, and takes them away."""
 
 import os
 import shutil
@@ -84,7 +84,8 @@ def in_the_way(prefix: Path) -> Path | None:
     home = prefix / OWN
     if os.path.lexists(home) and not (home / MARK).is_file():
         return home
-    return next((prefix / link for link in links() if os.path.lexists(prefix / link) and prefix / link not in ours), None)
+    return next((prefix / link for link in links()
+                 if os.path.lexists(prefix / link) and prefix / link not in ours), None)
 
 
 def fill(home: Path) -> None:

@@ -14,7 +14,8 @@ from .sources import AnySheet, first_row, likeliest, readings_of, records_of
 from .workbooks import WORKBOOK_ENDINGS, sheets_of_workbook
 
 NAMED = (Thing.CANDIDATE, Thing.PROGRAMME, Thing.SCHOOL)
-OF_A_NAME = frozenset(("nom", "prenom", "name", "surname", "firstname", "lastname", "libelle", "intitule", "denomination"))
+OF_A_NAME = frozenset(("nom", "prenom", "name", "surname", "firstname", "lastname", "libelle", "intitule",
+                       "denomination"))
 
 Labels = dict[Thing, dict[int, str]]
 

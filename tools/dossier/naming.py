@@ -61,8 +61,8 @@ def read_names(path: Path) -> Names:
 
 def _entries(header: tuple[str, ...], rows: list[list[str]]) -> Iterable[tuple[Thing, int, str]]:
     if header == EARLIER_HEADER:
-        for thing, number, spelled in rows:
-            yield Thing(thing), int(number), spelled
+        for kind, number, spelled in rows:
+            yield Thing(kind), int(number), spelled
     elif header == HEADER:
         for number, *ids in rows:
             for thing, spelled in zip(KINDS, ids, strict=True):

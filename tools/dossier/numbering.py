@@ -55,7 +55,8 @@ def number_ids(tables: dict[str, Table], spellings: dict[Thing, Spellings], earl
     for thing in Thing:
         if spellings[thing].odd:
             tell_doubtful(thing, tables, spellings[thing], faults)
-        numbers[thing] = numbers_of(thing, tables, spellings[thing], earlier, faults) if spellings[thing].spelled else {}
+        are_named = bool(spellings[thing].spelled)
+        numbers[thing] = numbers_of(thing, tables, spellings[thing], earlier, faults) if are_named else {}
     return Numbers(numbers)
 
 

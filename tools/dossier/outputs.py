@@ -185,7 +185,8 @@ class Tables:
             call, queue = self.place_cells(row)
             yield [call, *campaign.id_cells(Thing.CANDIDATE, row.candidate), ranked.rank, flags[ranked.scholar],
                    flags[ranked.resident], *campaign.id_cells(Thing.WISH, row.wish),
-                   *campaign.id_cells(Thing.SCHOOL, row.school), row.preference, *campaign.status_cells(row.wish), queue]
+                   *campaign.id_cells(Thing.SCHOOL, row.school), row.preference,
+                   *campaign.status_cells(row.wish), queue]
 
     def school(self, number: int, rows: list[WishRow]) -> Iterator[Row]:
         """A boarding school's wishes by its own ranking."""
@@ -205,13 +206,13 @@ class Tables:
         by = today + timedelta(days=term) if today and term is not None else ""
         yield campaign.titles(PASS, WISH, CANDIDATE, PROGRAMME, SCHOOL, STATUS, ANSWER_BY)
         for number, wish in day.offers:
+            # A wish that was taken out of the dossier since has no row.
             row = by_wish.get(wish)
+            candidate, programme, school = (row.candidate, row.programme, row.school) if row else (None, None, None)
             held = day.after[wish]
-            yield [number, *campaign.id_cells(Thing.WISH, wish),
-                   *campaign.id_cells(Thing.CANDIDATE, row and row.candidate),
-                   *campaign.id_cells(Thing.PROGRAMME, row and row.programme),
-                   *campaign.id_cells(Thing.SCHOOL, row and row.school), STATUSES[campaign.language][held.status],
-                   by if held.status == OFFERED else ""]
+            yield [number, *campaign.id_cells(Thing.WISH, wish), *campaign.id_cells(Thing.CANDIDATE, candidate),
+                   *campaign.id_cells(Thing.PROGRAMME, programme), *campaign.id_cells(Thing.SCHOOL, school),
+                   STATUSES[campaign.language][held.status], by if held.status == OFFERED else ""]
 
     def bars(self) -> Iterator[Row]:
         """The bars of all passes of all days."""

@@ -49,8 +49,9 @@ def chosen_column(text: str) -> tuple[str, str]:
 def words() -> Words:
     parser = Words(
         "prepare",
-        "Reads nine sheets of a folder as they come, exports (.csv, .tsv, .txt) or sheets of workbooks (.ods, .xlsx), and "
-        "writes the nine slots of a dossier to a new folder. All faults are listed at once, and then nothing is written.",
+        "Reads nine sheets of a folder as they come, exports (.csv, .tsv, .txt) or sheets of workbooks (.ods, .xlsx), "
+        "and writes the nine slots of a dossier to a new folder. All faults are listed at once, and then nothing is "
+        "written.",
         "Status: 0 written, 1 faults, 2 bad words, 3 not read or not written.")
     parser.add_argument("exports", type=named_folder, help="the folder of the sheets")
     parser.add_argument("folder", type=named_folder, help="the new folder for the slots")
@@ -80,8 +81,7 @@ def text_of(column: Column, table: Table, numbers: Numbers) -> Callable[[int], s
             return ANSWER_WORDS.__getitem__
         case Content.DATE:
             return lambda value: "" if value == NOTHING else date.fromordinal(value).isoformat()
-        case _:
-            return str
+    return str
 
 
 def column_texts(column: Column, table: Table, numbers: Numbers) -> Iterator[str]:
@@ -129,7 +129,8 @@ def summary(exports: Exports, numbers: Numbers, folder: Path, language: Language
             left_out.append(LEFT_OUT.of(file=shown(sheet.label), names=names))
     for thing, by_code in numbers.by_code.items():
         if by_code:
-            lines.append(NUMBERED.of(ids=IDS, count=len(by_code), things=PLURALS[thing.value], first=min(by_code.values())))
+            lines.append(NUMBERED.of(ids=IDS, count=len(by_code), things=PLURALS[thing.value],
+                                     first=min(by_code.values())))
     lines += left_out + [NOT_READ.of(name=shown(name)) for name in exports.passed_over]
     return "\n".join(line.said(language) for line in [*lines, IS_IN.of(folder=shown(str(folder)))])
 

@@ -4,7 +4,7 @@ import os
 import shutil
 import subprocess
 from pathlib import Path
-from typing import BinaryIO
+from typing import IO
 
 DONE, REFUSED, BAD_WORDS, READ_FAULT, WRITE_FAULT, NO_MEMORY = range(6)
 NOT_BUILT = 125
@@ -38,7 +38,7 @@ def version() -> str:
     return done.stdout.decode(errors="replace").strip() or "of an unknown version"
 
 
-def run(words: list[str], folder: Path, output: BinaryIO) -> int:
+def run(words: list[str], folder: Path, output: IO[bytes]) -> int:
     """Runs the program in the folder with its text to the output, and answers its status."""
     try:
         done = subprocess.run([program(), *words], cwd=folder, stdin=subprocess.DEVNULL, stdout=output, check=False)

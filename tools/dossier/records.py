@@ -53,7 +53,8 @@ class KeptDay:
     @cached_property
     def last_passes(self) -> dict[int, int]:
         """The last pass in which each wish was offered, or answered for automatically."""
-        return {int(rest.partition(" ")[0]): number for number, word, rest in self._lines() if word in ("offer", "auto")}
+        return {int(rest.partition(" ")[0]): number for number, word, rest in self._lines()
+                if word in ("offer", "auto")}
 
     @property
     def number(self) -> int:
@@ -67,7 +68,8 @@ class KeptDay:
     @cached_property
     def bars(self) -> list[tuple[int, int, int]]:
         """The pass, the school and the bar of each line on a bar."""
-        return [(number, *map(int, rest.split())) for number, word, rest in self._lines() if word == "bar"]
+        return [(number, int(school), int(bar)) for number, word, rest in self._lines() if word == "bar"
+                for school, _, bar in [rest.partition(" ")]]
 
     @cached_property
     def orders(self) -> dict[int, list[int]]:
@@ -90,8 +92,8 @@ class KeptDay:
         changed = [line.split()[-1].decode() for line in checksums(dossier).splitlines() if line not in then]
         if changed:
             raise Stopped(READ_FAULT, f"{', '.join(changed)} changed since day {self.number} was made, so what the "
-                                      "program said of that day cannot be told; put it back as it was, or make the next "
-                                      "day.")
+                                      "program said of that day cannot be told; put it back as it was, or make the "
+                                      "next day.")
 
     def put_slots(self, dossier: Path, place: Path) -> None:
         """Makes the place hold the slots as they were for this day."""

@@ -1,7 +1,7 @@
 """The relations between the rows of a dossier: each that fails is a fault, shown at both rows.
 
-Keys of two or three columns are single numbers, and a set of them tells at once whether any stands twice; only where one
-does are the rows looked at one by one. So the time grows as the rows do.
+Keys of two or three columns are single numbers, and a set of them tells at once whether any stands twice; only where
+one does are the rows looked at one by one. So the time grows as the rows do.
 """
 
 from collections.abc import Iterable, Iterator, Sequence
@@ -87,7 +87,8 @@ class Relations:
         self.distinct(self.keys("wishes", "candidate", "programme", "school"), repeated)
         self.distinct(self.keys("state", "wish"))
         self.distinct(self.keys("ceilings", "day", "school"))
-        for thing, slots in ((Thing.GROUP, ("programmes", "rankings")), (Thing.SCHOOL, ("boarding", "wishes", "ceilings")),
+        for thing, slots in ((Thing.GROUP, ("programmes", "rankings")),
+                             (Thing.SCHOOL, ("boarding", "wishes", "ceilings")),
                              (Thing.PROGRAMME, ("wishes",)), (Thing.WISH, ("state",))):
             self.known(thing, slots)
         self.targets()
@@ -116,7 +117,8 @@ class Relations:
             thing = Thing.CANDIDATE if table.values["kind"][place] == QUIT else Thing.WISH
         return self.spellings[thing].of(value) if thing and value != NOTHING else str(value)
 
-    def fault(self, table: Table, place: int, what: Filled, to_do: Filled, beside: tuple[Table, int] | None = None) -> None:
+    def fault(self, table: Table, place: int, what: Filled, to_do: Filled,
+              beside: tuple[Table, int] | None = None) -> None:
         self.faults.at(table.row(place), what, to_do, beside=beside and beside[0].row(beside[1]))
 
     def distinct(self, keys: Keys | None, beside: Iterable[int] = ()) -> dict[int, int]:
@@ -139,7 +141,7 @@ class Relations:
         return keys
 
     def known(self, thing: Thing, slots: tuple[str, ...]) -> None:
-        """What the columns name has a row in the slot of its own. Each id that has none is one fault, or many are one."""
+        """What the columns name has a row in the slot of its own. Each id that has none is a fault, or many are one."""
         home = self.homes[thing]
         if home is None or not home.is_whole:
             return
@@ -151,8 +153,8 @@ class Relations:
                 for place in (place for place, value in enumerate(column) if value in ids):
                     unknown.setdefault(column[place], []).append((table, place))
         file = home.table.sheet.label
-        are_numbers = self.may_be_numbers if all(code > 0 for code in unknown) and self.spellings[thing].spelled else None
-        to_do = are_numbers or ADD_ROW.of(file=file)
+        are_numbers = all(code > 0 for code in unknown) and bool(self.spellings[thing].spelled)
+        to_do = self.may_be_numbers if are_numbers and self.may_be_numbers else ADD_ROW.of(file=file)
         if len(unknown) <= MOST_NAMED:
             for code, rows in unknown.items():
                 what = NO_ROW.of(thing=THINGS[thing.value], id=self.spellings[thing].of(code))
@@ -260,9 +262,11 @@ class Relations:
 
     def days_rise(self, slot: str) -> None:
         table = self.tables.get(slot)
+        if table is None:
+            return
+        days = table.values["day"]
         before = None
-        for place in table.places("day") if table else ():
-            days = table.values["day"]
+        for place in table.places("day"):
             if before is not None and days[place] < days[before]:
                 what = DAY_FALLS.of(day=days[place], before=days[before])
                 self.fault(table, place, what, SORT_DAYS.of(), (table, before))

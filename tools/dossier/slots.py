@@ -23,8 +23,8 @@ class Thing(Enum):
 
 
 class Content(Enum):
-    """What the cells of a column hold. A target is a candidate's id where somebody quits, else a wish's; a day is a number
-    or a date."""
+    """What the cells of a column hold. A target is a candidate's id where somebody quits, else a wish's; a day is a
+    number or a date."""
 
     ID = "id"
     TARGET = "target"
@@ -83,7 +83,8 @@ CANDIDATE_NAMES: Names = (("candidat", "candidate e", "candidat e", "dossier", "
                           ("applicant",))
 WISH_NAMES: Names = (("voeu", "voeux"), ())
 RANK = Column("rank", Content.NUMBER, ("rang", "classement", "rang de classement", "rang du candidat"), least=1)
-BOARDING_RANK = Column("rank", Content.NUMBER, (*RANK.french, "rang internat", "rang a l'internat", "classement internat"),
+BOARDING_RANK = Column("rank", Content.NUMBER,
+                       (*RANK.french, "rang internat", "rang a l'internat", "classement internat"),
                        ("boarding rank",), least=1)
 DAY = Column("day", Content.NUMBER, ("jour",), least=1, greatest=GREATEST_DAY)
 
@@ -151,7 +152,8 @@ SLOTS = (GROUPS, PROGRAMMES, SCHOOLS, RANKINGS, BOARDING, WISHES, STATE, CEILING
 ANSWER_SHEET = Slot("answers", (
     Column("day", Content.DAY, ("jour", "date", "date de reponse", "jour de reponse"), ("answered on",), least=1,
            greatest=GREATEST_DAY, is_optional=True, may_be_empty=True),
-    Column("kind", Content.ANSWER, ("type", "reponse", "decision", "choix", "reponse du candidat"), ("answer", "choice")),
+    Column("kind", Content.ANSWER, ("type", "reponse", "decision", "choix", "reponse du candidat"),
+           ("answer", "choice")),
     Column("target", Content.TARGET, ANSWERS.column("target").french, ANSWERS.column("target").english, least=1,
            is_optional=True),
     Column("wish", Content.ID, *WISH_NAMES, Thing.WISH, least=1, is_optional=True, may_be_empty=True),

@@ -1,4 +1,4 @@
-"""From the numbers of a campaign to tables that a spreadsheet opens, with the ids and names of those who brought them."""
+"""From the numbers of a campaign to tables that a spreadsheet opens, with the ids of the sheets, and names."""
 
 import csv
 import gc
@@ -35,8 +35,8 @@ def words() -> Words:
     parser = Words(
         "tables",
         "Writes what the campaign in FOLDER has come to, in the evening of the last day that next_day made, as tables "
-        "that a spreadsheet opens, to the new folder OUT: one of all wishes, one a programme, one a boarding school, one "
-        "a day of offers, and one of bars; with the ids of the sheets, and with names where a file has them.",
+        "that a spreadsheet opens, to the new folder OUT: one of all wishes, one a programme, one a boarding school, "
+        "one a day of offers, and one of bars; with the ids of the sheets, and with names where a file has them.",
         "Status: 0 written, 1 a file of names has none, 2 bad words, 3 not read, 4 not written.")
     parser.add_argument("folder", type=named_folder, metavar="FOLDER", help="the folder that next_day keeps")
     parser.add_argument("out", type=named_folder, metavar="OUT", help="the new folder for the tables")
@@ -74,7 +74,8 @@ def campaign_of(dossier: Path, names: Names, labels: Labels, language: Language)
 
 def file_name(kind: Text, name: str, language: Language, taken: set[str]) -> str:
     """A name that every system allows for a file, and that no other file has."""
-    plain = "".join(letter if letter.isalnum() or letter in " -_.()" else "_" for letter in f"{kind.of().said(language)} {name}")
+    whole = f"{kind.of().said(language)} {name}"
+    plain = "".join(letter if letter.isalnum() or letter in " -_.()" else "_" for letter in whole)
     base = plain.strip()[:LONGEST_NAME].rstrip(" .").replace(" ", "-")
     found, count = base, 1
     while found.casefold() in taken:
@@ -132,7 +133,8 @@ def tabulate(folder: Path, out: Path, paths: list[Path], dialect: Dialect, langu
 def main(arguments: list[str]) -> int:
     given = words().of(arguments)
     if os.path.lexists(given.out) or not is_folder(given.out.parent):
-        why = "is there already; name a new folder" if os.path.lexists(given.out) else "has no folder to be in; make it first"
+        why = "is there already; name a new folder" if os.path.lexists(given.out) else \
+            "has no folder to be in; make it first"
         print(f"tables: {given.out} {why}.", file=sys.stderr)
         return program.READ_FAULT
     if not is_folder(given.folder):

@@ -39,8 +39,8 @@ def in_words(data: bytes, language: str) -> str:
 
 
 def words() -> Words:
-    parser = Words("in_words", "Says the one line of `parcours explain` on standard input in plain sentences, in English "
-                   "where no language is named.",
+    parser = Words("in_words", "Says the one line of `parcours explain` on standard input in plain sentences, in "
+                   "English where no language is named.",
                    "Status: 0 said, 1 not one line of explain, 2 bad words, 3 not read, 4 not written.")
     parser.add_argument("language", nargs="?", choices=list(LANGUAGES), default="en", help="en or fr")
     return parser

@@ -31,8 +31,8 @@ def no_values() -> Values:
 
 @dataclass
 class Spellings:
-    """The ids of a kind that are no numbers in range: the code of each by its key, and how it was spelled first. Ids that
-    are spelled in a way by which they may be taken for another are kept beside them."""
+    """The ids of a kind that are no numbers in range: the code of each by its key, and how it was spelled first. Ids
+    that are spelled in a way by which they may be taken for another are kept beside them."""
 
     codes: dict[str, int] = field(default_factory=dict)
     spelled: list[str] = field(default_factory=list)
@@ -84,8 +84,7 @@ def coded(value: Value, column: Column, spellings: Spellings) -> int:
             return date.fromisoformat(value).toordinal()
         case str():
             return (STATUS_WORDS if column.content is Content.STATUS else ANSWER_WORDS).index(value)
-        case _:
-            return int(value)
+    return int(value)
 
 
 def reader_of(column: Column, dates: DateOrder | None, rates: Rates | None, spellings: Spellings) -> Reader:

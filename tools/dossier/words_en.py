@@ -48,7 +48,8 @@ def heading(wish: str, candidate: str, programme: str, school: str | None) -> st
 
 
 def gone(found: GoneWish, setting: Setting) -> list[str]:
-    return [f"Wish {setting.wish(found.wish)} is over.", ENDED[found.how].format(when=when(setting.moment(found.stamp))),
+    return [f"Wish {setting.wish(found.wish)} is over.",
+            ENDED[found.how].format(when=when(setting.moment(found.stamp))),
             OVER_WITH_ALL if found.how is Gone.QUIT else OVER]
 
 
@@ -68,8 +69,8 @@ def accepted(found: AcceptedWish, setting: Setting) -> list[str]:
     if found.is_by_answerer:
         return [f"Wish {wish} is accepted: the place is yours.",
                 f"The automatic answerer accepted it for you {moment}.",
-                "There is nothing to do: of the wishes that you prefer, those that wait go on waiting, and an offer for "
-                "one of them would take the place of this one.", STILL_REFUSE]
+                "There is nothing to do: of the wishes that you prefer, those that wait go on waiting, and an offer "
+                "for one of them would take the place of this one.", STILL_REFUSE]
     return [f"Wish {wish} is accepted: the place is yours.", f"It was accepted {moment}.",
             "There is nothing to do: your waiting wishes go on waiting, and if you accept another offer, this one is "
             "refused.", STILL_REFUSE]

@@ -1,4 +1,4 @@
-"""Explications en français, adressées à la personne candidate : où en est le vœu, pourquoi, et ce qu'on peut faire."""
+"""Explications en français, pour la personne candidate : où en est le vœu, pourquoi, et ce qu'on peut faire."""
 
 from datetime import date
 
@@ -62,8 +62,8 @@ def offered(found: OfferedWish, setting: Setting) -> list[str]:
     told = [f"Le vœu {setting.wish(found.wish)} a une proposition, faite {when(setting.moment(found.stamp))}."]
     limit = setting.deadline
     if limit is not None and limit.is_over:
-        return [*told, f"Il fallait y répondre {of_day(limit.day)} au plus tard ; ce jour est passé, et elle va devenir "
-                       "caduque."]
+        return [*told, f"Il fallait y répondre {of_day(limit.day)} au plus tard ; ce jour est passé, et elle va "
+                       "devenir caduque."]
     by = "au plus tard à l'échéance, s'il y en a une" if limit is None else f"{of_day(limit.day)} au plus tard"
     lapse = f", {by} : ensuite, elle devient caduque, et elle est perdue" if setting.may_lapse else ""
     return [*told, f"Acceptez-la ou refusez-la{lapse}.",
@@ -75,8 +75,8 @@ def accepted(found: AcceptedWish, setting: Setting) -> list[str]:
     if found.is_by_answerer:
         return [f"Le vœu {wish} est accepté : la place est à vous.",
                 f"Le répondeur automatique l'a accepté pour vous {moment}.",
-                "Il n'y a rien à faire : parmi les vœux que vous préférez, ceux qui attendent restent en attente, et une "
-                "proposition pour l'un d'eux remplacerait celle-ci.", STILL_REFUSE]
+                "Il n'y a rien à faire : parmi les vœux que vous préférez, ceux qui attendent restent en attente, et "
+                "une proposition pour l'un d'eux remplacerait celle-ci.", STILL_REFUSE]
     return [f"Le vœu {wish} est accepté : la place est à vous.", f"Il a été accepté {moment}.",
             "Il n'y a rien à faire : vos vœux en attente le restent, et si vous acceptez une autre proposition, "
             "celle-ci est refusée.", STILL_REFUSE]

@@ -74,7 +74,8 @@ def whole_rows(rows: list[list[str]]) -> list[list[str]]:
 
 def sheets_of_ods(archive: zipfile.ZipFile) -> Iterator[tuple[str, list[list[str]]]]:
     with archive.open("content.xml") as file:
-        name, rows = "", []
+        name = ""
+        rows: list[list[str]] = []
         for event, element in ElementTree.iterparse(file, events=("start", "end")):
             if event == "start":
                 if element.tag == f"{TABLE}table":
@@ -184,7 +185,8 @@ def rows_of_xlsx(archive: zipfile.ZipFile, place: str, shared: list[str], kinds:
             here = int(element.get("r") or number + 1)
             if not number < here <= MOST_ROWS:
                 raise ValueError(f"row {here} stands after row {number}")
-            yield from ([] for _ in range(number + 1, here))
+            for _ in range(number + 1, here):
+                yield []
             number = here
             yield cells_of_xlsx(element, shared, kinds, is_from_1904)
             element.clear()
