@@ -39,9 +39,10 @@ def word(line: bytes) -> bytes:
 def one_off(random: Random, lines: Lines) -> Lines:
     """A number is one more or less."""
     place = random.choice([place for place, line in enumerate(lines) if re.search(rb"\d", line)] or [0])
-    number = random.choice(list(re.finditer(rb"\d+|$", lines[place])))
-    if not number.group():
+    numbers = list(re.finditer(rb"\d+", lines[place]))
+    if not numbers:
         return lines
+    number = random.choice(numbers)
     changed = max(0, int(number.group()) + random.choice((-1, 1)))
     line = lines[place][:number.start()] + str(changed).encode() + lines[place][number.end():]
     return [*lines[:place], line, *lines[place + 1:]]
