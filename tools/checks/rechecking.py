@@ -5,6 +5,7 @@ rounds. What is right and what is wrong, the program says (`reports`).
 """
 
 import argparse
+import ast
 import importlib.machinery
 import importlib.util
 import random as chance
@@ -192,9 +193,14 @@ def check_large(tally: Tally, program: str, candidates: int = 600, changes: int 
     return rounds.counts
 
 
-def check_said(tally: Tally) -> None:
+def check_said(tally: Tally, program: str) -> None:
     """What is said, with which status, of words and files that are none; and never a traceback."""
     tally.begin("recheck: what it says")
+    for name in ("recheck", "audit_day"):
+        text = (TOOLS / name).read_text()
+        tally.check(f"Python 3.8 reads {name}", bool(ast.parse(text, feature_version=(3, 8))))
+    written = [line for line in (TOOLS / "recheck").read_text().splitlines() if line]
+    tally.check("recheck is read in a quarter of an hour", len(written) <= 500, f"{len(written)} lines")
     recheck, days = TOOLS / "recheck", EXAMPLES / "two-days"
     with scratch() as folder:
         report = folder / "report"
@@ -215,6 +221,12 @@ def check_said(tally: Tally) -> None:
         says("a report that is a folder", 3, "directory", days, folder)
         report.write_bytes(b"")
         says("a folder that is missing", 3, "no such file", folder / "missing", report)
+        dated = ("replay", "--days", "2", "--start", "2026-06-02", "--term", "0")
+        report.write_bytes(run_text(program, dated, days)[1])
+        says("deadlines that are forgotten", 1, "were --start and --term forgotten?", days, report)
+        says("deadlines that are given", 0, "as the rules say: 1 days, 21 lines", days, report, *dated[3:])
+        says("the stored report", 0, "as the rules say: 2 days, 38 lines", days, days / "replay.txt")
+        says("the stored chain", 0, "as the rules say: 2 days, 7 lines", days, days / "chain.txt")
         for text in (b"\0", b"\xff\n", b"order\n", b"day\n", b"fall 1 2 3 4\n", b"refused\n", b"market -1\n", b"final\n",
                      b"day 1\npass 1\nfall " + b"9" * 5000 + b" 1 1 1\n", b"proved 2\n", 100 * b"order "):
             report.write_bytes(text)

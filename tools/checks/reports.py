@@ -11,6 +11,8 @@ from dataclasses import dataclass
 from pathlib import Path
 from random import Random
 
+from .mutations import CHANGES
+
 Lines = list[bytes]
 CHAIN_WORDS = (b"day", b"pass", b"fall")
 
@@ -37,9 +39,10 @@ def word(line: bytes) -> bytes:
 def one_off(random: Random, lines: Lines) -> Lines:
     """A number is one more or less."""
     place = random.choice([place for place, line in enumerate(lines) if re.search(rb"\d", line)] or [0])
-    number = random.choice(list(re.finditer(rb"\d+|$", lines[place])))
-    if not number.group():
+    numbers = list(re.finditer(rb"\d+", lines[place]))
+    if not numbers:
         return lines
+    number = random.choice(numbers)
     changed = max(0, int(number.group()) + random.choice((-1, 1)))
     line = lines[place][:number.start()] + str(changed).encode() + lines[place][number.end():]
     return [*lines[:place], line, *lines[place + 1:]]
@@ -85,6 +88,15 @@ def cut(random: Random, lines: Lines) -> Lines:
     return lines[:place] + ([line] if line else [])
 
 
+def bytes_changed(random: Random, lines: Lines) -> Lines:
+    """Some bytes of a line, or of the whole report, are others."""
+    if random.random() < 0.3:
+        return re.findall(rb"[^\n]*\n|[^\n]+", random.choice(CHANGES)(b"".join(lines), random))
+    place = random.randrange(len(lines))
+    changed = random.choice(CHANGES)(lines[place], random)
+    return re.findall(rb"[^\n]*\n|[^\n]+", b"".join([*lines[:place], changed, *lines[place + 1:]]))
+
+
 def falls_moved(random: Random, lines: Lines) -> Lines:
     """Two falls are exchanged, or a named wish is another one that some fall names."""
     falls = [place for place, line in enumerate(lines) if word(line) == b"fall"]
@@ -117,8 +129,8 @@ def other_wish_named(random: Random, lines: Lines) -> Lines:
 
 MUTATIONS: dict[str, Callable[[Random, Lines], Lines]] = {
     "a number one off": one_off, "two lines exchanged": exchanged, "a line left out": left_out,
-    "a line repeated": repeated, "a line of another pass or day": of_another, "cut": cut, "falls moved": falls_moved,
-    "another wish named": other_wish_named,
+    "a line repeated": repeated, "a line of another pass or day": of_another, "cut": cut, "bytes changed": bytes_changed,
+    "falls moved": falls_moved, "another wish named": other_wish_named,
 }
 
 
