@@ -19,7 +19,7 @@ from .numbering import Numbers, number_ids, translated
 from .relations import Relations
 from .slots import SLOTS, Column, Content, Thing
 from .sources import SEPARATORS, TextSheet
-from .tables import Choices, Table
+from .tables import PROGRESS, Choices, Table
 from .texts import Language, Text, said
 from .values import ANSWER_WORDS, NOTHING, QUIT, STATUS_WORDS
 from .wording import Words
@@ -148,13 +148,17 @@ def prepare(source: Path, folder: Path, choices: Choices, earlier: Names, asked:
     exports = read_folder(source, choices, faults)
     language = asked or exports.language()
     translated(exports.tables, exports.spellings, earlier, faults)
+    PROGRESS.say("testing ..")
     may_be_numbers = None if any(earlier.by_number.values()) else NUMBERS_OF_CAMPAIGN.of()
     Relations(exports.tables, exports.spellings, faults, may_be_numbers).test()
     numbers = number_ids(exports.tables, exports.spellings, earlier, faults)
+    PROGRESS.end()
     if faults.found:
         print(faults.told(exports.files, language), file=sys.stderr)
         return FAULTY
+    PROGRESS.say("writing ..")
     write_folder(folder, slot_files(exports, numbers))
+    PROGRESS.end()
     say("prepare", summary(exports, numbers, folder, language))
     return DONE
 
