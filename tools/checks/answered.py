@@ -34,7 +34,7 @@ def check_taken(tally: Tally) -> None:
         sheet = (f"{TITLES}03/06/2026;E03;Léa;V04;accepter\n3 juin 2026;E06;;v10;accepte\n;E05;;;démission\n"
                  "04/06/2026;;;2;accepter\n")
         ended = take_in(folder, sheet, *DAY_FIRST)
-        tally.check("taken in", ended.status == 0 and b"1 y \xc3\xa9taient d\xc3\xa9j\xc3\xa0" in ended.output, ended)
+        tally.check("taken in", ended.status == 0 and "déjà là\u00a0: 1." in ended.output.decode(), ended)
         taken = ["1,accept,4", "1,accept,10", "1,quit,5", "2,accept,2"]
         tally.equal("the slot", answers_of(folder), taken)
         tally.equal("once more", (take_in(folder, sheet, *DAY_FIRST).status, answers_of(folder)), (0, taken))
