@@ -21,7 +21,10 @@ BAD_WORDS = (
     *(("next_day", "a", "--start", date, "--term", "1")
       for date in ("2026-02-30", "20260602", "2026-W10-1", "1900-06-02", "soon")),
     *(("next_day", "a", "--start", "2026-06-02", "--term", term) for term in ("367", "-1", "")),
-    ("in_words", "de"), ("in_words", "en", "fr"), ("in_words", "--helpp"), ("why",), ("why", "a"), ("why", "", "1"), ("why", "a", "fr"),
+    ("in_words", "de"), ("in_words", "en", "fr"), ("in_words", "--helpp"), ("why",), ("why", "a"), ("why", "", "1"),
+    ("why", "a", "fr"), ("tables",), ("tables", "a"), ("tables", "", "b"), ("tables", "a", "b", "--lang", "de"),
+    ("take_in",), ("take_in", "a"), ("take_in", "a", "b", "--term", "1"), ("take_in", "a", "b", "--column", "x"),
+    ("prepare", "a", "b", "--column", "x=y"), ("prepare", "a", "b", "--rates", "half"), ("install", "a", "b"),
     ("write_sample.sh",), ("write_sample.sh", "5"), ("write_sample.sh", "5", "x", "2", "y"),
     *(("write_sample.sh", number, "x") for number in BAD_NUMBERS),
     ("write_sample.sh", "5", "x", "many"), ("write_sample.sh", "5", "x", "-1"),
@@ -68,7 +71,7 @@ def check_old_python(tally: Tally) -> None:
     tally.begin("Python that is too old")
     started = (TOOLS / "dossier/starting.py").read_text()
     ast.parse(started, feature_version=(3, 4))
-    for tool in ("prepare", "next_day", "in_words", "why"):
+    for tool in ("prepare", "next_day", "in_words", "why", "tables", "take_in", "install"):
         ast.parse((TOOLS / tool).read_text(), feature_version=(3, 4))
     old = "import sys; sys.version_info = (3, 9, 2); sys.argv = ['why', 'a']; " \
         "from dossier.starting import start; start('why', 'dossier.explaining')"

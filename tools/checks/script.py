@@ -29,7 +29,8 @@ shutil.copy("{top}/stand_in", "{top}/crates/parcours/out/parcours")
 """
 SMALL_TOOLS = ("find", "sort", "xargs", "sha256sum", "cat", "readlink", "dirname", "sleep", "setpriv")
 WORDS_SEED, WORD_LISTS = 5, 120
-MODES = (("replay",), ("order",), ("explain", "--wish", "2"), ("beds", "--school=5"), ("market",), ("envy",), ("explain",))
+MODES = (("replay",), ("order",), ("explain", "--wish", "2"), ("beds", "--school=5"), ("market",), ("envy",),
+         ("explain",))
 PIECES = (
     ("--days", "2"), ("--days=1",), ("--days", "0002"), ("--picker", "each"), ("--start", "2024-02-29", "--term", "0"),
     ("--term", "366", "--start=1901-01-01"), ("--wish", "0000000007"), ("--number", "5"), ("--days", "366"),
@@ -161,16 +162,18 @@ def check_words(tally: Tally, script: Path) -> None:
     random = Random(WORDS_SEED)
     wrong = 0
     for number in range(WORD_LISTS):
-        pieces = [*random.choices(MODES, k=random.choice((1, 1, 1, 1, 0, 2))), *random.sample(PIECES, random.randint(0, 2))]
+        pieces = [*random.choices(MODES, k=random.choice((1, 1, 1, 1, 0, 2))),
+                  *random.sample(PIECES, random.randint(0, 2))]
         words = [word for piece in random.sample(pieces, len(pieces)) for word in piece]
-        ended = call(script, *words, folder=EXAMPLES / "two-days") if words else run(script, folder=EXAMPLES / "two-days")
+        ended = run(script, *words, folder=EXAMPLES / "two-days", environment=environment_of(script))
         is_bad = ended.output == b"bad words\n"
         wrong += is_bad
         tally.equal(f"{words}", (is_bad, ended.status == 2), ("parcours: bad words: " in ended.complaint, is_bad))
     tally.check("both are among them", 20 < wrong < WORD_LISTS - 20, wrong)
     for words, sentence in (
         (("replya",), "there is no mode 'replya'"), (("replay", "--day", "2"), "there is no option '--day'"),
-        (("replay", "--days", "0"), "--days is a number from 1 to 366, and '0'"), (("explain",), "explain needs --wish"),
+        (("replay", "--days", "0"), "--days is a number from 1 to 366, and '0'"),
+        (("explain",), "explain needs --wish"),
         (("replay", "--start", "2026-02-30", "--term", "1"), "'2026-02-30'"), (("replay", "--days"), "has no value"),
         (("replay", "--start", "2026-06-02"), "together"), (("replay", "chain"), "two modes"),
         (("replay", "--days", "1", "--days=1"), "given twice"),
@@ -206,7 +209,8 @@ def check_help(tally: Tally, script: Path) -> None:
     commit = run("git", "rev-parse", "HEAD", folder=script.parent)
     lines = ended.output.decode().splitlines()
     tally.equal("version", lines[:1], [f"parcours {(TOOLS / 'version.txt').read_text().strip()}"])
-    tally.check("commit and kit", ended.status == 0 and len(lines) == 3 and lines[1].startswith("commit "), (ended, commit))
+    is_whole = ended.status == 0 and len(lines) == 3 and lines[1].startswith("commit ")
+    tally.check("commit and kit", is_whole, (ended, commit))
     tally.check("the script of this repository", kit in run(TOP / "parcours", "--version").output, kit)
     hidden.rename(program)
     tally.equal("nothing was built for it", (script.parent / "built").read_text().split(), ["built"])
@@ -334,7 +338,7 @@ def check_script(tally: Tally) -> None:
     with scratch() as folder:
         script = make_tree(folder)
         call(script)
-        for checks in (check_statuses, check_unreadable, check_folder, check_words, check_small_tools, check_help, check_long_runs,
-                       check_real_program, check_changed_sources):
+        for checks in (check_statuses, check_unreadable, check_folder, check_words, check_small_tools, check_help,
+                       check_long_runs, check_real_program, check_changed_sources):
             tally.run(lambda: checks(tally, script))
     tally.run(lambda: check_long_builds(tally))

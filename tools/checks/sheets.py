@@ -75,7 +75,8 @@ def check_sheets(tally: Tally) -> None:
 
 
 HEADERS = (
-    ("groups.csv", "Code groupe;Taux min. boursiers;% secteur", "1;20 %;30 %", "group,scholar_pct,resident_pct\n1,20,30\n"),
+    ("groups.csv", "Code groupe;Taux min. boursiers;% secteur", "1;20 %;30 %",
+     "group,scholar_pct,resident_pct\n1,20,30\n"),
     ("groups.csv", "N° du groupe;Taux de boursiers;Taux du secteur;Libellé", "1;20 %;30 %;MPSI",
      "group,scholar_pct,resident_pct\n1,20,30\n"),
     ("programmes.csv", "Code formation;Code groupe;Nb places;Intitulé;Ville", "7;1;2;MPSI;Lyon",
@@ -96,7 +97,8 @@ HEADERS = (
 def check_headers(tally: Tally) -> None:
     """Titles as people write them, with names and towns beside them."""
     tally.begin("prepare, titles")
-    whole = {name: f"{titles}\n{row}\n".encode() for name, titles, row, expected in HEADERS if "columns" not in expected}
+    whole = {name: f"{titles}\n{row}\n".encode() for name, titles, row, expected in HEADERS
+             if "columns" not in expected}
     for name, titles, row, expected in HEADERS:
         found, complaint = Sheets({**whole, name: f"{titles}\n{row}\n".encode()}).prepared(name)
         told = expected in complaint.replace("2 colonnes", "2 columns")
@@ -116,14 +118,16 @@ def check_codes(tally: Tally) -> None:
     """Windows-1252 beside Mac Roman, and Latin-9."""
     tally.begin("prepare, typographic letters")
     for name, text, codec, expected in (
-        ("quotes and dashes", "L’Été – “Nord”", "cp1252", "L’Été – “Nord”"), ("an œ", "Sacré-Cœur", "cp1252", "Sacré-Cœur"),
+        ("quotes and dashes", "L’Été – “Nord”", "cp1252", "L’Été – “Nord”"),
+        ("an œ", "Sacré-Cœur", "cp1252", "Sacré-Cœur"),
         ("accents of a Mac", "Été", "mac-roman", ""), ("a Mac's word", "Benoît", "mac-roman", ""),
         ("Latin-9", "Sacré-Cœur", "iso8859-15", "Sacré-Cœur"), ("Latin-1", "Été", "latin-1", "Été"),
     ):
         data = f"school;beds;ceiling\n{text};1;1\n".encode(codec)
         found, complaint = Sheets({"schools.csv": data}).prepared("ids.csv")
         is_read = bool(expected) and f",{expected}," in found
-        tally.check(name, is_read or not found and not expected and "more than one reading" in complaint, (found, complaint))
+        is_told = not found and not expected and "more than one reading" in complaint
+        tally.check(name, is_read or is_told, (found, complaint))
 
 
 def check_groups_of_faults(tally: Tally) -> None:
@@ -133,7 +137,8 @@ def check_groups_of_faults(tally: Tally) -> None:
     files = {"groups.csv": b"groupe;taux boursiers;taux secteur\n1;0;0\n",
              "rankings.csv": f"groupe;candidat;rang;boursier;secteur\n{rankings}".encode()}
     complaint = Sheets(files, ("--lang", "fr")).prepared("rankings.csv")[1]
-    is_one = complaint.startswith("rankings.csv, 89 lignes (2, 3, 4 et d'autres)\u00a0; ligne 2\u00a0: 1 | 1 | 1 | oui | peut-être\n")
+    is_one = complaint.startswith("rankings.csv, 89 lignes (2, 3, 4 et d'autres)\u00a0; ligne 2\u00a0: "
+                                  "1 | 1 | 1 | oui | peut-être\n")
     tally.check("89 rows", is_one and "1 faute" in complaint and complaint.count("\n") == 4, complaint)
     complaint = Sheets(files, ("--lang", "en")).prepared("rankings.csv")[1]
     tally.check("in English", complaint.startswith("rankings.csv, 89 rows (2, 3, 4 and others); row 2: "), complaint)
@@ -143,7 +148,8 @@ def check_groups_of_faults(tally: Tally) -> None:
     tally.check("a row that is missing", complaint.endswith("\n1 fault; nothing is written.\n"), complaint)
     files["boarding.csv"] = b"school;candidate;rank\n" + b"".join(b"S%d;%d;%d\n" % (n, n, n) for n in range(1, 40))
     complaint = Sheets(files).prepared("boarding.csv")[1]
-    tally.check("many rows that are missing", "40 schools have no row" in complaint and "\n1 fault;" in complaint, complaint)
+    is_one = "40 schools have no row" in complaint and "\n1 fault;" in complaint
+    tally.check("many rows that are missing", is_one, complaint)
 
 
 def check_states(tally: Tally) -> None:
@@ -179,7 +185,8 @@ def check_rates(tally: Tally) -> None:
     """A rate of 1 is 1 % or 100 %: it is read where its column, or the user, says which."""
     tally.begin("prepare, rates")
     for words, rates, expected in (
-        ((), ("1", "0"), "1 has two readings"), ((), ("0", "1,0"), "1,0 has two readings"), ((), ("0,5", "0"), "0,5 has"),
+        ((), ("1", "0"), "1 has two readings"), ((), ("0", "1,0"), "1,0 has two readings"),
+        ((), ("0,5", "0"), "0,5 has"),
         ((), ("1", "20"), "1 20"), ((), ("1", "0 %"), "1 0"), ((), ("100%", "1 %"), "100 1"), ((), ("0", "0"), "0 0"),
         (("--rates", "percent"), ("1", "0"), "1 0"), (("--rates", "fraction"), ("1", "0"), "100 0"),
         (("--rates", "fraction"), ("0,2", "0.50"), "20 50"), (("--rates", "fraction"), ("0,29", "7 %"), "29 7"),

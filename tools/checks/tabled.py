@@ -54,13 +54,15 @@ def check_refusals(tally: Tally, folder: Path, place: Path) -> None:
     (place / "none.csv").write_text("Ville\nLyon\n")
     for words, status, sentence in (
         ((folder, place / "fr"), 3, "is there already"), ((folder, place / "no/new"), 3, "no folder to be in"),
-        ((place / "no", place / "new"), 3, "there is no folder"), ((LYCEE / "slots", place / "new"), 3, "no day has been"),
+        ((place / "no", place / "new"), 3, "there is no folder"),
+        ((LYCEE / "slots", place / "new"), 3, "no day has been"),
         ((folder, place / "new", "--names", place / "none.csv"), 1, "no sheet with ids"),
         ((folder, place / "new", "--names", place / "no.csv"), 3, "no.csv"), ((folder,), 2, "usage"),
         ((folder, place / "new", "--dialect", "dots"), 2, "--dialect"),
     ):
         ended = run(TOOLS / "tables", *words)
-        tally.check(f"{[str(word) for word in words[1:]]}", ended.status == status and sentence in ended.complaint, ended)
+        is_told = ended.status == status and sentence in ended.complaint
+        tally.check(f"{[str(word) for word in words[1:]]}", is_told, ended)
         tally.check("nothing is written", not (place / "new").exists())
     ended = run(TOOLS / "tables", folder, place / "new", greatest_file=100)
     is_told = ended.status == 4 and "Traceback" not in ended.complaint
@@ -126,12 +128,14 @@ def check_ids_stay(tally: Tally) -> None:
             tally.equal(f"{name}: status", (ended.status, ended.complaint), (0, ""))
             ids = (place / "new" / IDS).read_text()
             tally.equal(name, ids.replace("9,,,,E00,V09", "9,,,,,V09"), (folder / IDS).read_text())
-            tally.equal(f"{name}: the state", (place / "new/state.csv").read_bytes(), (folder / "state.csv").read_bytes())
+            tally.equal(f"{name}: the state", (place / "new/state.csv").read_bytes(),
+                        (folder / "state.csv").read_bytes())
             shutil.rmtree(place / "new")
         other = (exports / "voeux.csv").read_bytes().decode("utf-16").replace("V14", "3")
         (exports / "voeux.csv").write_bytes(other.encode("utf-16"))
         ended = run(TOOLS / "prepare", exports, place / "new", "--lang", "en")
-        tally.check("a number that is taken", "has the number that an earlier dossier gave to V03" in ended.complaint, ended)
+        is_told = "has the number that an earlier dossier gave to V03" in ended.complaint
+        tally.check("a number that is taken", is_told, ended)
         (exports / IDS).write_text("number;group\n")
         ended = run(TOOLS / "prepare", exports, place / "new")
         tally.check("a broken table of ids", ended.status == 3 and "no table of ids" in ended.complaint, ended)

@@ -104,7 +104,8 @@ def check_campaigns(tally: Tally, program: str) -> None:
             dossier = grown(program, random, place / "dossier", term)
             shutil.copytree(place / "dossier", place / "whole")
             for day in range(DAYS):
-                next_day(place / "dossier", Calendar(1, FIRST_DAY, term) if term is not None and day == 0 else Calendar())
+                is_dated = term is not None and day == 0
+                next_day(place / "dossier", Calendar(1, FIRST_DAY, term) if is_dated else Calendar())
             last = kept_days(place / "dossier")[-1]
             dated = [] if term is None else ["--start", str(FIRST_DAY), "--term", str(term)]
             wishes = [str(wish) for wish, *_ in dossier.rows["wishes"]]

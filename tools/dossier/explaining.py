@@ -5,12 +5,14 @@ stamp of the day itself as that day, and where a wish changed earlier, by the re
 """
 
 import csv
+import gc
 import sys
 import tempfile
 from dataclasses import dataclass, replace
 from datetime import date, timedelta
 from pathlib import Path
 from types import ModuleType
+from typing import NamedTuple
 
 from . import program, words_en
 from .campaign import Stopped, unread
@@ -27,8 +29,7 @@ from .writing import named_folder, stop_cleanly, write_whole
 SAID, NOT_THERE = 0, 1
 
 
-@dataclass(frozen=True)
-class Wish:
+class Wish(NamedTuple):
     """A row of the wishes, by numbers."""
 
     wish: int
@@ -166,6 +167,7 @@ def main(arguments: list[str]) -> int:
         parser.bad("name a wish, or a candidate with --candidate")
     try:
         stop_cleanly()
+        gc.disable()
         return tell(given.folder, wishes, given.candidate, language)
     except LookupError as error:
         print(f"why: {error.args[0]}", file=sys.stderr)

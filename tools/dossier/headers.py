@@ -4,6 +4,7 @@ import unicodedata
 from collections.abc import Mapping, Sequence
 from dataclasses import dataclass
 from difflib import get_close_matches
+from functools import lru_cache
 
 from .decoding import Unreadable
 from .faults import shown
@@ -30,6 +31,7 @@ def fold(text: str) -> str:
     return " ".join(plain.casefold().replace("(", " ").replace(")", " ").split())
 
 
+@lru_cache(maxsize=10_000)
 def core(folded: str) -> str:
     """A folded title without the words that tell nothing, as `N° candidat` is `candidat`."""
     return " ".join(word for word in folded.translate(PARTS).split() if word not in FILLERS)

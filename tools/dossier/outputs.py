@@ -5,6 +5,7 @@ import io
 from collections.abc import Iterable, Iterator
 from dataclasses import dataclass
 from datetime import date, timedelta
+from typing import NamedTuple
 
 from .cells import IN_ENGLISH, IN_FRENCH
 from .labels import Labels
@@ -14,6 +15,8 @@ from .slots import Thing
 from .texts import Language, Text
 
 OFFERED = "offered"
+FORMULAS = ("=", "+", "-", "@", "\t", "\r")
+WAITS = Held(WAITING)
 Row = list[object]
 
 WISH = Text("Wish", "Vœu")
@@ -51,8 +54,7 @@ class Dialect:
 
     def bytes_of(self, rows: Iterable[Row]) -> bytes:
         text = io.StringIO(newline="")
-        writer = csv.writer(text, delimiter=self.separator, lineterminator=self.line_end)
-        writer.writerows([harmless(cell) for cell in row] for row in rows)
+        csv.writer(text, delimiter=self.separator, lineterminator=self.line_end).writerows(rows)
         return self.mark + text.getvalue().encode(self.codec)
 
 
@@ -64,13 +66,12 @@ DIALECTS = {
 }
 
 
-def harmless(cell: object) -> object:
-    """A cell that no spreadsheet takes for a formula."""
-    return f"'{cell}" if isinstance(cell, str) and cell.startswith(("=", "+", "-", "@", "\t", "\r")) else cell
+def harmless(name: str) -> str:
+    """An id or a name that no spreadsheet takes for a formula."""
+    return f"'{name}" if name.startswith(FORMULAS) else name
 
 
-@dataclass(frozen=True)
-class WishRow:
+class WishRow(NamedTuple):
     """A row of the wishes, by numbers."""
 
     wish: int
@@ -80,8 +81,7 @@ class WishRow:
     preference: int
 
 
-@dataclass(frozen=True)
-class Ranked:
+class Ranked(NamedTuple):
     """A candidate in a group's ranking."""
 
     rank: int
@@ -117,23 +117,26 @@ class Campaign:
 
     def id_cells(self, thing: Thing, number: int | None) -> Row:
         """An id as the sheets have it, with its name where a file has names."""
-        cells: Row = ["" if number is None else self.names.spelled(thing, number)]
-        if thing in self.labels:
-            cells.append("" if number is None else self.labels[thing].get(number, ""))
-        return cells
+        labels = self.labels.get(thing)
+        if number is None:
+            return [""] if labels is None else ["", ""]
+        spelled = harmless(self.names.spelled(thing, number))
+        return [spelled] if labels is None else [spelled, harmless(labels.get(number, ""))]
 
     @property
     def last(self) -> KeptDay:
         return self.days[-1]
 
     def held(self, wish: int) -> Held:
-        return self.last.after.get(wish, Held(WAITING))
+        return self.last.after.get(wish, WAITS)
 
     def status_cells(self, wish: int) -> Row:
         """The status, the date of an offer, and the date to answer it by."""
         held = self.held(wish)
+        if not held.since:
+            return [STATUSES[self.language][held.status], "", ""]
         term = self.last.calendar.term
-        by = date.fromisoformat(held.since) + timedelta(days=term) if held.since and term is not None else ""
+        by = date.fromisoformat(held.since) + timedelta(days=term) if term is not None else ""
         return [STATUSES[self.language][held.status], held.since, by]
 
     def calls(self) -> dict[int, dict[int, int]]:

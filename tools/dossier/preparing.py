@@ -19,8 +19,8 @@ from .numbering import Numbers, number_ids, translated
 from .relations import Relations
 from .slots import SLOTS, Column, Content, Thing
 from .sources import SEPARATORS, TextSheet
-from .tables import Choices, Table
-from .texts import Language, Text, said
+from .tables import PROGRESS, Choices, Table
+from .texts import Counted, Language, Text, said
 from .values import ANSWER_WORDS, NOTHING, QUIT, STATUS_WORDS
 from .wording import Words
 from .writing import Told, csv_bytes, is_folder, named_folder, say, stop_cleanly, write_folder
@@ -29,10 +29,11 @@ DONE, FAULTY, BAD_WORDS, NOT_WRITTEN = range(4)
 CHUNK = 4_000
 COLUMN_NAMES = frozenset(column.name for slot in SLOTS for column in slot.columns)
 
-READ = Text("{slot}: {count} rows of {file}{how}", "{slot} : {count} lignes de {file}{how}")
+READ = Text("{slot}: {rows} of {file}{how}", "{slot} : {rows} de {file}{how}")
+ROW, ROWS = Text("row", "ligne"), Text("rows", "lignes")
 LEFT_OUT = Text("{file}: not read are the columns {names}", "{file} : colonnes qui ne sont pas lues : {names}")
-NUMBERED = Text("{ids}: {count} ids of {things} numbered, from {first}",
-                "{ids} : {count} identifiants de {things} numérotés, à partir de {first}")
+NUMBERED = Text("{ids}: ids of {things} numbered, {count} from {first} on",
+                "{ids} : {things}, {count} numéros à partir de {first}")
 NOT_READ = Text("not read: {name}", "pas lu : {name}")
 IS_IN = Text("The dossier is in {folder}.", "Le dossier est dans {folder}.")
 
@@ -123,7 +124,7 @@ def summary(exports: Exports, numbers: Numbers, folder: Path, language: Language
         sheet = table.sheet
         how = f" ({sheet.coding.name}, {said(SEPARATORS[sheet.separator], language)})" \
             if isinstance(sheet, TextSheet) else ""
-        lines.append(READ.of(slot=slot.file, count=len(table), file=shown(sheet.label), how=how))
+        lines.append(READ.of(slot=slot.file, rows=Counted(len(table), ROW, ROWS), file=shown(sheet.label), how=how))
         if table.header.left_out:
             names = ", ".join(shown(table.header.titles[place].strip()) for place in sorted(table.header.left_out))
             left_out.append(LEFT_OUT.of(file=shown(sheet.label), names=names))
@@ -148,13 +149,17 @@ def prepare(source: Path, folder: Path, choices: Choices, earlier: Names, asked:
     exports = read_folder(source, choices, faults)
     language = asked or exports.language()
     translated(exports.tables, exports.spellings, earlier, faults)
+    PROGRESS.say("testing ..")
     may_be_numbers = None if any(earlier.by_number.values()) else NUMBERS_OF_CAMPAIGN.of()
     Relations(exports.tables, exports.spellings, faults, may_be_numbers).test()
     numbers = number_ids(exports.tables, exports.spellings, earlier, faults)
+    PROGRESS.end()
     if faults.found:
         print(faults.told(exports.files, language), file=sys.stderr)
         return FAULTY
+    PROGRESS.say("writing ..")
     write_folder(folder, slot_files(exports, numbers))
+    PROGRESS.end()
     say("prepare", summary(exports, numbers, folder, language))
     return DONE
 

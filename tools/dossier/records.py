@@ -7,6 +7,7 @@ from dataclasses import dataclass
 from datetime import timedelta
 from functools import cached_property
 from pathlib import Path
+from typing import NamedTuple
 
 from .campaign import CALENDAR, CHANGING, CHECKSUMS, LASTING, STAGING, Stopped, checksums, unread
 from .dating import Calendar
@@ -15,8 +16,7 @@ from .program import READ_FAULT
 WAITING = "waiting"
 
 
-@dataclass(frozen=True)
-class Held:
+class Held(NamedTuple):
     """How a wish stands in a state: its status, and since when where that is an offer with a date."""
 
     status: str

@@ -17,6 +17,8 @@ class Thing(Enum):
     CANDIDATE = "candidate"
     WISH = "wish"
 
+    __hash__ = object.__hash__
+
     @property
     def plural(self) -> str:
         return "wishes" if self is Thing.WISH else f"{self.value}s"

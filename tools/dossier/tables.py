@@ -93,13 +93,17 @@ class Progress:
 
     def at(self, label: str, rows: int) -> None:
         if rows % LARGE < CHUNK and rows >= LARGE and sys.stderr.isatty():
-            print(f"\r{label}: {rows:,} ..", end="", file=sys.stderr, flush=True)
             self.is_told = True
+            self.say(f"{label}: {rows:,} ..")
+
+    def say(self, what: str) -> None:
+        """Says what is done now, where a sheet was large."""
+        if self.is_told:
+            print(f"\r\x1b[K{what}", end="", file=sys.stderr, flush=True)
 
     def end(self) -> None:
-        if self.is_told:
-            print("\r\x1b[K", end="", file=sys.stderr, flush=True)
-            self.is_told = False
+        """Takes the line away."""
+        self.say("")
 
 
 PROGRESS = Progress()

@@ -24,11 +24,9 @@ from .wording import Words
 from .writing import Told, csv_bytes, is_folder, named_folder, replace_file, say, stop_cleanly
 
 DONE, FAULTY = 0, 1
-TAKEN = Text("{count} answers of {file} are taken in for the coming day{dated}, {later} for later days; {known} were there "
-             "already.",
-             "{count} réponses de {file} sont prises pour le jour qui vient{dated}, {later} pour plus tard ; {known} y "
-             "étaient déjà.")
-REPLACED = Text("{count} answers that were there are replaced.", "{count} réponses qui y étaient sont remplacées.")
+TAKEN = Text("answers of {file} for the coming day{dated}: {count}, for later days: {later}, there already: {known}.",
+             "réponses de {file} pour le jour qui vient{dated} : {count}, pour plus tard : {later}, déjà là : {known}.")
+REPLACED = Text("answers that were there and are replaced: {count}.", "réponses qui y étaient et sont remplacées : {count}.")
 LATER = Text("Whether an answer of a later day fits is told when that day comes.",
              "Si une réponse convient un jour plus lointain, on le saura ce jour-là.")
 

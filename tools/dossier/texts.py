@@ -30,6 +30,19 @@ class Filled:
         return spaced(getattr(self.text, language).format(**values), language)
 
 
+@dataclass(frozen=True)
+class Counted:
+    """So many things. French has the singular for none, too."""
+
+    count: int
+    one: Text
+    many: Text
+
+    def said(self, language: Language) -> str:
+        is_one = self.count == 1 or self.count == 0 and language == "fr"
+        return f"{self.count} {(self.one if is_one else self.many).of().said(language)}"
+
+
 @runtime_checkable
 class Sayable(Protocol):
     """What is said in one of the languages."""
