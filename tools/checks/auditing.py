@@ -30,10 +30,13 @@ def removed(name: str) -> Callable[[Path], None]:
 CHANGES: tuple[tuple[Callable[[Path], None], int, int, str], ...] = (
     (replaced("days/day-001/report.txt", b"offer 7\n", b"offer 5\n"), 1, 1, "report     WRONG: line 16 is wrong"),
     (replaced("days/day-002/report.txt", b"day 2\n", b"day 3\n"), 2, 1, "report     WRONG: it has no line `day 2`"),
-    (replaced("days/day-001/before/answers.csv", b"2,refuse,7\n", b"1,refuse,7\n"), 1, 1, "the rules give: refused answers"),
+    (replaced("days/day-001/before/answers.csv", b"2,refuse,7\n", b"1,refuse,7\n"), 1, 1,
+     "the rules give: refused answers"),
     (replaced("programmes.csv", b"20,1,1\n", b"20,1,2\n"), 2, 1, "slots      WRONG: programmes.csv"),
-    (replaced("days/day-002/before/state.csv", b"8,waiting", b"8,withdrawn"), 2, 1, "morning    WRONG: the state is not"),
-    (replaced("days/day-002/after/state.csv", b"5,offered", b"5,accepted"), 2, 1, "evening    WRONG: the state for day 3"),
+    (replaced("days/day-002/before/state.csv", b"8,waiting", b"8,withdrawn"), 2, 1,
+     "morning    WRONG: the state is not"),
+    (replaced("days/day-002/after/state.csv", b"5,offered", b"5,accepted"), 2, 1,
+     "evening    WRONG: the state for day 3"),
     (replaced("days/day-002/after/campaign.csv", b"3,", b"4,"), 2, 3, "says that day"),
     (replaced("days/day-002/after/campaign.csv", b"3,", b"x,"), 2, 3, "audit_day:"),
     (replaced("days/day-002/slots.sha256", b"  groups.csv", b""), 2, 3, "audit_day:"),
@@ -64,7 +67,8 @@ def check_audits(tally: Tally) -> None:
                 ended = run(AUDIT, place / name, str(day))
                 said = ended.output.decode()
                 tally.check(f"{name}, day {day}", ended.status == 0 and said.count(" ok: ") == (4 if day == 1 else 5)
-                            and "chain      ok: proved by" in said and (day != 2 or dated in said), said + ended.complaint)
+                            and "chain      ok: proved by" in said and (day != 2 or dated in said),
+                            said + ended.complaint)
             tally.equal(f"{name} is left as it was", contents(place / name), was)
         for number, (change, day, status, sentence) in enumerate(CHANGES):
             shutil.copytree(place / "campaign", place / "changed")

@@ -57,7 +57,8 @@ def crowded_dossier(random: Random) -> Dossier:
     if limits:
         dossier.with_optional.add("programmes")
     rows["programmes"] = [(programme, group, random.choice((0, 1, 1, 2, 3, 6)),
-                           *([random.choice((0, 0, 2, 4))] if limits else [])) for programme, group in programmes.items()]
+                           *([random.choice((0, 0, 2, 4))] if limits else []))
+                          for programme, group in programmes.items()]
     rows["schools"] = [(school, random.choice((0, 0, 1, 1, 2, 3)), random.choice(CEILINGS)) for school in schools]
     rows["rankings"] = shuffled(random, [(group, candidate, rank, random.randint(0, 1), random.randint(0, 1))
                                          for group in groups for candidate, rank in ranks(random, candidates)])

@@ -8,12 +8,10 @@ import argparse
 import ast
 import importlib.machinery
 import importlib.util
-import random as chance
 import re
 import sys
 import time
 from collections import Counter
-from collections.abc import Callable, Iterator
 from pathlib import Path
 from random import Random
 from types import ModuleType
@@ -24,7 +22,7 @@ from .crowded import Crowd, crowd, other_dossier
 from .harness import EXAMPLES, TOOLS, Tally, run, scratch, until_told
 from .mutations import CHANGES
 from .reports import MUTATIONS, Case, Lines, first_wrong, run_text, word
-from .runs import SLOTS, all_jobs, file_of, put
+from .runs import all_jobs, put
 from .samples import sample_slots
 
 MODES = ("replay", "order", "chain", "market")
@@ -48,7 +46,7 @@ RECHECK = tool()
 
 
 def told(folder: Path, text: bytes, words: tuple[str, ...]) -> Told:
-    """What `recheck` says of a text: right with its lines, wrong with the number of the line, or that it is untested."""
+    """What `recheck` says of a text: right with its lines, wrong with the number of the line, or untested."""
     start = RECHECK.day_of(words[words.index("--start") + 1]) if "--start" in words else None
     term = int(words[words.index("--term") + 1]) if "--term" in words else None
     report = folder / "report"
@@ -142,7 +140,9 @@ class Round:
             name = f"broken slots {self.seed + number}, {' '.join(words)}"
             lines = self.right_text(folder / "slots", name, words)
             if lines and word(lines[0]) == b"refused" and b" reason 18 " not in lines[0]:
-                line = re.sub(rb"\d+", lambda found: str(int(found.group()) + random.choice((-1, 1))).encode(), lines[0], 1)
+                row = re.search(rb"\d+", lines[0])
+                other = str(int(row.group()) + random.choice((-1, 1))).encode()
+                line = lines[0][:row.start()] + other + lines[0][row.end():]
                 self.check("another row refused", name, told(folder / "slots", line, words)[0] == WRONG, line)
                 self.check("a refusal and more", name, told(folder / "slots", 2 * lines[0], words) == (WRONG, 2), line)
 
@@ -175,7 +175,7 @@ def check_broken(tally: Tally, program: str, number: int = 300, seed: int = SEED
     jobs = [job for job in all_jobs() if job.mode in MODES]
     rounds = Round(tally, program, seed)
     for each in range(number):
-        job = chance.Random(seed + each).choice(jobs)
+        job = Random(seed + each).choice(jobs)
         rounds.of_broken_slots(each, job.files, job.words)
     return rounds.counts
 
@@ -227,8 +227,8 @@ def check_said(tally: Tally, program: str) -> None:
         says("deadlines that are given", 0, "as the rules say: 1 days, 21 lines", days, report, *dated[3:])
         says("the stored report", 0, "as the rules say: 2 days, 38 lines", days, days / "replay.txt")
         says("the stored chain", 0, "as the rules say: 2 days, 7 lines", days, days / "chain.txt")
-        for text in (b"\0", b"\xff\n", b"order\n", b"day\n", b"fall 1 2 3 4\n", b"refused\n", b"market -1\n", b"final\n",
-                     b"day 1\npass 1\nfall " + b"9" * 5000 + b" 1 1 1\n", b"proved 2\n", 100 * b"order "):
+        for text in (b"\0", b"\xff\n", b"order\n", b"day\n", b"fall 1 2 3 4\n", b"refused\n", b"market -1\n",
+                     b"final\n", b"day 1\npass 1\nfall " + b"9" * 5000 + b" 1 1 1\n", b"proved 2\n", 100 * b"order "):
             report.write_bytes(text)
             says(f"the text {text[:20]!r}", 1, "the rules give", days, report)
 

@@ -129,8 +129,8 @@ def other_wish_named(random: Random, lines: Lines) -> Lines:
 
 MUTATIONS: dict[str, Callable[[Random, Lines], Lines]] = {
     "a number one off": one_off, "two lines exchanged": exchanged, "a line left out": left_out,
-    "a line repeated": repeated, "a line of another pass or day": of_another, "cut": cut, "bytes changed": bytes_changed,
-    "falls moved": falls_moved, "another wish named": other_wish_named,
+    "a line repeated": repeated, "a line of another pass or day": of_another, "cut": cut,
+    "bytes changed": bytes_changed, "falls moved": falls_moved, "another wish named": other_wish_named,
 }
 
 
@@ -165,7 +165,7 @@ def first_wrong_fall(case: Case, lines: Lines) -> int | None:
     if lines == case.lines[:len(lines)]:
         return None
     places = [place for place, line in enumerate(lines, 1) if word(line) in CHAIN_WORDS]
-    if not any(word(lines[place - 1]) == b"fall" for place in places) and not any(word(line) == b"pass" for line in lines):
+    if not any(word(line) in (b"pass", b"fall") for line in lines):
         return None
     (case.folder / "chain.txt").write_bytes(b"".join(lines[place - 1] for place in places) + b"end\n")
     deadlines = case.words[case.words.index("--start"):] if "--start" in case.words else ()
