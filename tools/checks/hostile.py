@@ -49,10 +49,11 @@ def check_words(tally: Tally) -> None:
 def check_help(tally: Tally) -> None:
     """Each tool prints its help and its version, and does nothing else."""
     tally.begin("help and versions of all tools")
-    tools = [path for path in sorted(TOOLS.iterdir()) if path.is_file() and os.access(path, os.X_OK)]
+    tools = [path for path in sorted(TOOLS.iterdir())
+             if path.is_file() and os.access(path, os.X_OK) and path.suffix != ".py"]
     tools += [TOOLS / name for name in ("prove.py", "same_lemmas.py")]
     tally.check("there are many", len(tools) > 10, tools)
-    for tool in dict.fromkeys(tools):
+    for tool in tools:
         with scratch() as folder:
             for word in ("--help", "-h") if tool.name in ALONE else ("--help", "-h", "help"):
                 ended = run(*([sys.executable] if tool.suffix == ".py" else []), tool, word, folder=folder)
