@@ -7,7 +7,7 @@ use Rattle.admit_core.specs.DossierRows.{DossierRows}
 use Rattle.admit_core.specs.Falls.{IsGreatest, IsLawful, IsRun, bars_after, falls_by}
 use Rattle.admit_core.specs.Standing.{dossier_of}
 use Rattle.admit_core.specs.WorkedFaults.{wish}
-use Rattle.fairness.specs.NotPromised.{both_ranked, plain, three_wishes}
+use Rattle.fairness.specs.NotPromised.{by_rank, group, plain, programme, tables}
 use Rattle.markets.specs.Bars.{market_system, matched_under}
 use Rattle.markets.specs.Dossiers.{candidates_of, market_of}
 use Rattle.markets.specs.Markets.{IsMarket, MarketRows}
@@ -130,6 +130,8 @@ TruthPaysWitness =
 abbrev pub CrossedDossier : Type 0
 CrossedDossier =
     let d : DossierRows =
-    dossier_of (both_ranked (three_wishes ++ wish 4 101 20 None 2 ∷ [])) in
+    dossier_of (tables (group 1 0 ∷ group 2 0 ∷ []) (programme 10 1 1 ∷ programme 20 2 1 ∷ []) []
+    (by_rank 1 (102 ∷ 101 ∷ []) ++ by_rank 2 (101 ∷ 102 ∷ [])) [] (wish 1 102 20 None 1
+    ∷ wish 2 101 10 None 1 ∷ wish 3 102 10 None 2 ∷ wish 4 101 20 None 2 ∷ [])) in
     let orders : List CallOrder = plain (102 ∷ 101 ∷ []) ∷ plain (101 ∷ 102 ∷ []) ∷ [] in
     (market_of d orders ≡ crossed) × (candidates_of d ≡ 102 ∷ 101 ∷ [])
