@@ -9,6 +9,8 @@ import tempfile
 from dataclasses import dataclass
 from pathlib import Path
 
+from dossier.wording import Words
+
 from .harness import TOOLS, scratch, until_told
 from .runs import watch_into
 
@@ -132,15 +134,13 @@ def tried(name: str, programs: list[str | None], asked: argparse.Namespace) -> b
     return is_well
 
 
-def arguments() -> argparse.ArgumentParser:
-    words = argparse.ArgumentParser(
-        prog="shapes.sh", formatter_class=argparse.RawDescriptionHelpFormatter,
-        description="Makes dossiers of extreme shapes, each at two sizes, runs the program on them (and another\n"
-        "one in turn, whose text must be the same), and prints a table of processor seconds and peak\n"
-        "memory. The last two columns are the growth from the first size to the second, as a power of the\n"
-        "rows: 1 is as the rows, 2 their square. A run is never said to take less memory than this script.",
-        epilog=f"Shapes: {', '.join(SHAPES)}.\n"
-        "Status: 0 all texts are the same, 1 some are not or a run did not end well, 2 bad words.")
+def arguments() -> Words:
+    words = Words("shapes.sh", "Makes dossiers of extreme shapes, each at two sizes, runs the program on them (and another "
+                  "one in turn, whose text must be the same), and prints a table of processor seconds and peak memory. The "
+                  "last two columns are the growth from the first size to the second, as a power of the rows: 1 is as the "
+                  "rows, 2 their square. A run is never said to take less memory than this script.",
+                  f"Shapes: {', '.join(SHAPES)}. Status: 0 all texts are the same, 1 some are not or a run did not end "
+                  "well, 2 bad words.")
     words.add_argument("shapes", nargs="*", metavar="SHAPE", help="all where none is named")
     words.add_argument("--beside", metavar="PROGRAM", help="another program to run in turn")
     words.add_argument("--runs", type=int, default=1, help="runs of each program, of which the quickest counts (1)")
@@ -151,7 +151,7 @@ def arguments() -> argparse.ArgumentParser:
 
 def main(words: list[str]) -> int:
     parser = arguments()
-    asked = parser.parse_args(words)
+    asked = parser.of(words)
     unknown = [name for name in asked.shapes if name not in SHAPES]
     if unknown or asked.runs < 1 or asked.longest <= 0:
         parser.error(f"no shape {unknown[0]}" if unknown else "--runs and --longest are above 0")
