@@ -10,7 +10,7 @@ use Rattle.admit_core.specs.declared.chain.CheckReason.TheVariants.{NotOver, Wro
 use Rattle.admit_core.specs.declared.ranking.CallOrder.{CallOrder}
 use Rattle.admit_core.specs.declared.state.Stamp.{Stamp}
 use Rattle.admit_core.specs.State.{State}
-use Rattle.admit_core.specs.Falls.{AreFalls, IsRun, is_overfilled, is_settled, bars_after, fallen, falls_by, fall_of, first_over}
+use Rattle.admit_core.specs.Falls.{AreFalls, IsRunOfFalls, is_overfilled, is_settled, bars_after, fallen, falls_by, fall_of, ranks_up_to_over}
 use Rattle.admit_core.specs.Boarding.{boarding}
 use Rattle.admit_core.specs.Days.{IsPassEnd, Passes}
 use Rattle.admit_core.specs.Chains.{school_of_line, shows_ranks, tells_bars, IsFallLine, lowered, bars_by, AreFallLines, IsPassChain, closing_by, frees_nothing_by, ArePassChains, line_fault, lines_fault, first_overfilled, pass_fault, passes_fault}
@@ -53,7 +53,7 @@ module _ (s : State) (orders : List CallOrder) (ceilings : List ℕ) where
   line_valid bars line e =
       let sys = boarding s orders ceilings in
       let h = school_of_line s line in
-      let t = tests_hold (is_overfilled sys bars h) (shows_ranks s orders bars h (first_over sys bars h) line.wishes) (tells_bars line (fall_of sys bars h)) e in
+      let t = tests_hold (is_overfilled sys bars h) (shows_ranks s orders bars h (ranks_up_to_over sys bars h) line.wishes) (tells_bars line (fall_of sys bars h)) e in
       record { over = t.0; names = t.1; tells = t.2 }
 
   valid_line : (bars : List ℕ) (line : FallLine) → IsFallLine s orders ceilings bars line → line_fault s orders ceilings bars line ≡ None
@@ -104,7 +104,7 @@ module _ (s : State) (orders : List CallOrder) (ceilings : List ℕ) where
   pass_is_told stamp pass valid =
       let sys = boarding s orders ceilings in
       let made = lines_are_falls ceilings pass.falls valid.lines in
-      let run : IsRun sys (falls_told s orders ceilings pass.falls) =
+      let run : IsRunOfFalls sys (falls_told s orders ceilings pass.falls) =
       record { are_falls = made.0; settled = subst (λ (b : List ℕ). IsTrue (is_settled sys b)) (sym made.1) valid.settled } in
       let told = pass_told s orders ceilings stamp pass in
       record { pass = passes_with s orders ceilings told.pass run (sym made.1) refl; autos = refl; freed = refl }

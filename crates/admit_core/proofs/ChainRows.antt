@@ -3,7 +3,7 @@ use Rattle.std.proofs.Common.{◌≡◌, ℕ, ◌≤◌, ◌<◌, refl, List, []
 use Rattle.std.specs.Prelude.{slice_index}
 use Rattle.admit_core.specs.declared.ranking.CallOrder.{CallOrder}
 use Rattle.admit_core.specs.State.{State}
-use Rattle.admit_core.specs.Falls.{IsRun, Fits, bars_after}
+use Rattle.admit_core.specs.Falls.{IsRunOfFalls, Fits, bars_after}
 use Rattle.admit_core.specs.declared.records.Fall.{Fall}
 use Rattle.admit_core.specs.Boarding.{boarding}
 use Rattle.admit_core.specs.LeastBeds.{AreEnough, with_beds}
@@ -39,7 +39,7 @@ pub none_blocks_holds : NoneBlocks
 none_blocks_holds = (refl, refl, refl, refl, refl, refl)
 
 -- n beds are enough where a run of falls keeps the bar at its ceiling
-enough_by : (s : State) (orders : List CallOrder) (ceilings : List ℕ) (h n : ℕ) (falls : List Fall) → IsRun (boarding (with_beds s h n) orders ceilings) falls
+enough_by : (s : State) (orders : List CallOrder) (ceilings : List ℕ) (h n : ℕ) (falls : List Fall) → IsRunOfFalls (boarding (with_beds s h n) orders ceilings) falls
     → slice_index (bars_after ceilings falls) h ≡ slice_index ceilings h → AreEnough s orders ceilings h n
 enough_by s orders ceilings h n falls run kept =
     let t = with_beds s h n in

@@ -6,7 +6,7 @@ use Rattle.admit_core.specs.declared.state.Stamp.{Stamp}
 use Rattle.admit_core.specs.declared.state.Mark.{Mark}
 use Rattle.admit_core.specs.DossierRows.{DossierRows}
 use Rattle.admit_core.specs.State.{State}
-use Rattle.admit_core.specs.Falls.{IsRun, bars_after}
+use Rattle.admit_core.specs.Falls.{IsRunOfFalls, bars_after}
 use Rattle.admit_core.specs.Proposals.{proposed}
 use Rattle.admit_core.specs.Boarding.{boarding}
 use Rattle.admit_core.specs.Days.{IsPassEnd, changes, offered, closing, freed_after}
@@ -15,7 +15,7 @@ use Rattle.admit_core.specs.WorkedRows.{two_orders}
 use Rattle.admit_core.specs.WorkedDays.{VacantSeat, BedIsHeld, CeilingsChange, EdgesOfBars, FreedSeat, FreedBed, LimitUnderBar, AnswersFit, AcceptsOne, AcceptedStays, BetterOffer, LiveTwice, HoldersStandAside, Quits, Deadline, FirstDayExplained, SecondDayExplained, BarsExplained, two_candidates, edges, edge_orders, edge_marks, in_order, evening_one, quits}
 
 -- a pass with its automatic answers, by its run of falls
-pass_end : (s : State) (orders : List CallOrder) (ceilings : List ℕ) (stamp : Stamp) (end : PassEnd) → IsRun (boarding s orders ceilings) end.pass.falls
+pass_end : (s : State) (orders : List CallOrder) (ceilings : List ℕ) (stamp : Stamp) (end : PassEnd) → IsRunOfFalls (boarding s orders ceilings) end.pass.falls
     → end.pass.bars ≡ bars_after ceilings end.pass.falls → end.pass.offers ≡ proposed s orders end.pass.bars
     → end.autos ≡ changes (offered s orders end.pass.bars stamp) (closing s orders end.pass.bars stamp)
     → end.freed ≡ freed_after s orders end.pass.bars stamp → IsPassEnd s orders ceilings stamp end

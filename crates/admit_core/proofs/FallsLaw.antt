@@ -16,7 +16,7 @@ use Rattle.std.proofs.lemmas.Map.Made.{length-le_from_is_member}
 use Rattle.std.proofs.lemmas.Map.Keys.{IsDistinct-from_apart, below_from_sorted, sorted_from_strictly_increasing}
 use Rattle.admit_core.specs.declared.records.Fall.{Fall}
 use Rattle.admit_core.specs.Lists.{is_among}
-use Rattle.admit_core.specs.Falls.{FallingSystem, IsAtMost, IsLawful, Fits, IsGreatest, is_overfilled, is_settled, fall_of, fallen, bars_after, AreFalls, IsRun}
+use Rattle.admit_core.specs.Falls.{FallingSystem, IsAtMost, IsLawful, Fits, IsGreatest, is_overfilled, is_settled, fall_of, fallen, bars_after, AreFalls, IsRunOfFalls}
 
 -- the ranks up to place n are at most the one there, and are among all
 among_front : (xs : List ℕ) → IsStrictlyIncreasing xs → (n q : ℕ) → n < length xs → is_among q (take (suc n) xs) ≡ true
@@ -160,7 +160,7 @@ module _ (sys : FallingSystem) (lawful : IsLawful sys) where
         | inr within ↦ ltb-false (slice_index sys.free i) (length (sys.ranks bars i)) within
       ]
 
-  pub run_is_greatest : (falls : List Fall) → IsRun sys falls → IsGreatest sys (bars_after sys.ceilings falls)
+  pub run_is_greatest : (falls : List Fall) → IsRunOfFalls sys falls → IsGreatest sys (bars_after sys.ceilings falls)
   run_is_greatest falls run =
       let start : IsAtMost sys.ceilings sys.ceilings = record { as_many = refl; each = λ i. omega arith } in
       record {

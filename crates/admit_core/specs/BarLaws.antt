@@ -8,7 +8,7 @@ use Rattle.admit_core.specs.declared.records.Fall.{Fall}
 use Rattle.admit_core.specs.Lists.{is_among}
 use Rattle.admit_core.specs.State.{State}
 use Rattle.admit_core.specs.Proposals.{is_open, ahead, is_proposed, demanded_ranks}
-use Rattle.admit_core.specs.Falls.{FallingSystem, IsAtMost, IsLawful, IsGreatest, IsRun, bars_after}
+use Rattle.admit_core.specs.Falls.{FallingSystem, IsAtMost, IsLawful, IsGreatest, IsRunOfFalls, bars_after}
 use Rattle.admit_core.specs.Boarding.{boarding}
 
 -- the demanded ranks of a school are a set, from the least
@@ -64,7 +64,7 @@ WishesStayProposed =
 abbrev pub RunsEndAtGreatest : Type 0
 RunsEndAtGreatest =
     (s : State) (orders : List CallOrder) (ceilings : List ℕ) (falls : List Fall)
-    → IsRun (boarding s orders ceilings) falls
+    → IsRunOfFalls (boarding s orders ceilings) falls
     → IsGreatest (boarding s orders ceilings) (bars_after ceilings falls)
 
 -- under the greatest bars a place whose bar is below its ceiling has as many demanded ranks as free

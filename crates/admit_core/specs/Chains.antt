@@ -14,7 +14,7 @@ use Rattle.admit_core.specs.declared.state.Stamp.{Stamp}
 use Rattle.admit_core.specs.State.{State, entries}
 use Rattle.admit_core.specs.Standing.{place_of}
 use Rattle.admit_core.specs.Proposals.{demands_bed}
-use Rattle.admit_core.specs.Falls.{FallingSystem, is_overfilled, is_settled, first_over, fall_of}
+use Rattle.admit_core.specs.Falls.{FallingSystem, is_overfilled, is_settled, ranks_up_to_over, fall_of}
 use Rattle.admit_core.specs.Boarding.{boarding}
 use Rattle.admit_core.specs.Days.{closing, freed_after, frees_nothing, GoesOn}
 
@@ -44,7 +44,7 @@ pub record IsFallLine (s : State) (orders : List CallOrder) (ceilings bars : Lis
     (line : FallLine) : Type 0 where
   pub over : IsTrue (is_overfilled (boarding s orders ceilings) bars (school_of_line s line))
   pub names : IsTrue (shows_ranks s orders bars (school_of_line s line)
-      (first_over (boarding s orders ceilings) bars (school_of_line s line)) line.wishes)
+      (ranks_up_to_over (boarding s orders ceilings) bars (school_of_line s line)) line.wishes)
   pub tells : IsTrue (tells_bars line
       (fall_of (boarding s orders ceilings) bars (school_of_line s line)))
 
@@ -99,7 +99,7 @@ line_fault s orders ceilings bars line =
     let sys = boarding s orders ceilings in
     let h = school_of_line s line in
     if not (is_overfilled sys bars h) then Some NotOver
-    else if not (shows_ranks s orders bars h (first_over sys bars h) line.wishes)
+    else if not (shows_ranks s orders bars h (ranks_up_to_over sys bars h) line.wishes)
     then Some WrongWishes
     else if not (tells_bars line (fall_of sys bars h)) then Some WrongBar
     else None

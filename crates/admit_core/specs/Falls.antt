@@ -60,8 +60,8 @@ is_settled sys bars =
     list_all (λ i. not (is_overfilled sys bars i)) (range_with_len 0 (length sys.ceilings))
 
 -- the ranks of an overfilled place up to the first that has no bed
-abbrev pub first_over : FallingSystem → List ℕ → ℕ → List ℕ
-first_over sys bars i = take (slice_index sys.free i + 1) (sys.ranks bars i)
+abbrev pub ranks_up_to_over : FallingSystem → List ℕ → ℕ → List ℕ
+ranks_up_to_over sys bars i = take (slice_index sys.free i + 1) (sys.ranks bars i)
 
 -- the fall of an overfilled place: below the first rank that has no bed
 abbrev pub fall_of : FallingSystem → List ℕ → ℕ → Fall
@@ -70,7 +70,7 @@ fall_of sys bars i =
       school = i;
       from = slice_index bars i;
       to = slice_index (sys.ranks bars i) (slice_index sys.free i) - 1;
-      wishes = map (sys.name bars i) (first_over sys bars i);
+      wishes = map (sys.name bars i) (ranks_up_to_over sys bars i);
     }
 
 -- the bars after a fall
@@ -89,7 +89,7 @@ AreFalls sys bars (f ∷ fs) =
     × AreFalls sys (fallen bars f) fs
 
 -- a run of falls starts at the ceilings, and ends where no place is overfilled
-pub record IsRun (sys : FallingSystem) (falls : List Fall) : Type 0 where
+pub record IsRunOfFalls (sys : FallingSystem) (falls : List Fall) : Type 0 where
   pub are_falls : AreFalls sys sys.ceilings falls
   pub settled : IsTrue (is_settled sys (bars_after sys.ceilings falls))
 
@@ -101,4 +101,4 @@ falls_by sys bars (i ∷ picks) =
 
 -- the picks lead a system where their falls are a run
 abbrev pub Leads : FallingSystem → List ℕ → Type 0
-Leads sys picks = IsRun sys (falls_by sys sys.ceilings picks)
+Leads sys picks = IsRunOfFalls sys (falls_by sys sys.ceilings picks)

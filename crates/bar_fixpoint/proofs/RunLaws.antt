@@ -2,7 +2,7 @@
 use Rattle.std.proofs.Common.{◌≡◌, ℕ, List, [], ◌∷◌, inl, refl, sym, ap, ◌∙◌, subst, arith}
 use Rattle.std.proofs.lemmas.List.{append-nil, ext_get_or}
 use Rattle.admit_core.specs.declared.records.Fall.{Fall}
-use Rattle.admit_core.specs.Falls.{FallingSystem, IsGreatest, fall_of, fallen, AreFalls, IsRun, falls_by, Leads}
+use Rattle.admit_core.specs.Falls.{FallingSystem, IsGreatest, fall_of, fallen, AreFalls, IsRunOfFalls, falls_by, Leads}
 use Rattle.bar_fixpoint.specs.Chosen.{TellsOfFalls}
 use Rattle.bar_fixpoint.specs.Runs.{schools_of}
 
@@ -23,11 +23,11 @@ picked sys bars (f ∷ fs) are =
     let rest : falls_by sys (fallen bars g) (schools_of fs) ≡ fs = picked sys (fallen bars g) fs (subst P made are.2) in
     ap (λ xs. g ∷ xs) rest ∙ ap (λ x. x ∷ fs) (sym made)
 
-pub picks_fix : (sys : FallingSystem) (falls : List Fall) → IsRun sys falls
+pub picks_fix : (sys : FallingSystem) (falls : List Fall) → IsRunOfFalls sys falls
     → Leads sys (schools_of falls) × (falls_by sys sys.ceilings (schools_of falls) ≡ falls)
 picks_fix sys falls run =
     let same = picked sys sys.ceilings falls run.are_falls in
-    let P : List Fall → Type 0 = IsRun sys in
+    let P : List Fall → Type 0 = IsRunOfFalls sys in
     (subst P (sym same) run, same)
 
 -- what was told before an engine begins

@@ -3,7 +3,7 @@ use Rattle.std.proofs.Common.{◌≡◌, ℕ, ◌+◌, ◌<◌, ◌≤◌, List,
 use Rattle.std.specs.Prelude.{sum}
 use Rattle.std.proofs.lemmas.List.{length_push, append-nil}
 use Rattle.admit_core.specs.declared.records.Fall.{Fall}
-use Rattle.admit_core.specs.Falls.{FallingSystem, IsAtMost, IsLawful, IsGreatest, is_overfilled, is_settled, fall_of, fallen, bars_after, AreFalls, IsRun}
+use Rattle.admit_core.specs.Falls.{FallingSystem, IsAtMost, IsLawful, IsGreatest, is_overfilled, is_settled, fall_of, fallen, bars_after, AreFalls, IsRunOfFalls}
 use Rattle.admit_core.proofs.FallsLaw.{all_under, all_above, run_is_greatest}
 use Rattle.bar_fixpoint.specs.Overfilled.{all_overfilled}
 use Rattle.bar_fixpoint.specs.Runs.{AreAboveAllThatFit, schools_of}
@@ -83,7 +83,7 @@ module _ (sys : FallingSystem) (lawful : IsLawful sys) (choice : List ℕ → Li
       }
 
   -- where no place is overfilled any more
-  pub run_so_far : (falls : List Fall) (bars told_now : List ℕ) → SoFar sys choice told falls bars told_now → is_settled sys bars ≡ true → IsRun sys falls
+  pub run_so_far : (falls : List Fall) (bars told_now : List ℕ) → SoFar sys choice told falls bars told_now → is_settled sys bars ≡ true → IsRunOfFalls sys falls
   run_so_far falls bars told_now so_far settled =
       let P : List ℕ → Type 0 = λ x. is_settled sys x ≡ true in
       record { are_falls = so_far.are_falls; settled = subst P so_far.bars_fell settled }

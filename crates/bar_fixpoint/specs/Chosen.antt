@@ -1,7 +1,7 @@
 -- Falls whose places a picker chose.
 use Rattle.std.specs.Prelude.{◌≡◌, ℕ, List, [], ◌∷◌, ◌++◌, ◌⊎◌, IsTrue, ⊤}
 use Rattle.admit_core.specs.declared.records.Fall.{Fall}
-use Rattle.admit_core.specs.Falls.{FallingSystem, is_overfilled, fall_of, fallen, bars_after, AreFalls, IsRun}
+use Rattle.admit_core.specs.Falls.{FallingSystem, is_overfilled, fall_of, fallen, bars_after, AreFalls, IsRunOfFalls}
 use Rattle.bar_fixpoint.specs.Overfilled.{all_overfilled}
 use Rattle.bar_fixpoint.specs.Runs.{schools_of}
 
@@ -61,7 +61,7 @@ TellsOfFalls sys choice told told_after =
 pub record IsRunBy (sys : FallingSystem) (choice : List ℕ → List ℕ → ℕ)
     (told told_after after : List ℕ) : Type 0 where
   pub falls : List Fall
-  pub is_run : IsRun sys falls
+  pub is_run : IsRunOfFalls sys falls
   pub chosen : AreChosen sys choice told sys.ceilings falls
   pub bars_fell : after ≡ bars_after sys.ceilings falls
   pub told_of : told_after ≡ told ++ schools_of falls

@@ -1,7 +1,7 @@
 -- What holds of every lawful system of falling bars, in whatever order its bars fall.
 use Rattle.std.specs.Prelude.{◌≡◌, ℕ, List, map}
 use Rattle.admit_core.specs.declared.records.Fall.{Fall}
-use Rattle.admit_core.specs.Falls.{FallingSystem, IsAtMost, IsLawful, Fits, IsGreatest, bars_after, AreFalls, IsRun, falls_by, Leads}
+use Rattle.admit_core.specs.Falls.{FallingSystem, IsAtMost, IsLawful, Fits, IsGreatest, bars_after, AreFalls, IsRunOfFalls, falls_by, Leads}
 
 -- the places whose bars fell, in their order
 abbrev pub schools_of : List Fall → List ℕ
@@ -14,7 +14,7 @@ AreAboveAllThatFit sys bars = (others : List ℕ) → Fits sys others → IsAtMo
 -- every run of falls ends at the greatest bars
 abbrev pub EveryRunEndsAtTheGreatest : Type 0
 EveryRunEndsAtTheGreatest = (sys : FallingSystem) (falls : List Fall) → IsLawful sys
-    → IsRun sys falls → IsGreatest sys (bars_after sys.ceilings falls)
+    → IsRunOfFalls sys falls → IsGreatest sys (bars_after sys.ceilings falls)
 
 -- also where falls end early, no bar is below one of bars that fit
 abbrev pub FallsStayAboveAllThatFit : Type 0
@@ -33,5 +33,5 @@ TheGreatestIsUnique = (sys : FallingSystem) (one other : List ℕ) → IsGreates
 abbrev pub PicksFixTheFalls : Type 0
 PicksFixTheFalls =
     (sys : FallingSystem) (falls : List Fall)
-    → IsRun sys falls
+    → IsRunOfFalls sys falls
     → Leads sys (schools_of falls) × (falls_by sys sys.ceilings (schools_of falls) ≡ falls)

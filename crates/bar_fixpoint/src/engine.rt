@@ -1,6 +1,6 @@
 //! The engine.
 ghost use Rattle.std.specs.Prelude.{◌≡◌, ℕ, ◌+◌, ◌<◌, ◌≤◌, List, length, [], ◌∷◌, ◌++◌, Contains, IfOk, OnOk, OnErr, IfSome, IfNone, IsTrue, sum};
-ghost use Rattle.admit_core.specs.Falls.{IsAtMost, IsGreatest, IsRun, is_overfilled, is_settled, fall_of, fallen, bars_after};
+ghost use Rattle.admit_core.specs.Falls.{IsAtMost, IsGreatest, IsRunOfFalls, is_overfilled, is_settled, fall_of, fallen, bars_after};
 ghost use Rattle.bar_fixpoint.specs.Runs.{AreAboveAllThatFit, schools_of};
 ghost use Rattle.bar_fixpoint.specs.Chosen.{AreChosen, PickedFall, TellsAtMostOne, EndsEarly, IsPicked, IsRunBy};
 
@@ -23,7 +23,7 @@ pub fn greatest<F: Falling, L: Ledger>(
     requires { F.bars system.old ≡ (F.system system.old).ceilings }
 
     ensures greatest { OnOk result (IsGreatest (F.system system.old) (F.bars system.new)) }
-    ensures run { IfOk result (λ falls. IsRun (F.system system.old) falls.items) }
+    ensures run { IfOk result (λ falls. IsRunOfFalls (F.system system.old) falls.items) }
     ensures bars { IfOk result (λ falls.
         F.bars system.new ≡ bars_after (F.system system.old).ceilings falls.items) }
     ensures few { IfOk result (λ falls. length falls.items + sum (F.bars system.new)

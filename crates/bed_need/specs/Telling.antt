@@ -1,7 +1,7 @@
 -- What a picker tells as bars are found.
 use Rattle.std.specs.Prelude.{◌≡◌, ℕ, ◌++◌, List, Result, IfOk}
 use Rattle.admit_core.specs.declared.records.Fall.{Fall}
-use Rattle.admit_core.specs.Falls.{FallingSystem, IsRun}
+use Rattle.admit_core.specs.Falls.{FallingSystem, IsRunOfFalls}
 use Rattle.bar_fixpoint.specs.Chosen.{AreChosen}
 use Rattle.bar_fixpoint.specs.Runs.{schools_of}
 use Rattle.desk_day.specs.DayPasses.{TellsMore}
@@ -10,7 +10,7 @@ use Rattle.desk_day.specs.DayPasses.{TellsMore}
 pub record TellsOfRun (sys : FallingSystem) (choice : List ℕ → List ℕ → ℕ)
     (told after : List ℕ) : Type 0 where
   pub falls : List Fall
-  pub is_run : IsRun sys falls
+  pub is_run : IsRunOfFalls sys falls
   pub chosen : AreChosen sys choice told sys.ceilings falls
   pub told_of : after ≡ told ++ schools_of falls
 

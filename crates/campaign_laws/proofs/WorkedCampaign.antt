@@ -6,7 +6,7 @@ use Rattle.admit_core.specs.Boarding.{boarding}
 use Rattle.admit_core.specs.Days.{Days, IsDay, IsPassEnd, ceilings_of, changes, closing, freed_after, offered}
 use Rattle.admit_core.specs.CallOrder.{AreCallOrders}
 use Rattle.admit_core.specs.Days.{first_evening}
-use Rattle.admit_core.specs.Falls.{IsRun, bars_after}
+use Rattle.admit_core.specs.Falls.{IsRunOfFalls, bars_after}
 use Rattle.admit_core.specs.Proposals.{proposed}
 use Rattle.admit_core.specs.State.{State}
 use Rattle.admit_core.specs.WorkedRows.{small_dossier}
@@ -16,7 +16,7 @@ use Rattle.campaign_laws.specs.WorkedCampaign.{before_summer, first_day, first_n
 
 -- a pass with its automatic answers, by its run of falls
 pub end_by : (s : State) (orders : List CallOrder) (ceilings : List ℕ) (day k : ℕ) (end : PassEnd)
-    → IsRun (boarding s orders ceilings) end.pass.falls → end.pass.bars ≡ bars_after ceilings end.pass.falls
+    → IsRunOfFalls (boarding s orders ceilings) end.pass.falls → end.pass.bars ≡ bars_after ceilings end.pass.falls
     → end.pass.offers ≡ proposed s orders end.pass.bars
     → end.autos ≡ changes (offered s orders end.pass.bars (record { day = day; pass = k }))
     (closing s orders end.pass.bars (record { day = day; pass = k }))

@@ -12,7 +12,7 @@ use Rattle.admit_core.specs.declared.chain.PassChain.{PassChain}
 use Rattle.admit_core.specs.declared.ranking.CallOrder.{CallOrder}
 use Rattle.admit_core.specs.State.{State}
 use Rattle.admit_core.specs.Boarding.{boarding}
-use Rattle.admit_core.specs.Falls.{FallingSystem, fall_of, first_over, is_overfilled}
+use Rattle.admit_core.specs.Falls.{FallingSystem, fall_of, ranks_up_to_over, is_overfilled}
 use Rattle.admit_core.specs.Chains.{bars_by, closing_by, day_fault, extra_pass, first_overfilled, frees_nothing_by, lines_fault, lowered, pass_fault, passes_fault, school_of_line, shows_ranks, tells_bars}
 use Rattle.certificate.specs.Verdicts.{IfRejected, KeepsSchool, fault_told}
 use Rattle.certificate.specs.declared.check.Verdict.{Verdict}
@@ -60,7 +60,7 @@ module _ (orders : List CallOrder) (ceilings : List ℕ) where
       let h = school_of_line s line in
       or_tells (length ceilings) _ (lines_fault s orders ceilings (lowered s bars line) lines)
       (tests_tell (length ceilings) line.row (is_overfilled sys bars h) (shows_ranks s orders bars h
-      (first_over sys bars h) line.wishes) (tells_bars line (fall_of sys bars h)))
+      (ranks_up_to_over sys bars h) line.wishes) (tells_bars line (fall_of sys bars h)))
       (lines_tell s (lowered s bars line) lines)
 
   pass_tells : (s : State) (pass : PassChain) → Tells (length ceilings) (pass_fault s orders ceilings pass)

@@ -16,7 +16,7 @@ use Rattle.admit_core.specs.State.{State, free_beds}
 use Rattle.admit_core.specs.declared.state.Mark.{Mark}
 use Rattle.admit_core.specs.Proposals.{demanded_ranks}
 use Rattle.admit_core.specs.Boarding.{boarding, name_of}
-use Rattle.admit_core.specs.Falls.{IsAtMost, FallingSystem, is_overfilled, first_over, fall_of}
+use Rattle.admit_core.specs.Falls.{IsAtMost, FallingSystem, is_overfilled, ranks_up_to_over, fall_of}
 use Rattle.admit_core.specs.Chains.{school_of_line, shows_ranks, tells_bars, line_fault}
 use Rattle.admit_core.proofs.DemandLaws.{boarding_is_lawful}
 use Rattle.admit_core.proofs.FallsLaw.{at_set}
@@ -61,12 +61,12 @@ module _ (s : State) (orders : List CallOrder) (ceilings bars : List ℕ) (line 
 
   by_tests : line_fault s orders ceilings bars line
       ≡ line_tests (is_overfilled (boarding s orders ceilings) bars h)
-      (shows_ranks s orders bars h (first_over (boarding s orders ceilings) bars h) line.wishes)
+      (shows_ranks s orders bars h (ranks_up_to_over (boarding s orders ceilings) bars h) line.wishes)
       (tells_bars line (fall_of (boarding s orders ceilings) bars h))
   unfolding line_tests
   by_tests =
       ap (λ (k : ℕ). line_tests (is_overfilled (boarding s orders ceilings) bars k)
-      (shows_ranks s orders bars k (first_over (boarding s orders ceilings) bars k) line.wishes)
+      (shows_ranks s orders bars k (ranks_up_to_over (boarding s orders ceilings) bars k) line.wishes)
       (tells_bars line (fall_of (boarding s orders ceilings) bars k))) is
 
   -- no rank finds no bed
@@ -77,7 +77,7 @@ module _ (s : State) (orders : List CallOrder) (ceilings bars : List ℕ) (line 
       ∙ ap
       (λ b.
       line_tests b
-      (shows_ranks s orders bars h (first_over (boarding s orders ceilings) bars h) line.wishes)
+      (shows_ranks s orders bars h (ranks_up_to_over (boarding s orders ceilings) bars h) line.wishes)
       (tells_bars line (fall_of (boarding s orders ceilings) bars h)))
       (over_by_rank s orders ceilings bars h None lt told)
 
@@ -104,7 +104,7 @@ module _ (s : State) (orders : List CallOrder) (ceilings bars : List ℕ) (line 
     -- the ranks up to it are those that the fall shows
     front_is : length s.marks ≡ length s.dossier.wishes
         → filter (λ rank. nat_le rank over) (demanded_ranks s orders bars h)
-        ≡ first_over (boarding s orders ceilings) bars h
+        ≡ ranks_up_to_over (boarding s orders ceilings) bars h
     front_is long =
         let names = map (name_of s orders bars h) (filter (λ rank. nat_le rank over) (demanded_ranks s orders bars h)) in
         let made =
@@ -114,14 +114,14 @@ module _ (s : State) (orders : List CallOrder) (ceilings bars : List ℕ) (line 
         let rank_of = λ (k : ℕ). (wish_in s.dossier.wishes k).board_rank in
         sym (ranks_back s orders bars h over long)
         ∙ ap (λ (f : Fall). map rank_of f.wishes) made
-        ∙ map_back rank_of (name_of s orders bars h) (first_over (boarding s orders ceilings) bars h)
+        ∙ map_back rank_of (name_of s orders bars h) (ranks_up_to_over (boarding s orders ceilings) bars h)
         (λ k d k_in. (All-take (IsNamed s orders bars h) _ (demanded_ranks s orders bars h)
         (all_ranks_named s orders bars h long) k d k_in).1)
 
     module _ (long : length s.marks ≡ length s.dossier.wishes) (ranks : List ℕ) (are : ranks
         ≡ filter (λ rank. nat_le rank over) (demanded_ranks s orders bars h)) (shows : Bool)
         (shown : shows ≡ shows_ranks s orders bars h ranks line.wishes) where
-      shows_is : shows_ranks s orders bars h (first_over (boarding s orders ceilings) bars h) line.wishes ≡ shows
+      shows_is : shows_ranks s orders bars h (ranks_up_to_over (boarding s orders ceilings) bars h) line.wishes ≡ shows
       shows_is = ap (λ (rs : List ℕ). shows_ranks s orders bars h rs line.wishes) (sym (are ∙ front_is long)) ∙ sym shown
 
       tests_are : (tells : Bool) → tells_bars line (fall_of (boarding s orders ceilings) bars h)
@@ -131,7 +131,7 @@ module _ (s : State) (orders : List CallOrder) (ceilings bars : List ℕ) (line 
           ∙ ap
           (λ b.
           line_tests b
-          (shows_ranks s orders bars h (first_over (boarding s orders ceilings) bars h)
+          (shows_ranks s orders bars h (ranks_up_to_over (boarding s orders ceilings) bars h)
           line.wishes) (tells_bars line (fall_of (boarding s orders ceilings) bars h))) is_over
           ∙ ap (λ b. line_tests true b (tells_bars line (fall_of (boarding s orders ceilings) bars h))) shows_is
           ∙ ap (line_tests true shows) told_bars
@@ -298,7 +298,7 @@ stops_unknown s orders ceilings bars index line are as_many none =
     ap (λ (b : Bool). b && nat_lt (slice_index sys.free h) (length (sys.ranks bars h)))
     (le-ltb h (length ceilings) beyond) in
     ap (λ (b : Bool). option_map (λ (reason : CheckReason). (line.row, reason))
-    (line_tests b (shows_ranks s orders bars h (first_over sys bars h) line.wishes)
+    (line_tests b (shows_ranks s orders bars h (ranks_up_to_over sys bars h) line.wishes)
     (tells_bars line (fall_of sys bars h)))) idle
 
 -- a fault at a line, or none there

@@ -9,11 +9,11 @@ use Rattle.report.specs.DayText.{IsFallOf, fall_line}
 use Rattle.report.specs.Words.{line}
 
 -- the places that a pass and a day tell are those of the dossier
-abbrev pub IsPassOf : DossierRows → PassEnd → Type 0
-IsPassOf d end = All (IsFallOf d) end.pass.falls
+abbrev pub HasFallsOf : DossierRows → PassEnd → Type 0
+HasFallsOf d end = All (IsFallOf d) end.pass.falls
 
-abbrev pub IsDayOf : DossierRows → DayRecord → Type 0
-IsDayOf d day = All (IsPassOf d) day.passes
+abbrev pub HasPassesOf : DossierRows → DayRecord → Type 0
+HasPassesOf d day = All (HasFallsOf d) day.passes
 
 -- a pass with its number, and its falls
 abbrev pub pass_lines : DossierRows → ℕ × PassEnd → List ℕ

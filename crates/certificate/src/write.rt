@@ -1,6 +1,6 @@
 //! The text of the falls of days.
 ghost use Rattle.std.specs.Prelude.{◌≡◌, ◌++◌, All, IfOk, OnOk, string_bytes, flat_map};
-ghost use Rattle.certificate.specs.ChainText.{IsDayOf, IsPassOf, chain_text, day_lines, pass_lines, passes_lines};
+ghost use Rattle.certificate.specs.ChainText.{HasPassesOf, HasFallsOf, chain_text, day_lines, pass_lines, passes_lines};
 
 use admit_core::{DayRecord, Dossier, OutOfMemory, PassEnd};
 use report::push_falls;
@@ -13,7 +13,7 @@ fn push_pass(
     number: usize,
     end: &PassEnd,
 ) -> Result<(), AllocError>
-    requires { IsPassOf dossier.now end.now }
+    requires { HasFallsOf dossier.now end.now }
     ensures { OnOk result (string_bytes text.new
         ≡ string_bytes text.old ++ pass_lines dossier.now (number, end.now)) }
 {
@@ -24,7 +24,7 @@ fn push_pass(
 
 /// Adds the lines of a day's passes, numbered from 1.
 fn push_passes(text: &mut String, dossier: &Dossier, passes: &[PassEnd]) -> Result<(), AllocError>
-    requires { All (IsPassOf dossier.now) passes.now }
+    requires { All (HasFallsOf dossier.now) passes.now }
     ensures { OnOk result
         (string_bytes text.new ≡ string_bytes text.old ++ passes_lines dossier.now passes.now) }
 {
@@ -36,7 +36,7 @@ fn push_passes(text: &mut String, dossier: &Dossier, passes: &[PassEnd]) -> Resu
 
 /// Adds the lines of a day.
 fn push_day(text: &mut String, dossier: &Dossier, day: &DayRecord) -> Result<(), AllocError>
-    requires { IsDayOf dossier.now day.now }
+    requires { HasPassesOf dossier.now day.now }
     ensures { OnOk result
         (string_bytes text.new ≡ string_bytes text.old ++ day_lines dossier.now day.now) }
 {
@@ -52,7 +52,7 @@ pub fn write_chain(
     dossier: &Dossier,
     days: &[DayRecord],
 ) -> Result<Vec<u8>, OutOfMemory>
-    requires { All (IsDayOf dossier.now) days.now }
+    requires { All (HasPassesOf dossier.now) days.now }
     ensures { IfOk result (λ text. text.items ≡ chain_text dossier.now days.now) }
 {
     let mut text = String::new(alloc);

@@ -17,7 +17,7 @@ use Rattle.admit_core.specs.declared.records.Fall.{Fall}
 use Rattle.admit_core.specs.declared.state.Mark.{Mark}
 use Rattle.admit_core.specs.Boarding.{boarding, name_of}
 use Rattle.admit_core.specs.Chains.{AreFallLines, IsFallLine, bars_by, lowered, school_of_line, shows_rank, shows_ranks, tells_bars}
-use Rattle.admit_core.specs.Falls.{AreFalls, bars_after, fall_of, fallen, first_over, is_overfilled}
+use Rattle.admit_core.specs.Falls.{AreFalls, bars_after, fall_of, fallen, ranks_up_to_over, is_overfilled}
 use Rattle.admit_core.specs.Lists.{is_among}
 use Rattle.admit_core.specs.Proposals.{demanded_ranks, demands_bed}
 use Rattle.admit_core.specs.Standing.{place_of}
@@ -87,7 +87,7 @@ module _ (s : State) (orders : List CallOrder) (ceilings : List ℕ) (distinct :
   abbrev IsLineOf : List ℕ → FallLine → ℕ → Type 0
   IsLineOf bars line h =
       (is_overfilled (boarding s orders ceilings) bars h ≡ true)
-      × (shows_ranks s orders bars h (first_over (boarding s orders ceilings) bars h) line.wishes ≡ true)
+      × (shows_ranks s orders bars h (ranks_up_to_over (boarding s orders ceilings) bars h) line.wishes ≡ true)
       × (tells_bars line (fall_of (boarding s orders ceilings) bars h) ≡ true)
 
   school_is : (bars : List ℕ) (row : ℕ) (f : Fall) → is_overfilled (boarding s orders ceilings) bars f.school ≡ true → school_of_line s (fall_at s.dossier row f) ≡ f.school
@@ -103,7 +103,7 @@ module _ (s : State) (orders : List CallOrder) (ceilings : List ℕ) (distinct :
       let sys = boarding s orders ceilings in
       let h = f.school in (
         over,
-        ap (λ (ws : List ℕ). shows_ranks s orders bars h (first_over sys bars h) (map (wish_id s.dossier) ws)) (ap (λ (g : Fall). g.wishes) is)
+        ap (λ (ws : List ℕ). shows_ranks s orders bars h (ranks_up_to_over sys bars h) (map (wish_id s.dossier) ws)) (ap (λ (g : Fall). g.wishes) is)
             ∙ named_show s orders bars h (slice_index sys.free h + 1),
         and_from (f.from == (fall_of sys bars h).from) (f.to == (fall_of sys bars h).to) (eq-eqb f.from (fall_of sys bars h).from (ap (λ (g : Fall). g.from) is))
             (eq-eqb f.to (fall_of sys bars h).to (ap (λ (g : Fall). g.to) is)),

@@ -14,7 +14,7 @@ use Rattle.admit_core.specs.Lists.{is_among}
 use Rattle.admit_core.specs.declared.dossier.Wish.{Wish}
 use Rattle.day_state.specs.declared.spans.Span.{Span}
 use Rattle.day_state.specs.Spans.{part_of}
-use Rattle.day_state.specs.Kept.{candidate_in, span_in, IsIndex, IsRun, IsSpan, IsSpanPut, AreSpans}
+use Rattle.day_state.specs.Kept.{candidate_in, span_in, IsIndex, HoldsOneKey, IsSpan, IsSpanPut, AreSpans}
 use Rattle.day_state.proofs.Along.{among-filter}
 use Rattle.day_state.proofs.Ordering.{between}
 
@@ -88,7 +88,7 @@ among_within n k xs all among =
 -- the span of a run is that of its candidate, and later ones are above
 module _ (ws : List Wish) (order : List ℕ) (from to : ℕ) (rises : IsNonDecreasingBy (candidate_in ws) order)
     (lt : from < length order) (further : from < to) (within : to ≤ length order)
-    (run : IsRun (candidate_in ws) order from to) where
+    (run : HoldsOneKey (candidate_in ws) order from to) where
   abbrev key : ℕ → ℕ
   key = candidate_in ws
 
@@ -133,7 +133,7 @@ module _ (ws : List Wish) (order : List ℕ) (from to : ℕ) (rises : IsNonDecre
 -- one more run
 pub spanned_more : (ws : List Wish) (order : List ℕ) (from to : ℕ) (span : Span) (spans next : List Span) → IsIndex ws order
     → from < length order → AreSpanned ws order from spans
-    → from < to → to ≤ length order → IsRun (candidate_in ws) order from to → span.from ≡ from → span.to ≡ to
+    → from < to → to ≤ length order → HoldsOneKey (candidate_in ws) order from to → span.from ≡ from → span.to ≡ to
     → IsSpanPut (part_of order span) span spans next → AreSpanned ws order to next
 spanned_more ws order from to span spans next index lt so_far further within run from_is to_is put =
     let key = candidate_in ws in

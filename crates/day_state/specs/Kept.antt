@@ -106,7 +106,7 @@ abbrev pub span_in : List Span → ℕ → Span
 span_in spans k = unwrap_or (slice_get spans k) (record { from = 0; to = 0 })
 
 -- from one place up to another an order by a key holds one key, and that key nowhere else from there on
-pub record IsRun (key : ℕ → ℕ) (order : List ℕ) (from to : ℕ) : Type 0 where
+pub record HoldsOneKey (key : ℕ → ℕ) (order : List ℕ) (from to : ℕ) : Type 0 where
   pub alike : (k : ℕ) → from ≤ k → k < to
       → key (slice_index order k) ≡ key (slice_index order from)
   pub ends : to < length order → ¬ (key (slice_index order to) ≡ key (slice_index order from))

@@ -5,7 +5,7 @@ ghost use Rattle.std.specs.List.Sorted.{IsNonDecreasingBy, IsPermutation, IsStab
 ghost use Rattle.std.specs.Ordering.{nat_cmp};
 ghost use Rattle.admit_core.specs.DossierRows.{DossierRows, candidate_of};
 ghost use Rattle.admit_core.specs.OwnWishes.{own_places};
-ghost use Rattle.day_state.specs.Kept.{candidate_in, IsIndex, IsSpan, IsRun, IsSpanPut, AreSpans};
+ghost use Rattle.day_state.specs.Kept.{candidate_in, IsIndex, IsSpan, HoldsOneKey, IsSpanPut, AreSpans};
 
 use crate::spans::{Span, part};
 use admit_core::{Dossier, OutOfMemory, Wish};
@@ -154,7 +154,7 @@ fn end_of_run(wishes: &[Wish], order: &[u32], from: usize) -> usize
     requires from { from < length order.now }
     ensures further { from < result }
     ensures within { result ≤ length order.now }
-    ensures alike { IsRun (candidate_in wishes.now) order.now from result }
+    ensures alike { HoldsOneKey (candidate_in wishes.now) order.now from result }
 {
     let candidate = candidate_at(wishes, order[from]);
     let mut to = from + 1;

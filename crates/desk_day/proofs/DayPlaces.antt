@@ -10,7 +10,7 @@ use Rattle.std.proofs.lemmas.Slice.Zip.{length-zip}
 use Rattle.admit_core.specs.Boarding.{boarding, name_of}
 use Rattle.admit_core.specs.Days.{IsDay, IsPassEnd, Passes, closing, lapsed_on, morning, offered}
 use Rattle.admit_core.specs.DossierRows.{DossierRows}
-use Rattle.admit_core.specs.Falls.{AreFalls, fall_of, fallen, first_over, is_overfilled}
+use Rattle.admit_core.specs.Falls.{AreFalls, fall_of, fallen, ranks_up_to_over, is_overfilled}
 use Rattle.admit_core.specs.Lapses.{AreTermsFor, lapses, offer_day}
 use Rattle.admit_core.specs.Proposals.{demanded_ranks}
 use Rattle.admit_core.specs.State.{State, entries, free_beds, seats_left}
@@ -72,7 +72,7 @@ fall_in s orders ceilings bars f same over is = record {
   wishes =
       let h = f.school in
       let n = length s.dossier.wishes in
-      let ranks : List ℕ = first_over (boarding s orders ceilings) bars h in
+      let ranks : List ℕ = ranks_up_to_over (boarding s orders ceilings) bars h in
       All-same (λ (w : ℕ). w < n) f.wishes (map (name_of s orders bars h) ranks) (ap (λ (x : Fall). x.wishes) is)
       (names_in n (entries s) _ ranks (no_ranks s orders bars h _) (few_entries s));
 }

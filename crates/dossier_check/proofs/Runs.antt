@@ -8,7 +8,7 @@ use Rattle.std.proofs.lemmas.List.Folds.{list_all_at}
 use Rattle.std.proofs.lemmas.Option.{slice_get-get_or}
 use Rattle.admit_core.specs.declared.tables.WishRow.{WishRow}
 use Rattle.dossier_check.specs.declared.apart.Run.{Run}
-use Rattle.dossier_check.specs.Runs.{IsRun, clashes, run_with}
+use Rattle.dossier_check.specs.Runs.{IsRunUpTo, clashes, run_with}
 use Rattle.dossier_check.proofs.Places.{nat_eq_sound}
 
 -- wishes of two candidates do not clash
@@ -17,10 +17,10 @@ of_two row r lt = let differ : nat_eq row.candidate r.candidate ≡ false = grin
 
 -- the run before the next row, and that this is of its candidate
 pub record Joins (rows : List WishRow) (row : WishRow) (next : Run) (to : ℕ) : Type 0 where
-  pub run : IsRun rows next to
+  pub run : IsRunUpTo rows next to
   pub same : row.candidate ≡ next.candidate
 
-pub joined : (rows : List WishRow) (row : WishRow) (run next : Run) (to : ℕ) → run_with run row.candidate to ≡ Some next → IsRun rows run to → Joins rows row next to
+pub joined : (rows : List WishRow) (row : WishRow) (run next : Run) (to : ℕ) → run_with run row.candidate to ≡ Some next → IsRunUpTo rows run to → Joins rows row next to
 joined rows row run next to is before = by (nat_eq row.candidate run.candidate) refl (nat_lt run.candidate row.candidate) refl
   where
     below : (j : ℕ) (d : WishRow) → run.candidate < row.candidate → j < to → (get_or rows j d).candidate < row.candidate
@@ -62,7 +62,7 @@ row_there rows row place within is d =
     cc (is, there)
 
 -- a run that goes on
-module _ (rows : List WishRow) (run : Run) (to : ℕ) (within : to < length rows) (before : IsRun rows run to) where
+module _ (rows : List WishRow) (run : Run) (to : ℕ) (within : to < length rows) (before : IsRunUpTo rows run to) where
   module _ (row : WishRow) (here : (d : WishRow) → get_or rows to d ≡ row) (same : row.candidate ≡ run.candidate)
       (apart : list_all (λ r. not (clashes row r)) (slice_range rows run.from to) ≡ true) where
     own_apart : (j : ℕ) (d : WishRow) → run.from ≤ j → j < to → clashes row (get_or rows j d) ≡ false
@@ -96,7 +96,7 @@ module _ (rows : List WishRow) (run : Run) (to : ℕ) (within : to < length rows
         at (inl early) = of_two row (get_or rows j d) (omega (arith, before.others j d early, same))
         at (inr late) = own_apart j d late lt
 
-    pub goes_on : IsRun rows run (to + 1)
+    pub goes_on : IsRunUpTo rows run (to + 1)
     goes_on = record {
       start = omega (arith, before.start);
       apart = λ j k d lt next. apart_at j k d lt (before_or_at k next);

@@ -12,12 +12,12 @@ use Rattle.dossier_check.specs.declared.ranks.Dealt.{Dealt}
 use Rattle.dossier_check.specs.declared.who_is_ranked.WhoIsRanked.{WhoIsRanked}
 
 -- the candidates of a list, ascending
-abbrev pub candidates_of : List Ranked → List ℕ
-candidates_of list = sorted_by (λ n. n) (map (λ r. r.candidate) list)
+abbrev pub ascending_candidates : List Ranked → List ℕ
+ascending_candidates list = sorted_by (λ n. n) (map (λ r. r.candidate) list)
 
 -- the candidates of a group, ascending
 abbrev pub candidates_in : List RankRow → ℕ → List ℕ
-candidates_in rankings group = candidates_of (ranked_in rankings group)
+candidates_in rankings group = ascending_candidates (ranked_in rankings group)
 
 -- a group made of its row and of its candidates in file order
 abbrev pub built : GroupRow → List Ranked → RankGroup

@@ -23,7 +23,7 @@ run_with run candidate place =
     else None
 
 -- no two rows before a place clash, and those of the last candidate are those of the run
-pub record IsRun (rows : List WishRow) (run : Run) (to : ℕ) : Type 0 where
+pub record IsRunUpTo (rows : List WishRow) (run : Run) (to : ℕ) : Type 0 where
   pub start : run.from ≤ to
   pub apart : (j k : ℕ) (d : WishRow) → j < k → k < to
       → clashes (get_or rows k d) (get_or rows j d) ≡ false

@@ -2,7 +2,7 @@
 ghost use Rattle.std.specs.Prelude.{◌≡◌, ◌+◌, ◌≤◌, ◌<◌, ◌&&◌, AllPairs, IfOk, IfSome, Some, false, length, nat_eq, not, slice_get, true};
 ghost use Rattle.std.specs.List.{list_all};
 ghost use Rattle.admit_core.specs.Relations.{same_wish};
-ghost use Rattle.dossier_check.specs.Runs.{IsRun, clashes, run_with, same_preference};
+ghost use Rattle.dossier_check.specs.Runs.{IsRunUpTo, clashes, run_with, same_preference};
 ghost use Rattle.dossier_check.specs.Wished.{has_preference};
 
 use crate::preferred::preferences_apart;
@@ -73,7 +73,7 @@ impl Run {
         requires from { self.from ≤ place }
         requires within { place < length rows.now }
         ensures { IfSome result (λ next.
-            IsRun rows.now self place → IsRun rows.now next (place + 1)) }
+            IsRunUpTo rows.now self place → IsRunUpTo rows.now next (place + 1)) }
     {
         let row = wish_at(rows, place);
         let next = self.with(row.candidate, place)?;

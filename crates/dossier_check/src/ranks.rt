@@ -5,7 +5,7 @@ ghost use Rattle.admit_core.specs.declared.slot.Slot.TheVariants as slots;
 ghost use Rattle.admit_core.specs.Faults.{first_in};
 ghost use Rattle.admit_core.specs.Lists.{sorted_by};
 ghost use Rattle.admit_core.specs.Relations.{ranking_tests, group_ids};
-ghost use Rattle.dossier_check.specs.Dealt.{AreDealt, HasItsGroup, candidates_of};
+ghost use Rattle.dossier_check.specs.Dealt.{AreDealt, HasItsGroup, ascending_candidates};
 ghost use Rattle.dossier_check.specs.Outcome.{AnswersFault};
 
 use crate::groups::{rank_groups, ranked_lists};
@@ -38,7 +38,7 @@ fn rises(numbers: &[u32]) -> bool
 
 /// The candidates of a group, ascending.
 fn ascending_candidates(alloc: Global, list: &[Ranked]) -> Result<Vec<u32>, OutOfMemory>
-    ensures { IfOk result (λ ids. ids.items ≡ candidates_of list.now) }
+    ensures { IfOk result (λ ids. ids.items ≡ ascending_candidates list.now) }
 {
     let mut ids = list.iter().map(|ranked| ranked.candidate).collect(alloc)?;
     sort_numbers(&mut ids)?;
@@ -52,7 +52,7 @@ fn push_ascending(
     list: &[Ranked],
 ) -> Result<(), OutOfMemory>
     ensures { OnOk result (map (λ l. l.items) done.new.items
-        ≡ map (λ l. l.items) done.old.items ++ candidates_of list.now ∷ []) }
+        ≡ map (λ l. l.items) done.old.items ++ ascending_candidates list.now ∷ []) }
 {
     done.push(ascending_candidates(alloc, list)?)?;
     Ok(())
@@ -61,7 +61,7 @@ fn push_ascending(
 /// The candidates of each group, ascending.
 fn candidate_lists(alloc: Global, lists: &[Vec<Ranked>]) -> Result<Vec<Vec<u32>>, OutOfMemory>
     ensures { IfOk result (λ done.
-        map (λ l. l.items) done.items ≡ map (λ l. candidates_of l.items) lists.now) }
+        map (λ l. l.items) done.items ≡ map (λ l. ascending_candidates l.items) lists.now) }
 {
     let mut done = Vec::with_capacity(alloc, lists.len())?;
     for list in lists {

@@ -5,10 +5,8 @@ use Rattle.admit_core.specs.DossierRows.{DossierRows}
 use Rattle.admit_core.specs.declared.records.Terms.{Terms}
 use Rattle.admit_core.specs.declared.tables.Since.{Since}
 use Rattle.calendar.specs.Dates.{IsRead, civil}
-use Rattle.dossier_check.specs.Dates.{dates_of}
 use Rattle.request.specs.Request.{IsStart}
 use Rattle.request.specs.declared.request.Deadlines.{Deadlines}
-use Rattle.intake.specs.Input.{Job}
 use Rattle.intake.specs.declared.terms.DatedTerms.{DatedTerms}
 
 -- the number of a date that was read
@@ -30,10 +28,6 @@ terms_from dates deadlines =
 
 abbrev pub dated_from : List (Option Since) → Deadlines → DatedTerms
 dated_from dates deadlines = record { start = deadlines.start; terms = terms_from dates deadlines }
-
--- the terms of a job's offers, where these have deadlines
-abbrev pub dated_of : Job → Option DatedTerms
-dated_of job = option_map (dated_from (dates_of job.tables)) job.request.deadlines
 
 abbrev pub terms_in : Option DatedTerms → Option Terms
 terms_in dated = option_map (λ x. x.terms) dated

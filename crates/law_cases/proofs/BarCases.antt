@@ -3,7 +3,7 @@ use Rattle.std.proofs.Common.{ℕ, ◌≡◌, List, [], ◌∷◌, refl, subst, 
 use Rattle.admit_core.specs.declared.ranking.CallOrder.{CallOrder}
 use Rattle.admit_core.specs.declared.records.Fall.{Fall}
 use Rattle.admit_core.specs.Boarding.{boarding}
-use Rattle.admit_core.specs.Falls.{Fits, IsGreatest, IsRun, Leads, bars_after, falls_by}
+use Rattle.admit_core.specs.Falls.{Fits, IsGreatest, IsRunOfFalls, Leads, bars_after, falls_by}
 use Rattle.admit_core.specs.State.{State}
 use Rattle.admit_core.specs.WorkedDays.{fall, two_candidates}
 use Rattle.admit_core.specs.WorkedRows.{cascade, cascade_orders, greatest_bar, greatest_bar_orders}
@@ -13,7 +13,7 @@ use Rattle.law_cases.specs.Bars.{AreAboveAllThatFitWitness, EveryRunEndsAtTheGre
 use Rattle.law_cases.proofs.Tested.{at_most_by}
 
 -- the greatest bars of a state, by a run of falls
-pub greatest_by : (s : State) (orders : List CallOrder) (ceilings : List ℕ) (falls : List Fall) (bars : List ℕ) → IsRun (boarding s orders ceilings) falls → bars_after ceilings falls ≡ bars
+pub greatest_by : (s : State) (orders : List CallOrder) (ceilings : List ℕ) (falls : List Fall) (bars : List ℕ) → IsRunOfFalls (boarding s orders ceilings) falls → bars_after ceilings falls ≡ bars
     → IsGreatest (boarding s orders ceilings) bars
 greatest_by s orders ceilings falls bars run ends =
     let sys = boarding s orders ceilings in
@@ -42,10 +42,10 @@ no_more_stand_ahead = (at_most_by _ _ refl, lit≤ tt)
 pub wishes_stay_proposed : WishesStayProposedWitness
 wishes_stay_proposed = (at_most_by _ _ refl, refl, refl, refl)
 
-one_run : IsRun (boarding greatest_bar greatest_bar_orders (10 ∷ [])) one_fall
+one_run : IsRunOfFalls (boarding greatest_bar greatest_bar_orders (10 ∷ [])) one_fall
 one_run = record { are_falls = (refl, refl, tt); settled = refl }
 
-three_run : IsRun (boarding cascade cascade_orders (9 ∷ 9 ∷ [])) three_falls
+three_run : IsRunOfFalls (boarding cascade cascade_orders (9 ∷ 9 ∷ [])) three_falls
 three_run = record { are_falls = (refl, refl, (refl, refl, (refl, refl, tt))); settled = refl }
 
 pub runs_end_at_greatest : RunsEndAtGreatestWitness

@@ -7,7 +7,7 @@ use Rattle.admit_core.proofs.ByPlaces.{by_places}
 use Rattle.admit_core.proofs.FallsLaw.{run_is_greatest}
 use Rattle.markets.specs.Bars.{market_system}
 use Rattle.markets.specs.Lawful.{market_is_lawful}
-use Rattle.markets.specs.Markets.{IsMarket, MarketRows, list_of, lists_it, position_of}
+use Rattle.markets.specs.Markets.{IsMarket, MarketRows, list_of, lists_it, market_position}
 use Rattle.markets.specs.Matchings.{IsBestForAll, IsMatching, IsStable, place_of}
 use Rattle.markets.proofs.Best.{greatest_is_best}
 use Rattle.markets.proofs.SamePlaced.{any_two, placed_in_all, there_is_a_best}
@@ -121,7 +121,7 @@ same_lists (suc zero) other = refl
 same_lists (suc (suc y)) other = refl
 
 same_ranks : (p y z : ℕ) → IsTrue (lists_it crossed p y) → IsTrue (lists_it crossed p z) → IsTrue (lists_it second_alone p y) → IsTrue (lists_it second_alone p z)
-    → nat_lt (position_of crossed p y) (position_of crossed p z) ≡ nat_lt (position_of second_alone p y) (position_of second_alone p z)
+    → nat_lt (market_position crossed p y) (market_position crossed p z) ≡ nat_lt (market_position second_alone p y) (market_position second_alone p z)
 same_ranks zero y z a b c d = refl
 same_ranks (suc zero) y z a b c d = rw (only_one y c, only_one z d) refl where
   only_one : (x : ℕ) → lists_it second_alone 1 x ≡ true → x ≡ 1

@@ -7,7 +7,7 @@ use Rattle.admit_core.specs.declared.records.Fall.{Fall}
 use Rattle.admit_core.specs.declared.state.Mark.{Mark}
 use Rattle.admit_core.specs.declared.state.Status.TheVariants.{Waiting}
 use Rattle.admit_core.specs.Boarding.{boarding}
-use Rattle.admit_core.specs.Falls.{AreFalls, Fits, FallingSystem, IsAtMost, IsGreatest, IsLawful, IsRun, Leads, bars_after, falls_by}
+use Rattle.admit_core.specs.Falls.{AreFalls, Fits, FallingSystem, IsAtMost, IsGreatest, IsLawful, IsRunOfFalls, Leads, bars_after, falls_by}
 use Rattle.admit_core.specs.Lists.{is_among}
 use Rattle.admit_core.specs.Proposals.{ahead, demanded_ranks, is_open, is_proposed}
 use Rattle.admit_core.specs.State.{State}
@@ -109,7 +109,7 @@ RunsEndAtGreatestWitness =
     let orders : List CallOrder = greatest_bar_orders in
     let ceilings : List ℕ = 10 ∷ [] in
     let falls : List Fall = one_fall in
-    IsRun (boarding s orders ceilings) falls
+    IsRunOfFalls (boarding s orders ceilings) falls
     × IsGreatest (boarding s orders ceilings) (bars_after ceilings falls)
 
 abbrev pub LoweredBarsAreFullWitness : Type 0
@@ -128,7 +128,7 @@ EveryRunEndsAtTheGreatestWitness =
     let sys : FallingSystem = boarding cascade cascade_orders (9 ∷ 9 ∷ []) in
     let falls : List Fall = three_falls in
     IsLawful sys
-    × IsRun sys falls
+    × IsRunOfFalls sys falls
     × IsGreatest sys (bars_after sys.ceilings falls)
 
 -- after the first fall alone
@@ -166,5 +166,5 @@ abbrev pub PicksFixTheFallsWitness : Type 0
 PicksFixTheFallsWitness =
     let sys : FallingSystem = boarding cascade cascade_orders (9 ∷ 9 ∷ []) in
     let falls : List Fall = three_falls in
-    IsRun sys falls
+    IsRunOfFalls sys falls
     × Leads sys (schools_of falls) × (falls_by sys sys.ceilings (schools_of falls) ≡ falls)

@@ -4,12 +4,12 @@ use Rattle.std.specs.Prelude.{◌≡◌, ℕ, false, List, [], ◌∷◌, ◌++�
 use Rattle.admit_core.specs.declared.ranking.CallOrder.{CallOrder}
 use Rattle.admit_core.specs.declared.records.Fall.{Fall}
 use Rattle.admit_core.specs.DossierRows.{DossierRows}
-use Rattle.admit_core.specs.Falls.{IsGreatest, IsLawful, IsRun, bars_after, falls_by}
+use Rattle.admit_core.specs.Falls.{IsGreatest, IsLawful, IsRunOfFalls, bars_after, falls_by}
 use Rattle.admit_core.specs.Standing.{dossier_of}
 use Rattle.admit_core.specs.WorkedFaults.{wish}
 use Rattle.fairness.specs.NotPromised.{by_rank, group, plain, programme, tables}
 use Rattle.markets.specs.Bars.{market_system, matched_under}
-use Rattle.markets.specs.Dossiers.{candidates_of, market_of}
+use Rattle.markets.specs.Dossiers.{market_candidates, market_of}
 use Rattle.markets.specs.Markets.{IsMarket, MarketRows}
 use Rattle.markets.specs.Matchings.{IsBestForAll, IsStable, place_of, prefers}
 use Rattle.markets.specs.Placed.{ArePlacedInAll, HaveSamePlaced}
@@ -52,8 +52,8 @@ TheSameWhicheverFallsFirstWitness =
     let falls : List Fall = falls_by (market_system two_contests) (2 ∷ 2 ∷ []) (0 ∷ 1 ∷ []) in
     let others : List Fall = falls_by (market_system two_contests) (2 ∷ 2 ∷ []) (1 ∷ 0 ∷ []) in
     IsMarket m
-    × IsRun (market_system m) falls
-    × IsRun (market_system m) others
+    × IsRunOfFalls (market_system m) falls
+    × IsRunOfFalls (market_system m) others
     × (matched_under m (bars_after (market_system m).ceilings falls)
     ≡ matched_under m (bars_after (market_system m).ceilings others))
 
@@ -134,4 +134,4 @@ CrossedDossier =
     (by_rank 1 (102 ∷ 101 ∷ []) ++ by_rank 2 (101 ∷ 102 ∷ [])) [] (wish 1 102 20 None 1
     ∷ wish 2 101 10 None 1 ∷ wish 3 102 10 None 2 ∷ wish 4 101 20 None 2 ∷ [])) in
     let orders : List CallOrder = plain (102 ∷ 101 ∷ []) ∷ plain (101 ∷ 102 ∷ []) ∷ [] in
-    (market_of d orders ≡ crossed) × (candidates_of d ≡ 102 ∷ 101 ∷ [])
+    (market_of d orders ≡ crossed) × (market_candidates d ≡ 102 ∷ 101 ∷ [])

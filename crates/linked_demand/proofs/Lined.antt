@@ -16,7 +16,7 @@ use Rattle.admit_core.specs.DossierRows.{DossierRows, candidate_of, limit_of}
 use Rattle.admit_core.specs.Lists.{is_among}
 use Rattle.admit_core.specs.Proposals.{order_of}
 use Rattle.day_state.specs.declared.spans.Span.{Span}
-use Rattle.day_state.specs.Kept.{IsRun, wish_in}
+use Rattle.day_state.specs.Kept.{HoldsOneKey, wish_in}
 use Rattle.day_state.specs.Spans.{IsWithin, part_of}
 use Rattle.day_state.proofs.Places.{candidate_in}
 use Rattle.proposals.proofs.Front.{before_is, up_to}
@@ -31,7 +31,7 @@ use Rattle.linked_demand.proofs.Seating.{seated_more, seated_start}
 -- where a stretch of one number begins a list's rest, the run from there is the stretch
 run_ends : (A B C : List ℕ) (v from to : ℕ) (xs : List ℕ) → xs ≡ A ++ (B ++ C) → from ≡ length A → 0 < length B
     → ((j : ℕ) → j < length B → get_or B j 0 ≡ v) → (0 < length C → get_or C 0 0 ≡ v → ⊥)
-    → from < to → to ≤ length xs → IsRun (λ k. k) xs from to → to ≡ from + length B
+    → from < to → to ≤ length xs → HoldsOneKey (λ k. k) xs from to → to ≡ from + length B
 run_ends A B C v from to xs xs_is from_is some alike head further within run =
     let rest : drop from xs ≡ B ++ C = ap (λ n. drop n xs) from_is ∙ ap (drop (length A)) xs_is ∙ drop-append_seam A (B ++ C) in
     let read : (j : ℕ) → get_or xs (from + j) 0 ≡ get_or (B ++ C) j 0 =
@@ -191,7 +191,7 @@ module _ (d : DossierRows) (orders : List CallOrder) (p : ℕ) (wishes before : 
       let other = (place_at line m once next_in_line).once (m + 1 + i) in_line (ne_eqb (m + 1 + i) m (λ e. omega (arith, e))) in
       false≢true (sym other ∙ eq-eqb x (get_or line (m + 1 + i) 0) (sym both))
 
-  pub run_is_claim : (to : ℕ) → from < to → to ≤ length before → IsRun (λ k. k) before from to → to ≡ from + length (claim x)
+  pub run_is_claim : (to : ℕ) → from < to → to ≤ length before → HoldsOneKey (λ k. k) before from to → to ≡ from + length (claim x)
   run_is_claim to further within run =
       let pos = before_at d orders in
       let parts : before ≡ map pos front ++ (map pos (claim x) ++ map pos back) =
@@ -256,7 +256,7 @@ pub lined_more : (d : DossierRows) (orders : List CallOrder) (p : ℕ) (wishes b
     → before ≡ map (before_at d orders) wishes → IsDistinct nat_eq (line_of d orders p)
     → (from to : ℕ) (span : Span) (spans next : List Span) (places new_places : List ℕ) (early new_early : List Bool)
     (place : ℕ) (is_early : Bool) → IsLined d orders p wishes from spans places early → from < length wishes → from < to
-    → to ≤ length before → IsRun (λ k. k) before from to → span.from ≡ from → span.to ≡ to → next ≡ spans ++ span ∷ []
+    → to ≤ length before → HoldsOneKey (λ k. k) before from to → span.from ≡ from → span.to ≡ to → next ≡ spans ++ span ∷ []
     → place ≡ length spans → is_early ≡ nat_lt (get_or before from 0) (limit_of d p)
     → PutAt ℕ 0 (part_of wishes span) place places new_places → PutAt Bool false (part_of wishes span) is_early early new_early
     → IsLined d orders p wishes to next new_places new_early
@@ -306,7 +306,7 @@ pub part_read : (d : DossierRows) (orders : List CallOrder) (p : ℕ) (wishes be
     → before ≡ map (before_at d orders) wishes → IsDistinct nat_eq (line_of d orders p)
     → (from to : ℕ) (span : Span) (spans : List Span) (places : List ℕ) (early : List Bool)
     → IsLined d orders p wishes from spans places early → from < length wishes → from < to
-    → to ≤ length before → IsRun (λ k. k) before from to → span.from ≡ from → span.to ≡ to
+    → to ≤ length before → HoldsOneKey (λ k. k) before from to → span.from ≡ from → span.to ≡ to
     → part_of wishes span ≡ claim_of d p (get_or (line_of d orders p) (length spans) 0)
 part_read d orders p wishes before wishes_are before_is once from to span spans places early lined lt further within run from_is to_is =
     let end = run_is_claim d orders p wishes before wishes_are before_is once from spans places early lined lt to further within run in

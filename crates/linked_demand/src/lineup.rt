@@ -3,7 +3,7 @@
 ghost use Rattle.std.specs.Prelude.{◌≡◌, ℕ, ◌<◌, ◌≤◌, ◌^◌, false, length, map, nat_eq, nat_lt, All, Bool, IfOk, OnOk};
 ghost use Rattle.std.specs.List.{IsDistinct};
 ghost use Rattle.admit_core.specs.CallOrder.{AreCallOrders};
-ghost use Rattle.day_state.specs.Kept.{IsRun};
+ghost use Rattle.day_state.specs.Kept.{HoldsOneKey};
 ghost use Rattle.linked_demand.specs.Called.{before_at, called_for};
 ghost use Rattle.linked_demand.specs.Links.{claim_of};
 ghost use Rattle.linked_demand.specs.Opens.{line_of};
@@ -57,7 +57,7 @@ fn end_of_claim(before: &[u32], from: usize) -> usize
     requires { from < length before.now }
     ensures further { from < result }
     ensures within { result ≤ length before.now }
-    ensures run { IsRun (λ k. k) before.now from result }
+    ensures run { HoldsOneKey (λ k. k) before.now from result }
 {
     let mut to = from + 1;
     while to < before.len() && before[to] == before[from] {

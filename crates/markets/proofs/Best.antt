@@ -8,7 +8,7 @@ use Rattle.std.proofs.lemmas.List.FromFn.{length-map-range_with_len, get_or-map-
 use Rattle.std.proofs.lemmas.List.Sums.{fails_before_first, passes_at_first, prefix_len-le-length}
 use Rattle.admit_core.specs.Lists.{is_among}
 use Rattle.admit_core.specs.Falls.{IsAtMost, Fits, IsGreatest}
-use Rattle.markets.specs.Markets.{MarketRows, IsMarket, list_of, order_of, lists_it, position_of}
+use Rattle.markets.specs.Markets.{MarketRows, IsMarket, list_of, market_order, lists_it, market_position}
 use Rattle.markets.specs.Matchings.{place_of, is_at, holders, prefers, would_take, IsStable, IsBestForAll}
 use Rattle.markets.specs.Bars.{is_within, best_within, matched_under, market_system}
 use Rattle.markets.specs.Firsts.{among_before, among_filter, any_of, range_has, found_at}
@@ -19,7 +19,7 @@ use Rattle.markets.proofs.Stable.{ceiling_is, beyond_reach}
 module _ (m : MarketRows) (is : IsMarket m) (places : List (Option ℕ)) (stable : IsStable m places) where
   -- the bar of a programme: below the first of its order who prefers it to their place
   bar_left : ℕ → ℕ
-  bar_left p = position_or_len (λ x. prefers m places x p) (order_of m p)
+  bar_left p = position_or_len (λ x. prefers m places x p) (market_order m p)
 
   bars_left : List ℕ
   bars_left = map bar_left (range_with_len 0 (length m.orders))
@@ -33,11 +33,11 @@ module _ (m : MarketRows) (is : IsMarket m) (places : List (Option ℕ)) (stable
   bars_each = length-map-range_with_len bar_left 0 (length m.orders)
 
   -- what a candidate prefers to their place is beyond these bars
-  left_out : (x p : ℕ) → prefers m places x p ≡ true → slice_index bars_left p < position_of m p x
+  left_out : (x p : ℕ) → prefers m places x p ≡ true → slice_index bars_left p < market_position m p x
   unfolding bar_left
   left_out x p t =
       let on_list : lists_it m p x ≡ true = (among_before (λ q. is_at q (place_of places x)) p (list_of m x) t).0 in
-      let order : List ℕ = order_of m p in
+      let order : List ℕ = market_order m p in
       let test : ℕ → Bool = λ y. prefers m places y p in
       let i : ℕ = position_or_len (nat_eq x) order in
       let at : get_or order i 0 ≡ x = at_first x order (in_order m is p x on_list) in
@@ -49,11 +49,11 @@ module _ (m : MarketRows) (is : IsMarket m) (places : List (Option ℕ)) (stable
       omega (arith, first, bar_is p (is_programme m is p x on_list), position_is m p x)
 
   -- and their place is within reach
-  kept_within : (x p : ℕ) → place_of places x ≡ Some p → position_of m p x ≤ slice_index bars_left p
+  kept_within : (x p : ℕ) → place_of places x ≡ Some p → market_position m p x ≤ slice_index bars_left p
   unfolding bar_left
   kept_within x p at =
       let on_list : lists_it m p x ≡ true = stable.matching.listed x p at in
-      let order : List ℕ = order_of m p in
+      let order : List ℕ = market_order m p in
       let p_lt : p < length m.orders = is_programme m is p x on_list in
       let test : ℕ → Bool = λ y. prefers m places y p in
       let i : ℕ = position_or_len (nat_eq x) order in
@@ -79,18 +79,18 @@ module _ (m : MarketRows) (is : IsMarket m) (places : List (Option ℕ)) (stable
                   let here : y ≡ x = ap (λ k. get_or order k 0) same ∙ at_i in
                   absurd (false≢true (sym content ∙ ap test (sym here) ∙ wants))
             ] in
-            let earlier : nat_lt (position_of m p y) (position_of m p x) ≡ true =
-            lt-ltb (position_of m p y) (position_of m p x) (omega (arith, position_is m p y, position_is m p x, y_at, apart)) in
+            let earlier : nat_lt (market_position m p y) (market_position m p x) ≡ true =
+            lt-ltb (market_position m p y) (market_position m p x) (omega (arith, position_is m p y, position_is m p x, y_at, apart)) in
             let held : is_among x (holders places p) ≡ true =
             (let range : List ℕ = range_with_len 0 (length places) in
             let in_range : is_among x range ≡ true =
             range_has x 0 (length places) (omega arith) (omega (arith, is_candidate m is p x on_list, stable.matching.one_place_each)) in
             among_filter (λ z. is_at p (place_of places z)) x range ∙ rw (in_range, holds) refl) in
-            let later : list_any (λ z. nat_lt (position_of m p y) (position_of m p z)) (holders places p) ≡ true =
-            any_of (λ z. nat_lt (position_of m p y) (position_of m p z)) x (holders places p) held earlier in
+            let later : list_any (λ z. nat_lt (market_position m p y) (market_position m p z)) (holders places p) ≡ true =
+            any_of (λ z. nat_lt (market_position m p y) (market_position m p z)) x (holders places p) held earlier in
             let taken : would_take m places p y ≡ true =
             or_right (nat_lt (length (holders places p)) (slice_index m.seats p))
-            (list_any (λ z. nat_lt (position_of m p y) (position_of m p z)) (holders places p)) later in
+            (list_any (λ z. nat_lt (market_position m p y) (market_position m p z)) (holders places p)) later in
             absurd (false≢true (sym (stable.no_block y p wants) ∙ taken))
       ] in
       omega (arith, within, bar_is p p_lt, position_is m p x)
@@ -99,8 +99,8 @@ module _ (m : MarketRows) (is : IsMarket m) (places : List (Option ℕ)) (stable
   same_places : (x : ℕ) → place_of places x ≡ best_within m bars_left x
   same_places x =
       sym (found_at (is_within m bars_left x) (place_of places x) (list_of m x)
-      (λ q t. lt-leb (position_of m q x) (slice_index bars_left q) (left_out x q t))
-      (λ p at. (stable.matching.listed x p at, le-leb (position_of m p x) (slice_index bars_left p) (kept_within x p at))))
+      (λ q t. lt-leb (market_position m q x) (slice_index bars_left q) (left_out x q t))
+      (λ p at. (stable.matching.listed x p at, le-leb (market_position m p x) (slice_index bars_left p) (kept_within x p at))))
 
   -- they are no higher than the ceilings
   under : IsAtMost bars_left (map length m.orders)
@@ -111,7 +111,7 @@ module _ (m : MarketRows) (is : IsMarket m) (places : List (Option ℕ)) (stable
         each = λ p.
             elim (cases_lt p (length m.orders)) [
               | inl lt ↦
-                  omega (arith, bar_is p lt, ceiling_is m p, prefix_len-le-length (λ x. not (prefers m places x p)) (order_of m p))
+                  omega (arith, bar_is p lt, ceiling_is m p, prefix_len-le-length (λ x. not (prefers m places x p)) (market_order m p))
               | inr past ↦ omega (arith, get_or_past bars_left p 0 (omega (arith, past, bars_each)))
             ];
       }

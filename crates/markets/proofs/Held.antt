@@ -10,7 +10,7 @@ use Rattle.std.proofs.lemmas.Map.Made.{length-from_same_keys}
 use Rattle.admit_core.specs.Lists.{is_among}
 use Rattle.admit_core.proofs.Counting.{distinct_kept}
 use Rattle.admit_core.proofs.FullBeds.{rising_distinct}
-use Rattle.markets.specs.Markets.{MarketRows, IsMarket, order_of, lists_it, candidate_at}
+use Rattle.markets.specs.Markets.{MarketRows, IsMarket, market_order, lists_it, candidate_at}
 use Rattle.markets.specs.Matchings.{place_of, is_at, holders}
 use Rattle.markets.specs.Bars.{is_within, best_within, demanded, matched_under}
 use Rattle.markets.specs.Firsts.{among_filter, range_has, at_place}
@@ -55,7 +55,7 @@ pub holders_are_demanded : (m : MarketRows) → IsMarket m → (bars : List ℕ)
     → ((x : ℕ) → place_of places x ≡ best_within m bars x) → (p : ℕ) → p < length m.orders
     → length (holders places p) ≡ length (demanded m bars p)
 holders_are_demanded m is bars places each are p lt =
-    let order : List ℕ = order_of m p in
+    let order : List ℕ = market_order m p in
     let chosen : ℕ → Bool = λ x. is_at p (best_within m bars x) in
     let holds : ℕ → Bool = λ x. is_at p (place_of places x) in
     let range : List ℕ = range_with_len 0 (length places) in

@@ -13,7 +13,7 @@ use Rattle.std.proofs.lemmas.Map.Made.{length-le_from_is_member, length-from_sam
 use Rattle.admit_core.specs.Lists.{is_among}
 use Rattle.admit_core.proofs.Counting.{distinct_kept}
 use Rattle.admit_core.proofs.FullBeds.{rising_distinct}
-use Rattle.markets.specs.Markets.{MarketRows, IsMarket, order_of, lists_it, listers, is_list_below, is_order, is_distinct, first_bad_list, first_bad_order}
+use Rattle.markets.specs.Markets.{MarketRows, IsMarket, market_order, lists_it, listers, is_list_below, is_order, is_distinct, first_bad_list, first_bad_order}
 use Rattle.markets.specs.Listers.{AreLists, AreListers}
 use Rattle.markets.specs.Rows.{has_all_of}
 use Rattle.markets.specs.Stamps.{AreUpTo, BearStamp}
@@ -75,10 +75,10 @@ no_other xs ys q apart long all there =
           absurd (omega (arith, more, long))
     ]
 
-pub order_is : (m : MarketRows) (p : ℕ) → p < length m.orders → has_all_of (length m.lists) (listers m p) (order_of m p) ≡ is_order m p
+pub order_is : (m : MarketRows) (p : ℕ) → p < length m.orders → has_all_of (length m.lists) (listers m p) (market_order m p) ≡ is_order m p
 order_is m p lt =
     let n : ℕ = length m.lists in
-    let order : List ℕ = order_of m p in
+    let order : List ℕ = market_order m p in
     let names : List ℕ = listers m p in
     let range : List ℕ = range_with_len 0 n in
     let apart : IsDistinct nat_eq names = distinct_kept (lists_it m p) range (rising_distinct range (range_rises 0 n)) in
@@ -153,12 +153,12 @@ orders_start m stamps are =
     }
 
 told_order : (m : MarketRows) (k stamp : ℕ) (stamps : List ℕ) (result : Bool) → k < length m.orders → OrdersStood m k stamp stamps
-    → result ≡ has_all_of (length stamps) (listers m k) (order_of m k) → result ≡ is_order m k
-told_order m k stamp stamps result lt so told = told ∙ ap (λ n. has_all_of n (listers m k) (order_of m k)) so.as_many ∙ order_is m k lt
+    → result ≡ has_all_of (length stamps) (listers m k) (market_order m k) → result ≡ is_order m k
+told_order m k stamp stamps result lt so told = told ∙ ap (λ n. has_all_of n (listers m k) (market_order m k)) so.as_many ∙ order_is m k lt
 
 pub orders_more : (m : MarketRows) (k stamp : ℕ) (stamps after : List ℕ) (result : Bool) → k < length m.orders
     → OrdersStood m k stamp stamps
-    → length after ≡ length stamps → AreUpTo (stamp + 1) after → result ≡ has_all_of (length stamps) (listers m k) (order_of m k)
+    → length after ≡ length stamps → AreUpTo (stamp + 1) after → result ≡ has_all_of (length stamps) (listers m k) (market_order m k)
     → result ≡ true
     → OrdersStood m (k + 1) (stamp + 1) after
 orders_more m k stamp stamps after result lt so long up_to told stood =
@@ -175,7 +175,7 @@ orders_more m k stamp stamps after result lt so long up_to told stood =
 
 -- the first bad order is found, or there is none
 pub orders_found : (m : MarketRows) (k stamp : ℕ) (stamps : List ℕ) (result : Bool) → k < length m.orders → OrdersStood m k stamp stamps
-    → result ≡ has_all_of (length stamps) (listers m k) (order_of m k) → result ≡ false → first_bad_order m ≡ Some (stamp + 1 - 1)
+    → result ≡ has_all_of (length stamps) (listers m k) (market_order m k) → result ≡ false → first_bad_order m ≡ Some (stamp + 1 - 1)
 orders_found m k stamp stamps result lt so told fails =
     let at : k ≡ stamp + 1 - 1 = omega (arith, so.stamp_is) in
     range_found (λ p. not (is_order m p)) 0 (length m.orders) k (omega arith) (omega (arith, lt)) so.stood
@@ -203,9 +203,9 @@ pub row_read : (m : MarketRows) (k stamp : ℕ) (rows : List (Vec ℕ Global)) (
 row_read m k stamp rows row slice same lt are read is =
     is ∙ row_is m.lists (length m.orders) (length m.lists) stamp rows row are (omega (arith, same, lt)) read ∙ ap (listers m) same
 
-pub told_now : (m : MarketRows) (n k : ℕ) (row order : List ℕ) (result : Bool) → row ≡ listers m k → order ≡ order_of m k
+pub told_now : (m : MarketRows) (n k : ℕ) (row order : List ℕ) (result : Bool) → row ≡ listers m k → order ≡ market_order m k
     → result ≡ has_all_of n row order
-    → result ≡ has_all_of n (listers m k) (order_of m k)
+    → result ≡ has_all_of n (listers m k) (market_order m k)
 told_now m n k row order result row_is order_is told = told ∙ ap (λ xs. has_all_of n xs order) row_is
     ∙ ap (λ xs. has_all_of n (listers m k) xs) order_is
 

@@ -9,7 +9,7 @@ use Rattle.std.proofs.lemmas.List.Folds.{list_any_at}
 use Rattle.std.proofs.lemmas.List.FromFn.{length-range_with_len}
 use Rattle.std.proofs.lemmas.Map.Made.{length-le_from_is_member}
 use Rattle.admit_core.specs.Lists.{is_among}
-use Rattle.markets.specs.Markets.{MarketRows, IsMarket, list_of, order_of, is_distinct}
+use Rattle.markets.specs.Markets.{MarketRows, IsMarket, list_of, market_order, is_distinct}
 use Rattle.markets.specs.Firsts.{one_of_all, range_has}
 use Rattle.markets.specs.Positions.{distinct_from, is_candidate, order_lists, order_distinct}
 
@@ -28,10 +28,10 @@ list_within m is x x_lt k d lt =
     let p : ℕ = get_or (list_of m x) k d in
     ltb-true p (length m.orders) (one_of_all (λ q. nat_lt q (length m.orders)) p (list_of m x) both.1 (among_place (list_of m x) k d lt))
 
-pub order_within : (m : MarketRows) → IsMarket m → (p : ℕ) → p < length m.orders → All (λ x. x < length m.lists) (order_of m p)
+pub order_within : (m : MarketRows) → IsMarket m → (p : ℕ) → p < length m.orders → All (λ x. x < length m.lists) (market_order m p)
 order_within m is p p_lt k d lt =
-    is_candidate m is p (get_or (order_of m p) k d)
-    (order_lists m is p (get_or (order_of m p) k d) p_lt (among_place (order_of m p) k d lt))
+    is_candidate m is p (get_or (market_order m p) k d)
+    (order_lists m is p (get_or (market_order m p) k d) p_lt (among_place (market_order m p) k d lt))
 
 -- a list is no longer than the market has programmes
 pub list_short : (m : MarketRows) → IsMarket m → (x : ℕ) → x < length m.lists → length (list_of m x) ≤ length m.orders
@@ -46,11 +46,11 @@ list_short m is x x_lt =
     omega (arith, le, length-range_with_len 0 (length m.orders))
 
 -- an order is no longer than the market has candidates
-pub order_short : (m : MarketRows) → IsMarket m → (p : ℕ) → p < length m.orders → length (order_of m p) ≤ length m.lists
+pub order_short : (m : MarketRows) → IsMarket m → (p : ℕ) → p < length m.orders → length (market_order m p) ≤ length m.lists
 order_short m is p p_lt =
     let range : List ℕ = range_with_len 0 (length m.lists) in
-    let le : length (order_of m p) ≤ length range =
-    length-le_from_is_member nat_eq_equiv (order_of m p) range (order_distinct m is p p_lt)
+    let le : length (market_order m p) ≤ length range =
+    length-le_from_is_member nat_eq_equiv (market_order m p) range (order_distinct m is p p_lt)
     (λ x t. range_has x 0 (length m.lists) (omega arith) (omega (arith, is_candidate m is p x (order_lists m is p x p_lt t)))) in
     omega (arith, le, length-range_with_len 0 (length m.lists))
 
@@ -62,7 +62,7 @@ read_list rows seen x item slice same lt read is =
     is ∙ there ∙ get_or_default seen.lists x item [] lt
 
 pub read_order : (rows seen : MarketRows) (p : ℕ) (item slice : List ℕ) → rows ≡ seen → p < length seen.orders
-    → item ≡ get_or rows.orders p item → slice ≡ item → slice ≡ order_of seen p
+    → item ≡ get_or rows.orders p item → slice ≡ item → slice ≡ market_order seen p
 read_order rows seen p item slice same lt read is =
     let there : item ≡ get_or seen.orders p item = read ∙ ap (λ (m : MarketRows). get_or m.orders p item) same in
     is ∙ there ∙ get_or_default seen.orders p item [] lt

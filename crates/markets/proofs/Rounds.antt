@@ -9,7 +9,7 @@ use Rattle.admit_core.proofs.Plain.{get_seam}
 use Rattle.admit_core.specs.Falls.{is_overfilled}
 use Rattle.bar_fixpoint.specs.Overfilled.{all_overfilled}
 use Rattle.linked_demand.proofs.Answered.{filter_agree}
-use Rattle.markets.specs.Markets.{MarketRows, IsMarket, list_of, order_of, candidate_at}
+use Rattle.markets.specs.Markets.{MarketRows, IsMarket, list_of, market_order, candidate_at}
 use Rattle.markets.specs.Matchings.{place_of, is_at}
 use Rattle.markets.specs.Bars.{is_within, best_within, demanded, market_system, place_code}
 use Rattle.markets.specs.Firsts.{at_place}
@@ -109,13 +109,13 @@ held_more m places p k =
     filter_of_map_range_with_len_more t (λ r. r) 1 k (k + 1) (omega arith) in
     rw (map-id (range_with_len 1 (k + 1)), map-id (range_with_len 1 k)) at more
 
-pub who_is : (m : MarketRows) (p k y : ℕ) (order : List ℕ) → order ≡ order_of m p → y ≡ get_or order k 0 → y ≡ candidate_at m p (k + 1)
+pub who_is : (m : MarketRows) (p k y : ℕ) (order : List ℕ) → order ≡ market_order m p → y ≡ get_or order k 0 → y ≡ candidate_at m p (k + 1)
 who_is m p k y order order_is y_is =
     let e : k ≡ k + 1 - 1 = omega arith in
-    y_is ∙ ap (λ (xs : List ℕ). get_or xs k 0) order_is ∙ ap (λ i. get_or (order_of m p) i 0) e
+    y_is ∙ ap (λ (xs : List ℕ). get_or xs k 0) order_is ∙ ap (λ i. get_or (market_order m p) i 0) e
 
 -- whether a position is held, as it is asked of who stands there
-pub held_is : (m : MarketRows) (places : List (Option ℕ)) (p k y : ℕ) (order : List ℕ) (place : Option ℕ) → order ≡ order_of m p
+pub held_is : (m : MarketRows) (places : List (Option ℕ)) (p k y : ℕ) (order : List ℕ) (place : Option ℕ) → order ≡ market_order m p
     → y ≡ get_or order k 0
     → place ≡ place_of places y → is_held m places p (k + 1) ≡ is_at p place
 held_is m places p k y order place order_is y_is place_is =
@@ -150,8 +150,8 @@ pub named_over : (m : MarketRows) (places : List (Option ℕ)) (p k : ℕ) → i
 named_over m places p k out = ap (map (candidate_at m p)) (none_put m places p k out)
 
 -- who stands at a position before the bar, as they are read
-pub held_before : (m : MarketRows) (places : List (Option ℕ)) (p bar passed : ℕ) (order : List ℕ) (place : Option ℕ) → order ≡ order_of m p
-    → All (λ x. x < length m.lists) order → length places ≡ length m.lists → bar ≤ length (order_of m p) → passed < bar
+pub held_before : (m : MarketRows) (places : List (Option ℕ)) (p bar passed : ℕ) (order : List ℕ) (place : Option ℕ) → order ≡ market_order m p
+    → All (λ x. x < length m.lists) order → length places ≡ length m.lists → bar ≤ length (market_order m p) → passed < bar
     → place ≡ get_or places (get_or order (bar - passed - 1) 0) place
     → is_held m places p (bar - (passed + 1) + 1) ≡ is_at p place
 held_before m places p bar passed order place order_is within each le lt place_is =
@@ -197,7 +197,7 @@ module _ (m : MarketRows) (is : IsMarket m) (bars stands : List ℕ) (places : L
   asked r = ap (is_at p) (sym (round.seated.placed (candidate_at m p r)))
 
   -- nobody has a place past the bar
-  none_past : (r : ℕ) → bar < r → r ≤ length (order_of m p) → is_held m places p r ≡ false
+  none_past : (r : ℕ) → bar < r → r ≤ length (market_order m p) → is_held m places p r ≡ false
   none_past r past le =
       false_from_ne_true (is_held m places p r) (λ t.
       let best : best_within m bars (candidate_at m p r) ≡ Some p = at_place p (best_within m bars (candidate_at m p r)) (asked r ∙ t) in
@@ -209,13 +209,13 @@ module _ (m : MarketRows) (is : IsMarket m) (bars stands : List ℕ) (places : L
             (omega (arith, past)) le,
       ))
 
-  demanded_is : demanded m bars p ≡ filter (is_held m places p) (range_with_len 1 (length (order_of m p)))
-  demanded_is = ap (λ (t : ℕ → Bool). filter t (range_with_len 1 (length (order_of m p)))) (λ i r. asked r i)
+  demanded_is : demanded m bars p ≡ filter (is_held m places p) (range_with_len 1 (length (market_order m p)))
+  demanded_is = ap (λ (t : ℕ → Bool). filter t (range_with_len 1 (length (market_order m p)))) (λ i r. asked r i)
 
   pub demanded_are_held : demanded m bars p ≡ held_to m places p bar
   demanded_are_held =
       demanded_is
-      ∙ filter_cut (is_held m places p) (is_held m places p) bar (length (order_of m p)) (round.seated.under p) (λ h one le. refl)
+      ∙ filter_cut (is_held m places p) (is_held m places p) bar (length (market_order m p)) (round.seated.under p) (λ h one le. refl)
       (λ h past le. none_past h past le)
 
   -- the demanded positions up to one
@@ -224,8 +224,8 @@ module _ (m : MarketRows) (is : IsMarket m) (bars stands : List ℕ) (places : L
   demanded_upto upto e le_upto le_bar past =
       let t : ℕ → Bool = is_held m places p in
       let low : ℕ → Bool = λ r. nat_le r upto in
-      ap (filter low) demanded_is ∙ filter_both t low (range_with_len 1 (length (order_of m p)))
-      ∙ filter_cut t (λ r. t r && low r) e (length (order_of m p)) (omega (arith, le_bar, round.seated.under p))
+      ap (filter low) demanded_is ∙ filter_both t low (range_with_len 1 (length (market_order m p)))
+      ∙ filter_cut t (λ r. t r && low r) e (length (market_order m p)) (omega (arith, le_bar, round.seated.under p))
       (λ h one le. and_yes (t h) (low h) (le-leb h upto (omega (arith, le, le_upto))))
       (λ h over le.
       elim (cases_lt upto h) [

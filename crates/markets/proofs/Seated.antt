@@ -7,7 +7,7 @@ use Rattle.std.proofs.lemmas.List.{length-set, length-append, get_or-set_same, g
 use Rattle.std.proofs.lemmas.List.FromFn.{fill_by_all, length-map-range_with_len}
 use Rattle.std.proofs.lemmas.List.Sums.{passes_at_first}
 use Rattle.std.proofs.lemmas.Option.{slice_get-get_or, slice_get_past, slice_get_within, get_or_from_slice_get}
-use Rattle.markets.specs.Markets.{MarketRows, IsMarket, list_of, order_of, position_of, candidate_at}
+use Rattle.markets.specs.Markets.{MarketRows, IsMarket, list_of, market_order, market_position, candidate_at}
 use Rattle.markets.specs.Matchings.{place_of, is_at}
 use Rattle.markets.specs.Bars.{is_within, best_within, matched_under}
 use Rattle.markets.specs.Firsts.{at_place}
@@ -21,12 +21,12 @@ use Rattle.markets.proofs.Rounds.{best_found, best_nowhere}
 
 -- one entry more is beyond reach
 pub beyond_more : (m : MarketRows) (bars : List ℕ) (x s : ℕ) → AreBeyond m bars x s
-    → slice_index bars (slice_index (list_of m x) s) < position_of m (slice_index (list_of m x) s) x → AreBeyond m bars x (s + 1)
+    → slice_index bars (slice_index (list_of m x) s) < market_position m (slice_index (list_of m x) s) x → AreBeyond m bars x (s + 1)
 beyond_more m bars x s beyond out k lt =
     elim (cases_eq k s) [
       | inl here ↦
           ap (λ j. is_within m bars x (slice_index (list_of m x) j)) here
-          ∙ lt-leb (position_of m (slice_index (list_of m x) s) x) (slice_index bars (slice_index (list_of m x) s)) out
+          ∙ lt-leb (market_position m (slice_index (list_of m x) s) x) (slice_index bars (slice_index (list_of m x) s)) out
       | inr other ↦ beyond k (omega (arith, lt, other))
     ]
 
@@ -48,7 +48,7 @@ pub reached_at : (m : MarketRows) (bars : List ℕ) (x s : ℕ) → IsStand m ba
     → is_within m bars x (slice_index (list_of m x) s) ≡ true
 reached_at m bars x s stand lt =
     let p : ℕ = slice_index (list_of m x) s in
-    le-leb (position_of m p x) (slice_index bars p) (best_is_within m bars x p (sym stand.best ∙ slice_get-get_or (list_of m x) s 0 lt))
+    le-leb (market_position m p x) (slice_index bars p) (best_is_within m bars x p (sym stand.best ∙ slice_get-get_or (list_of m x) s 0 lt))
 
 -- the stands of the first k candidates
 pub record AreStandsTo (m : MarketRows) (bars : List ℕ) (k : ℕ) (stands : List ℕ) : Type 0 where
@@ -81,7 +81,7 @@ stands_more m bars k s stands new new_is stand are =
 
 -- a bar falls by one position
 module _ (m : MarketRows) (is : IsMarket m) (bars : List ℕ) (p : ℕ) (p_lt : p < length m.orders) (each : length bars ≡ length m.orders)
-    (above : 0 < slice_index bars p) (under : slice_index bars p ≤ length (order_of m p)) where
+    (above : 0 < slice_index bars p) (under : slice_index bars p ≤ length (market_order m p)) where
   abbrev bar : ℕ
   bar = slice_index bars p
 
@@ -102,15 +102,15 @@ module _ (m : MarketRows) (is : IsMarket m) (bars : List ℕ) (p : ℕ) (p_lt : 
   ]
 
   -- who stands at the position of the bar
-  at_bar : (x : ℕ) → position_of m p x ≡ bar → x ≡ who
+  at_bar : (x : ℕ) → market_position m p x ≡ bar → x ≡ who
   at_bar x e =
-      let order : List ℕ = order_of m p in
+      let order : List ℕ = market_order m p in
       let i : ℕ = position_or_len (nat_eq x) order in
       let i_is : i ≡ bar - 1 = omega (arith, e, position_is m p x) in
       let lt : i < length order = omega (arith, i_is, above, under) in
       eqb-true x (get_or order i 0) (passes_at_first (nat_eq x) order 0 lt) ∙ ap (λ k. get_or order k 0) i_is
 
-  at_who : position_of m p who ≡ bar
+  at_who : market_position m p who ≡ bar
   at_who = position_at m p bar (order_distinct m is p p_lt) (omega (arith, above)) under
 
   -- nothing else changes
@@ -118,29 +118,29 @@ module _ (m : MarketRows) (is : IsMarket m) (bars : List ℕ) (p : ℕ) (p_lt : 
   same_within x q other =
       elim (cases_eq q p) [
         | inl here ↦
-            let apart : position_of m q x ≢ bar =
+            let apart : market_position m q x ≢ bar =
             λ e. elim other [
-              | inl x_other ↦ x_other (at_bar x (ap (λ o. position_of m o x) (sym here) ∙ e))
+              | inl x_other ↦ x_other (at_bar x (ap (λ o. market_position m o x) (sym here) ∙ e))
               | inr q_other ↦ q_other here
             ] in
             let now : slice_index lower q ≡ bar - 1 = ap (slice_index lower) here ∙ lower_here in
             let was : slice_index bars q ≡ bar = ap (slice_index bars) here in
-            elim (cases_lt bar (position_of m q x)) [
+            elim (cases_lt bar (market_position m q x)) [
               | inl out ↦
-                  lt-leb (position_of m q x) (slice_index lower q) (omega (arith, out, now))
-                  ∙ sym (lt-leb (position_of m q x) (slice_index bars q) (omega (arith, out, was)))
+                  lt-leb (market_position m q x) (slice_index lower q) (omega (arith, out, now))
+                  ∙ sym (lt-leb (market_position m q x) (slice_index bars q) (omega (arith, out, was)))
               | inr le ↦
-                  le-leb (position_of m q x) (slice_index lower q) (omega (arith, le, now, apart, above))
-                  ∙ sym (le-leb (position_of m q x) (slice_index bars q) (omega (arith, le, was)))
+                  le-leb (market_position m q x) (slice_index lower q) (omega (arith, le, now, apart, above))
+                  ∙ sym (le-leb (market_position m q x) (slice_index bars q) (omega (arith, le, was)))
             ]
-        | inr q_other ↦ ap (nat_le (position_of m q x)) (get_or-set_other bars p q (bar - 1) 0 q_other)
+        | inr q_other ↦ ap (nat_le (market_position m q x)) (get_or-set_other bars p q (bar - 1) 0 q_other)
       ]
 
   still_beyond : (x s : ℕ) → AreBeyond m bars x s → AreBeyond m lower x s
   still_beyond x s beyond k lt =
       let q : ℕ = slice_index (list_of m x) k in
-      let out : slice_index bars q < position_of m q x = leb-false (position_of m q x) (slice_index bars q) (beyond k lt) in
-      lt-leb (position_of m q x) (slice_index lower q) (omega (arith, out, lower_le q))
+      let out : slice_index bars q < market_position m q x = leb-false (market_position m q x) (slice_index bars q) (beyond k lt) in
+      lt-leb (market_position m q x) (slice_index lower q) (omega (arith, out, lower_le q))
 
   -- the others stand where they stood
   others_stand : (x s : ℕ) → x ≢ who → IsStand m bars x s → IsStand m lower x s
@@ -166,10 +166,10 @@ module _ (m : MarketRows) (is : IsMarket m) (bars : List ℕ) (p : ℕ) (p_lt : 
       let entry : slice_index (list_of m who) s ≡ p = get_or_from_slice_get (list_of m who) s p 0 found in (
         slice_get_within (list_of m who) s p found,
         beyond_more m lower who s (still_beyond who s stand.beyond)
-            (omega (arith, ap (slice_index lower) entry, lower_here, ap (λ o. position_of m o who) entry, at_who, above)),
+            (omega (arith, ap (slice_index lower) entry, lower_here, ap (λ o. market_position m o who) entry, at_who, above)),
       )
 
-  under_now : ((q : ℕ) → slice_index bars q ≤ length (order_of m q)) → (q : ℕ) → slice_index lower q ≤ length (order_of m q)
+  under_now : ((q : ℕ) → slice_index bars q ≤ length (market_order m q)) → (q : ℕ) → slice_index lower q ≤ length (market_order m q)
   under_now all q = omega (arith, lower_le q, all q)
 
   others_best : (stands : List ℕ) → AreStands m bars stands → (x : ℕ) → x ≢ who → x < length m.lists
@@ -202,7 +202,7 @@ module _ (m : MarketRows) (bars stands : List ℕ) (places : List (Option ℕ)) 
   low_each : length low ≡ length m.orders
   low_each = length-set bars p (slice_index bars p - 1) ∙ round.seated.one_bar_each
 
-  low_under : (q : ℕ) → slice_index low q ≤ length (order_of m q)
+  low_under : (q : ℕ) → slice_index low q ≤ length (market_order m q)
   low_under = under_now m round.valid bars p p_lt round.seated.one_bar_each above (round.seated.under p) round.seated.under
 
   others : (x : ℕ) → x ≢ next → x < length m.lists → IsStand m low x (slice_index stands x)
@@ -285,7 +285,7 @@ module _ (m : MarketRows) (bars stands : List ℕ) (places : List (Option ℕ)) 
 -- what is read of a market, of its bars and of the places, as a bar falls
 module _ {m : MarketRows} {bars stands : List ℕ} {places : List (Option ℕ)} {f : Fill} (round : IsRound m bars stands places f)
     (p : ℕ) (p_lt : p < length m.orders) (above : 0 < slice_index bars p)
-    {r : MarketRows} (same : r ≡ m) {order : List ℕ} (order_is : order ≡ order_of r p) (within : All (λ x. x < length r.lists) order)
+    {r : MarketRows} (same : r ≡ m) {order : List ℕ} (order_is : order ≡ market_order r p) (within : All (λ x. x < length r.lists) order)
     {height : ℕ} (height_is : height ≡ get_or bars p height) where
   abbrev who_is_there : ℕ
   who_is_there = get_or order (height - 1) 0
@@ -293,8 +293,8 @@ module _ {m : MarketRows} {bars stands : List ℕ} {places : List (Option ℕ)} 
   pub bar_read : height ≡ slice_index bars p
   bar_read = height_is ∙ get_or_default bars p height 0 (omega (arith, p_lt, round.seated.one_bar_each))
 
-  order_read : order ≡ order_of m p
-  order_read = order_is ∙ ap (λ (rows : MarketRows). order_of rows p) same
+  order_read : order ≡ market_order m p
+  order_read = order_is ∙ ap (λ (rows : MarketRows). market_order rows p) same
 
   pub position_within : height - 1 < length order
   position_within = omega (arith, bar_read, above, round.seated.under p, ap length order_read)
@@ -361,7 +361,7 @@ module _ {m : MarketRows} {bars stands : List ℕ} {places : List (Option ℕ)} 
 -- a round, as it begins
 pub round_from : (m : MarketRows) → IsMarket m → (bars stands : List ℕ) (places : List (Option ℕ)) (f : Fill) (counts seats : List ℕ)
     → length bars ≡ length m.orders
-    → ((p : ℕ) → slice_index bars p ≤ length (order_of m p)) → AreStands m bars stands → places ≡ matched_under m bars
+    → ((p : ℕ) → slice_index bars p ≤ length (market_order m p)) → AreStands m bars stands → places ≡ matched_under m bars
     → f ≡ record { seats = seats; counts = counts } → seats ≡ m.seats → AreCounts (length m.orders) places counts
     → IsRound m bars stands places f
 round_from m is bars stands places f counts seats each under stood are f_is seats_are counted =

@@ -2,12 +2,12 @@
 use Rattle.std.specs.Prelude.{ℕ, ◌+◌, Some, None, Bool, List, length, filter, map, nat_le, find, Option, slice_index}
 use Rattle.std.specs.List.{range_with_len}
 use Rattle.admit_core.specs.Falls.{FallingSystem}
-use Rattle.markets.specs.Markets.{MarketRows, list_of, order_of, position_of, candidate_at}
+use Rattle.markets.specs.Markets.{MarketRows, list_of, market_order, market_position, candidate_at}
 use Rattle.markets.specs.Matchings.{is_at}
 
 -- a programme is within a candidate's reach where their position is at most its bar
 abbrev pub is_within : MarketRows → List ℕ → ℕ → ℕ → Bool
-is_within m bars x p = nat_le (position_of m p x) (slice_index bars p)
+is_within m bars x p = nat_le (market_position m p x) (slice_index bars p)
 
 -- the programme that a candidate prefers among those within reach
 abbrev pub best_within : MarketRows → List ℕ → ℕ → Option ℕ
@@ -17,7 +17,7 @@ best_within m bars x = find (is_within m bars x) (list_of m x)
 abbrev pub demanded : MarketRows → List ℕ → ℕ → List ℕ
 demanded m bars p =
     filter (λ r. is_at p (best_within m bars (candidate_at m p r)))
-    (range_with_len 1 (length (order_of m p)))
+    (range_with_len 1 (length (market_order m p)))
 
 -- a programme's ceiling is the number of its candidates, and its seats are free; a rank has its
 -- candidate's name
@@ -40,5 +40,5 @@ place_code None = 0
 place_code (Some p) = p + 1
 
 -- the places under bars, as numbers
-abbrev pub offered : MarketRows → List ℕ → List ℕ
-offered m bars = map place_code (matched_under m bars)
+abbrev pub place_codes : MarketRows → List ℕ → List ℕ
+place_codes m bars = map place_code (matched_under m bars)

@@ -52,5 +52,5 @@ market_of d orders =
     }
 
 -- the candidates of a dossier's market, by number
-abbrev pub candidates_of : DossierRows → List ℕ
-candidates_of d = named (counted d)
+abbrev pub market_candidates : DossierRows → List ℕ
+market_candidates d = named (counted d)

@@ -12,7 +12,7 @@ use Rattle.std.proofs.lemmas.Map.Views.{Contains-from_any, list_any-from_Contain
 use Rattle.admit_core.specs.Lists.{is_among}
 use Rattle.admit_core.specs.Falls.{IsAtMost, IsLawful}
 use Rattle.admit_core.proofs.NextCalls.{find_passes, find_any}
-use Rattle.markets.specs.Markets.{MarketRows, IsMarket, list_of, order_of, lists_it, position_of, candidate_at}
+use Rattle.markets.specs.Markets.{MarketRows, IsMarket, list_of, market_order, lists_it, market_position, candidate_at}
 use Rattle.markets.specs.Matchings.{is_at}
 use Rattle.markets.specs.Bars.{is_within, best_within, demanded, market_system}
 use Rattle.markets.specs.Firsts.{among_filter, among_range, range_has, fails_before, found_at, at_place}
@@ -36,51 +36,51 @@ best_is_listed m bars x p e =
     find_any (is_within m bars x) (nat_eq p) (list_of m x) p e (eq-eqb p p refl)
 
 pub best_is_within : (m : MarketRows) (bars : List ℕ) (x p : ℕ) → best_within m bars x ≡ Some p
-    → position_of m p x ≤ slice_index bars p
+    → market_position m p x ≤ slice_index bars p
 best_is_within m bars x p e =
-    leb-true (position_of m p x) (slice_index bars p)
+    leb-true (market_position m p x) (slice_index bars p)
     (find_passes (is_within m bars x) (list_of m x) p e)
 
 -- a position is demanded where it is one of the order, and the programme is the best within reach
 -- of who stands there
 pub demanded_parts : (m : MarketRows) (bars : List ℕ) (p r : ℕ)
     → is_among r (demanded m bars p) ≡ true
-    → (1 ≤ r) × (r ≤ length (order_of m p)) × (best_within m bars (candidate_at m p r) ≡ Some p)
+    → (1 ≤ r) × (r ≤ length (market_order m p)) × (best_within m bars (candidate_at m p r) ≡ Some p)
 demanded_parts m bars p r t =
     let test : ℕ → Bool = λ q. is_at p (best_within m bars (candidate_at m p q)) in
-    let range : List ℕ = range_with_len 1 (length (order_of m p)) in
+    let range : List ℕ = range_with_len 1 (length (market_order m p)) in
     let both = and_parts (is_among r range) (test r) (sym (among_filter test r range) ∙ t) in
-    let within = among_range r 1 (length (order_of m p)) both.0 in
+    let within = among_range r 1 (length (market_order m p)) both.0 in
     (within.0, omega (arith, within.1), at_place p (best_within m bars (candidate_at m p r)) both.1)
 
-pub demanded_from : (m : MarketRows) (bars : List ℕ) (p r : ℕ) → 1 ≤ r → r ≤ length (order_of m p)
+pub demanded_from : (m : MarketRows) (bars : List ℕ) (p r : ℕ) → 1 ≤ r → r ≤ length (market_order m p)
     → best_within m bars (candidate_at m p r) ≡ Some p → is_among r (demanded m bars p) ≡ true
 demanded_from m bars p r one le best =
     let test : ℕ → Bool = λ q. is_at p (best_within m bars (candidate_at m p q)) in
-    let range : List ℕ = range_with_len 1 (length (order_of m p)) in
+    let range : List ℕ = range_with_len 1 (length (market_order m p)) in
     let within : is_among r range
-    ≡ true = range_has r 1 (length (order_of m p)) one (omega (arith, le)) in
+    ≡ true = range_has r 1 (length (market_order m p)) one (omega (arith, le)) in
     let passes : test r ≡ true = ap (is_at p) best ∙ eq-eqb p p refl in
     among_filter test r range ∙ rw (within, passes) refl
 
 -- as bars fall, the best within reach stays the best while it is within reach
 pub best_stays : (m : MarketRows) (lower upper : List ℕ) (x p : ℕ) → IsAtMost lower upper
     → best_within m upper x ≡ Some p
-    → position_of m p x ≤ slice_index lower p → best_within m lower x ≡ Some p
+    → market_position m p x ≤ slice_index lower p → best_within m lower x ≡ Some p
 best_stays m lower upper x p below best le =
     let before : (q : ℕ) → is_among q (before_first (λ o. is_at o (Some p)) (list_of m x)) ≡ true
     → is_within m upper x q ≡ false =
     λ q t. fails_before (is_within m upper x) q (list_of m x) (rw best t) in
     found_at (is_within m lower x) (Some p) (list_of m x)
     (λ q t.
-    let out : slice_index upper q < position_of m q x = leb-false (position_of m q x)
+    let out : slice_index upper q < market_position m q x = leb-false (market_position m q x)
     (slice_index upper q) (before q t) in
-    lt-leb (position_of m q x) (slice_index lower q) (omega (arith, out, below.each q)))
+    lt-leb (market_position m q x) (slice_index lower q) (omega (arith, out, below.each q)))
     (λ o is.
     let same : p ≡ o = (let e = is in cc) in
     rw (← same) (
       best_is_listed m upper x p best,
-      le-leb (position_of m p x)
+      le-leb (market_position m p x)
           (slice_index lower p) le,
     ))
 
@@ -90,8 +90,8 @@ market_is_lawful m is =
       one_free_each = is.one_seat_each ∙ sym (length-map m.orders length);
       ascending = λ bars p under lt.
           IsStrictlyIncreasing-filter (λ r. is_at p (best_within m bars (candidate_at m p r)))
-          (range_with_len 1 (length (order_of m p)))
-          (range_rises 1 (length (order_of m p)));
+          (range_with_len 1 (length (market_order m p)))
+          (range_rises 1 (length (market_order m p)));
       from_one =
           λ bars p r under lt h.
           (demanded_parts m bars p r

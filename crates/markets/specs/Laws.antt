@@ -1,7 +1,7 @@
 -- What holds of the greatest bars of a market, over definitions alone.
 use Rattle.std.specs.Prelude.{◌≡◌, ℕ, List, Option}
 use Rattle.admit_core.specs.declared.records.Fall.{Fall}
-use Rattle.admit_core.specs.Falls.{IsLawful, IsGreatest, IsRun, bars_after}
+use Rattle.admit_core.specs.Falls.{IsLawful, IsGreatest, IsRunOfFalls, bars_after}
 use Rattle.markets.specs.Markets.{MarketRows, IsMarket}
 use Rattle.markets.specs.Matchings.{IsStable, IsBestForAll}
 use Rattle.markets.specs.Bars.{market_system, matched_under}
@@ -28,8 +28,8 @@ abbrev pub TheSameWhicheverFallsFirst : Type 0
 TheSameWhicheverFallsFirst =
     (m : MarketRows) (falls others : List Fall)
     → IsMarket m
-    → IsRun (market_system m) falls
-    → IsRun (market_system m) others
+    → IsRunOfFalls (market_system m) falls
+    → IsRunOfFalls (market_system m) others
     → matched_under m (bars_after (market_system m).ceilings falls)
     ≡ matched_under m (bars_after (market_system m).ceilings others)
 

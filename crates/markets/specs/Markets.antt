@@ -14,8 +14,8 @@ pub record MarketRows : Type 0 where
 abbrev pub list_of : MarketRows → ℕ → List ℕ
 list_of m x = slice_index_or m.lists x []
 
-abbrev pub order_of : MarketRows → ℕ → List ℕ
-order_of m p = slice_index_or m.orders p []
+abbrev pub market_order : MarketRows → ℕ → List ℕ
+market_order m p = slice_index_or m.orders p []
 
 -- whether a candidate's list names a programme
 abbrev pub lists_it : MarketRows → ℕ → ℕ → Bool
@@ -40,8 +40,8 @@ is_list m x = is_list_below (length m.orders) (list_of m x)
 -- an order has each candidate whose list names the programme, once, and nobody else
 abbrev pub is_order : MarketRows → ℕ → Bool
 is_order m p =
-    is_distinct (order_of m p) && list_all (lists_it m p) (order_of m p)
-    && list_all (λ x. is_among x (order_of m p)) (listers m p)
+    is_distinct (market_order m p) && list_all (lists_it m p) (market_order m p)
+    && list_all (λ x. is_among x (market_order m p)) (listers m p)
 
 -- the candidates whose lists are no lists, and the programmes whose orders are no orders
 abbrev pub first_bad_list : MarketRows → Option ℕ
@@ -67,9 +67,9 @@ pub record IsSmallMarket (m : MarketRows) : Type 0 where
   pub small : IsSmall m
 
 -- the position of a candidate in the order of a programme, from 1; past the end for who isn't in it
-abbrev pub position_of : MarketRows → ℕ → ℕ → ℕ
-position_of m p x = length (before_first (nat_eq x) (order_of m p)) + 1
+abbrev pub market_position : MarketRows → ℕ → ℕ → ℕ
+market_position m p x = length (before_first (nat_eq x) (market_order m p)) + 1
 
 -- the candidate at a position
 abbrev pub candidate_at : MarketRows → ℕ → ℕ → ℕ
-candidate_at m p r = slice_index (order_of m p) (r - 1)
+candidate_at m p r = slice_index (market_order m p) (r - 1)

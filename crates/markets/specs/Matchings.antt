@@ -2,7 +2,7 @@
 use Rattle.std.specs.Prelude.{◌≡◌, ℕ, ◌≤◌, ◌<◌, Bool, false, ◌||◌, List, length, filter, nat_eq, nat_lt, find, Option, Some, None, slice_index, slice_index_or, IsTrue}
 use Rattle.std.specs.List.{list_any, before_first, range_with_len}
 use Rattle.admit_core.specs.Lists.{is_among}
-use Rattle.markets.specs.Markets.{MarketRows, list_of, lists_it, position_of}
+use Rattle.markets.specs.Markets.{MarketRows, list_of, lists_it, market_position}
 
 -- the place of a candidate: a programme, or none
 abbrev pub place_of : List (Option ℕ) → ℕ → Option ℕ
@@ -36,7 +36,7 @@ prefers m places x p = is_among p (preferred m places x)
 abbrev pub would_take : MarketRows → List (Option ℕ) → ℕ → ℕ → Bool
 would_take m places p x =
     nat_lt (length (holders places p)) (slice_index m.seats p)
-    || list_any (λ y. nat_lt (position_of m p x) (position_of m p y)) (holders places p)
+    || list_any (λ y. nat_lt (market_position m p x) (market_position m p y)) (holders places p)
 
 -- the programme that blocks with a candidate: the best that they prefer and that would take them
 abbrev pub block_of : MarketRows → List (Option ℕ) → ℕ → Option ℕ

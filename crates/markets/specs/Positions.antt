@@ -9,7 +9,7 @@ use Rattle.std.proofs.lemmas.List.Sums.{passes_at_first, prefix_len-le-length}
 use Rattle.std.proofs.lemmas.Map.Made.{IsDistinct-from_count}
 use Rattle.std.proofs.lemmas.Map.Keys.{apart_from_distinct}
 use Rattle.admit_core.specs.Lists.{is_among, distinct}
-use Rattle.markets.specs.Markets.{MarketRows, IsMarket, list_of, order_of, lists_it, listers, is_distinct, position_of, candidate_at}
+use Rattle.markets.specs.Markets.{MarketRows, IsMarket, list_of, market_order, lists_it, listers, is_distinct, market_position, candidate_at}
 use Rattle.markets.specs.Firsts.{among_filter, one_of_all, range_has}
 
 -- one who is in an order stands at a first place of it
@@ -68,17 +68,17 @@ distinct_from xs t =
 module _ (m : MarketRows) (is : IsMarket m) where
   -- the parts of what an order is
   order_tests : (p : ℕ) → p < length m.orders
-      → (is_distinct (order_of m p) ≡ true) × (list_all (lists_it m p) (order_of m p) ≡ true) ×
-      (list_all (λ x. is_among x (order_of m p)) (listers m p) ≡ true)
+      → (is_distinct (market_order m p) ≡ true) × (list_all (lists_it m p) (market_order m p) ≡ true) ×
+      (list_all (λ x. is_among x (market_order m p)) (listers m p) ≡ true)
   order_tests p lt =
-      let first = and_parts (is_distinct (order_of m p) && list_all (lists_it m p) (order_of m p))
-      (list_all (λ x. is_among x (order_of m p)) (listers m p)) (is.orders p lt) in
-      let second = and_parts (is_distinct (order_of m p))
-      (list_all (lists_it m p) (order_of m p)) first.0 in
+      let first = and_parts (is_distinct (market_order m p) && list_all (lists_it m p) (market_order m p))
+      (list_all (λ x. is_among x (market_order m p)) (listers m p)) (is.orders p lt) in
+      let second = and_parts (is_distinct (market_order m p))
+      (list_all (lists_it m p) (market_order m p)) first.0 in
       (second.0, second.1, first.1)
 
-  pub order_distinct : (p : ℕ) → p < length m.orders → IsDistinct nat_eq (order_of m p)
-  order_distinct p lt = distinct_from (order_of m p) (order_tests p lt).0
+  pub order_distinct : (p : ℕ) → p < length m.orders → IsDistinct nat_eq (market_order m p)
+  order_distinct p lt = distinct_from (market_order m p) (order_tests p lt).0
 
   -- a list is of a candidate of the market
   pub is_candidate : (p x : ℕ) → lists_it m p x ≡ true → x < length m.lists
@@ -98,7 +98,7 @@ module _ (m : MarketRows) (is : IsMarket m) where
       (one_of_all (λ q. nat_lt q (length m.orders)) p (list_of m x) both.1 t)
 
   -- who lists a programme is in its order
-  pub in_order : (p x : ℕ) → lists_it m p x ≡ true → is_among x (order_of m p) ≡ true
+  pub in_order : (p x : ℕ) → lists_it m p x ≡ true → is_among x (market_order m p) ≡ true
   in_order p x t =
       let within : is_among x (range_with_len 0 (length m.lists))
       ≡ true = range_has x 0 (length m.lists) (omega arith)
@@ -106,27 +106,27 @@ module _ (m : MarketRows) (is : IsMarket m) where
       let lister : is_among x (listers m p)
       ≡ true = among_filter (lists_it m p) x (range_with_len 0 (length m.lists))
       ∙ rw (within, t) refl in
-      one_of_all (λ y. is_among y (order_of m p)) x (listers m p)
+      one_of_all (λ y. is_among y (market_order m p)) x (listers m p)
       (order_tests p (is_programme p x t)).2 lister
 
   -- and nobody else is
-  pub order_lists : (p x : ℕ) → p < length m.orders → is_among x (order_of m p) ≡ true
+  pub order_lists : (p x : ℕ) → p < length m.orders → is_among x (market_order m p) ≡ true
       → lists_it m p x ≡ true
-  order_lists p x lt t = one_of_all (lists_it m p) x (order_of m p) (order_tests p lt).1 t
+  order_lists p x lt t = one_of_all (lists_it m p) x (market_order m p) (order_tests p lt).1 t
 
 -- a position is one more than a place
 pub position_is : (m : MarketRows) (p x : ℕ)
-    → position_of m p x ≡ position_or_len (nat_eq x) (order_of m p) + 1
-position_is m p x = ap (λ n. n + 1) (length_before (nat_eq x) (order_of m p))
+    → market_position m p x ≡ position_or_len (nat_eq x) (market_order m p) + 1
+position_is m p x = ap (λ n. n + 1) (length_before (nat_eq x) (market_order m p))
 
 -- the candidate at a position stands there
-pub position_at : (m : MarketRows) (p r : ℕ) → IsDistinct nat_eq (order_of m p) → 1 ≤ r
-    → r ≤ length (order_of m p)
-    → position_of m p (candidate_at m p r) ≡ r
+pub position_at : (m : MarketRows) (p r : ℕ) → IsDistinct nat_eq (market_order m p) → 1 ≤ r
+    → r ≤ length (market_order m p)
+    → market_position m p (candidate_at m p r) ≡ r
 position_at m p r apart one le =
     omega (
       arith,
       position_is m p (candidate_at m p r),
-      only_place (order_of m p) (r - 1) apart
+      only_place (market_order m p) (r - 1) apart
           (omega (arith, one, le)),
     )

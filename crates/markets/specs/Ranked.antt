@@ -1,7 +1,7 @@
 -- For each candidate the programmes whose orders have them, and their position in each.
 use Rattle.std.specs.Prelude.{◌≡◌, ℕ, List, length, map, Some, slice_get, Vec}
 use Rattle.std.specs.declared.alloc.Global.{Global}
-use Rattle.markets.specs.Markets.{MarketRows, position_of}
+use Rattle.markets.specs.Markets.{MarketRows, market_position}
 use Rattle.markets.specs.Listers.{AreListers, naming}
 
 -- rows with the positions of each candidate in those of the first k orders that have them
@@ -10,7 +10,7 @@ pub record ArePositions (m : MarketRows) (k : ℕ) (rows : List (Vec ℕ Global)
   pub each :
       (x : ℕ) (row : Vec ℕ Global)
       → slice_get rows x ≡ Some row
-      → row.items ≡ map (λ p. position_of m p x) (naming m.orders x k)
+      → row.items ≡ map (λ p. market_position m p x) (naming m.orders x k)
 
 -- for each candidate the programmes whose orders have them, ascending, and in line with these their
 -- positions

@@ -1,6 +1,6 @@
 -- Where candidates stand in their lists under bars, and which places they have so.
 use Rattle.std.specs.Prelude.{◌≡◌, ℕ, ◌≤◌, ◌<◌, false, List, length, Option, slice_get, slice_index}
-use Rattle.markets.specs.Markets.{MarketRows, list_of, order_of}
+use Rattle.markets.specs.Markets.{MarketRows, list_of, market_order}
 use Rattle.markets.specs.Matchings.{place_of}
 use Rattle.markets.specs.Bars.{is_within, best_within}
 
@@ -23,7 +23,7 @@ pub record AreStands (m : MarketRows) (bars stands : List ℕ) : Type 0 where
 pub record AreSeated (m : MarketRows) (bars stands : List ℕ)
     (places : List (Option ℕ)) : Type 0 where
   pub one_bar_each : length bars ≡ length m.orders
-  pub under : (p : ℕ) → slice_index bars p ≤ length (order_of m p)
+  pub under : (p : ℕ) → slice_index bars p ≤ length (market_order m p)
   pub stood : AreStands m bars stands
   pub one_place_each : length places ≡ length m.lists
   pub placed : (x : ℕ) → place_of places x ≡ best_within m bars x

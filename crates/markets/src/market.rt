@@ -1,6 +1,6 @@
 //! A market, and why rows are none.
 ghost use Rattle.std.specs.Prelude.{◌≡◌, ◌≤◌, ◌<◌, length, map, slice_index, All, IfOk, IfErr};
-ghost use Rattle.markets.specs.Markets.{IsMarket, IsSmall, list_of, order_of};
+ghost use Rattle.markets.specs.Markets.{IsMarket, IsSmall, list_of, market_order};
 ghost use Rattle.markets.specs.Faults.{IsFaultOf};
 ghost use Rattle.markets.specs.Rows.{rows_of};
 
@@ -105,7 +105,7 @@ impl Market {
     /// The order of a programme.
     pub fn order(&self, programme: u32) -> &[u32]
         requires { programme < length self.now.orders }
-        ensures order { result.now ≡ order_of self.now programme }
+        ensures order { result.now ≡ market_order self.now programme }
         ensures within { All (λ x. x < length self.now.lists) result.now }
         ensures short { length result.now ≤ 16000000 }
     {

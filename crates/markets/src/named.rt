@@ -5,7 +5,7 @@ ghost use Rattle.std.specs.List.Sorted.{IsStrictlyIncreasing};
 ghost use Rattle.admit_core.specs.CallOrder.{AreCallOrders};
 ghost use Rattle.admit_core.specs.Lists.{is_among, sorted_by};
 ghost use Rattle.admit_core.specs.Proposals.{order_of};
-ghost use Rattle.markets.specs.Dossiers.{by_preference, called_in, candidates_of, counted, counts, lists_in, market_of, named, own};
+ghost use Rattle.markets.specs.Dossiers.{by_preference, called_in, market_candidates, counted, counts, lists_in, market_of, named, own};
 
 use crate::listers::listers_of;
 use crate::market::Market;
@@ -158,7 +158,7 @@ pub fn from_dossier(
 ) -> Result<Named, OutOfMemory>
     requires { AreCallOrders dossier.now.groups orders.now.orders }
     ensures market { IfOk result (λ named. named.market ≡ market_of dossier.now orders.now.orders) }
-    ensures candidates { IfOk result (λ named. named.candidates.items ≡ candidates_of dossier.now) }
+    ensures candidates { IfOk result (λ named. named.candidates.items ≡ market_candidates dossier.now) }
 {
     let _ = &dossier.wishes;
     let seats = seats_of(alloc, dossier)?;

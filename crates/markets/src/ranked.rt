@@ -2,7 +2,7 @@
 ghost use Rattle.std.specs.Prelude.{◌≡◌, ◌<◌, ◌≤◌, ◌+◌, length, nat_eq, IfOk, OnOk, IsTrue};
 ghost use Rattle.std.specs.List.{before_first};
 ghost use Rattle.admit_core.specs.Lists.{is_among};
-ghost use Rattle.markets.specs.Markets.{is_list_below, position_of};
+ghost use Rattle.markets.specs.Markets.{is_list_below, market_position};
 ghost use Rattle.markets.specs.Listers.{ArePutIn};
 ghost use Rattle.markets.specs.Ranked.{ArePositions};
 
@@ -69,7 +69,7 @@ impl<'a> Ranked<'a> {
     pub fn position_of(&self, programme: u32, candidate: u32) -> u32
         requires programme { programme < length self.now.orders }
         requires candidate { candidate < length self.now.lists }
-        ensures { result ≡ position_of self.now programme candidate }
+        ensures { result ≡ market_position self.now programme candidate }
     {
         match self.programmes[candidate as usize].binary_search(&programme) {
             Ok(place) => self.positions[candidate as usize][place],

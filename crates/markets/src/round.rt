@@ -1,8 +1,8 @@
 //! A market as a system of falling bars.
 ghost use Rattle.std.specs.Prelude.{ℕ, ◌≡◌, ◌<◌, ◌≤◌, length, map, filter, nat_le, slice_get, slice_index, ◌-◌, All, IfOk, IsOk};
-ghost use Rattle.markets.specs.Markets.{IsMarket, order_of, candidate_at};
+ghost use Rattle.markets.specs.Markets.{IsMarket, market_order, candidate_at};
 ghost use Rattle.markets.specs.Matchings.{IsMatching};
-ghost use Rattle.markets.specs.Bars.{demanded, market_system, offered, place_code};
+ghost use Rattle.markets.specs.Bars.{demanded, market_system, place_codes, place_code};
 ghost use Rattle.markets.specs.Rounds.{IsRound, held_to};
 ghost use Rattle.bar_fixpoint.specs.Overfilled.{rank_over};
 
@@ -36,7 +36,7 @@ fn names_within(
 ) -> Result<Vec<u32>, OutOfMemory>
     requires programme { programme < length market.now.orders }
     requires places { length places.now ≡ length market.now.lists }
-    requires upto { upto ≤ length (order_of market.now programme) }
+    requires upto { upto ≤ length (market_order market.now programme) }
     ensures { IfOk result (λ names. names.items ≡
         map (candidate_at market.now programme) (held_to market.now places.now programme upto)) }
 {
@@ -60,7 +60,7 @@ impl<'a> MarketRound<'a> {
         ensures bars { IfOk result (λ r. ⟦<MarketRound<'a> as Falling>⟧.bars r
             ≡ (market_system market.now).ceilings) }
         ensures offers { IfOk result (λ r. ⟦<MarketRound<'a> as Falling>⟧.offers r
-            ≡ offered market.now) }
+            ≡ place_codes market.now) }
     {
         let bars = ceilings(alloc, market)?;
         let market = Ranked::build(alloc, market)?;
@@ -108,7 +108,7 @@ fn ceilings(alloc: Global, market: &Market) -> Result<Vec<u32>, OutOfMemory>
 /// before it are more than the seats by one. It goes along the positions from the bar on.
 fn first_over(market: &Market, bar: u32, seating: &Seating, programme: u32) -> Option<u32>
     requires programme { programme < length market.now.orders }
-    requires bar { bar ≤ length (order_of market.now programme) }
+    requires bar { bar ≤ length (market_order market.now programme) }
     requires seats { length seating.now.filling.seats ≡ length market.now.orders }
     requires counts { length seating.now.filling.counts ≡ length market.now.orders }
     requires places { length seating.now.places.items ≡ length market.now.lists }
@@ -137,14 +137,14 @@ fn first_over(market: &Market, bar: u32, seating: &Seating, programme: u32) -> O
 }
 
 impl Falling for MarketRound<'_> {
-    ghost use Rattle.markets.specs.Bars.{market_system, offered};
+    ghost use Rattle.markets.specs.Bars.{market_system, place_codes};
     ghost use Rattle.markets.specs.Rounds.{round_is_lawful, bar_each};
 
     ghost system = { λ r. market_system r.market };
 
     ghost bars = { λ r. r.bars.items };
 
-    ghost offers = { λ r. offered r.market };
+    ghost offers = { λ r. place_codes r.market };
 
     ghost lawful = { λ r. round_is_lawful r.market r.round.valid };
 

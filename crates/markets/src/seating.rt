@@ -1,6 +1,6 @@
 //! Where the candidates of a market stand under bars, and how they move on as bars fall.
 ghost use Rattle.std.specs.Prelude.{ℕ, ◌≡◌, ◌<◌, ◌≤◌, ◌-◌, ◌+◌, length, slice_index, slice_set, slice_get, IfOk, Some};
-ghost use Rattle.markets.specs.Markets.{IsMarket, IsSmall, order_of, list_of};
+ghost use Rattle.markets.specs.Markets.{IsMarket, IsSmall, market_order, list_of};
 ghost use Rattle.markets.specs.Matchings.{is_at, place_of};
 ghost use Rattle.markets.specs.Bars.{best_within, demanded};
 ghost use Rattle.markets.specs.Standing.{AreBeyond, AreSeated, IsStand};
@@ -41,7 +41,7 @@ pub fn seated_under(
     bars: &[u32],
 ) -> Result<Seating, OutOfMemory>
     requires bars { length bars.now ≡ length market.now.orders }
-    requires under { (p : ℕ) → slice_index bars.now p ≤ length (order_of market.now p) }
+    requires under { (p : ℕ) → slice_index bars.now p ≤ length (market_order market.now p) }
     ensures { IfOk result (λ s. IsRound market.now bars.now s.stands.items
         s.places.items s.filling) }
 {

@@ -2,7 +2,7 @@
 ghost use Rattle.std.specs.Prelude.{◌≡◌, length, IfOk, OnErr};
 ghost use Rattle.admit_core.specs.Falls.{IsGreatest};
 ghost use Rattle.markets.specs.Matchings.{IsStable, IsBestForAll};
-ghost use Rattle.markets.specs.Bars.{market_system, matched_under, offered};
+ghost use Rattle.markets.specs.Bars.{market_system, matched_under, place_codes};
 ghost use Rattle.markets.specs.Placed.{ArePlacedInAll};
 ghost use Rattle.markets.specs.Solving.{IsLedTo};
 ghost use Rattle.bar_fixpoint.specs.Chosen.{TellsOfFalls};
@@ -58,7 +58,7 @@ pub fn solve<L: Ledger>(
 
 /// The bars of a round of a market, and the places under them.
 fn solved_by<'a>(market: &Market, round: MarketRound<'a>) -> Solved
-    requires { ⟦<MarketRound<'a> as Falling>⟧.offers round ≡ offered market.now }
+    requires { ⟦<MarketRound<'a> as Falling>⟧.offers round ≡ place_codes market.now }
     ensures bars { result.bars.items ≡ ⟦<MarketRound<'a> as Falling>⟧.bars round.entry }
     ensures places { result.places.items ≡ matched_under market.now result.bars.items }
 {

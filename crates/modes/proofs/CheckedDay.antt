@@ -16,7 +16,7 @@ use Rattle.admit_core.specs.declared.records.DayRecord.{DayRecord}
 use Rattle.admit_core.specs.declared.records.Terms.{Terms}
 use Rattle.admit_core.specs.declared.state.Status.{Status}
 use Rattle.certificate.proofs.Ending.{evening_is}
-use Rattle.certificate.specs.ChainText.{IsDayOf}
+use Rattle.certificate.specs.ChainText.{HasPassesOf}
 use Rattle.certificate.specs.ProvedDays.{AreProvedDays, evening_after, evening_by}
 use Rattle.desk_day.proofs.SameDossier.{evening_dossier}
 use Rattle.desk_day.proofs.Stamps.{stamps_kept}
@@ -150,5 +150,5 @@ evening_dated d dated begun evening first same keeps known =
     (keeps (subst (λ (s : State). All (IsStampedBy 366) s.marks) (sym first) (first_known d dated).stamped))
 
 -- the places of days that can be written are those that their chain names
-pub chain_written : (d : DossierRows) (dated : Option DatedTerms) (days : List DayRecord) → All (CanBeWritten d dated) days → All (IsDayOf d) days
+pub chain_written : (d : DossierRows) (dated : Option DatedTerms) (days : List DayRecord) → All (CanBeWritten d dated) days → All (HasPassesOf d) days
 chain_written d dated days can = λ k x lt n y within. ((can k x lt).passes n y within).falls

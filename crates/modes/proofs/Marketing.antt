@@ -6,7 +6,7 @@ use Rattle.admit_core.specs.declared.ranking.CallOrder.{CallOrder}
 use Rattle.bar_fixpoint.specs.Runs.{schools_of}
 use Rattle.desk_day.specs.DayPasses.{TellsMore}
 use Rattle.markets.specs.Bars.{market_system}
-use Rattle.markets.specs.Dossiers.{candidates_of, market_of}
+use Rattle.markets.specs.Dossiers.{market_candidates, market_of}
 use Rattle.markets.specs.Markets.{MarketRows}
 use Rattle.markets.specs.Matchings.{IsBestForAll, IsStable}
 use Rattle.markets.specs.Solving.{IsLedTo}
@@ -15,7 +15,7 @@ use Rattle.modes.specs.Asking.{TellsPicks}
 use Rattle.modes.specs.Market.{PicksForMarket, TellsMarket}
 
 module _ (d : DossierRows) (orders : List CallOrder) (m : MarketRows) (same : m ≡ market_of d orders) where
-  pub tells_market : (candidates bars : List ℕ) (places : List (Option ℕ)) (text : List ℕ) → candidates ≡ candidates_of d → IsGreatest (market_system m) bars
+  pub tells_market : (candidates bars : List ℕ) (places : List (Option ℕ)) (text : List ℕ) → candidates ≡ market_candidates d → IsGreatest (market_system m) bars
       → IsStable m places → IsBestForAll m places → text ≡ market_text d candidates bars places → TellsMarket d orders text
   tells_market candidates bars places text named greatest stable best is =
       record {

@@ -18,7 +18,7 @@ use Rattle.intake.specs.Dated.{terms_in}
 use Rattle.played.proofs.LastDay.{desk_played}
 use Rattle.played.specs.LastDays.{IsDeskAfter, IsLastOf, pass_on}
 use Rattle.played.specs.Lent.{Lent}
-use Rattle.played.specs.PlayedDays.{EndsAfter, Lead, Plan, Played, first_desk, plan_of}
+use Rattle.played.specs.PlayedDays.{DaysEndAfter, Lead, Plan, Played, first_desk, plan_of}
 use Rattle.request.specs.Modes.{runs_days}
 use Rattle.request.specs.Request.{IsRequest}
 use Rattle.request.specs.declared.request.Request.{Request}
@@ -35,7 +35,7 @@ pub written : (seen : Seen) (played : Played) → CanEnd seen played → All (Ca
 written seen played can =
     played_written seen.dossier seen.dated (days_of seen.request) seen.request.picker can.plays.0 played can.plays.1 (few_days seen.request can.request) can.dated can.plays.2
 
-as_many : (terms : Option Terms) (number : ℕ) (days : List DayRecord) (last : DeskStates) (end : Result DeskStates Refusal) → EndsAfter terms number days last end → ForOk end (λ desk. length days ≡ number)
+as_many : (terms : Option Terms) (number : ℕ) (days : List DayRecord) (last : DeskStates) (end : Result DeskStates Refusal) → DaysEndAfter terms number days last end → ForOk end (λ desk. length days ≡ number)
 as_many terms number days last (Ok desk) ends = λ x same. ends.0
 as_many terms number days last (Err refusal) ends = λ x same. absurd (cc)
 
@@ -45,7 +45,7 @@ no_day plan first before [] last lead none = lead
 no_day plan first before (day ∷ days) last lead none = absurd (omega arith)
 
 desk_at_first : (terms : Option Terms) (number : ℕ) (days : List DayRecord) (last : DeskStates) (end : Result DeskStates Refusal) (first : DeskStates) (plan : Plan) (before : Lent) → Lead plan 1 first before days last
-    → EndsAfter terms number days last end → (desk : DeskStates) → end ≡ Ok desk → number ≡ 0 → desk.present ≡ first.present
+    → DaysEndAfter terms number days last end → (desk : DeskStates) → end ≡ Ok desk → number ≡ 0 → desk.present ≡ first.present
 desk_at_first terms number days last (Ok found) first plan before lead ends desk same none =
     let begun : first ≡ last = no_day plan first before days last lead (ends.0 ∙ none) in
     let here : found ≡ desk = cc in

@@ -24,7 +24,7 @@ use Rattle.desk_day.specs.DeskStates.{DeskStates}
 use Rattle.intake.specs.Dated.{AreDatedFor, terms_in}
 use Rattle.intake.specs.declared.terms.DatedTerms.{DatedTerms}
 use Rattle.played.specs.Lent.{Lent}
-use Rattle.played.specs.PlayedDays.{EndsAfter, IsNext, IsPlayed, Lead, Plan, Played, lent_after}
+use Rattle.played.specs.PlayedDays.{DaysEndAfter, IsNext, IsPlayed, Lead, Plan, Played, lent_after}
 use Rattle.report.specs.DayText.{IsLapseOf, IsPassOf, date_on, last_date}
 use Rattle.report.specs.FinalText.{HasDates}
 use Rattle.request.specs.Request.{IsStart}
@@ -158,11 +158,11 @@ days_written plan d dated k old before (day ∷ days) new terms is few known lea
 pub first_known : (d : DossierRows) (dated : Option DatedTerms) → IsBefore d dated (first_evening d)
 first_known d dated = record { dossier = refl; stamped = All-map IsStamped first_mark d.statuses (λ k x lt. omega arith) }
 
-within_year : (terms : Option Terms) (number : ℕ) (days : List DayRecord) (last : DeskStates) (end : Result DeskStates Refusal) → EndsAfter terms number days last end → number ≤ 366 → 1 + length days ≤ 367
+within_year : (terms : Option Terms) (number : ℕ) (days : List DayRecord) (last : DeskStates) (end : Result DeskStates Refusal) → DaysEndAfter terms number days last end → number ≤ 366 → 1 + length days ≤ 367
 within_year terms number days last (Ok desk) ends few = omega (arith, ends.0)
 within_year terms number days last (Err refusal) ends few = omega (arith, ends.fewer)
 
-evening_written : (d : DossierRows) (dated : Option DatedTerms) (terms : Option Terms) (number : ℕ) (days : List DayRecord) (last : DeskStates) (end : Result DeskStates Refusal) → EndsAfter terms number days last end
+evening_written : (d : DossierRows) (dated : Option DatedTerms) (terms : Option Terms) (number : ℕ) (days : List DayRecord) (last : DeskStates) (end : Result DeskStates Refusal) → DaysEndAfter terms number days last end
     → IfSome dated (AreDatedFor d) → IsBefore d dated last.present → ForOk end (λ desk. CanBeDated dated desk.present)
 evening_written d dated terms number days last (Ok desk) ends is known =
     let at : CanBeDated dated last.present = finals_dated last.present dated (subst (λ (e : DossierRows). IfSome dated (AreDatedFor e)) (sym known.dossier) is) known.stamped in

@@ -46,13 +46,13 @@ TellsAfter (Ok desk) seen played =
 TellsAfter (Err refusal) seen played = Untold
 
 -- no picker but the one that is lent is asked
-abbrev pub AsksNoOther : Option PickerName → Lent → Lent → Type 0
-AsksNoOther None before after = Untold before after
-AsksNoOther (Some name) before after =
+abbrev pub OthersUntold : Option PickerName → Lent → Lent → Type 0
+OthersUntold None before after = Untold before after
+OthersUntold (Some name) before after =
     (other : PickerName) → is_named other name ≡ false → after.told other ≡ before.told other
 
 -- the picker of the name was lent, where one is given: it is back in its place, and the others were
 -- not asked
 pub record IsLent (name : Option PickerName) (before after : Lent) : Type 0 where
   pub back : AreBack before after
-  pub others : AsksNoOther name before after
+  pub others : OthersUntold name before after

@@ -35,12 +35,12 @@ is_answer exits.NotProved = true
 is_answer exits.NoSuchWish = true
 
 -- the exits at which no picker was asked, whatever is known of the slots
-abbrev pub asks_nobody : Exit → Bool
-asks_nobody exits.Done = false
-asks_nobody exits.Refused = false
-asks_nobody exits.BadWords = true
-asks_nobody exits.ReadFault = true
-asks_nobody exits.WriteFault = false
-asks_nobody exits.NoMemory = false
-asks_nobody exits.NotProved = false
-asks_nobody exits.NoSuchWish = true
+abbrev pub ends_unasked : Exit → Bool
+ends_unasked exits.Done = false
+ends_unasked exits.Refused = false
+ends_unasked exits.BadWords = true
+ends_unasked exits.ReadFault = true
+ends_unasked exits.WriteFault = false
+ends_unasked exits.NoMemory = false
+ends_unasked exits.NotProved = false
+ends_unasked exits.NoSuchWish = true

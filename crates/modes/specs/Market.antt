@@ -5,7 +5,7 @@ use Rattle.admit_core.specs.DossierRows.{DossierRows}
 use Rattle.admit_core.specs.Falls.{IsGreatest}
 use Rattle.admit_core.specs.declared.ranking.CallOrder.{CallOrder}
 use Rattle.markets.specs.Bars.{market_system}
-use Rattle.markets.specs.Dossiers.{candidates_of, market_of}
+use Rattle.markets.specs.Dossiers.{market_candidates, market_of}
 use Rattle.markets.specs.Matchings.{IsBestForAll, IsStable}
 use Rattle.markets.specs.Solving.{IsLedTo}
 use Rattle.markets.specs.Text.{market_text}
@@ -18,7 +18,7 @@ pub record TellsMarket (d : DossierRows) (orders : List CallOrder) (text : List 
   pub greatest : IsGreatest (market_system (market_of d orders)) bars
   pub stable : IsStable (market_of d orders) places
   pub best : IsBestForAll (market_of d orders) places
-  pub is_text : text ≡ market_text d (candidates_of d) bars places
+  pub is_text : text ≡ market_text d (market_candidates d) bars places
 
 -- a picker told of the programmes whose bars fell to the greatest, each of which it chose
 pub record PicksForMarket (d : DossierRows) (orders : List CallOrder) (choice : List ℕ → List ℕ → ℕ)

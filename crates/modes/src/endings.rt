@@ -3,7 +3,7 @@ ghost use Rattle.std.specs.Prelude.{◌≡◌, ◌<◌, All, IfOk, IfSome, IsSom
 ghost use Rattle.admit_core.specs.CallOrder.{AreCallOrders};
 ghost use Rattle.admit_core.specs.Days.{first_evening};
 ghost use Rattle.admit_core.specs.Lists.{is_among};
-ghost use Rattle.certificate.specs.ChainText.{IsDayOf, chain_text};
+ghost use Rattle.certificate.specs.ChainText.{HasPassesOf, chain_text};
 ghost use Rattle.certificate.specs.Checked.{ids_in};
 ghost use Rattle.intake.specs.Dated.{AreDatedFor};
 ghost use Rattle.modes.specs.Blocked.{blocked_text};
@@ -91,7 +91,7 @@ fn ordered(alloc: Global, dossier: &Dossier, led: Led<'_>) -> Result<Reply, OutO
 
 /// How the mode `chain` ends. The desk is given up before the text is made.
 fn chained(alloc: Global, dossier: &Dossier, led: Led<'_>) -> Result<Reply, OutOfMemory>
-    requires { All (IsDayOf dossier.now) led.days.items }
+    requires { All (HasPassesOf dossier.now) led.days.items }
     ensures { IfOk result (λ reply. IsDoneWith
         (chain_text dossier.now led.entry.days.items)
         reply.exit reply.text.items) }

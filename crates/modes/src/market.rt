@@ -8,7 +8,7 @@ ghost use Rattle.desk_day.specs.DayPasses.{TellsMore};
 ghost use Rattle.modes.specs.Asking.{TellsPicks};
 ghost use Rattle.modes.specs.Market.{PicksForMarket, TellsMarket};
 ghost use Rattle.markets.specs.Bars.{market_system};
-ghost use Rattle.markets.specs.Dossiers.{candidates_of, market_of};
+ghost use Rattle.markets.specs.Dossiers.{market_candidates, market_of};
 ghost use Rattle.markets.specs.Matchings.{IsBestForAll, IsStable};
 ghost use Rattle.markets.specs.Solving.{IsLedTo};
 
@@ -54,7 +54,7 @@ fn text_of(
 ) -> Result<Vec<u8>, OutOfMemory>
     requires orders { AreCallOrders dossier.now.groups orders.now.orders }
     requires market { named.now.market ≡ market_of dossier.now orders.now.orders }
-    requires candidates { named.now.candidates.items ≡ candidates_of dossier.now }
+    requires candidates { named.now.candidates.items ≡ market_candidates dossier.now }
 
     ensures text { IfOk result (λ text. TellsMarket dossier.now orders.now.orders text.items) }
     ensures picks { IfOk result (λ text. TellsPicks

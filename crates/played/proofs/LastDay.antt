@@ -17,7 +17,7 @@ use Rattle.desk_day.proofs.PassEnds.{desk_ends_so}
 use Rattle.request.specs.declared.pickers.PickerChoice.{PickerChoice}
 use Rattle.played.specs.LastDays.{IsDeskAfter, IsLastOf, pass_on}
 use Rattle.played.specs.Lent.{Lent}
-use Rattle.played.specs.PlayedDays.{EndsAfter, IsNext, IsPlayed, Lead, Plan, Played, first_desk, lent_after, moment_of, plan_of}
+use Rattle.played.specs.PlayedDays.{DaysEndAfter, IsNext, IsPlayed, Lead, Plan, Played, first_desk, lent_after, moment_of, plan_of}
 
 -- a day that came about ended with its last pass
 next_ends : (plan : Plan) (d : ℕ) (rows : DossierRows) (old : DeskStates) (before : Lent)
@@ -64,7 +64,7 @@ desk_after plan d rows old before (one ∷ two ∷ days) new called same lead =
 -- the desk at which days end is the one that they led to
 desk_at : (rows : DossierRows) (orders : List CallOrder) (terms : Option Terms) (number : ℕ)
     (days : List DayRecord) (last : DeskStates) (end : Result DeskStates Refusal)
-    → EndsAfter terms number days last end → IsDeskAfter rows orders days last → ForOk end (IsDeskAfter rows orders days)
+    → DaysEndAfter terms number days last end → IsDeskAfter rows orders days last → ForOk end (IsDeskAfter rows orders days)
 desk_at rows orders terms number days last (Ok desk) ends is =
     λ x same.
     let here : last ≡ x = cc (ends.1, same) in

@@ -11,7 +11,7 @@ use Rattle.desk_day.specs.declared.refusal.DayRefusal.TheVariants as refusals
 use Rattle.request.specs.Pickers.{picker_on}
 use Rattle.request.specs.declared.pickers.PickerName.{PickerName}
 use Rattle.played.specs.Lent.{Lent, Told, is_named, picked_by}
-use Rattle.played.specs.OneDay.{EndsWith}
+use Rattle.played.specs.OneDay.{DayEndsWith}
 use Rattle.played.specs.PlayedDays.{EndsNext, IsNext, Plan, moment_of}
 use Rattle.played.proofs.Naming.{OnlyNamed, each_named, named_self, picked_here, picked_none}
 
@@ -20,7 +20,7 @@ module _ (plan : Plan) (d : ℕ) (old new : DeskStates) (before after : Lent) (o
   name = picker_on plan.who d
 
   abbrev Ends : Result DayRecord DayRefusal → Type 0
-  Ends r = EndsWith plan.orders plan.terms d (moment_of plan d old before) (moment_of plan d new after) r
+  Ends r = DayEndsWith plan.orders plan.terms d (moment_of plan d old before) (moment_of plan d new after) r
 
   choices : after.choice name ≡ before.choice name → (n : PickerName) → after.choice n ≡ before.choice n
   choices same = each_named (λ n. after.choice n ≡ before.choice n) name same only.choice
@@ -84,14 +84,14 @@ module _ (plan : Plan) (d : ℕ) (old new : DeskStates) (before after : Lent) (o
 -- the same of a picker whose name was found
 pub ends_next : (plan : Plan) (d : ℕ) (old new : DeskStates) (before after : Lent) (n : PickerName)
     (r : Result DayRecord DayRefusal) → n ≡ picker_on plan.who d → OnlyNamed n before after
-    → EndsWith plan.orders plan.terms d
+    → DayEndsWith plan.orders plan.terms d
     (record { desk = old; told = before.told n; choice = before.choice n })
     (record { desk = new; told = after.told n; choice = after.choice n }) r
     → EndsNext plan d old before r new after
 ends_next plan d old new before after n r is only ends =
     ends_at plan d old new before after (subst (λ x. OnlyNamed x before after) is only) r
     (subst
-    (λ x. EndsWith plan.orders plan.terms d
+    (λ x. DayEndsWith plan.orders plan.terms d
     (record { desk = old; told = before.told x; choice = before.choice x })
     (record { desk = new; told = after.told x; choice = after.choice x }) r)
     is ends)

@@ -10,7 +10,7 @@ use Rattle.desk_day.specs.declared.refusal.DayRefusal.{DayRefusal}
 
 -- a day under its own ceilings: it came about, or the first answer that does not fit is refused, or
 -- memory ran out
-pub record EndsWith (orders : List CallOrder) (terms : Option Terms) (d : ℕ) (before after : Moment)
+pub record DayEndsWith (orders : List CallOrder) (terms : Option Terms) (d : ℕ) (before after : Moment)
     (result : Result DayRecord DayRefusal) : Type 0 where
   pub done : IfOk result (λ day.
       IsDayDone terms orders (ceilings_of before.desk.present.dossier d) d before day after)

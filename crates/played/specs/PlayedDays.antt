@@ -46,9 +46,9 @@ pub record IsNext (plan : Plan) (d : ℕ) (old : DeskStates) (before : Lent) (da
   pub dossier : new.present.dossier ≡ old.present.dossier
 
 -- the next day asks nobody where an answer does not fit
-abbrev pub AsksNone : Lent → Lent → DayRefusal → Type 0
-AsksNone before after (refusals.Unfit refusal) = Untold before after
-AsksNone before after refusals.OutOfMemory = ⊤
+abbrev pub UntoldWhereUnfit : Lent → Lent → DayRefusal → Type 0
+UntoldWhereUnfit before after (refusals.Unfit refusal) = Untold before after
+UntoldWhereUnfit before after refusals.OutOfMemory = ⊤
 
 -- how day d ends, on a desk and with the pickers of a run
 pub record EndsNext (plan : Plan) (d : ℕ) (old : DeskStates) (before : Lent)
@@ -56,7 +56,7 @@ pub record EndsNext (plan : Plan) (d : ℕ) (old : DeskStates) (before : Lent)
   pub done : IfOk result (λ day. IsNext plan d old before day new)
   pub told : IfOk result (λ day. Told plan.who (day ∷ []) before after)
   pub unfit : IfErr result (IsUnfitOf old.present.dossier d (unfit_on plan.terms d old.present))
-  pub untold : IfErr result (AsksNone before after)
+  pub untold : IfErr result (UntoldWhereUnfit before after)
   pub back : AreBack before after
 
 -- days from day d on lead from one desk to another
@@ -111,10 +111,10 @@ pub record Played : Type 0 where
   pub end : Result DeskStates Refusal
 
 -- so many days came about, or those before one with an answer that does not fit
-abbrev pub EndsAfter : Option Terms → ℕ → List DayRecord → DeskStates
+abbrev pub DaysEndAfter : Option Terms → ℕ → List DayRecord → DeskStates
     → Result DeskStates Refusal → Type 0
-EndsAfter terms number days last (Ok desk) = (length days ≡ number) × (desk ≡ last)
-EndsAfter terms number days last (Err refusal) = IsCutShort terms number days last.present refusal
+DaysEndAfter terms number days last (Ok desk) = (length days ≡ number) × (desk ≡ last)
+DaysEndAfter terms number days last (Err refusal) = IsCutShort terms number days last.present refusal
 
 abbrev pub plan_of : Option Terms → PickerChoice → Played → Plan
 plan_of terms who played = record { orders = played.orders; terms = terms; who = who }
@@ -125,5 +125,5 @@ pub record IsPlayed (d : DossierRows) (terms : Option Terms) (number : ℕ) (who
   pub called : AreCallOrders d.groups played.orders
   pub last : DeskStates
   pub days : Lead (plan_of terms who played) 1 (first_desk d) before played.days last
-  pub ends : EndsAfter terms number played.days last played.end
+  pub ends : DaysEndAfter terms number played.days last played.end
   pub told : Told who played.days before after

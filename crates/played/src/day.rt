@@ -5,7 +5,7 @@ ghost use Rattle.admit_core.specs.Lapses.{AreTermsFor};
 ghost use Rattle.admit_core.specs.Ranges.{IsDay as IsDayNumber};
 ghost use Rattle.linked_demand.specs.Lineups.{IsLineupOf};
 ghost use Rattle.played.specs.Lent.{AreThere, choice_in, lent, told_in};
-ghost use Rattle.played.specs.OneDay.{EndsWith};
+ghost use Rattle.played.specs.OneDay.{DayEndsWith};
 ghost use Rattle.played.specs.PlayedDays.{EndsNext};
 
 use crate::pickers::Pickers;
@@ -31,7 +31,7 @@ fn run_with(
     requires terms { AreTermsFor desk.old.present.dossier (option_copied terms) }
     requires day { IsDayNumber day }
 
-    ensures { EndsWith orders.now.orders (option_copied terms.entry) day
+    ensures { DayEndsWith orders.now.orders (option_copied terms.entry) day
         (record { desk = desk.old; told = told picker.old; choice = choice picker.old })
         (record { desk = desk.new; told = told picker.new; choice = choice picker.new }) result }
 {
@@ -56,7 +56,7 @@ fn run_lent(
     requires there { IsSome place.old }
 
     ensures there { IsSome place.new }
-    ensures ends { EndsWith orders.now.orders (option_copied terms.entry) day
+    ensures ends { DayEndsWith orders.now.orders (option_copied terms.entry) day
         (record {
           desk = desk.old;
           told = told_in (λ p. told p) place.old;

@@ -19,7 +19,7 @@ use Rattle.intake.specs.Dated.{AreDatedFor, dated_from, terms_in}
 use Rattle.intake.specs.Input.{IsInputOf, IsJobOf, Job, NamesIn}
 use Rattle.intake.specs.declared.input.Input.{Input}
 use Rattle.intake.specs.declared.terms.DatedTerms.{DatedTerms}
-use Rattle.modes.specs.Asking.{AsksNoOther, IsLent, TellsAfter}
+use Rattle.modes.specs.Asking.{OthersUntold, IsLent, TellsAfter}
 use Rattle.modes.specs.Endings.{CanEnd, EndsAfter, EndsWith, IsEndOf, IsEnding}
 use Rattle.modes.proofs.CheckedExits.{IsAfterDays, check_done, check_exit, is_after}
 use Rattle.modes.specs.Checking.{CanBeDone, HandsInProof}
@@ -161,5 +161,5 @@ module _ (request : Request) (known : IsRequest request) (input : Input) (dated 
 pub untold_idle : (request : Request) (told : PickerName → List ℕ) (between after : Lent) → (days_of request ≡ 0 → (name : PickerName) → between.told name ≡ told name)
     → IsLent (picker_after request) between after → IsIdle request → (name : PickerName) → after.told name ≡ told name
 untold_idle request told between after days lends idle =
-    let ending : Untold between after = subst (λ (name : Option PickerName). AsksNoOther name between after) idle.none_after lends.others in
+    let ending : Untold between after = subst (λ (name : Option PickerName). OthersUntold name between after) idle.none_after lends.others in
     λ name. ending name ∙ days (no_days request idle.no_day) name

@@ -10,7 +10,7 @@ use Rattle.intake.specs.declared.input.Input.{Input}
 use Rattle.intake.specs.declared.stop.Stop.{Stop}
 use Rattle.intake.specs.declared.stop.Stop.TheVariants as stops
 use Rattle.modes.specs.Endings.{IsEnding}
-use Rattle.modes.specs.Exits.{asks_nobody, exit_of, is_answer}
+use Rattle.modes.specs.Exits.{ends_unasked, exit_of, is_answer}
 use Rattle.modes.proofs.CheckedExits.{IsAfterDays}
 use Rattle.modes.specs.Checking.{CanBeDone}
 use Rattle.modes.specs.Jobs.{IsIdle}
@@ -25,7 +25,7 @@ use Rattle.request.specs.Request.{request_of}
 use Rattle.request.specs.declared.request.Request.{Request}
 use Rattle.slot_io.specs.Faults.{NoneFell, Rose}
 use Rattle.replay_cli.specs.Answering.{Replies, TakesAll, TakesAsked}
-use Rattle.replay_cli.specs.Outcome.{AsksNobody, Ends, IsOutcome, NamesFault, slots_read}
+use Rattle.replay_cli.specs.Outcome.{WantsNoPicker, Ends, IsOutcome, NamesFault, slots_read}
 use Rattle.replay_cli.specs.Run.{KeepsOthers}
 use Rattle.replay_cli.proofs.Played.{ending_done, ending_exit}
 
@@ -55,7 +55,7 @@ answers_after exits.WriteFault after = absurd after
 answers_after exits.NoMemory after = absurd after
 answers_after exits.NoSuchWish after = absurd after
 
-asks_after : (exit : Exit) → IsAfterDays exit → IsTrue (asks_nobody exit) → ⊥
+asks_after : (exit : Exit) → IsAfterDays exit → IsTrue (ends_unasked exit) → ⊥
 asks_after exits.Done after asks = false≢true asks
 asks_after exits.Refused after asks = false≢true asks
 asks_after exits.NotProved after asks = false≢true asks
@@ -96,8 +96,8 @@ module _ (words : List (List ℕ)) (shelf shelf' : OnShelf) (before after : Lent
   good : IsNone (request_of words) → ⊥
   good none = no_none x.0 (subst IsNone takes.asked none)
 
-  asks_none : AsksNobody (request_of words) → Untold before after
-  asks_none none = idle (subst AsksNobody takes.asked none)
+  asks_none : WantsNoPicker (request_of words) → Untold before after
+  asks_none none = idle (subst WantsNoPicker takes.asked none)
 
   all_read : (slots : Slot → List ℕ) → Tells shelf.left slots → (slot : Slot) → Contains (slots_read (request_of words)) slot → shelf'.left slot ≡ Some []
   all_read slots tells slot among =

@@ -7,7 +7,7 @@ use Rattle.intake.specs.Stops.{Stopped}
 use Rattle.intake.specs.declared.input.Input.{Input}
 use Rattle.intake.specs.declared.stop.Stop.{Stop}
 use Rattle.intake.specs.declared.stop.Stop.TheVariants as stops
-use Rattle.modes.specs.Exits.{asks_nobody, is_answer}
+use Rattle.modes.specs.Exits.{ends_unasked, is_answer}
 use Rattle.modes.specs.Checking.{CanBeDone}
 use Rattle.modes.specs.declared.exit.Exit.{Exit}
 use Rattle.modes.specs.declared.exit.Exit.TheVariants.{BadWords, Done, ReadFault}
@@ -17,7 +17,7 @@ use Rattle.request.specs.Modes.{slots_of}
 use Rattle.request.specs.Request.{IsRequest, request_of}
 use Rattle.request.specs.declared.request.Request.{Request}
 use Rattle.slot_io.specs.Faults.{NoneFell, Rose}
-use Rattle.replay_cli.specs.Outcome.{AsksNobody, IsOutcome, NamesFault, slots_read}
+use Rattle.replay_cli.specs.Outcome.{WantsNoPicker, IsOutcome, NamesFault, slots_read}
 use Rattle.replay_cli.specs.Run.{KeepsOthers}
 
 -- what stops the reading of the words
@@ -53,7 +53,7 @@ pub record Replies {E : Type 0} (words : List (List ℕ)) (shelf shelf' : OnShel
       → IsOutcome words slots before after reply.exit reply.text.items)
   pub kinds : IfOk result (λ reply. IsTrue (is_answer reply.exit)
       ⊎ ((reply.exit ≡ ReadFault) × NamesFault (request_of words) shelf shelf' reply.text.items))
-  pub untold : IfOk result (λ reply. IsTrue (asks_nobody reply.exit) → Untold before after)
+  pub untold : IfOk result (λ reply. IsTrue (ends_unasked reply.exit) → Untold before after)
   pub bad_words : IfOk result (λ reply. reply.exit ≡ BadWords → IsNone (request_of words))
   pub only_bad : IsNone (request_of words) → IfOk result (λ reply. reply.exit ≡ BadWords)
   pub untouched : IsNone (request_of words) → shelf' ≡ shelf
@@ -63,7 +63,7 @@ pub record Replies {E : Type 0} (words : List (List ℕ)) (shelf shelf' : OnShel
   pub others : KeepsOthers (slots_read (request_of words)) shelf shelf'
   pub counts : NoneFell shelf.faults shelf'.faults
   pub back : AreBack before after
-  pub idle : AsksNobody (request_of words) → Untold before after
+  pub idle : WantsNoPicker (request_of words) → Untold before after
   pub complete : (slots : Slot → List ℕ) → Tells shelf.left slots
       → IsOkAnd (accepted words slots) CanBeDone
       → ((slot : Slot) → ¬ Rose (shelf.faults slot) (shelf'.faults slot))

@@ -37,9 +37,9 @@ slots_read None = []
 slots_read (Some request) = slots_of request.mode
 
 -- what is asked for runs no day, and asks no picker after its days
-abbrev pub AsksNobody : Option Request → Type 0
-AsksNobody None = ⊤
-AsksNobody (Some request) = IsIdle request
+abbrev pub WantsNoPicker : Option Request → Type 0
+WantsNoPicker None = ⊤
+WantsNoPicker (Some request) = IsIdle request
 
 -- the line of a slot that is read and could not be: its count rose, and those read before it have
 -- their sizes and shapes

@@ -4,7 +4,7 @@ use Rattle.std.specs.Io.KnownBytes.{Appends}
 use Rattle.admit_core.specs.declared.slot.Slot.{Slot}
 use Rattle.intake.specs.Input.{accepted}
 use Rattle.intake.specs.Shelves.{OnShelf, Tells}
-use Rattle.modes.specs.Exits.{asks_nobody, is_answer}
+use Rattle.modes.specs.Exits.{ends_unasked, is_answer}
 use Rattle.modes.specs.Checking.{CanBeDone}
 use Rattle.modes.specs.declared.exit.Exit.{Exit}
 use Rattle.modes.specs.declared.exit.Exit.TheVariants.{BadWords, Done, NoMemory, ReadFault, WriteFault}
@@ -13,7 +13,7 @@ use Rattle.request.specs.Request.{request_of}
 use Rattle.request.specs.declared.request.Request.{Request}
 use Rattle.slot_io.specs.Bytes.{AppendsPart}
 use Rattle.slot_io.specs.Faults.{NoneFell, Rose}
-use Rattle.replay_cli.specs.Outcome.{AsksNobody, IsOutcome, NamesFault, slots_read}
+use Rattle.replay_cli.specs.Outcome.{WantsNoPicker, IsOutcome, NamesFault, slots_read}
 
 -- the bytes that a sink holds, where it tells them, and how often its writes have failed
 pub record AtSink : Type 0 where
@@ -100,5 +100,5 @@ pub record IsRun (words : List (List ℕ)) (before after : Around) (exit : Exit)
   pub write_fault : exit ≡ WriteFault → Rose before.sink.faults after.sink.faults
   pub counts : NoCountFell before after
   pub back : AreBack before.pickers after.pickers
-  pub untold : IsTrue (asks_nobody exit) → Untold before.pickers after.pickers
-  pub idle : AsksNobody (request_of words) → Untold before.pickers after.pickers
+  pub untold : IsTrue (ends_unasked exit) → Untold before.pickers after.pickers
+  pub idle : WantsNoPicker (request_of words) → Untold before.pickers after.pickers

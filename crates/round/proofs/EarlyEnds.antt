@@ -1,7 +1,7 @@
 -- What a picker told where memory ran out in a pass.
 use Rattle.std.proofs.Common.{ℕ, ◌≡◌, List, ◌++◌, refl, inl, subst}
 use Rattle.admit_core.specs.declared.records.Fall.{Fall}
-use Rattle.admit_core.specs.Falls.{FallingSystem, IsRun, bars_after}
+use Rattle.admit_core.specs.Falls.{FallingSystem, IsRunOfFalls, bars_after}
 use Rattle.bar_fixpoint.specs.Runs.{schools_of}
 use Rattle.bar_fixpoint.specs.Chosen.{AreChosen, EndsEarly, TellsOfFalls}
 
@@ -11,7 +11,7 @@ pub told_early : (sys now : FallingSystem) (choice : List ℕ → List ℕ → �
 told_early sys now choice told told_after bars same ends = (bars, subst (λ (s : FallingSystem). EndsEarly s choice told told_after bars) same ends)
 
 -- of each fall, where all were made
-pub told_of_all : (sys now : FallingSystem) (choice : List ℕ → List ℕ → ℕ) (told told_after : List ℕ) (falls : List Fall) → now ≡ sys → IsRun now falls
+pub told_of_all : (sys now : FallingSystem) (choice : List ℕ → List ℕ → ℕ) (told told_after : List ℕ) (falls : List Fall) → now ≡ sys → IsRunOfFalls now falls
     → AreChosen now choice told now.ceilings falls → told_after ≡ told ++ schools_of falls → TellsOfFalls sys choice told told_after
 told_of_all sys now choice told told_after falls same is_run chosen told_of =
     told_early sys now choice told told_after (bars_after now.ceilings falls) same

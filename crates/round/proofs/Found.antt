@@ -3,7 +3,7 @@ use Rattle.std.proofs.Common.{ℕ, ◌+◌, ◌<◌, ◌≡◌, List, [], ◌∷
 use Rattle.std.specs.Prelude.{slice_index}
 use Rattle.std.proofs.lemmas.List.{take_more}
 use Rattle.admit_core.specs.declared.records.Fall.{Fall}
-use Rattle.admit_core.specs.Falls.{FallingSystem, IsGreatest, IsRun, bars_after}
+use Rattle.admit_core.specs.Falls.{FallingSystem, IsGreatest, IsRunOfFalls, bars_after}
 use Rattle.bar_fixpoint.specs.Runs.{schools_of}
 use Rattle.bar_fixpoint.specs.Chosen.{AreChosen}
 
@@ -20,8 +20,8 @@ module _ (sys now : FallingSystem) (same : now ≡ sys) where
       subst (λ (s : FallingSystem). IsGreatest s bars) same (subst (λ (b : List ℕ). IsGreatest now b) (sym bars_are) is)
 
   module _ (falls kept : List Fall) (kept_are : kept ≡ falls) where
-    pub run_kept : IsRun now falls → IsRun sys kept
-    run_kept is = subst (λ (s : FallingSystem). IsRun s kept) same (subst (λ (fs : List Fall). IsRun now fs) (sym kept_are) is)
+    pub run_kept : IsRunOfFalls now falls → IsRunOfFalls sys kept
+    run_kept is = subst (λ (s : FallingSystem). IsRunOfFalls s kept) same (subst (λ (fs : List Fall). IsRunOfFalls now fs) (sym kept_are) is)
 
     pub bars_kept : (bars after : List ℕ) → bars ≡ after → after ≡ bars_after now.ceilings falls → bars ≡ bars_after sys.ceilings kept
     bars_kept bars after bars_are after_is =

@@ -7,7 +7,7 @@ use Rattle.std.proofs.lemmas.List.{length-set, append-nil, length-replicate, get
 use Rattle.std.proofs.lemmas.List.Folds.{list_any-append}
 use Rattle.admit_core.proofs.Plain.{or_false}
 use Rattle.bar_fixpoint.proofs.Listing.{filter_more}
-use Rattle.markets.specs.Markets.{MarketRows, position_of}
+use Rattle.markets.specs.Markets.{MarketRows, market_position}
 use Rattle.markets.specs.Matchings.{place_of, is_at}
 use Rattle.stable_market.specs.Blocks.{AreLasts, noted}
 use Rattle.markets.proofs.Noting.{holders_to}
@@ -16,7 +16,7 @@ use Rattle.markets.proofs.Noting.{holders_to}
 pub record AreLastsTo (m : MarketRows) (places : List (Option ℕ)) (k : ℕ) (lasts : List ℕ) : Type 0 where
   pub one_each : length lasts ≡ length m.orders
   pub each : (p j : ℕ) → p < length m.orders
-      → nat_lt j (slice_index lasts p) ≡ list_any (λ y. nat_lt j (position_of m p y)) (holders_to places p k)
+      → nat_lt j (slice_index lasts p) ≡ list_any (λ y. nat_lt j (market_position m p y)) (holders_to places p k)
 
 past_max : (j a b : ℕ) → nat_lt j (max a b) ≡ (nat_lt j a || nat_lt j b)
 past_max j a b =
@@ -59,22 +59,22 @@ lasts_more m places k lasts new o is within are new_is = by o is within new_is
           one_each = ap length new_is ∙ are.one_each;
           each = λ p j lt.
               ap (λ (xs : List ℕ). nat_lt j (get_or xs p 0)) new_is ∙ are.each p j lt
-              ∙ ap (list_any (λ y. nat_lt j (position_of m p y))) (sym (over p (ap (is_at p) is)));
+              ∙ ap (list_any (λ y. nat_lt j (market_position m p y))) (sym (over p (ap (is_at p) is)));
         }
     by (Some q) is within new_is =
-        let value : ℕ = max (slice_index lasts q) (position_of m q k) in
+        let value : ℕ = max (slice_index lasts q) (market_position m q k) in
         let q_lt : q < length lasts = omega (arith, within q refl, are.one_each) in
         record {
           one_each = ap length new_is ∙ length-set lasts q value ∙ are.one_each;
           each = λ p j lt.
               elim (cases_eq p q) [
                 | inl here ↦
-                    let now : slice_index new p ≡ max (slice_index lasts p) (position_of m p k) =
+                    let now : slice_index new p ≡ max (slice_index lasts p) (market_position m p k) =
                     ap (λ (xs : List ℕ). get_or xs p 0) new_is ∙ ap (slice_index (set lasts q value)) here
                     ∙ get_or-set_same lasts q value 0 q_lt
-                    ∙ ap (λ i. max (slice_index lasts i) (position_of m i k)) (sym here) in
-                    let t : ℕ → Bool = λ y. nat_lt j (position_of m p y) in
-                    ap (nat_lt j) now ∙ past_max j (slice_index lasts p) (position_of m p k)
+                    ∙ ap (λ i. max (slice_index lasts i) (market_position m i k)) (sym here) in
+                    let t : ℕ → Bool = λ y. nat_lt j (market_position m p y) in
+                    ap (nat_lt j) now ∙ past_max j (slice_index lasts p) (market_position m p k)
                     ∙ ap (λ b. b || t k) (are.each p j lt)
                     ∙ ap (λ b. list_any t (holders_to places p k) || b) (sym (or_false (t k)))
                     ∙ sym (list_any-append t (holders_to places p k) (k ∷ []))
@@ -83,7 +83,7 @@ lasts_more m places k lasts new o is within are new_is = by o is within new_is
                     let now : slice_index new p ≡ slice_index lasts p = ap (λ (xs : List ℕ). get_or xs p 0) new_is
                     ∙ get_or-set_other lasts q p value 0 other in
                     ap (nat_lt j) now ∙ are.each p j lt
-                    ∙ ap (list_any (λ y. nat_lt j (position_of m p y))) (sym (over p (ap (is_at p) is ∙ ne_eqb p q other)))
+                    ∙ ap (list_any (λ y. nat_lt j (market_position m p y))) (sym (over p (ap (is_at p) is ∙ ne_eqb p q other)))
               ];
         }
 

@@ -4,7 +4,7 @@ use Rattle.std.specs.Prelude.{Option, Some, slice_index}
 use Rattle.std.specs.List.{list_any, before_first, range_with_len}
 use Rattle.std.proofs.lemmas.Bool.{cases_eq, and_parts, or_left, or_right, eq-eqb}
 use Rattle.admit_core.specs.Lists.{is_among}
-use Rattle.markets.specs.Markets.{MarketRows, list_of, lists_it, position_of}
+use Rattle.markets.specs.Markets.{MarketRows, list_of, lists_it, market_position}
 use Rattle.markets.specs.Matchings.{place_of, is_at, holders, prefers, IsStable}
 use Rattle.stable_market.specs.Truth.{DifferAtMostIn}
 use Rattle.markets.specs.Firsts.{among_filter, among_before, at_place}
@@ -46,10 +46,10 @@ module _ (x : ℕ) (a b : MarketRows) (alike : DifferAtMostIn x a b) (places : L
 
   -- the same holders stand later
   same_later : (y p : ℕ) → prefers b places y p ≡ true
-      → list_any (λ z. nat_lt (position_of b p y) (position_of b p z)) (holders places p)
-      ≡ list_any (λ z. nat_lt (position_of a p y) (position_of a p z)) (holders places p)
+      → list_any (λ z. nat_lt (market_position b p y) (market_position b p z)) (holders places p)
+      ≡ list_any (λ z. nat_lt (market_position a p y) (market_position a p z)) (holders places p)
   same_later y p t =
-      any_same (λ z. nat_lt (position_of b p y) (position_of b p z)) (λ z. nat_lt (position_of a p y) (position_of a p z))
+      any_same (λ z. nat_lt (market_position b p y) (market_position b p z)) (λ z. nat_lt (market_position a p y) (market_position a p z))
       (holders places p)
       (λ z among.
       let at = holder_at places p z among in
@@ -68,7 +68,7 @@ module _ (x : ℕ) (a b : MarketRows) (alike : DifferAtMostIn x a b) (places : L
         };
         no_block = λ y p t.
             let held : ℕ = length (holders places p) in
-            let later : Bool = list_any (λ z. nat_lt (position_of b p y) (position_of b p z)) (holders places p) in
+            let later : Bool = list_any (λ z. nat_lt (market_position b p y) (market_position b p z)) (holders places p) in
             ap (λ (s : List ℕ). nat_lt held (slice_index s p) || later) (sym alike.same_seats)
             ∙ ap (λ c. nat_lt held (slice_index a.seats p) || c) (same_later y p t)
             ∙ stable.no_block y p (wanted_here y p t);

@@ -7,7 +7,7 @@ use Rattle.std.proofs.lemmas.List.FromFn.{length-map-range_with_len, get_or-map-
 use Rattle.admit_core.specs.Lists.{is_among}
 use Rattle.admit_core.proofs.Counting.{distinct_kept}
 use Rattle.admit_core.proofs.Plain.{or_true, or_false, and_true}
-use Rattle.markets.specs.Markets.{MarketRows, IsMarket, list_of, order_of, lists_it, listers, is_distinct, is_list_below, is_order, position_of}
+use Rattle.markets.specs.Markets.{MarketRows, IsMarket, list_of, market_order, lists_it, listers, is_distinct, is_list_below, is_order, market_position}
 use Rattle.stable_market.specs.Truth.{DifferAtMostIn}
 use Rattle.markets.specs.Firsts.{all_of, among_filter}
 use Rattle.markets.specs.Positions.{order_distinct, order_lists, in_order, is_programme, position_is}
@@ -84,7 +84,7 @@ abbrev pub shortened : MarketRows → ℕ → (ℕ → Bool) → MarketRows
 shortened m x keep =
     record {
       lists = set m.lists x (filter keep (list_of m x));
-      orders = map (λ p. filter (stays keep x p) (order_of m p)) (range_with_len 0 (length m.orders));
+      orders = map (λ p. filter (stays keep x p) (market_order m p)) (range_with_len 0 (length m.orders));
       seats = m.seats;
     }
 
@@ -96,7 +96,7 @@ module _ (m : MarketRows) (is : IsMarket m) (x : ℕ) (x_lt : x < length m.lists
   many_lists = length-set m.lists x (filter keep (list_of m x))
 
   many_orders : length short.orders ≡ length m.orders
-  many_orders = length-map-range_with_len (λ p. filter (stays keep x p) (order_of m p)) 0 (length m.orders)
+  many_orders = length-map-range_with_len (λ p. filter (stays keep x p) (market_order m p)) 0 (length m.orders)
 
   pub own_list : list_of short x ≡ filter keep (list_of m x)
   own_list = get_or-set_same m.lists x (filter keep (list_of m x)) [] x_lt
@@ -104,8 +104,8 @@ module _ (m : MarketRows) (is : IsMarket m) (x : ℕ) (x_lt : x < length m.lists
   pub other_list : (y : ℕ) → y ≢ x → list_of short y ≡ list_of m y
   other_list y other = get_or-set_other m.lists x y (filter keep (list_of m x)) [] other
 
-  order_is : (p : ℕ) → p < length m.orders → order_of short p ≡ filter (stays keep x p) (order_of m p)
-  order_is p lt = get_or-map-range_with_len (λ q. filter (stays keep x q) (order_of m q)) 0 (length m.orders) p p [] lt (omega arith)
+  order_is : (p : ℕ) → p < length m.orders → market_order short p ≡ filter (stays keep x p) (market_order m p)
+  order_is p lt = get_or-map-range_with_len (λ q. filter (stays keep x q) (market_order m q)) 0 (length m.orders) p p [] lt (omega arith)
 
   lists_there : (p y : ℕ) → lists_it short p y ≡ (lists_it m p y && stays keep x p y)
   lists_there p y = elim (cases_eq y x) [
@@ -121,8 +121,8 @@ module _ (m : MarketRows) (is : IsMarket m) (x : ℕ) (x_lt : x < length m.lists
   pub listed_before : (p y : ℕ) → lists_it short p y ≡ true → (lists_it m p y ≡ true) × (stays keep x p y ≡ true)
   listed_before p y t = and_parts (lists_it m p y) (stays keep x p y) (sym (lists_there p y) ∙ t)
 
-  in_short : (p y : ℕ) → p < length m.orders → is_among y (order_of short p) ≡ (is_among y (order_of m p) && stays keep x p y)
-  in_short p y lt = ap (is_among y) (order_is p lt) ∙ among_filter (stays keep x p) y (order_of m p)
+  in_short : (p y : ℕ) → p < length m.orders → is_among y (market_order short p) ≡ (is_among y (market_order m p) && stays keep x p y)
+  in_short p y lt = ap (is_among y) (order_is p lt) ∙ among_filter (stays keep x p) y (market_order m p)
 
   own_is_list : is_list_below (length m.orders) (filter keep (list_of m x)) ≡ true
   own_is_list =
@@ -145,20 +145,20 @@ module _ (m : MarketRows) (is : IsMarket m) (x : ℕ) (x_lt : x < length m.lists
   are_orders : (p : ℕ) → p < length short.orders → is_order short p ≡ true
   are_orders p short_lt =
       let lt : p < length m.orders = omega (arith, short_lt, many_orders) in
-      let order = order_of short p in
+      let order = market_order short p in
       let apart : IsDistinct nat_eq order =
       (let P : List ℕ → Type 0 = λ ys. IsDistinct nat_eq ys in
-      subst P (sym (order_is p lt)) (distinct_kept (stays keep x p) (order_of m p) (order_distinct m is p lt))) in
+      subst P (sym (order_is p lt)) (distinct_kept (stays keep x p) (market_order m p) (order_distinct m is p lt))) in
       let all_list : list_all (lists_it short p) order ≡ true =
       all_of (lists_it short p) order (λ y among.
-      let both = and_parts (is_among y (order_of m p)) (stays keep x p y) (sym (in_short p y lt) ∙ among) in
+      let both = and_parts (is_among y (market_order m p)) (stays keep x p y) (sym (in_short p y lt) ∙ among) in
       lists_there p y ∙ and_from (lists_it m p y) (stays keep x p y) (order_lists m is p y lt both.0) both.1) in
       let all_in : list_all (λ y. is_among y order) (listers short p) ≡ true =
       all_of (λ y. is_among y order) (listers short p) (λ y among.
       let lister = and_parts (is_among y (range_with_len 0 (length short.lists))) (lists_it short p y)
       (sym (among_filter (lists_it short p) y (range_with_len 0 (length short.lists))) ∙ among) in
       let both = listed_before p y lister.1 in
-      in_short p y lt ∙ and_from (is_among y (order_of m p)) (stays keep x p y) (in_order m is p y both.0) both.1) in
+      in_short p y lt ∙ and_from (is_among y (market_order m p)) (stays keep x p y) (in_order m is p y both.0) both.1) in
       and_from (is_distinct order && list_all (lists_it short p) order) (list_all (λ y. is_among y order) (listers short p))
       (and_from (is_distinct order) (list_all (lists_it short p) order) (is_distinct_from order apart) all_list) all_in
 
@@ -174,14 +174,14 @@ module _ (m : MarketRows) (is : IsMarket m) (x : ℕ) (x_lt : x < length m.lists
         same_lists = λ y other. sym (other_list y other);
         same_ranks = λ p y z y_was z_was y_is z_is.
             let lt = is_programme m is p y y_was in
-            let order = order_of m p in
+            let order = market_order m p in
             let kept = filter (stays keep x p) order in
-            let y_pos : position_of short p y ≡ 1 + place y kept = omega (arith, position_is short p y, ap (place y) (order_is p lt)) in
-            let z_pos : position_of short p z ≡ 1 + place z kept = omega (arith, position_is short p z, ap (place z) (order_is p lt)) in
-            let y_old : position_of m p y ≡ 1 + place y order = omega (arith, position_is m p y) in
-            let z_old : position_of m p z ≡ 1 + place z order = omega (arith, position_is m p z) in
-            ap (λ n. nat_lt n (position_of m p z)) y_old ∙ ap (nat_lt (1 + place y order)) z_old ∙ lt_next (place y order) (place z order)
+            let y_pos : market_position short p y ≡ 1 + place y kept = omega (arith, position_is short p y, ap (place y) (order_is p lt)) in
+            let z_pos : market_position short p z ≡ 1 + place z kept = omega (arith, position_is short p z, ap (place z) (order_is p lt)) in
+            let y_old : market_position m p y ≡ 1 + place y order = omega (arith, position_is m p y) in
+            let z_old : market_position m p z ≡ 1 + place z order = omega (arith, position_is m p z) in
+            ap (λ n. nat_lt n (market_position m p z)) y_old ∙ ap (nat_lt (1 + place y order)) z_old ∙ lt_next (place y order) (place z order)
             ∙ still_before (stays keep x p) y z order (listed_before p y y_is).1 (listed_before p z z_is).1
-            ∙ sym (ap (λ n. nat_lt n (position_of short p z)) y_pos ∙ ap (nat_lt (1 + place y kept)) z_pos
+            ∙ sym (ap (λ n. nat_lt n (market_position short p z)) y_pos ∙ ap (nat_lt (1 + place y kept)) z_pos
             ∙ lt_next (place y kept) (place z kept));
       }

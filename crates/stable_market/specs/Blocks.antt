@@ -3,7 +3,7 @@ use Rattle.std.specs.Prelude.{◌≡◌, ℕ, ◌<◌, List, length, find, nat_l
 use Rattle.std.specs.List.{list_any, range_with_len}
 use Rattle.std.specs.Option.{is_some}
 use Rattle.stable_market.specs.declared.block.MarketBlock.{MarketBlock}
-use Rattle.markets.specs.Markets.{MarketRows, position_of}
+use Rattle.markets.specs.Markets.{MarketRows, market_position}
 use Rattle.markets.specs.Matchings.{IsStable, holders, block_of}
 
 -- the last position at which somebody has a place: it is past k exactly where somebody's is
@@ -13,12 +13,12 @@ pub record AreLasts (m : MarketRows) (places : List (Option ℕ)) (lasts : List 
       (p k : ℕ)
       → p < length m.orders
       → nat_lt k (slice_index lasts p)
-      ≡ list_any (λ y. nat_lt k (position_of m p y)) (holders places p)
+      ≡ list_any (λ y. nat_lt k (market_position m p y)) (holders places p)
 
 -- what is noted of one more candidate: their position, where it is past the one that was noted
 abbrev pub noted : MarketRows → ℕ → List ℕ → Option ℕ → List ℕ
 noted m x lasts None = lasts
-noted m x lasts (Some p) = slice_set lasts p (max (slice_index lasts p) (position_of m p x))
+noted m x lasts (Some p) = slice_set lasts p (max (slice_index lasts p) (market_position m p x))
 
 -- the least candidate who blocks with some programme
 abbrev pub first_blocking : MarketRows → List (Option ℕ) → Option ℕ

@@ -1,6 +1,6 @@
 -- Nobody gains by handing in another list than the true one.
 use Rattle.std.specs.Prelude.{◌≡◌, ◌≢◌, ℕ, false, List, Option, Some, length, nat_lt, IsTrue}
-use Rattle.markets.specs.Markets.{MarketRows, IsMarket, list_of, lists_it, position_of}
+use Rattle.markets.specs.Markets.{MarketRows, IsMarket, list_of, lists_it, market_position}
 use Rattle.markets.specs.Matchings.{place_of, prefers, IsStable, IsBestForAll}
 
 -- two markets that differ at most in the list of one candidate: the others list the same, the seats
@@ -16,8 +16,8 @@ pub record DifferAtMostIn (x : ℕ) (m other : MarketRows) : Type 0 where
       → IsTrue (lists_it m p z)
       → IsTrue (lists_it other p y)
       → IsTrue (lists_it other p z)
-      → nat_lt (position_of m p y) (position_of m p z)
-      ≡ nat_lt (position_of other p y) (position_of other p z)
+      → nat_lt (market_position m p y) (market_position m p z)
+      ≡ nat_lt (market_position other p y) (market_position other p z)
 
 -- whatever list a candidate hands in, no stable matching of that market gives them a programme that
 -- they prefer to their place in the best stable matching by the true list

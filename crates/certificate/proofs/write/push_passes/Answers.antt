@@ -1,11 +1,11 @@
 use Rattle.std.proofs.Common.{◌+◌, subst, sym, arith, append_assoc}
-use Rattle.certificate.specs.ChainText.{IsPassOf, pass_lines}
+use Rattle.certificate.specs.ChainText.{HasFallsOf, pass_lines}
 use Rattle.report.proofs.LineLemmas.{lines_more_item}
 use Rattle.certificate.proofs.write.push_passes.Goals as goal
 
 pub push_pass-requires : goal.push_pass-requires
 push_pass-requires c =
-    subst (IsPassOf c.args.dossier.now) (sym c.index-passes-index.is)
+    subst (HasFallsOf c.args.dossier.now) (sym c.index-passes-index.is)
     (c.requires c.loop-index.index c.index-passes-index.result (omega arith))
 
 pub loop-index-preserved : goal.loop-index-preserved

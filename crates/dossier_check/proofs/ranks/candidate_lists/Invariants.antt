@@ -1,6 +1,6 @@
 use Rattle.std.proofs.Common.{◌≡◌, map, take}
-use Rattle.dossier_check.specs.Dealt.{candidates_of}
+use Rattle.dossier_check.specs.Dealt.{ascending_candidates}
 use Rattle.dossier_check.proofs.ranks.candidate_lists.Given as goal
 
 abbrev pub invariant-loop-list : goal.invariant-loop-list
-invariant-loop-list l = map (λ v. v.items) l.done.items ≡ map (λ v. candidates_of v.items) (take l.list-index l.lists)
+invariant-loop-list l = map (λ v. v.items) l.done.items ≡ map (λ v. ascending_candidates v.items) (take l.list-index l.lists)

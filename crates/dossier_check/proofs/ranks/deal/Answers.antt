@@ -1,7 +1,7 @@
 use Rattle.std.proofs.Common.{◌≡◌, map, sym, ap, ◌∙◌}
 use Rattle.admit_core.specs.Relations.{group_ids}
 use Rattle.admit_core.specs.Standing.{ranked_in}
-use Rattle.dossier_check.specs.Dealt.{candidates_of}
+use Rattle.dossier_check.specs.Dealt.{ascending_candidates}
 use Rattle.std.proofs.lemmas.Simd.{map-map}
 use Rattle.dossier_check.proofs.ranks.deal.Goals as goal
 
@@ -13,8 +13,8 @@ returns c =
     record {
       rankings = c.in_ok-rankings.ensures;
       candidates = c.in_ok-candidates.ensures
-          ∙ ap (map (λ l. candidates_of l.items)) c.as_slice-2.ensures.value
-          ∙ sym (map-map candidates_of (λ l. l.items) made)
-          ∙ ap (map candidates_of) lists
-          ∙ map-map candidates_of (ranked_in t.rankings) (group_ids t);
+          ∙ ap (map (λ l. ascending_candidates l.items)) c.as_slice-2.ensures.value
+          ∙ sym (map-map ascending_candidates (λ l. l.items) made)
+          ∙ ap (map ascending_candidates) lists
+          ∙ map-map ascending_candidates (ranked_in t.rankings) (group_ids t);
     }
