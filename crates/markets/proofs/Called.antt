@@ -25,7 +25,7 @@ use Rattle.admit_core.specs.declared.ranking.CallOrder.{CallOrder}
 use Rattle.admit_core.proofs.Tests.{among-map}
 use Rattle.proposals.proofs.Calling.{all_called}
 use Rattle.linked_demand.proofs.Seating.{called_once}
-use Rattle.markets.specs.Markets.{MarketRows, IsMarket, IsSmall, is_list_below, is_distinct, lists_it, listers, market_order as order_in}
+use Rattle.markets.specs.Markets.{MarketRows, IsMarket, IsSmall, is_list_below, is_distinct, lists_it, listers, market_order}
 use Rattle.markets.specs.Listers.{AreLists, naming}
 use Rattle.markets.specs.Dossiers.{counts, counted, named, own, by_preference, lists_in, called_in, market_of}
 use Rattle.markets.specs.Firsts.{all_of, among_filter, range_has}
@@ -116,22 +116,22 @@ numbers_apart ws p (c ∷ cs) apart =
 
 module _ (d : DossierRows) (valid : IsValid d) (orders : List CallOrder) (are : AreCallOrders d.groups orders) where
   -- in a valid dossier each wish's candidate is called
-  each_called : All (λ (w : Wish). is_among w.candidate (market_order d orders w.programme) ≡ true) d.wishes
+  each_called : All (λ (w : Wish). is_among w.candidate (order_of d orders w.programme) ≡ true) d.wishes
   each_called k e lt =
-      let P : Wish → Type 0 = λ w. is_among w.candidate (market_order d orders w.programme) ≡ true in
+      let P : Wish → Type 0 = λ w. is_among w.candidate (order_of d orders w.programme) ≡ true in
       let none : Wish = record { id = 0; candidate = 0; programme = 0; school = None; board_rank = 0; preference = 0 } in
       subst P (unwrap_or-slice_get d.wishes k none ∙ get_or_default d.wishes k none e lt) ((all_called d valid orders are).each k lt)
 
   -- an order is one: it has those who list the programme, and nobody else
   order_is_one : (p : ℕ) → p < length d.programmes
-      → (is_distinct (called_in (counted d) p (market_order d orders p))
-      && list_all (names_it (counted d) p) (called_in (counted d) p (market_order d orders p))
-      && list_all (λ x. is_among x (called_in (counted d) p (market_order d orders p)))
+      → (is_distinct (called_in (counted d) p (order_of d orders p))
+      && list_all (names_it (counted d) p) (called_in (counted d) p (order_of d orders p))
+      && list_all (λ x. is_among x (called_in (counted d) p (order_of d orders p)))
       (filter (names_it (counted d) p) (range_with_len 0 (length (lists_in (counted d))))))
       ≡ true
   order_is_one p lt =
       let ws : List Wish = counted d in
-      let call : List ℕ = market_order d orders p in
+      let call : List ℕ = order_of d orders p in
       let numbers : List ℕ = map (number ws) call in
       let order : List ℕ = called_in ws p call in
       let range : List ℕ = range_with_len 0 (length (lists_in ws)) in
@@ -144,23 +144,23 @@ module _ (d : DossierRows) (valid : IsValid d) (orders : List CallOrder) (are : 
       let names : names_it ws p x ≡ true =
       (and_parts (is_among x range) (names_it ws p x) (sym (among_filter (names_it ws p) x range) ∙ among)).1 in
       let c : ℕ = get_or (named ws) x 0 in
-      let P : Wish → Type 0 = λ w. is_among w.candidate (market_order d orders w.programme) ≡ true in
+      let P : Wish → Type 0 = λ w. is_among w.candidate (order_of d orders w.programme) ≡ true in
       let (w, (called, for)) = one_counted d P (is_for p c) each_called (sym (lists_wish ws p c) ∙ their_list ws p x names) in
       let parts = and_parts (nat_eq c w.candidate) (nat_eq p w.programme) for in
       let in_call : is_among c call ≡ true =
       ap (λ k. is_among k call) (eqb-true c w.candidate parts.0)
-      ∙ ap (λ q. is_among w.candidate (market_order d orders q)) (eqb-true p w.programme parts.1) ∙ called in
+      ∙ ap (λ q. is_among w.candidate (order_of d orders q)) (eqb-true p w.programme parts.1) ∙ called in
       let in_numbers : is_among x numbers ≡ true =
       ap (λ k. is_among k numbers) (sym (their_number ws p x names)) ∙ among-map (number ws) c call in_call in
       among_filter (names_it ws p) x numbers ∙ and_from (is_among x numbers) (names_it ws p x) in_numbers names) in
       rw (once, list, whole) refl
 
-  order_at : (p : ℕ) → p < length d.programmes → order_in (market_of d orders) p ≡ called_in (counted d) p (market_order d orders p)
-  order_at p lt = get_or-map-range_with_len (λ q. called_in (counted d) q (market_order d orders q)) 0 (length d.programmes) p p [] lt
+  order_at : (p : ℕ) → p < length d.programmes → market_order (market_of d orders) p ≡ called_in (counted d) p (order_of d orders p)
+  order_at p lt = get_or-map-range_with_len (λ q. called_in (counted d) q (order_of d orders q)) 0 (length d.programmes) p p [] lt
       (omega arith)
 
   pub orders_long : length (market_of d orders).orders ≡ length d.programmes
-  orders_long = length-map-range_with_len (λ q. called_in (counted d) q (market_order d orders q)) 0 (length d.programmes)
+  orders_long = length-map-range_with_len (λ q. called_in (counted d) q (order_of d orders q)) 0 (length d.programmes)
 
   -- the lists name programmes, none twice
   pub are_lists : (n : ℕ) → n ≡ length d.programmes → AreLists n (lists_in (counted d))
