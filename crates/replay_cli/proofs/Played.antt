@@ -121,7 +121,7 @@ not_unfit None P none some = some
 not_unfit (Some x) P none some = absurd (cc)
 
 done_where_fit : (job : Job) (played : Played) (last : DeskStates) (end : Result DeskStates Refusal) (exit : Exit) (text : List ℕ) → AreDays job played.orders played.days last.present
-    → PlayedDays.EndsAfter (terms_of job) (days_of job.request) played.days last end → EndsWith end (seen_of job) played exit text → CanBeDone job → exit ≡ exits.Done
+    → PlayedDays.DaysEndAfter (terms_of job) (days_of job.request) played.days last end → EndsWith end (seen_of job) played exit text → CanBeDone job → exit ≡ exits.Done
 done_where_fit job played last (Ok desk) exit text days after ends can = done_of job.request.mode job played desk exit text ends days.called can.proves
 done_where_fit job played last (Err refusal) exit text days after ends can =
     absurd (not_unfit _ _ (can.fits played.orders played.days last.present days after.fewer) after.unfit)
