@@ -1,3 +1,13 @@
+-- Reading order. Each file says in its first line what it shows.
+-- Lists and tests: Tests, Plain, FirstPlaces, LeastFirst, SortedBy, SortedLists, ByPlaces; Plain
+-- has what several crates cite.
+-- Call orders: Remaining, NextCalls, Calls, OneOrder, OrderPermutes, CallRows, CalledCounts;
+-- what is promised of them: RatesKept, ScholarsFirst, LeastOrder; OrderLaws gathers it.
+-- Bars: FallsLaw, FullBeds, DemandLaws.
+-- Passes and evenings: Statuses, Holders, Counting, FilledSeats, Evenings; ClosedEvenings is the
+-- longest, and comes last.
+-- Chains: ChainLaws. Faults and dossiers: NoFaults, Dossiers, Rebuilt, SlotFacts.
+-- Worked cases, mostly refl: Rows, DayRows, ChainRows, SmallDossier, WorkedFaultRows.
 pub mod ByPlaces
 pub mod CallRows
 pub mod CalledCounts

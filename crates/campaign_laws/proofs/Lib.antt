@@ -1,3 +1,12 @@
+-- Reading order. Each file says in its first line what it shows.
+-- The ground of all: Walks (a campaign as a walk from moment to moment) and OneMark (what one
+-- step can do to one mark).
+-- Laws of marks: GoneStays, Holding, WaitingPlace, Kept.
+-- Laws of turns, seats and beds: PassedOver, Beds, Room.
+-- Days on which nobody answers: QuietDays.
+-- Automatic days: Matchings, StableEvening, AutomaticDay.
+-- By computation: WorkedCampaign is the campaign; MetHere and CrossedHere have the witnesses,
+-- Shown and ShownAnswers what is not promised.
 pub mod AutomaticDay
 pub mod Beds
 pub mod CrossedHere

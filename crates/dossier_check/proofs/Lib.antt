@@ -1,3 +1,13 @@
+-- Reading order. Each file says in its first line what it shows.
+-- Finding: Firsts, Places, Found, FirstRows, NotedKeys, KeyPlaces; ids that rise: Rising,
+-- RisingIds.
+-- Scans of a slot: Scans, LastRow, AcceptedRows, Outcomes.
+-- Faults shown to be none without a scan: Faultless, WishTests; ranks: DealtRows; wishes: Runs,
+-- InOrder, TwiceWished, TwicePreferred, WhoIsRanked.
+-- What tables without a fault are: FaultFree, NoFault, RowFacts, Pairs.
+-- What is made of them: MadeItems, Buckets, BuiltGroups, PutStatuses, Undated.
+-- The dossier is valid, part by part: ValidSizes, ValidItems, ValidRankings, ValidWishes,
+-- WishesApart, OneAccepted, ValidAnswers; Valid puts them together and is the end of it.
 pub mod AcceptedRows
 pub mod Buckets
 pub mod BuiltGroups

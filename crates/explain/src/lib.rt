@@ -1,5 +1,5 @@
-//! Why a wish stands as it does in the evening of a campaign's last day, and the laws of
-//! explanations.
+//! Why a wish stands as it does after a campaign's last day, and the laws of explanations. What a
+//! desk tells without a campaign is in `explanations`.
 //!
 //! `let explanation = explain(&campaign, wish);`
 #![tactic(auto)]

@@ -1,5 +1,5 @@
-//! Why a wish stands as it does in the evening of a day: live, gone, barred from its boarding
-//! school, or without a seat in its programme.
+//! Why a wish stands as it does in the evening of a desk's last day: live, gone, barred from its
+//! boarding school, or without a seat in its programme. Campaigns are explained by `explain`.
 //!
 //! `let explanation = explain_on_desk(&desk, &orders, ceilings, bars, wish);`
 #![tactic(auto)]
