@@ -20,7 +20,7 @@ mod links;
 mod marks;
 mod maybe_sure;
 mod over;
-mod overs;
+mod overfilled;
 mod rising;
 mod round;
 mod rows;
