@@ -8,6 +8,7 @@
 mod boarders;
 mod calling;
 mod claims;
+mod cursors;
 mod cut;
 mod fill;
 mod fresh;
