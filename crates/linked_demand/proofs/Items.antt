@@ -11,7 +11,7 @@ use Rattle.admit_core.specs.declared.state.Mark.{Mark}
 use Rattle.admit_core.specs.declared.ranking.CallOrder.{CallOrder}
 use Rattle.admit_core.specs.DossierRows.{DossierRows}
 use Rattle.admit_core.specs.Proposals.{needs_no_seat}
-use Rattle.admit_core.specs.State.{State}
+use Rattle.admit_core.specs.State.{State, holds_seat}
 use Rattle.day_state.specs.Kept.{wish_in}
 use Rattle.linked_demand.specs.declared.boarders.Boarder.{Boarder}
 use Rattle.linked_demand.specs.declared.rows.RowWish.{RowWish}
@@ -87,6 +87,12 @@ module _ {s : State} {orders : List CallOrder} {opens : List Bool} {lines : List
         ∙ place_is w.candidate (line_of s.dossier orders w.programme) (slice_index places x.wish) at in
         let P = λ (n : ℕ). IsSeatPlace s.dossier orders w n in
         subst P (sym place) at
+
+    -- whether its candidate is live in its programme
+    pub item_live : (live : Bool) → live ≡ holds_seat s (wish_in s.dossier.wishes x.wish).candidate
+        (wish_in s.dossier.wishes x.wish).programme
+        → live ≡ holds_seat s (wish_of_item s.dossier x).candidate (wish_of_item s.dossier x).programme
+    item_live live is_live = is_live ∙ ap (λ (v : Wish). holds_seat s v.candidate v.programme) (sym kept)
 
     -- the claim that is read at its place has places of wishes
     pub item_claim : (all : List (List ℕ)) → all ≡ get_or claims x.programme all → (claim : List ℕ)

@@ -1,5 +1,6 @@
 -- How far the seats of a programme reach where a wish is closed.
 use Rattle.std.proofs.Common.{ℕ, ◌+◌, ◌≤◌, ◌<◌, ◌≡◌, Bool, true, false, not, ◌&&◌, List, [], map, length, inl, inr, refl, sym, ◌∙◌, ap, arith, nat_lt, get_or, drop, Option, None, subst}
+use Rattle.std.proofs.Math.Bool.{and_comm}
 use Rattle.std.proofs.Math.ListN.{set}
 use Rattle.std.specs.List.{list_any, range_with_len}
 use Rattle.std.proofs.lemmas.Bool.{cases_Bool, and_parts, ltb-true, ltb-false, not-true}
@@ -11,11 +12,11 @@ use Rattle.admit_core.specs.declared.dossier.Wish.{Wish}
 use Rattle.admit_core.specs.declared.ranking.CallOrder.{CallOrder}
 use Rattle.admit_core.specs.State.{State, entries, holds_seat, seats_left}
 use Rattle.linked_demand.specs.Line.{LineRow, reach, next, is_reached, is_answer, last_new}
-use Rattle.linked_demand.specs.Opens.{flagged, is_flagged_in, wants_by, line_of, seat_row, wanting_at}
+use Rattle.linked_demand.specs.Opens.{flagged, is_flagged_in, wants_by, line_of, seat_row}
 use Rattle.linked_demand.specs.Links.{IsSeatPlace, claim_of}
 use Rattle.linked_demand.specs.Wants.{wants_along, AreBelow, seat_rows, reach_in, IsReached}
-use Rattle.linked_demand.proofs.Closing.{Closes, fewer, row_is, links_with, lines_set, read_range, programme_within, claim_right}
-use Rattle.linked_demand.proofs.Flagging.{wants_claim, wants_right, row_within}
+use Rattle.linked_demand.proofs.Closing.{Closes, claim_flagged, fewer, row_is, links_with, lines_set, read_range, programme_within, claim_right}
+use Rattle.linked_demand.proofs.Flagging.{wants_right, row_within}
 use Rattle.linked_demand.proofs.Reach.{reach_within, reach_behind, reach_moved, reached_by_count, fresh_none, fresh_some}
 
 -- one who leaves their seat wanted one, wants none any more, and was reached
@@ -56,13 +57,16 @@ module _ {s : State} {orders : List CallOrder} {opens : List Bool} {claims : Lis
       ∙ get_or-map (claim_of s.dossier w.programme) (line_of s.dossier orders w.programme) at 0 []
       (omega (arith, lt, in_claims row row_read))
 
-  -- whether the wish's candidate wants a seat under flags, as their claim tells it
+  -- whether the wish's candidate wants a seat under flags: one of their claim is open, and they are not live
   pub wants_here : (flags : List Bool) → length flags ≡ length s.dossier.wishes → (claim : List ℕ)
-      → claim ≡ claim_of s.dossier w.programme w.candidate
-      → (found : Bool) → found ≡ list_any (wanting_at s flags) claim → found ≡ wants_by s flags w.programme w.candidate
-  wants_here flags long claim is found found_is =
-      found_is ∙ ap (list_any (wanting_at s flags)) is
-      ∙ wants_claim s orders flags long k.links.marks_each w.programme w.candidate
+      → claim ≡ claim_of s.dossier w.programme w.candidate → (live : Bool) → live ≡ holds_seat s w.candidate w.programme
+      → (found : Bool) → found ≡ (not live && list_any (λ v. get_or flags v false) claim)
+      → found ≡ wants_by s flags w.programme w.candidate
+  wants_here flags long claim is live live_is found found_is =
+      found_is ∙ and_comm (not live) (list_any (λ v. get_or flags v false) claim)
+      ∙ ap (λ (ks : List ℕ). list_any (λ v. get_or flags v false) ks && not live) is
+      ∙ ap (λ b. b && not live) (claim_flagged s flags w.programme w.candidate long k.links.marks_each)
+      ∙ ap (λ b. list_any (is_flagged_in w.programme w.candidate) (flagged s flags) && not b) live_is
 
   -- and who of the line does
   pub wants_there : (flags : List Bool) → length flags ≡ length s.dossier.wishes → (row : List (List ℕ))
@@ -211,21 +215,22 @@ module _ {s : State} {orders : List CallOrder} {opens : List Bool} {claims : Lis
 pub record Reads {s : State} {orders : List CallOrder} {opens : List Bool} {claims : List (List (List ℕ))}
     {places : List ℕ} {sure : List Bool} {i : ℕ} {w : Wish}
     (k : Closes s orders opens (seat_rows s orders opens) claims places sure i w) (place : ℕ)
-    (row : List (List ℕ)) (claim : List ℕ) (reached : List ℕ) (before : ℕ) (wanted wants leaves : Bool) : Type 0 where
+    (row : List (List ℕ)) (claim : List ℕ) (reached : List ℕ) (before : ℕ) (live wanted wants leaves : Bool) : Type 0 where
   pub stands : IsSeatPlace s.dossier orders w place
   pub row_read : row ≡ get_or claims w.programme row
   pub claim_read : claim ≡ get_or row place []
   pub reached_are : reached ≡ map reach_in (seat_rows s orders opens)
   pub before_read : before ≡ get_or reached w.programme before
-  pub wanted_is : wanted ≡ list_any (wanting_at s opens) claim
-  pub wants_is : wants ≡ list_any (wanting_at s (set opens i false)) claim
+  pub live_is : live ≡ holds_seat s w.candidate w.programme
+  pub wanted_is : wanted ≡ (not live && list_any (λ v. get_or opens v false) claim)
+  pub wants_is : wants ≡ (not live && list_any (λ v. get_or (set opens i false) v false) claim)
   pub leaves_is : leaves ≡ (wanted && (not wants && nat_lt place before))
 
 module _ {s : State} {orders : List CallOrder} {opens : List Bool} {claims : List (List (List ℕ))}
     {places : List ℕ} {sure : List Bool} {i : ℕ} {w : Wish}
     {k : Closes s orders opens (seat_rows s orders opens) claims places sure i w} {place : ℕ}
-    {row : List (List ℕ)} {claim : List ℕ} {reached : List ℕ} {before : ℕ} {wanted wants leaves : Bool}
-    (r : Reads k place row claim reached before wanted wants leaves) where
+    {row : List (List ℕ)} {claim : List ℕ} {reached : List ℕ} {before : ℕ} {live wanted wants leaves : Bool}
+    (r : Reads k place row claim reached before live wanted wants leaves) where
   own_claim : claim ≡ claim_of s.dossier w.programme w.candidate
   own_claim = claim_right k place r.stands row r.row_read claim r.claim_read
 
@@ -252,8 +257,8 @@ module _ {s : State} {orders : List CallOrder} {opens : List Bool} {claims : Lis
   pub stays_closed : leaves ≡ false → Moves k place r.stands before None
   stays_closed stays =
       nobody_leaves k place r.stands wanted wants before
-      (wants_here k opens k.links.opens_each claim own_claim wanted r.wanted_is)
-      (wants_here k (set opens i false) long claim own_claim wants r.wants_is)
+      (wants_here k opens k.links.opens_each claim own_claim live r.live_is wanted r.wanted_is)
+      (wants_here k (set opens i false) long claim own_claim live r.live_is wants r.wants_is)
       reach_was (sym r.leaves_is ∙ stays)
 
   pub moves_closed : leaves ≡ true → (now : ℕ) (answer : Option ℕ)
@@ -261,8 +266,8 @@ module _ {s : State} {orders : List CallOrder} {opens : List Bool} {claims : Lis
       → answer ≡ last_new (wants_along s (set opens i false) row) before now → Moves k place r.stands now answer
   moves_closed goes now answer now_is answer_is =
       one_leaves k place r.stands wanted wants before now (wants_along s (set opens i false) row) answer
-      (wants_here k opens k.links.opens_each claim own_claim wanted r.wanted_is)
-      (wants_here k (set opens i false) long claim own_claim wants r.wants_is) reach_was
+      (wants_here k opens k.links.opens_each claim own_claim live r.live_is wanted r.wanted_is)
+      (wants_here k (set opens i false) long claim own_claim live r.live_is wants r.wants_is) reach_was
       (sym r.leaves_is ∙ goes) (wants_there k (set opens i false) long row r.row_read) now_is answer_is
 
 -- whether a place is reached, by the number that is kept

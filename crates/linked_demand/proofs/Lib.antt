@@ -1,4 +1,5 @@
 pub mod Answered
+pub mod AnyOpen
 pub mod Asked
 pub mod Askings
 pub mod Asking

@@ -57,19 +57,22 @@ round_built links ceilings free rows opens long each free_are rows_are items_are
 
 -- a round that is built has all answers, since all schools were asked
 pub answers_built : (links : LinksRow) (bars free : List ℕ) (rows : List (Vec RowWish Global))
-    → IsRound links bars free rows → (overs : List (Option ℕ)) (marked : List Bool)
-    → length overs ≡ length bars → marked ≡ replicate (length bars) true
+    → IsRound links bars free rows → (overfilled : List (Option ℕ)) (marked : List Bool)
+    → length overfilled ≡ length bars → marked ≡ replicate (length bars) true
     → (beds : List ℕ) (now : List (Vec RowWish Global)) → beds ≡ free → now ≡ rows
     → (answers : List (Option ℕ)) (last : List Bool)
-    → IsAsked links now beds (λ h. get_or marked h false) overs answers → last ≡ replicate (length marked) false
+    → IsAsked links now beds (λ h. get_or marked h false) overfilled answers
+    → last ≡ replicate (length marked) false
     → IsRoundUnder links bars bars free rows answers last
-answers_built links bars free rows right overs marked long all beds now beds_are now_is answers last asked unmarked =
-    let asked_now : IsAsked links rows free (λ h. get_or marked h false) overs answers = rw (← beds_are, ← now_is) asked in
+answers_built links bars free rows right overfilled marked long all beds now beds_are now_is answers last asked
+    unmarked =
+    let asked_now : IsAsked links rows free (λ h. get_or marked h false) overfilled answers =
+    rw (← beds_are, ← now_is) asked in
     record {
       round = right;
       ceilings_each = right.bars_each;
-      overs_are =
-          answers_all links bars free rows right (λ h. get_or marked h false) overs answers
+      overfilled_are =
+          answers_all links bars free rows right (λ h. get_or marked h false) overfilled answers
           (long ∙ right.bars_each) asked_now (λ h lt none.
           absurd (false≢true (sym none ∙ ap (λ (bs : List Bool). get_or bs h false) all
           ∙ get_or-replicate (length bars) h true false (omega (arith, lt, right.bars_each)))));
@@ -78,17 +81,19 @@ answers_built links bars free rows right overs marked long all beds now beds_are
     }
 
 module _ (links : LinksRow) (ceilings bars free : List ℕ) (rows : List (Vec RowWish Global))
-    (overs : List (Option ℕ)) (marked : List Bool) (seen : Round)
-    (right : IsRoundUnder links ceilings bars free rows overs marked)
+    (overfilled : List (Option ℕ)) (marked : List Bool) (seen : Round)
+    (right : IsRoundUnder links ceilings bars free rows overfilled marked)
     (is : record { state = links.state; orders = links.orders; ceilings = ceilings; bars = bars } ≡ seen)
     (i to : ℕ) (lt : i < length seen.ceilings)
     (falls : to < slice_index (bar_each seen.ceilings seen.bars) i) (row : Vec RowWish Global)
     (read : row ≡ get_or rows i row) where
   pub within : i < length bars
-  within = bar_within links ceilings bars free rows overs marked seen right is i lt
+  within = bar_within links ceilings bars free rows overfilled marked seen right is i lt
 
   le : to ≤ slice_index bars i
-  le = let below = falls_seen links ceilings bars free rows overs marked seen right is i to falls in omega (arith, below)
+  le =
+      let below = falls_seen links ceilings bars free rows overfilled marked seen right is i to falls in
+      omega (arith, below)
 
   pub found : slice_get rows i ≡ Some row
   found = slice_get_read rows (length rows) i row refl (omega (arith, within, right.round.rows_each)) read
@@ -172,12 +177,12 @@ module _ (links : LinksRow) (ceilings bars free : List ℕ) (rows : List (Vec Ro
         right.round.bars_each,
       )
 
-      pub overs_long : length overs ≡ length (set rows i kept)
+      pub overs_long : length overfilled ≡ length (set rows i kept)
       overs_long =
           omega (
             arith,
             length-set {A = Vec RowWish Global} rows i kept,
-            ap length right.overs_are,
+            ap length right.overfilled_are,
             length-map-range_with_len (over_at links.state links.orders bars) 0
                 (length links.state.dossier.schools),
             right.round.rows_each,
@@ -186,7 +191,8 @@ module _ (links : LinksRow) (ceilings bars free : List ℕ) (rows : List (Vec Ro
 
       -- a school that is not marked has the answer that it had
       answer_kept : (h : ℕ) → h < length new.state.dossier.schools
-          → get_or (set after i true) h false ≡ false → get_or overs h None ≡ over_at new.state new.orders (set bars i to) h
+          → get_or (set after i true) h false ≡ false
+          → get_or overfilled h None ≡ over_at new.state new.orders (set bars i to) h
       answer_kept h h_in unmarked =
           let n = length links.state.dossier.schools in
           let h_lt : h < n = omega (arith, h_in, schools) in
@@ -200,7 +206,7 @@ module _ (links : LinksRow) (ceilings bars free : List ℕ) (rows : List (Vec Ro
           let ranks =
           ranks_stay links new bars i to h within le state orders right.round.opens_are now_opens marked
           after (subst Q low_is marks) (omega (arith, h_lt, right.marked_each)) plain other in
-          ap (λ (os : List (Option ℕ)). get_or os h None) right.overs_are
+          ap (λ (os : List (Option ℕ)). get_or os h None) right.overfilled_are
           ∙ get_or-map-range_with_len (over_at links.state links.orders bars) 0 n h h None h_lt (omega arith)
           ∙ ap (λ (rs : List ℕ). slice_get rs (free_beds links.state h)) (sym ranks)
           ∙ ap (λ (s : State). over_at s links.orders (set bars i to) h) (sym state)
@@ -209,18 +215,19 @@ module _ (links : LinksRow) (ceilings bars free : List ℕ) (rows : List (Vec Ro
       -- the whole round
       pub lowered : (beds : List ℕ) (now : List (Vec RowWish Global)) → beds ≡ free → now ≡ set rows i kept
           → (marks_now : List Bool) → marks_now ≡ set after i true → (answers : List (Option ℕ)) (last : List Bool)
-          → IsAsked new now beds (λ h. get_or marks_now h false) overs answers → last ≡ replicate (length marks_now) false
+          → IsAsked new now beds (λ h. get_or marks_now h false) overfilled answers
+          → last ≡ replicate (length marks_now) false
           → IsRoundUnder new ceilings (set bars i to) free (set rows i kept) answers last
       lowered beds now beds_are now_is marks_now marks_are answers last asked unmarked =
-          let P = λ (ms : List Bool). IsAsked new now beds (λ h. get_or ms h false) overs answers in
-          let asked_now : IsAsked new (set rows i kept) free (λ h. get_or (set after i true) h false) overs
+          let P = λ (ms : List Bool). IsAsked new now beds (λ h. get_or ms h false) overfilled answers in
+          let asked_now : IsAsked new (set rows i kept) free (λ h. get_or (set after i true) h false) overfilled
           answers = rw (← beds_are, ← now_is) (subst P marks_are asked) in
           record {
             round = round_now;
             ceilings_each = right.ceilings_each ∙ schools;
-            overs_are =
+            overfilled_are =
                 answers_all new (set bars i to) free (set rows i kept) round_now
-                (λ h. get_or (set after i true) h false) overs answers
+                (λ h. get_or (set after i true) h false) overfilled answers
                 (omega (arith, overs_long, round_now.rows_each, round_now.bars_each)) asked_now answer_kept;
             marked_each = omega (
               arith,

@@ -59,8 +59,8 @@ proposed_by_place s orders bars long =
     (filter (λ (x : ℕ × (Wish × Mark)). test x.1) (enumerate_from 0 es))) (sym (entries_by_place s long))
 
 module _ (links : LinksRow) (ceilings bars free : List ℕ) (rows : List (Vec RowWish Global))
-    (overs : List (Option ℕ)) (marked : List Bool) (seen : Round)
-    (right : IsRoundUnder links ceilings bars free rows overs marked)
+    (overfilled : List (Option ℕ)) (marked : List Bool) (seen : Round)
+    (right : IsRoundUnder links ceilings bars free rows overfilled marked)
     (is : record { state = links.state; orders = links.orders; ceilings = ceilings; bars = bars } ≡ seen) where
   as_long : length bars ≡ length ceilings
   as_long = right.round.bars_each ∙ sym right.ceilings_each
@@ -99,7 +99,7 @@ module _ (links : LinksRow) (ceilings bars free : List ℕ) (rows : List (Vec Ro
       (slice_index (map (free_beds seen.state) (range_with_len 0 (length seen.ceilings))) i)) (sym bars_seen)
 
   -- the answers that are kept
-  pub answer_within : (i : ℕ) → i < length seen.bars → i < length overs
+  pub answer_within : (i : ℕ) → i < length seen.bars → i < length overfilled
   answer_within i lt =
       omega (
         arith,
@@ -107,14 +107,15 @@ module _ (links : LinksRow) (ceilings bars free : List ℕ) (rows : List (Vec Ro
         ap (λ (r : Round). length r.bars) is,
         right.round.bars_each,
         ap length
-            right.overs_are,
+            right.overfilled_are,
         length-map-range_with_len (over_at links.state links.orders bars) 0
             (length links.state.dossier.schools),
       )
 
-  pub answer_read : (i : ℕ) → i < length seen.bars → get_or overs i None ≡ over_at seen.state seen.orders seen.bars i
+  pub answer_read : (i : ℕ) → i < length seen.bars
+      → get_or overfilled i None ≡ over_at seen.state seen.orders seen.bars i
   answer_read i lt =
-      ap (λ (os : List (Option ℕ)). get_or os i None) right.overs_are
+      ap (λ (os : List (Option ℕ)). get_or os i None) right.overfilled_are
       ∙ get_or-map-range_with_len (over_at links.state links.orders bars) 0
       (length links.state.dossier.schools) i i None
       (omega (arith, lt, ap (λ (r : Round). length r.bars) is, right.round.bars_each)) (zero-add i)
@@ -132,24 +133,25 @@ module _ (links : LinksRow) (ceilings bars free : List ℕ) (rows : List (Vec Ro
   offers_seen = ap (proposed seen.state seen.orders) (sym bars_seen)
 
   -- the schools that have an answer are those that are overfilled
-  pub overfilled_seen : answered overs ≡ all_overfilled (boarding seen.state seen.orders seen.ceilings)
+  pub overfilled_seen : answered overfilled ≡ all_overfilled (boarding seen.state seen.orders seen.ceilings)
       (bar_each seen.ceilings seen.bars)
   overfilled_seen =
       let sys = boarding seen.state seen.orders seen.ceilings in
       let low = bar_each seen.ceilings seen.bars in
-      let long : length overs ≡ length seen.ceilings =
+      let long : length overfilled ≡ length seen.ceilings =
       omega (
         arith,
-        ap length right.overs_are,
+        ap length right.overfilled_are,
         length-map-range_with_len
             (over_at links.state links.orders bars) 0 (length links.state.dossier.schools),
         right.ceilings_each,
         ceilings_seen,
       ) in
-      ap (λ n. filter (λ h. is_some (get_or overs h None)) (range_with_len 0 n)) long
-      ∙ filter_agree (λ h. is_some (get_or overs h None)) (is_overfilled sys low) 0 (length seen.ceilings) (λ h ge less.
+      ap (λ n. filter (λ h. is_some (get_or overfilled h None)) (range_with_len 0 n)) long
+      ∙ filter_agree (λ h. is_some (get_or overfilled h None)) (is_overfilled sys low) 0 (length seen.ceilings)
+      (λ h ge less.
       let lt : h < length seen.ceilings = omega (arith, less) in
-      ap is_some (over_seen h (get_or overs h None) lt (answer_read h (seen_within_bars h lt)))
+      ap is_some (over_seen h (get_or overfilled h None) lt (answer_read h (seen_within_bars h lt)))
       ∙ sym (overfilled_by_rank sys low h lt))
 
   -- after a fall

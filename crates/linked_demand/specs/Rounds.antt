@@ -35,10 +35,10 @@ pub record IsRound (links : LinksRow) (bars free : List ℕ)
 -- what holds of the parts of a round: with the answers of the schools, and a mark each
 pub record IsRoundUnder (links : LinksRow) (ceilings bars free : List ℕ)
     (rows : List (Vec RowWish Global))
-    (overs : List (Option ℕ)) (marked : List Bool) : Type 0 where
+    (overfilled : List (Option ℕ)) (marked : List Bool) : Type 0 where
   pub round : IsRound links bars free rows
   pub ceilings_each : length ceilings ≡ length links.state.dossier.schools
-  pub overs_are : overs
+  pub overfilled_are : overfilled
       ≡ map (over_at links.state links.orders bars)
       (range_with_len 0 (length links.state.dossier.schools))
   pub marked_each : length marked ≡ length links.state.dossier.schools

@@ -8,6 +8,7 @@
 mod boarders;
 mod calling;
 mod claims;
+mod cursors;
 mod cut;
 mod fill;
 mod fresh;
@@ -20,7 +21,7 @@ mod links;
 mod marks;
 mod maybe_sure;
 mod over;
-mod overs;
+mod overfilled;
 mod rising;
 mod round;
 mod rows;

@@ -22,7 +22,7 @@ fn is_wanting(state: &DayState<'_>, opens: &[bool], place: u32) -> bool
 }
 
 /// Whether one with this claim wants a seat.
-pub fn wants_seat(state: &DayState<'_>, opens: &[bool], claim: &[u32]) -> bool
+fn wants_seat(state: &DayState<'_>, opens: &[bool], claim: &[u32]) -> bool
     requires claim { All (λ k. k < length state.now.dossier.wishes) claim.now }
     requires opens { length opens.now ≡ length state.now.dossier.wishes }
     ensures { result ≡ list_any (wanting_at state.now opens.now) claim.now }

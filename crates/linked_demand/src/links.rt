@@ -16,9 +16,10 @@ ghost use Rattle.linked_demand.specs.Filled.{wants_bed};
 ghost use Rattle.linked_demand.specs.Rows.{row_item, IsOpenItem};
 
 use crate::boarders::Boarder;
+use crate::cursors::Cursors;
 use crate::fresh::note_fresh;
 use crate::fronts::{flag_fronts, flag_sure, no_flags};
-use crate::line::{is_reached, last_wanting, leaves_seat, next_wanting, wants_seat};
+use crate::line::{is_reached, last_wanting, leaves_seat, next_wanting};
 use crate::lineup::Lineup;
 use crate::marks::Marks;
 use crate::rows::RowWish;
@@ -96,6 +97,7 @@ pub struct SeatLinks<'a, 'd> {
     opens: Vec<bool>,
     lineup: &'a Lineup,
     reached: Vec<usize>,
+    cursors: Cursors,
 }
 
 // Not derived: so links are dropped in one step where they are held, and not list by list.
@@ -107,6 +109,7 @@ impl Drop for SeatLinks<'_, '_> {
             opens: _,
             lineup: _,
             reached: _,
+            cursors: _,
         } = self;
     }
 }
@@ -147,12 +150,14 @@ impl<'a, 'd> SeatLinks<'a, 'd> {
         let _ = state.marks(); // one for each wish
         let opens = open_flags(alloc, state, &lineup.boarders, bars)?;
         let reached = reached_of(alloc, state, orders, lineup, &opens)?;
+        let cursors = Cursors::new(alloc, lineup.maybe_sure.len())?;
         Ok(SeatLinks {
             state,
             orders,
             opens,
             lineup,
             reached,
+            cursors,
         })
     }
 
@@ -208,9 +213,11 @@ impl<'a, 'd> SeatLinks<'a, 'd> {
         let place = item.place as usize;
         let claims = &lineup.claims[programme];
         let claim = claims.at(place);
-        let wanted = wants_seat(self.state, &self.opens, claim);
+        let beside = lineup.maybe_sure.as_slice();
+        let is_live = self.state.is_live_in_its_programme(item.wish);
+        let wanted = self.cursors.wants_seat(is_live, &self.opens, beside, claim);
         self.opens[item.wish as usize] = false;
-        let wants = wants_seat(self.state, &self.opens, claim);
+        let wants = self.cursors.wants_seat(is_live, &self.opens, beside, claim);
         let before = self.reached[programme];
         if leaves_seat(wanted, wants, place, before) {
             let now = next_wanting(self.state, &self.opens, claims, before);

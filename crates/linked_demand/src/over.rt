@@ -7,7 +7,7 @@ ghost use Rattle.linked_demand.specs.Demand.{is_proposed_at, counted, firsts, Is
 
 use crate::links::SeatLinks;
 use crate::marks::Marks;
-use crate::overs::Overs;
+use crate::overfilled::Overfilled;
 use crate::rows::RowWish;
 use admit_core::OutOfMemory;
 use proposals::Demand;
@@ -72,19 +72,19 @@ pub fn ask_marked(
     rows: &[Vec<RowWish>],
     free: &[u32],
     marked: &mut Marks,
-    overs: &mut Overs,
+    overfilled: &mut Overfilled,
 )
     requires rows { (h : ℕ) (row : Vec RowWish Global) → slice_get rows.now h ≡ Some row
         → AreOpen links.now row.items }
     requires free { length free.now ≡ length rows.now }
     requires marked { length marked.old ≡ length rows.now }
-    requires overs { length overs.old ≡ length rows.now }
+    requires overfilled { length overfilled.old ≡ length rows.now }
     ensures asked { IsAsked links.now rows.now free.now (λ h. slice_index_or marked.old h false)
-        overs.old overs.new }
+        overfilled.old overfilled.new }
     ensures unmarked { marked.new ≡ replicate (length marked.old) false }
 {
     while let Some(school) = marked.take() {
         let place = school as usize;
-        overs.put(school, first_over(links, &rows[place], free[place]));
+        overfilled.put(school, first_over(links, &rows[place], free[place]));
     }
 }

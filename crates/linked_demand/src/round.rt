@@ -13,7 +13,7 @@ use crate::lineup::Lineup;
 use crate::links::SeatLinks;
 use crate::marks::Marks;
 use crate::over::{ask_marked, demands_in, front_of};
-use crate::overs::Overs;
+use crate::overfilled::Overfilled;
 use crate::rows::RowWish;
 use crate::schools::{Schools, school_count, schools_of};
 use crate::seats::is_set;
@@ -35,7 +35,7 @@ pub struct LinkedRound<'a, 'd> {
     bars: Vec<u32>,
     free: Vec<u32>,
     rows: Vec<Vec<RowWish>>,
-    overs: Overs,
+    overfilled: Overfilled,
     marked: Marks,
 }
 
@@ -48,7 +48,7 @@ impl Drop for LinkedRound<'_, '_> {
             bars: _,
             free: _,
             rows: _,
-            overs: _,
+            overfilled: _,
             marked: _,
         } = self;
     }
@@ -67,7 +67,7 @@ impl<'a, 'd> Model for LinkedRound<'a, 'd> {
     } };
 
     ghost invariant = { λ r. IsRoundUnder r.links r.ceilings.items r.bars.items r.free.items
-        r.rows.items r.overs r.marked };
+        r.rows.items r.overfilled r.marked };
 }
 
 impl<'a, 'd> LinkedRound<'a, 'd> {
@@ -102,7 +102,7 @@ impl<'a, 'd> LinkedRound<'a, 'd> {
         let Schools {
             free,
             rows,
-            overs,
+            overfilled,
             marked,
         } = schools_of(alloc, &links, &lineup.boarders, ceilings)?;
         Ok(LinkedRound {
@@ -111,7 +111,7 @@ impl<'a, 'd> LinkedRound<'a, 'd> {
             bars,
             free,
             rows,
-            overs,
+            overfilled,
             marked,
         })
     }
@@ -123,7 +123,7 @@ impl<'a, 'd> LinkedRound<'a, 'd> {
         ensures { result ≡ slice_get (demanded_ranks self.now.state self.now.orders self.now.bars i)
             (free_beds self.now.state i) }
     {
-        self.overs.get(i)
+        self.overfilled.get(i)
     }
 
     /// Whether the wish at a place is proposed at the present bars.
@@ -194,7 +194,12 @@ impl Falling for LinkedRound<'_, '_> {
 
     fn overfilled(&self, alloc: Global) -> Result<Vec<u32>, OutOfMemory> {
         let _ = &self.bars; // learns the invariant
-        Ok(self.overs.overfilled().to_vec(alloc)?)
+        Ok(self.overfilled.places().to_vec(alloc)?)
+    }
+
+    fn listed(&self) -> Option<&[u32]> {
+        let _ = &self.bars; // learns the invariant
+        Some(self.overfilled.places())
     }
 
     fn names(&self, alloc: Global, i: u32, upto: u32) -> Result<Vec<u32>, OutOfMemory> {
@@ -231,7 +236,7 @@ impl Falling for LinkedRound<'_, '_> {
             &self.rows,
             &self.free,
             &mut self.marked,
-            &mut self.overs,
+            &mut self.overfilled,
         );
     }
 }

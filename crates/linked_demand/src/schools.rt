@@ -9,7 +9,7 @@ use crate::fill::{free_of, rows_of};
 use crate::links::SeatLinks;
 use crate::marks::Marks;
 use crate::over::ask_marked;
-use crate::overs::Overs;
+use crate::overfilled::Overfilled;
 use crate::rows::RowWish;
 use admit_core::OutOfMemory;
 use day_state::DayState;
@@ -19,7 +19,7 @@ use std::alloc::Global;
 pub struct Schools {
     pub free: Vec<u32>,
     pub rows: Vec<Vec<RowWish>>,
-    pub overs: Overs,
+    pub overfilled: Overfilled,
     pub marked: Marks,
 }
 
@@ -41,20 +41,20 @@ pub fn schools_of(
     requires opens { links.now.opens ≡ opens_of links.now.state bars.now }
     requires bars { length bars.now ≡ length links.now.state.dossier.schools }
     ensures { IfOk result (λ x. IsRoundUnder links.now bars.now bars.now x.free.items
-        x.rows.items x.overs x.marked) }
+        x.rows.items x.overfilled x.marked) }
 {
     let state = links.state();
     let _ = state.marks(); // one for each wish
     let count = school_count(state);
-    let mut overs = Overs::none(alloc, count)?;
+    let mut overfilled = Overfilled::none(alloc, count)?;
     let mut marked = Marks::all(alloc, count)?;
     let free = free_of(alloc, state)?;
     let rows = rows_of(alloc, links, boarders, bars)?;
-    ask_marked(links, &rows, &free, &mut marked, &mut overs);
+    ask_marked(links, &rows, &free, &mut marked, &mut overfilled);
     Ok(Schools {
         free,
         rows,
-        overs,
+        overfilled,
         marked,
     })
 }

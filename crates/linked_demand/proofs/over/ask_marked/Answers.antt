@@ -5,7 +5,7 @@ use Rattle.linked_demand.proofs.Marked.{marked_within}
 use Rattle.linked_demand.proofs.over.ask_marked.Goals as goal
 
 pub loop-school-init : goal.loop-school-init
-loop-school-init c = asked_none c.args.links.now c.args.rows.now c.args.free.now c.args.marked.now c.args.overs.now
+loop-school-init c = asked_none c.args.links.now c.args.rows.now c.args.free.now c.args.marked.now c.args.overfilled.now
 
 pub first_over-requires : goal.first_over-requires
 first_over-requires c =
@@ -31,15 +31,15 @@ loop-school-preserved c =
       c.loop-school.invariant.as_long,
       c.requires.marked,
     ) in
-    asked_more c.args.links.now rows c.args.free.now c.args.marked.now c.args.overs.now c.loop-school.marked
-    c.loop-school.overs c.loop-school.invariant h c.in-Some.ensures.marked lt c.requires.overs
+    asked_more c.args.links.now rows c.args.free.now c.args.marked.now c.args.overfilled.now c.loop-school.marked
+    c.loop-school.overfilled c.loop-school.invariant h c.in-Some.ensures.marked lt c.requires.overfilled
     c.index-rows-place.result c.deref.result.now c.first_over.result c.index-rows-place.is
     c.deref.ensures.value c.first_over.ensures c.take.new.self c.put.new.self c.in-Some.ensures.cleared c.put.ensures
 
 pub returns-clause-asked : goal.returns-clause-asked
 returns-clause-asked c =
-    asked_all c.args.links.now c.args.rows.now c.args.free.now c.args.marked.now c.args.overs.now c.loop-school.marked
-    c.loop-school.overs c.loop-school.invariant c.in_default.ensures.none
+    asked_all c.args.links.now c.args.rows.now c.args.free.now c.args.marked.now c.args.overfilled.now
+    c.loop-school.marked c.loop-school.overfilled c.loop-school.invariant c.in_default.ensures.none
 
 pub returns-clause-unmarked : goal.returns-clause-unmarked
 returns-clause-unmarked c =
@@ -52,5 +52,5 @@ put-requires c = omega (
   c.loop-school.invariant.as_long,
   c.requires.marked,
   c.loop-school.invariant.asked.as_long,
-  c.requires.overs,
+  c.requires.overfilled,
 )

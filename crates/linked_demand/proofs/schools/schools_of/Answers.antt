@@ -34,8 +34,8 @@ ask_marked-requires c =
           ∙ ap length (sym c.deref.ensures.value);
       marked = ap length c.in_ok-marked.ensures ∙ length-replicate c.school_count-count.result true
           ∙ count ∙ ap length (sym c.deref.ensures.value);
-      overs = ap length c.in_ok-overs.ensures ∙ length-replicate {A = Option ℕ} c.school_count-count.result None
-          ∙ count ∙ ap length (sym c.deref.ensures.value);
+      overfilled = ap length c.in_ok-overfilled.ensures
+          ∙ length-replicate {A = Option ℕ} c.school_count-count.result None ∙ count ∙ ap length (sym c.deref.ensures.value);
     }
 
 pub returns : goal.returns
@@ -52,8 +52,8 @@ returns c =
     (subst Q c.state-state.ensures c.in_ok-free.ensures) c.in_ok-rows.ensures.rows c.in_ok-rows.ensures.items in
     let count : c.school_count-count.result ≡ length bars =
     c.school_count-count.ensures ∙ ap (λ (s : State). length s.dossier.schools) c.state-state.ensures ∙ sym c.requires.bars in
-    answers_built links bars free rows round c.in_ok-overs.overs c.in_ok-marked.marked
-    (ap length c.in_ok-overs.ensures ∙ length-replicate c.school_count-count.result None ∙ count)
+    answers_built links bars free rows round c.in_ok-overfilled.overfilled c.in_ok-marked.marked
+    (ap length c.in_ok-overfilled.ensures ∙ length-replicate c.school_count-count.result None ∙ count)
     (c.in_ok-marked.ensures ∙ ap (λ n. replicate n true) count)
     c.deref-2.result.now c.deref.result.now c.deref-2.ensures.value c.deref.ensures.value
-    c.ask_marked.new.overs c.ask_marked.new.marked c.ask_marked.ensures.asked c.ask_marked.ensures.unmarked
+    c.ask_marked.new.overfilled c.ask_marked.new.marked c.ask_marked.ensures.asked c.ask_marked.ensures.unmarked

@@ -1,15 +1,20 @@
-use Rattle.std.proofs.Common.{◌≡◌, ℕ, ◌+◌, ◌<◌, Bool, List, arith, ap, length, drop, refl, sym, ◌∙◌, get_or, false, slice_set, None}
+use Rattle.std.proofs.Common.{◌≡◌, ℕ, ◌+◌, ◌<◌, ◌&&◌, not, Bool, List, arith, ap, length, drop, refl, sym, ◌∙◌, get_or, false, slice_set, None, subst}
+use Rattle.std.specs.Prelude.{All}
 use Rattle.std.specs.List.{list_any}
 use Rattle.linked_demand.specs.Line.{next, last_new}
 use Rattle.linked_demand.specs.Links.{LinksRow}
-use Rattle.linked_demand.specs.Opens.{all_sure, line_of, wanting_at}
+use Rattle.linked_demand.specs.Opens.{all_sure, line_of}
 use Rattle.linked_demand.specs.Wants.{wants_along}
 use Rattle.linked_demand.proofs.Closing.{wish_within, programme_within, claims_each, row_within}
-use Rattle.linked_demand.proofs.Items.{closes_item, item_claim, item_stands}
+use Rattle.linked_demand.proofs.Items.{closes_item, item_claim, item_live, item_stands}
 use Rattle.linked_demand.proofs.Leaving.{Reads, before_within, row_below, stays_closed, moves_closed, reached_each, reach_put, reach_kept, in_claims, claim_there}
 use Rattle.linked_demand.proofs.Moving.{newly_none, newly_some}
 use Rattle.linked_demand.proofs.Ticking.{claim_fits, told_none, told_some}
 use Rattle.linked_demand.proofs.links.SeatLinks.close.Goals as goal
+
+-- an open wish of a claim wants a seat under flags, where its candidate is not live
+abbrev any_wanted : Bool → List ℕ → List Bool → Bool
+any_wanted live claim flags = not live && list_any (λ v. get_or flags v false) claim
 
 pub index_mut-requires : goal.index_mut-requires
 index_mut-requires g c =
@@ -30,15 +35,28 @@ at-claim-requires g c =
     let at = item_stands c.self.invariant.reach.links c.args.self.now c.self.view_is c.args.item c.requires.waits c.requires.item in
     row_within k c.args.item.place at c.index-claims.result.now c.index-claims.ensures
 
-pub wants_seat-wanted-requires-clause-claim : goal.wants_seat-wanted-requires-clause-claim
-wants_seat-wanted-requires-clause-claim g c =
-    item_claim c.self.invariant.reach.links c.args.self.now c.self.view_is c.args.item c.requires.waits c.requires.item
-    c.index-claims.result.now c.index-claims.ensures c.at-claim.result.now c.at-claim.ensures
+pub is_live_in_its_programme-is_live-requires : goal.is_live_in_its_programme-is_live-requires
+is_live_in_its_programme-is_live-requires g c =
+    wish_within (closes_item c.self.invariant.reach.links c.args.self.now c.self.view_is c.args.item
+    c.requires.waits c.requires.item)
 
-pub wants_seat-wants-requires-clause-claim : goal.wants_seat-wants-requires-clause-claim
-wants_seat-wants-requires-clause-claim g c =
-    item_claim c.self.invariant.reach.links c.args.self.now c.self.view_is c.args.item c.requires.waits c.requires.item
-    c.index-claims.result.now c.index-claims.ensures c.at-claim.result.now c.at-claim.ensures
+pub wants_seat-wanted-requires : goal.wants_seat-wanted-requires
+wants_seat-wanted-requires g c =
+    let P = λ (n : ℕ). All (λ v. v < n) c.at-claim.result.now in
+    let long : length c.self.inside.state.now.dossier.wishes ≡ length c.deref.result.now =
+    omega (arith, c.deref.ensures.len, c.self.invariant.reach.links.opens_each) in
+    subst P long
+    (item_claim c.self.invariant.reach.links c.args.self.now c.self.view_is c.args.item c.requires.waits c.requires.item
+    c.index-claims.result.now c.index-claims.ensures c.at-claim.result.now c.at-claim.ensures)
+
+pub wants_seat-wants-requires : goal.wants_seat-wants-requires
+wants_seat-wants-requires g c =
+    let P = λ (n : ℕ). All (λ v. v < n) c.at-claim.result.now in
+    let long : length c.self.inside.state.now.dossier.wishes ≡ length c.deref-2.result.now =
+    omega (arith, c.deref-2.ensures.len, c.self.invariant.reach.links.opens_each) in
+    subst P long
+    (item_claim c.self.invariant.reach.links c.args.self.now c.self.view_is c.args.item c.requires.waits c.requires.item
+    c.index-claims.result.now c.index-claims.ensures c.at-claim.result.now c.at-claim.ensures)
 
 pub index-before-requires : goal.index-before-requires
 index-before-requires g c =
@@ -60,15 +78,22 @@ next_wanting-now-requires-clause-from g c =
     let k = closes_item c.self.invariant.reach.links c.args.self.now c.self.view_is c.args.item
     c.requires.waits c.requires.item in
     let reads : Reads k c.args.item.place c.index-claims.result.now claim r.reached.items
-    c.index-before.result.now c.wants_seat-wanted.result c.wants_seat-wants.result c.leaves_seat.result =
+    c.index-before.result.now c.is_live_in_its_programme-is_live.result c.wants_seat-wanted.result
+    c.wants_seat-wants.result c.leaves_seat.result =
     record {
       stands = item_stands c.self.invariant.reach.links c.args.self.now c.self.view_is c.args.item c.requires.waits c.requires.item;
       row_read = c.index-claims.ensures;
       claim_read = c.at-claim.ensures;
       reached_are = c.self.invariant.reach.reached_are;
       before_read = c.index-before.ensures;
-      wanted_is = c.wants_seat-wanted.ensures ∙ ap (λ (fs : List Bool). list_any (wanting_at s fs) claim) c.deref.ensures.value;
-      wants_is = c.wants_seat-wants.ensures ∙ ap (λ (fs : List Bool). list_any (wanting_at s fs) claim) c.deref-2.ensures.value;
+      live_is = item_live c.self.invariant.reach.links c.args.self.now c.self.view_is c.args.item c.requires.waits
+          c.requires.item c.is_live_in_its_programme-is_live.result c.is_live_in_its_programme-is_live.ensures;
+      wanted_is =
+          c.wants_seat-wanted.ensures
+          ∙ ap (any_wanted c.is_live_in_its_programme-is_live.result claim) c.deref.ensures.value;
+      wants_is =
+          c.wants_seat-wants.ensures
+          ∙ ap (any_wanted c.is_live_in_its_programme-is_live.result claim) c.deref-2.ensures.value;
       leaves_is = c.leaves_seat.ensures;
     } in
     before_within reads
@@ -81,15 +106,22 @@ next_wanting-now-requires-clause-claims g c =
     let k = closes_item c.self.invariant.reach.links c.args.self.now c.self.view_is c.args.item
     c.requires.waits c.requires.item in
     let reads : Reads k c.args.item.place c.index-claims.result.now claim r.reached.items
-    c.index-before.result.now c.wants_seat-wanted.result c.wants_seat-wants.result c.leaves_seat.result =
+    c.index-before.result.now c.is_live_in_its_programme-is_live.result c.wants_seat-wanted.result
+    c.wants_seat-wants.result c.leaves_seat.result =
     record {
       stands = item_stands c.self.invariant.reach.links c.args.self.now c.self.view_is c.args.item c.requires.waits c.requires.item;
       row_read = c.index-claims.ensures;
       claim_read = c.at-claim.ensures;
       reached_are = c.self.invariant.reach.reached_are;
       before_read = c.index-before.ensures;
-      wanted_is = c.wants_seat-wanted.ensures ∙ ap (λ (fs : List Bool). list_any (wanting_at s fs) claim) c.deref.ensures.value;
-      wants_is = c.wants_seat-wants.ensures ∙ ap (λ (fs : List Bool). list_any (wanting_at s fs) claim) c.deref-2.ensures.value;
+      live_is = item_live c.self.invariant.reach.links c.args.self.now c.self.view_is c.args.item c.requires.waits
+          c.requires.item c.is_live_in_its_programme-is_live.result c.is_live_in_its_programme-is_live.ensures;
+      wanted_is =
+          c.wants_seat-wanted.ensures
+          ∙ ap (any_wanted c.is_live_in_its_programme-is_live.result claim) c.deref.ensures.value;
+      wants_is =
+          c.wants_seat-wants.ensures
+          ∙ ap (any_wanted c.is_live_in_its_programme-is_live.result claim) c.deref-2.ensures.value;
       leaves_is = c.leaves_seat.ensures;
     } in
     row_below reads
@@ -102,15 +134,22 @@ last_wanting-requires-clause-claims g c =
     let k = closes_item c.self.invariant.reach.links c.args.self.now c.self.view_is c.args.item
     c.requires.waits c.requires.item in
     let reads : Reads k c.args.item.place c.index-claims.result.now claim r.reached.items
-    c.index-before.result.now c.wants_seat-wanted.result c.wants_seat-wants.result c.leaves_seat.result =
+    c.index-before.result.now c.is_live_in_its_programme-is_live.result c.wants_seat-wanted.result
+    c.wants_seat-wants.result c.leaves_seat.result =
     record {
       stands = item_stands c.self.invariant.reach.links c.args.self.now c.self.view_is c.args.item c.requires.waits c.requires.item;
       row_read = c.index-claims.ensures;
       claim_read = c.at-claim.ensures;
       reached_are = c.self.invariant.reach.reached_are;
       before_read = c.index-before.ensures;
-      wanted_is = c.wants_seat-wanted.ensures ∙ ap (λ (fs : List Bool). list_any (wanting_at s fs) claim) c.deref.ensures.value;
-      wants_is = c.wants_seat-wants.ensures ∙ ap (λ (fs : List Bool). list_any (wanting_at s fs) claim) c.deref-2.ensures.value;
+      live_is = item_live c.self.invariant.reach.links c.args.self.now c.self.view_is c.args.item c.requires.waits
+          c.requires.item c.is_live_in_its_programme-is_live.result c.is_live_in_its_programme-is_live.ensures;
+      wanted_is =
+          c.wants_seat-wanted.ensures
+          ∙ ap (any_wanted c.is_live_in_its_programme-is_live.result claim) c.deref.ensures.value;
+      wants_is =
+          c.wants_seat-wants.ensures
+          ∙ ap (any_wanted c.is_live_in_its_programme-is_live.result claim) c.deref-2.ensures.value;
       leaves_is = c.leaves_seat.ensures;
     } in
     row_below reads
@@ -123,15 +162,22 @@ invariant_of-self-else-leaves_seat g c =
     let k = closes_item c.self.invariant.reach.links c.args.self.now c.self.view_is c.args.item
     c.requires.waits c.requires.item in
     let reads : Reads k c.args.item.place c.index-claims.result.now claim r.reached.items
-    c.index-before.result.now c.wants_seat-wanted.result c.wants_seat-wants.result c.leaves_seat.result =
+    c.index-before.result.now c.is_live_in_its_programme-is_live.result c.wants_seat-wanted.result
+    c.wants_seat-wants.result c.leaves_seat.result =
     record {
       stands = item_stands c.self.invariant.reach.links c.args.self.now c.self.view_is c.args.item c.requires.waits c.requires.item;
       row_read = c.index-claims.ensures;
       claim_read = c.at-claim.ensures;
       reached_are = c.self.invariant.reach.reached_are;
       before_read = c.index-before.ensures;
-      wanted_is = c.wants_seat-wanted.ensures ∙ ap (λ (fs : List Bool). list_any (wanting_at s fs) claim) c.deref.ensures.value;
-      wants_is = c.wants_seat-wants.ensures ∙ ap (λ (fs : List Bool). list_any (wanting_at s fs) claim) c.deref-2.ensures.value;
+      live_is = item_live c.self.invariant.reach.links c.args.self.now c.self.view_is c.args.item c.requires.waits
+          c.requires.item c.is_live_in_its_programme-is_live.result c.is_live_in_its_programme-is_live.ensures;
+      wanted_is =
+          c.wants_seat-wanted.ensures
+          ∙ ap (any_wanted c.is_live_in_its_programme-is_live.result claim) c.deref.ensures.value;
+      wants_is =
+          c.wants_seat-wants.ensures
+          ∙ ap (any_wanted c.is_live_in_its_programme-is_live.result claim) c.deref-2.ensures.value;
       leaves_is = c.leaves_seat.ensures;
     } in
     let stays = stays_closed reads c.if-leaves_seat.false in
@@ -151,15 +197,22 @@ invariant_of-self g c =
     let k = closes_item c.self.invariant.reach.links c.args.self.now c.self.view_is c.args.item
     c.requires.waits c.requires.item in
     let reads : Reads k c.args.item.place c.index-claims.result.now claim r.reached.items
-    c.index-before.result.now c.wants_seat-wanted.result c.wants_seat-wants.result c.leaves_seat.result =
+    c.index-before.result.now c.is_live_in_its_programme-is_live.result c.wants_seat-wanted.result
+    c.wants_seat-wants.result c.leaves_seat.result =
     record {
       stands = item_stands c.self.invariant.reach.links c.args.self.now c.self.view_is c.args.item c.requires.waits c.requires.item;
       row_read = c.index-claims.ensures;
       claim_read = c.at-claim.ensures;
       reached_are = c.self.invariant.reach.reached_are;
       before_read = c.index-before.ensures;
-      wanted_is = c.wants_seat-wanted.ensures ∙ ap (λ (fs : List Bool). list_any (wanting_at s fs) claim) c.deref.ensures.value;
-      wants_is = c.wants_seat-wants.ensures ∙ ap (λ (fs : List Bool). list_any (wanting_at s fs) claim) c.deref-2.ensures.value;
+      live_is = item_live c.self.invariant.reach.links c.args.self.now c.self.view_is c.args.item c.requires.waits
+          c.requires.item c.is_live_in_its_programme-is_live.result c.is_live_in_its_programme-is_live.ensures;
+      wanted_is =
+          c.wants_seat-wanted.ensures
+          ∙ ap (any_wanted c.is_live_in_its_programme-is_live.result claim) c.deref.ensures.value;
+      wants_is =
+          c.wants_seat-wants.ensures
+          ∙ ap (any_wanted c.is_live_in_its_programme-is_live.result claim) c.deref-2.ensures.value;
       leaves_is = c.leaves_seat.ensures;
     } in
     let row = c.index-claims.result.now in
@@ -185,15 +238,22 @@ invariant_of-self-in_default g c =
     let k = closes_item c.self.invariant.reach.links c.args.self.now c.self.view_is c.args.item
     c.requires.waits c.requires.item in
     let reads : Reads k c.args.item.place c.index-claims.result.now claim r.reached.items
-    c.index-before.result.now c.wants_seat-wanted.result c.wants_seat-wants.result c.leaves_seat.result =
+    c.index-before.result.now c.is_live_in_its_programme-is_live.result c.wants_seat-wanted.result
+    c.wants_seat-wants.result c.leaves_seat.result =
     record {
       stands = item_stands c.self.invariant.reach.links c.args.self.now c.self.view_is c.args.item c.requires.waits c.requires.item;
       row_read = c.index-claims.ensures;
       claim_read = c.at-claim.ensures;
       reached_are = c.self.invariant.reach.reached_are;
       before_read = c.index-before.ensures;
-      wanted_is = c.wants_seat-wanted.ensures ∙ ap (λ (fs : List Bool). list_any (wanting_at s fs) claim) c.deref.ensures.value;
-      wants_is = c.wants_seat-wants.ensures ∙ ap (λ (fs : List Bool). list_any (wanting_at s fs) claim) c.deref-2.ensures.value;
+      live_is = item_live c.self.invariant.reach.links c.args.self.now c.self.view_is c.args.item c.requires.waits
+          c.requires.item c.is_live_in_its_programme-is_live.result c.is_live_in_its_programme-is_live.ensures;
+      wanted_is =
+          c.wants_seat-wanted.ensures
+          ∙ ap (any_wanted c.is_live_in_its_programme-is_live.result claim) c.deref.ensures.value;
+      wants_is =
+          c.wants_seat-wants.ensures
+          ∙ ap (any_wanted c.is_live_in_its_programme-is_live.result claim) c.deref-2.ensures.value;
       leaves_is = c.leaves_seat.ensures;
     } in
     let row = c.index-claims.result.now in
@@ -236,15 +296,22 @@ returns-else-leaves_seat g c =
     let k = closes_item c.self.invariant.reach.links c.args.self.now c.self.view_is c.args.item
     c.requires.waits c.requires.item in
     let reads : Reads k c.args.item.place c.index-claims.result.now claim r.reached.items
-    c.index-before.result.now c.wants_seat-wanted.result c.wants_seat-wants.result c.leaves_seat.result =
+    c.index-before.result.now c.is_live_in_its_programme-is_live.result c.wants_seat-wanted.result
+    c.wants_seat-wants.result c.leaves_seat.result =
     record {
       stands = item_stands c.self.invariant.reach.links c.args.self.now c.self.view_is c.args.item c.requires.waits c.requires.item;
       row_read = c.index-claims.ensures;
       claim_read = c.at-claim.ensures;
       reached_are = c.self.invariant.reach.reached_are;
       before_read = c.index-before.ensures;
-      wanted_is = c.wants_seat-wanted.ensures ∙ ap (λ (fs : List Bool). list_any (wanting_at s fs) claim) c.deref.ensures.value;
-      wants_is = c.wants_seat-wants.ensures ∙ ap (λ (fs : List Bool). list_any (wanting_at s fs) claim) c.deref-2.ensures.value;
+      live_is = item_live c.self.invariant.reach.links c.args.self.now c.self.view_is c.args.item c.requires.waits
+          c.requires.item c.is_live_in_its_programme-is_live.result c.is_live_in_its_programme-is_live.ensures;
+      wanted_is =
+          c.wants_seat-wanted.ensures
+          ∙ ap (any_wanted c.is_live_in_its_programme-is_live.result claim) c.deref.ensures.value;
+      wants_is =
+          c.wants_seat-wants.ensures
+          ∙ ap (any_wanted c.is_live_in_its_programme-is_live.result claim) c.deref-2.ensures.value;
       leaves_is = c.leaves_seat.ensures;
     } in
     let stays = stays_closed reads c.if-leaves_seat.false in
@@ -261,15 +328,22 @@ returns-in_default g c =
     let k = closes_item c.self.invariant.reach.links c.args.self.now c.self.view_is c.args.item
     c.requires.waits c.requires.item in
     let reads : Reads k c.args.item.place c.index-claims.result.now claim r.reached.items
-    c.index-before.result.now c.wants_seat-wanted.result c.wants_seat-wants.result c.leaves_seat.result =
+    c.index-before.result.now c.is_live_in_its_programme-is_live.result c.wants_seat-wanted.result
+    c.wants_seat-wants.result c.leaves_seat.result =
     record {
       stands = item_stands c.self.invariant.reach.links c.args.self.now c.self.view_is c.args.item c.requires.waits c.requires.item;
       row_read = c.index-claims.ensures;
       claim_read = c.at-claim.ensures;
       reached_are = c.self.invariant.reach.reached_are;
       before_read = c.index-before.ensures;
-      wanted_is = c.wants_seat-wanted.ensures ∙ ap (λ (fs : List Bool). list_any (wanting_at s fs) claim) c.deref.ensures.value;
-      wants_is = c.wants_seat-wants.ensures ∙ ap (λ (fs : List Bool). list_any (wanting_at s fs) claim) c.deref-2.ensures.value;
+      live_is = item_live c.self.invariant.reach.links c.args.self.now c.self.view_is c.args.item c.requires.waits
+          c.requires.item c.is_live_in_its_programme-is_live.result c.is_live_in_its_programme-is_live.ensures;
+      wanted_is =
+          c.wants_seat-wanted.ensures
+          ∙ ap (any_wanted c.is_live_in_its_programme-is_live.result claim) c.deref.ensures.value;
+      wants_is =
+          c.wants_seat-wants.ensures
+          ∙ ap (any_wanted c.is_live_in_its_programme-is_live.result claim) c.deref-2.ensures.value;
       leaves_is = c.leaves_seat.ensures;
     } in
     let row = c.index-claims.result.now in
@@ -295,15 +369,22 @@ returns-in-Some g c =
     let k = closes_item c.self.invariant.reach.links c.args.self.now c.self.view_is c.args.item
     c.requires.waits c.requires.item in
     let reads : Reads k c.args.item.place c.index-claims.result.now claim r.reached.items
-    c.index-before.result.now c.wants_seat-wanted.result c.wants_seat-wants.result c.leaves_seat.result =
+    c.index-before.result.now c.is_live_in_its_programme-is_live.result c.wants_seat-wanted.result
+    c.wants_seat-wants.result c.leaves_seat.result =
     record {
       stands = item_stands c.self.invariant.reach.links c.args.self.now c.self.view_is c.args.item c.requires.waits c.requires.item;
       row_read = c.index-claims.ensures;
       claim_read = c.at-claim.ensures;
       reached_are = c.self.invariant.reach.reached_are;
       before_read = c.index-before.ensures;
-      wanted_is = c.wants_seat-wanted.ensures ∙ ap (λ (fs : List Bool). list_any (wanting_at s fs) claim) c.deref.ensures.value;
-      wants_is = c.wants_seat-wants.ensures ∙ ap (λ (fs : List Bool). list_any (wanting_at s fs) claim) c.deref-2.ensures.value;
+      live_is = item_live c.self.invariant.reach.links c.args.self.now c.self.view_is c.args.item c.requires.waits
+          c.requires.item c.is_live_in_its_programme-is_live.result c.is_live_in_its_programme-is_live.ensures;
+      wanted_is =
+          c.wants_seat-wanted.ensures
+          ∙ ap (any_wanted c.is_live_in_its_programme-is_live.result claim) c.deref.ensures.value;
+      wants_is =
+          c.wants_seat-wants.ensures
+          ∙ ap (any_wanted c.is_live_in_its_programme-is_live.result claim) c.deref-2.ensures.value;
       leaves_is = c.leaves_seat.ensures;
     } in
     let row = c.index-claims.result.now in

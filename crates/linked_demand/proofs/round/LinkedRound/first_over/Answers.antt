@@ -5,13 +5,13 @@ use Rattle.linked_demand.proofs.round.LinkedRound.first_over.Goals as goal
 pub get-requires : goal.get-requires
 get-requires c =
     let r = c.self.inside in
-    let lt : c.args.i < length r.overs =
-    answer_within r.links r.ceilings.items r.bars.items r.free.items r.rows.items r.overs r.marked
+    let lt : c.args.i < length r.overfilled =
+    answer_within r.links r.ceilings.items r.bars.items r.free.items r.rows.items r.overfilled r.marked
     c.args.self.now c.self.invariant c.self.view_is c.args.i c.requires in
     omega arith
 
 pub returns : goal.returns
 returns c =
     let r = c.self.inside in
-    c.get.ensures ∙ answer_read r.links r.ceilings.items r.bars.items r.free.items r.rows.items r.overs
+    c.get.ensures ∙ answer_read r.links r.ceilings.items r.bars.items r.free.items r.rows.items r.overfilled
     r.marked c.args.self.now c.self.invariant c.self.view_is c.args.i c.requires

@@ -11,7 +11,7 @@ use Rattle.linked_demand.proofs.round.LinkedRound.proposed.Goals.{then-is_set+in
 pub proposed_flags-requires : goal.proposed_flags-requires
 proposed_flags-requires c =
     let r = c.self.inside in
-    opens_wait r.links r.ceilings.items r.bars.items r.free.items r.rows.items r.overs r.marked
+    opens_wait r.links r.ceilings.items r.bars.items r.free.items r.rows.items r.overfilled r.marked
     c.args.self.now c.self.invariant c.self.view_is
 
 pub is_set-requires : goal.is_set-requires
@@ -37,7 +37,7 @@ loop-wish-preserved c =
     let there : k < length r.links.state.dossier.wishes = omega
     (arith, lt, ap (λ (v : Round). length v.state.dossier.wishes) c.self.view_is) in
     let flag : c.is_set.result ≡ q k =
-    flag_seen r.links r.ceilings.items r.bars.items r.free.items r.rows.items r.overs r.marked seen
+    flag_seen r.links r.ceilings.items r.bars.items r.free.items r.rows.items r.overfilled r.marked seen
     c.self.invariant c.self.view_is k lt c.is_set.result
     (c.is_set.ensures ∙ ap (λ (fs : List Bool). get_or fs k false) c.deref.ensures.value ∙ c.in_ok-flags.ensures.each k there) in
     elim c.if-is_set.branch [
@@ -60,10 +60,10 @@ returns c =
     let places : c.loop-wish.places.items ≡ proposed seen.state seen.orders seen.bars =
     c.loop-wish.invariant
     ∙ ap (λ (n : ℕ). filter (is_proposed_in seen) (range_with_len 0 n)) all
-    ∙ all_seen r.links r.ceilings.items r.bars.items r.free.items r.rows.items r.overs r.marked seen
+    ∙ all_seen r.links r.ceilings.items r.bars.items r.free.items r.rows.items r.overfilled r.marked seen
     c.self.invariant c.self.view_is in
     record {
       places = places;
-      offers = places ∙ offers_seen r.links r.ceilings.items r.bars.items r.free.items r.rows.items r.overs
+      offers = places ∙ offers_seen r.links r.ceilings.items r.bars.items r.free.items r.rows.items r.overfilled
           r.marked seen c.self.invariant c.self.view_is;
     }

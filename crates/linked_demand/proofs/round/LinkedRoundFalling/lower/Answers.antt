@@ -13,7 +13,7 @@ pub index_mut-requires : goal.index_mut-requires
 index_mut-requires g c =
     let r = c.self.inside in
     let lt : c.args.i < length r.bars.items =
-    bar_within r.links r.ceilings.items r.bars.items r.free.items r.rows.items r.overs r.marked
+    bar_within r.links r.ceilings.items r.bars.items r.free.items r.rows.items r.overfilled r.marked
     c.args.self.now c.self.invariant c.self.view_is c.args.i c.requires.in_range in
     omega arith
 
@@ -21,7 +21,7 @@ pub index_mut-requires-2 : goal.index_mut-requires-2
 index_mut-requires-2 g c =
     let r = c.self.inside in
     let lt : c.args.i < length r.bars.items = bar_within r.links r.ceilings.items r.bars.items r.free.items
-    r.rows.items r.overs r.marked c.args.self.now c.self.invariant c.self.view_is c.args.i c.requires.in_range in
+    r.rows.items r.overfilled r.marked c.args.self.now c.self.invariant c.self.view_is c.args.i c.requires.in_range in
     omega (arith, lt, c.self.invariant.round.rows_each)
 
 pub close_past-requires : goal.close_past-requires
@@ -30,17 +30,17 @@ close_past-requires g c =
     record {
       row = all_wait r.links r.bars.items r.free.items c.args.i c.args.to r.rows.items
           c.index_mut-2.result.now c.self.invariant.round
-          (within r.links r.ceilings.items r.bars.items r.free.items r.rows.items r.overs r.marked
+          (within r.links r.ceilings.items r.bars.items r.free.items r.rows.items r.overfilled r.marked
           c.args.self.now c.self.invariant c.self.view_is c.args.i c.args.to c.requires.in_range
           c.requires.lower c.index_mut-2.result.now c.index_mut-2.ensures.value) c.index_mut-2.ensures.value;
       items = items_own r.links r.bars.items r.free.items c.args.i c.args.to r.rows.items
           c.index_mut-2.result.now c.self.invariant.round
-          (within r.links r.ceilings.items r.bars.items r.free.items r.rows.items r.overs r.marked
+          (within r.links r.ceilings.items r.bars.items r.free.items r.rows.items r.overfilled r.marked
           c.args.self.now c.self.invariant c.self.view_is c.args.i c.args.to c.requires.in_range
           c.requires.lower c.index_mut-2.result.now c.index_mut-2.ensures.value) c.index_mut-2.ensures.value;
       bars = omega (arith, c.deref.ensures.len, c.self.invariant.round.bars_each);
       marked = c.self.invariant.marked_each;
-      stay = stay r.links r.ceilings.items r.bars.items r.free.items r.rows.items r.overs r.marked
+      stay = stay r.links r.ceilings.items r.bars.items r.free.items r.rows.items r.overfilled r.marked
           c.args.self.now c.self.invariant c.self.view_is c.args.i c.args.to c.requires.in_range
           c.requires.lower c.index_mut-2.result.now c.index_mut-2.ensures.value c.deref.result.now c.deref.ensures.value;
     }
@@ -49,13 +49,13 @@ pub set-requires : goal.set-requires
 set-requires g c =
     let r = c.self.inside in
     let lt : c.args.i < length r.bars.items = bar_within r.links r.ceilings.items r.bars.items r.free.items
-    r.rows.items r.overs r.marked c.args.self.now c.self.invariant c.self.view_is c.args.i c.requires.in_range in
+    r.rows.items r.overfilled r.marked c.args.self.now c.self.invariant c.self.view_is c.args.i c.requires.in_range in
     omega (arith, lt, c.self.invariant.round.bars_each, c.self.invariant.marked_each, c.close_past.ensures.marked.as_long)
 
 pub ask_marked-requires : goal.ask_marked-requires
 ask_marked-requires g c =
     let r = c.self.inside in
-    let round = round_now r.links r.ceilings.items r.bars.items r.free.items r.rows.items r.overs r.marked
+    let round = round_now r.links r.ceilings.items r.bars.items r.free.items r.rows.items r.overfilled r.marked
     c.args.self.now c.self.invariant c.self.view_is c.args.i c.args.to c.requires.in_range
     c.requires.lower c.index_mut-2.result.now c.index_mut-2.ensures.value c.close_past.new.links
     c.close_past.new.row c.close_past.ensures.state c.close_past.ensures.orders c.close_past.ensures.cut in
@@ -67,13 +67,13 @@ ask_marked-requires g c =
       rows = subst P (sym rows_are) (rows_open c.close_past.new.links _ r.free.items _ round);
       free = ap length c.deref-3.ensures.value ∙ one_free_each c.close_past.new.links _ r.free.items _ round ∙ sym rows_long;
       marked = ap length c.set.ensures
-          ∙ marks_long r.links r.ceilings.items r.bars.items r.free.items r.rows.items r.overs r.marked
+          ∙ marks_long r.links r.ceilings.items r.bars.items r.free.items r.rows.items r.overfilled r.marked
           c.args.self.now c.self.invariant c.self.view_is c.args.i c.args.to c.requires.in_range
           c.requires.lower c.index_mut-2.result.now c.index_mut-2.ensures.value
           c.close_past.new.links c.close_past.new.row c.close_past.ensures.state
           c.close_past.ensures.orders c.close_past.ensures.cut c.deref.result.now
           c.deref.ensures.value c.close_past.new.marked c.close_past.ensures.marked ∙ sym rows_long;
-      overs = overs_long r.links r.ceilings.items r.bars.items r.free.items r.rows.items r.overs r.marked
+      overfilled = overs_long r.links r.ceilings.items r.bars.items r.free.items r.rows.items r.overfilled r.marked
           c.args.self.now c.self.invariant c.self.view_is c.args.i c.args.to c.requires.in_range
           c.requires.lower c.index_mut-2.result.now c.index_mut-2.ensures.value c.close_past.new.links
           c.close_past.new.row c.close_past.ensures.state c.close_past.ensures.orders
@@ -84,33 +84,34 @@ ask_marked-requires g c =
 pub invariant_of-self : goal.invariant_of-self
 invariant_of-self g c =
     let r = c.self.inside in
-    lowered r.links r.ceilings.items r.bars.items r.free.items r.rows.items r.overs r.marked c.args.self.now
+    lowered r.links r.ceilings.items r.bars.items r.free.items r.rows.items r.overfilled r.marked c.args.self.now
     c.self.invariant c.self.view_is c.args.i c.args.to c.requires.in_range c.requires.lower
     c.index_mut-2.result.now c.index_mut-2.ensures.value c.close_past.new.links c.close_past.new.row
     c.close_past.ensures.state c.close_past.ensures.orders c.close_past.ensures.cut
     c.deref.result.now c.deref.ensures.value c.close_past.new.marked c.close_past.ensures.marked
     c.deref-3.result.now c.deref-2.result.now c.deref-3.ensures.value c.deref-2.ensures.value c.set.new.self
-    c.set.ensures c.ask_marked.new.overs c.ask_marked.new.marked c.ask_marked.ensures.asked c.ask_marked.ensures.unmarked
+    c.set.ensures c.ask_marked.new.overfilled c.ask_marked.new.marked c.ask_marked.ensures.asked
+    c.ask_marked.ensures.unmarked
 
 pub returns : goal.returns
 returns g c =
     let r = c.self.inside in
     record {
-      bars = bars_fallen r.links r.ceilings.items r.bars.items r.free.items r.rows.items r.overs r.marked
+      bars = bars_fallen r.links r.ceilings.items r.bars.items r.free.items r.rows.items r.overfilled r.marked
           c.args.self.now c.self.invariant c.self.view_is c.args.i c.args.to;
-      same = system_now r.links r.ceilings.items r.bars.items r.free.items r.rows.items r.overs r.marked
+      same = system_now r.links r.ceilings.items r.bars.items r.free.items r.rows.items r.overfilled r.marked
           c.args.self.now c.self.invariant c.self.view_is c.args.i c.args.to c.requires.in_range
           c.requires.lower c.index_mut-2.result.now c.index_mut-2.ensures.value c.close_past.new.links
           c.close_past.new.row c.close_past.ensures.state c.close_past.ensures.orders c.close_past.ensures.cut;
-      offers = offers_now r.links r.ceilings.items r.bars.items r.free.items r.rows.items r.overs r.marked
+      offers = offers_now r.links r.ceilings.items r.bars.items r.free.items r.rows.items r.overfilled r.marked
           c.args.self.now c.self.invariant c.self.view_is c.args.i c.args.to c.requires.in_range
           c.requires.lower c.index_mut-2.result.now c.index_mut-2.ensures.value c.close_past.new.links
           c.close_past.new.row c.close_past.ensures.state c.close_past.ensures.orders c.close_past.ensures.cut;
-      round = seen_now r.links r.ceilings.items r.bars.items r.free.items r.rows.items r.overs r.marked
+      round = seen_now r.links r.ceilings.items r.bars.items r.free.items r.rows.items r.overfilled r.marked
           c.args.self.now c.self.invariant c.self.view_is c.args.i c.args.to c.requires.in_range
           c.requires.lower c.index_mut-2.result.now c.index_mut-2.ensures.value c.close_past.new.links
           c.close_past.new.row c.close_past.ensures.state c.close_past.ensures.orders c.close_past.ensures.cut;
-      steps = steps_now r.links r.ceilings.items r.bars.items r.free.items r.rows.items r.overs r.marked
+      steps = steps_now r.links r.ceilings.items r.bars.items r.free.items r.rows.items r.overfilled r.marked
           c.args.self.now c.self.invariant c.self.view_is c.args.i c.args.to c.requires.in_range
           c.requires.lower c.index_mut-2.result.now c.index_mut-2.ensures.value c.close_past.new.links
           c.close_past.new.row c.close_past.ensures.state c.close_past.ensures.orders

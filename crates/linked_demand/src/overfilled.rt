@@ -1,50 +1,54 @@
-//! The answers of places, with a list of those that have one.
+//! The overfilled places, as a queue beside the first rank of each that has no bed.
 ghost use Rattle.std.specs.Prelude.{◌≡◌, ◌<◌, None, length, replicate, slice_index_or, slice_set, IfOk};
 ghost use Rattle.linked_demand.specs.Listed.{answered};
 
 use crate::rising::first_not_below;
 use admit_core::OutOfMemory;
+use place_queue::PlaceQueue;
 use std::alloc::Global;
 use std::marker::Model;
 
 /// For each place, counted from 0, the first rank that has no bed, if there is one: then the place
 /// is overfilled.
-pub struct Overs {
+///
+/// Putting the rank of the first or the last overfilled place moves no other.
+pub struct Overfilled {
     ranks: Vec<Option<u32>>,
-    overfilled: Vec<u32>,
+    places: PlaceQueue,
 }
 
 // Not derived: so answers are dropped in one step where they are held, and not list by list.
-impl Drop for Overs {
+impl Drop for Overfilled {
     fn drop(self) {
-        let Overs {
+        let Overfilled {
             ranks: _,
-            overfilled: _,
+            places: _,
         } = self;
     }
 }
 
-impl Model for Overs {
-    ghost use Rattle.std.specs.Prelude.{List, Option, ℕ, vec_capacity};
+impl Model for Overfilled {
+    ghost use Rattle.std.specs.Prelude.{List, Option, ℕ};
     ghost use Rattle.linked_demand.specs.Listed.{AnswersAreListed};
 
     ghost Value = { List (Option ℕ) };
 
     ghost view = { λ o. o.ranks.items };
 
-    ghost invariant = { λ o. AnswersAreListed o.ranks.items o.overfilled.items
-        (vec_capacity o.overfilled) };
+    ghost invariant = { λ o. AnswersAreListed o.ranks.items o.places.items o.places.room };
 }
 
-impl Overs {
+impl Overfilled {
     /// So many places, of which none is overfilled. All room that the other calls need is made
     /// here.
-    pub fn none(alloc: Global, count: u32) -> Result<Overs, OutOfMemory>
+    pub fn none(alloc: Global, count: u32) -> Result<Overfilled, OutOfMemory>
         ensures { IfOk result (λ o. o ≡ replicate count None) }
     {
-        let ranks = vec![in alloc; None; count as usize]?;
-        let overfilled = Vec::with_capacity(alloc, count as usize)?;
-        Ok(Overs { ranks, overfilled })
+        let count = count as usize;
+        let ranks = vec![in alloc; None; count]?;
+        let places = Vec::with_capacity(alloc, 2 * count)?;
+        let places = PlaceQueue::from_vec(places, count);
+        Ok(Overfilled { ranks, places })
     }
 
     /// The rank of a place.
@@ -63,20 +67,20 @@ impl Overs {
         let was_over = self.ranks[place as usize].is_some();
         let is_over = rank.is_some();
         if is_over != was_over {
-            let at = first_not_below(&self.overfilled, place);
+            let at = first_not_below(self.places.as_slice(), place);
             if is_over {
-                self.overfilled.insert(at, place).unwrap();
+                self.places.insert(at, place);
             } else {
-                self.overfilled.remove(at);
+                self.places.remove(at);
             }
         }
         self.ranks[place as usize] = rank;
     }
 
     /// The overfilled places, from the least.
-    pub fn overfilled(&self) -> &[u32]
+    pub fn places(&self) -> &[u32]
         ensures { result.now ≡ answered self.now }
     {
-        &self.overfilled
+        self.places.as_slice()
     }
 }

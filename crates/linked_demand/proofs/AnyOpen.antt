@@ -1,0 +1,13 @@
+-- The search for an open wish of a claim.
+use Rattle.std.proofs.Common.{ℕ, zero, suc, ◌≡◌, Bool, true, false, ◌||◌, List, [], ◌∷◌, drop, refl, ◌∙◌, ap}
+use Rattle.std.specs.List.{list_any}
+
+or_true : (a : Bool) → (a || true) ≡ true
+or_true true = refl
+or_true false = refl
+
+-- one that passes behind a place passes
+pub any_behind : (f : ℕ → Bool) (ks : List ℕ) (i : ℕ) → list_any f (drop i ks) ≡ true → list_any f ks ≡ true
+any_behind f ks zero t = t
+any_behind f [] (suc i) t = t
+any_behind f (k ∷ ks) (suc i) t = ap (λ b. f k || b) (any_behind f ks i t) ∙ or_true (f k)

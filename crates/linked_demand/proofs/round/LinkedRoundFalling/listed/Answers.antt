@@ -1,0 +1,10 @@
+use Rattle.std.proofs.Common.{◌∙◌}
+use Rattle.linked_demand.proofs.Rounding.{overfilled_seen}
+use Rattle.linked_demand.proofs.round.LinkedRoundFalling.listed.Goals as goal
+
+pub returns : goal.returns
+returns c =
+    let r = c.self.inside in
+    c.places.ensures
+    ∙ overfilled_seen r.links r.ceilings.items r.bars.items r.free.items r.rows.items r.overfilled r.marked
+    c.args.self.now c.self.invariant c.self.view_is
