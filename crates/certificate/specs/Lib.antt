@@ -5,6 +5,7 @@ pub mod ChainText
 pub mod Written
 pub mod ProvedDays
 pub mod Checked
+pub mod Grounds
 pub mod Counted
 pub mod Verdicts
 pub mod VerdictText

@@ -7,12 +7,12 @@ ghost use Rattle.admit_core.specs.Days.{Passes};
 ghost use Rattle.certificate.specs.Checked.{ids_in};
 ghost use Rattle.certificate.specs.Verdicts.{IfProved, IfRejected, KeepsSchool, fault_told};
 
+use crate::grounds::Grounds;
 use crate::passes::check_passes;
 use crate::stop::Stop;
 use admit_core::{CallOrders, CheckReason, DayChain, OutOfMemory, laws_of_chains};
 use day_state::DayState;
 use dossier_check::Index;
-use linked_demand::Lineup;
 use std::alloc::Global;
 
 /// What a check of a day's chain says: proved, with the evening of the day; or the first fault.
@@ -53,19 +53,36 @@ pub fn check_day<'d>(
         IfProved v (Passes orders.now.orders ceilings.now day 1 morning.now
         (passes_told orders.now.orders ceilings.now day 1 morning.now chain.now.passes))) }
 {
+    let grounds = Grounds::build(alloc, index, orders, morning)?;
+    check_day_along(alloc, &grounds, morning, ceilings, day, chain)
+}
+
+/// The same on grounds that the days of a chain share.
+pub fn check_day_along<'d>(
+    alloc: Global,
+    grounds: &Grounds<'_>,
+    morning: &DayState<'d>,
+    ceilings: &[u32],
+    day: u32,
+    chain: &DayChain,
+) -> Result<Verdict<'d>, OutOfMemory>
+    requires same { grounds.now.dossier ≡ morning.now.dossier }
+    requires ceilings { length ceilings.now ≡ length morning.now.dossier.schools }
+    requires passes { length chain.now.passes < 2 ^ 32 }
+
+    ensures exact { IfOk result (λ v.
+        day_fault grounds.now.orders ceilings.now day morning.now chain.now ≡ fault_told v) }
+    ensures school { IfOk result (λ v.
+        IfRejected v (KeepsSchool (length morning.now.dossier.schools))) }
+    ensures valid { IfOk result (λ v.
+        IfProved v (IsDayChain grounds.now.orders ceilings.now day morning.now chain.now)) }
+    ensures greatest { IfOk result (λ v.
+        IfProved v (Passes grounds.now.orders ceilings.now day 1 morning.now
+        (passes_told grounds.now.orders ceilings.now day 1 morning.now chain.now.passes))) }
+{
     laws_of_chains();
-    let lineup = Lineup::build(alloc, morning, orders)?;
     let mut evening = morning.copy(alloc)?;
-    match check_passes(
-        alloc,
-        &mut evening,
-        index,
-        orders,
-        &lineup,
-        ceilings,
-        day,
-        chain,
-    ) {
+    match check_passes(alloc, &mut evening, grounds, ceilings, day, chain) {
         Ok(()) => Ok(Verdict::Proved { evening }),
         Err(Stop::Rejected(row, reason)) => Ok(Verdict::Rejected { row, reason }),
         Err(Stop::OutOfMemory) => Err(OutOfMemory),

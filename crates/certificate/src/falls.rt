@@ -5,15 +5,15 @@ ghost use Rattle.admit_core.specs.Chains.{bars_by, first_overfilled, line_fault,
 ghost use Rattle.admit_core.specs.Falls.{IsAtMost};
 ghost use Rattle.admit_core.specs.Proposals.{proposed};
 ghost use Rattle.certificate.specs.Checked.{Finds, ids_in};
-ghost use Rattle.linked_demand.specs.Lineups.{IsLineupOf};
 
+use crate::grounds::Grounds;
 use crate::named::{ranks_up_to, show_ranks};
 use crate::stop::Stop;
-use admit_core::{CallOrders, CheckReason, FallLine, PassChain, Steps};
+use admit_core::{CheckReason, FallLine, PassChain, Steps};
 use bar_fixpoint::Falling;
 use day_state::DayState;
 use dossier_check::{Index, school_place};
-use linked_demand::{Lineup, LinkedRound};
+use linked_demand::LinkedRound;
 use std::alloc::Global;
 use std::marker::Brand;
 use std::sync::ledger::{Blank, Ledger};
@@ -107,29 +107,17 @@ fn first_overfilled(round: &LinkedRound<'_, '_>) -> Option<u32>
 pub(crate) fn offers_of(
     alloc: Global,
     state: &DayState<'_>,
-    index: &Index,
-    orders: &CallOrders,
-    lineup: &Lineup,
+    grounds: &Grounds<'_>,
     ceilings: &[u32],
     pass: &PassChain,
 ) -> Result<Vec<u32>, Stop>
-    requires index { index.now ≡ ids_in state.now.dossier }
-    requires lineup { IsLineupOf state.now.dossier orders.now.orders lineup.now }
+    requires same { grounds.now.dossier ≡ state.now.dossier }
     requires ceilings { length ceilings.now ≡ length state.now.dossier.schools }
-    ensures found { Finds result (pass_fault state.now orders.now.orders ceilings.now pass.now) }
-    ensures offers { IfOk result (λ v. v.items ≡ proposed state.now orders.now.orders
+    ensures found { Finds result (pass_fault state.now grounds.now.orders ceilings.now pass.now) }
+    ensures offers { IfOk result (λ v. v.items ≡ proposed state.now grounds.now.orders
         (bars_by state.now ceilings.now pass.now.falls)) }
 {
-    counted_offers::<Brand>(
-        alloc,
-        Blank::new(1),
-        state,
-        index,
-        orders,
-        lineup,
-        ceilings,
-        pass,
-    )
+    counted_offers::<Brand>(alloc, Blank::new(1), state, grounds, ceilings, pass)
 }
 
 /// Tests the falls of a pass on a round that has just begun, and answers the places of the wishes
@@ -163,23 +151,20 @@ fn counted_offers<L: Ledger>(
     alloc: Global,
     blank: Blank,
     state: &DayState<'_>,
-    index: &Index,
-    orders: &CallOrders,
-    lineup: &Lineup,
+    grounds: &Grounds<'_>,
     ceilings: &[u32],
     pass: &PassChain,
 ) -> Result<Vec<u32>, Stop>
     requires name { blank.name ≡ L.name }
     requires parts { blank.parts ≡ L.parts }
     requires shared { 0 < L.parts }
-    requires index { index.now ≡ ids_in state.now.dossier }
-    requires lineup { IsLineupOf state.now.dossier orders.now.orders lineup.now }
+    requires same { grounds.now.dossier ≡ state.now.dossier }
     requires ceilings { length ceilings.now ≡ length state.now.dossier.schools }
-    ensures found { Finds result (pass_fault state.now orders.now.orders ceilings.now pass.now) }
-    ensures offers { IfOk result (λ v. v.items ≡ proposed state.now orders.now.orders
+    ensures found { Finds result (pass_fault state.now grounds.now.orders ceilings.now pass.now) }
+    ensures offers { IfOk result (λ v. v.items ≡ proposed state.now grounds.now.orders
         (bars_by state.now ceilings.now pass.now.falls)) }
 {
     let mut steps: Steps<L> = Steps::new(blank);
-    let mut round = LinkedRound::build(alloc, state, orders, lineup, ceilings)?;
-    offers_on(alloc, &mut round, state, index, pass, &mut steps)
+    let mut round = grounds.begin_round(alloc, state, ceilings)?;
+    offers_on(alloc, &mut round, state, grounds.index(), pass, &mut steps)
 }

@@ -2,12 +2,15 @@
 //! without trust in who wrote it. A chain is lines, each ended by one line feed: `day D`, `pass K`,
 //! `fall S FROM TO W W ..` and, at the end, `end`. One space stands between two words.
 //!
-//! `let verdict = check_day(alloc, &index, &orders, &morning, ceilings, day, chain)?;`
+//! `let verdict = check_day(alloc, &index, &orders, &morning, ceilings, day, chain)?;`, or for many
+//! days `let grounds = Grounds::build(alloc, &index, &orders, &morning)?;` and then, day by day,
+//! `check_day_along(alloc, &grounds, &morning, ceilings, day, chain)?`.
 #![tactic(auto)]
 
 mod check;
 mod cut;
 mod falls;
+mod grounds;
 mod line;
 mod named;
 mod passes;
@@ -19,7 +22,8 @@ mod texts;
 mod worked;
 mod write;
 
-pub use check::{Verdict, check_day};
+pub use check::{Verdict, check_day, check_day_along};
+pub use grounds::Grounds;
 pub use read::read_chain;
 pub use refusal::ChainRefusal;
 pub use texts::{chain_fault_text, verdict_text};

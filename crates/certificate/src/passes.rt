@@ -2,40 +2,35 @@
 ghost use Rattle.std.specs.Prelude.{◌≡◌, ◌≤◌, ◌<◌, ◌^◌, [], IfOk, OnOk, drop, length};
 ghost use Rattle.admit_core.specs.Chains.{bars_by, closing_by, day_fault, extra_pass, pass_fault};
 ghost use Rattle.admit_core.specs.Days.{freed_after, frees_nothing};
-ghost use Rattle.certificate.specs.Checked.{Finds, ids_in, state_after};
-ghost use Rattle.linked_demand.specs.Lineups.{IsLineupOf};
+ghost use Rattle.certificate.specs.Checked.{Finds, state_after};
 
 use crate::falls::offers_of;
+use crate::grounds::Grounds;
 use crate::stop::Stop;
-use admit_core::{CallOrders, CheckReason, DayChain, Freed, PassChain, Stamp};
+use admit_core::{CheckReason, DayChain, Freed, PassChain, Stamp};
 use auto_answer::auto_all;
 use day_state::DayState;
-use dossier_check::Index;
-use linked_demand::Lineup;
 use std::alloc::Global;
 
 /// Tests the falls of a pass, and makes its offers and the automatic answers.
 fn check_pass(
     alloc: Global,
     state: &mut DayState<'_>,
-    index: &Index,
-    orders: &CallOrders,
-    lineup: &Lineup,
+    grounds: &Grounds<'_>,
     ceilings: &[u32],
     stamp: Stamp,
     pass: &PassChain,
 ) -> Result<Freed, Stop>
-    requires index { index.now ≡ ids_in state.old.dossier }
-    requires lineup { IsLineupOf state.old.dossier orders.now.orders lineup.now }
+    requires same { grounds.now.dossier ≡ state.old.dossier }
     requires ceilings { length ceilings.now ≡ length state.old.dossier.schools }
-    ensures found { Finds result (pass_fault state.old orders.now.orders ceilings.now pass.now) }
+    ensures found { Finds result (pass_fault state.old grounds.now.orders ceilings.now pass.now) }
     ensures state { OnOk result
-        (state.new ≡ closing_by state.old orders.now.orders ceilings.now stamp pass.now) }
-    ensures freed { IfOk result (λ freed. freed ≡ freed_after state.old orders.now.orders
+        (state.new ≡ closing_by state.old grounds.now.orders ceilings.now stamp pass.now) }
+    ensures freed { IfOk result (λ freed. freed ≡ freed_after state.old grounds.now.orders
         (bars_by state.old ceilings.now pass.now.falls) stamp) }
     ensures dossier { OnOk result (state.new.dossier ≡ state.old.dossier) }
 {
-    let offers = offers_of(alloc, state, index, orders, lineup, ceilings, pass)?;
+    let offers = offers_of(alloc, state, grounds, ceilings, pass)?;
     state.offer_all(offers.as_slice(), stamp);
     Ok(auto_all(state, stamp))
 }
@@ -63,27 +58,24 @@ fn check_end(passes: &[PassChain], from: usize) -> Result<(), Stop>
 pub(crate) fn check_passes(
     alloc: Global,
     state: &mut DayState<'_>,
-    index: &Index,
-    orders: &CallOrders,
-    lineup: &Lineup,
+    grounds: &Grounds<'_>,
     ceilings: &[u32],
     day: u32,
     chain: &DayChain,
 ) -> Result<(), Stop>
-    requires index { index.now ≡ ids_in state.old.dossier }
-    requires lineup { IsLineupOf state.old.dossier orders.now.orders lineup.now }
+    requires same { grounds.now.dossier ≡ state.old.dossier }
     requires ceilings { length ceilings.now ≡ length state.old.dossier.schools }
     requires passes { length chain.now.passes < 2 ^ 32 }
     ensures found { Finds result
-        (day_fault orders.now.orders ceilings.now day state.old chain.now) }
+        (day_fault grounds.now.orders ceilings.now day state.old chain.now) }
     ensures state { OnOk result
-        (state.new ≡ state_after orders.now.orders ceilings.now day 1 state.old chain.now.passes) }
+        (state.new ≡ state_after grounds.now.orders ceilings.now day 1 state.old chain.now.passes) }
 {
     let passes = chain.passes.as_slice();
     for (place, pass) in passes.iter().enumerate() {
         let number = place as u32 + 1;
         let stamp = Stamp { day, pass: number };
-        let freed = check_pass(alloc, state, index, orders, lineup, ceilings, stamp, pass)?;
+        let freed = check_pass(alloc, state, grounds, ceilings, stamp, pass)?;
         if frees_nothing(freed) {
             return check_end(passes, place + 1);
         }

@@ -1,10 +1,10 @@
 -- Whoever has no offer that lapses and does not answer keeps their marks until the passes of a day begin.
-use Rattle.std.proofs.Common.{ℕ, ◌+◌, ◌<◌, ◌≡◌, true, false, List, [], ◌∷◌, ◌++◌, Option, None, Some, map, length, filter, inl, inr, refl, sym, ◌∙◌, ap, subst, arith, nat_eq, zip}
+use Rattle.std.proofs.Common.{ℕ, ◌+◌, ◌<◌, ◌≡◌, true, false, List, [], ◌∷◌, ◌++◌, Option, None, Some, map, length, filter, inl, inr, refl, sym, ◌∙◌, ap, subst, arith, nat_eq, take, zip}
 use Rattle.std.specs.Prelude.{ℤ, pos, ◌==◌, All, slice_index_or}
 use Rattle.std.specs.List.{enumerate_from, flat_map}
 use Rattle.std.proofs.lemmas.Bool.{cases_Bool, eqb-true, eq-eqb, false≢true, or_left}
 use Rattle.std.proofs.lemmas.List.Concat.{flat_map-cons}
-use Rattle.std.proofs.lemmas.List.Elements.{All-append, All-cons, All-head, All-map, All-nil, All-tail}
+use Rattle.std.proofs.lemmas.List.Elements.{All-append, All-cons, All-head, All-map, All-nil, All-tail, All-take}
 use Rattle.std.proofs.lemmas.Option.{unwrap_or-slice_get}
 use Rattle.std.proofs.lemmas.Slice.Zip.{length-zip, get_or-zip}
 use Rattle.admit_core.specs.declared.dossier.Answer.{Answer}
@@ -37,6 +37,7 @@ use Rattle.desk_day.specs.DayPlaces.{AreWishesOf}
 use Rattle.desk_day.specs.Touched.{touched, wishes_of_answer, wishes_of_kind}
 use Rattle.desk_day.proofs.LapsedOffers.{lapse_of}
 use Rattle.desk_day.proofs.LaterPasses.{in_neither}
+use Rattle.desk_day.proofs.OnceEach.{own_same}
 use Rattle.desk_day.proofs.SameDossier.{morning_dossier}
 
 abbrev wishes_of : List Lapse → List ℕ
@@ -90,6 +91,14 @@ named_target s c target mine =
     or_left (nat_eq c (candidate_of s.dossier target)) false (eq-eqb c (candidate_of s.dossier target)
     (sym (eqb-true (candidate_at s target) c mine)))
 
+-- the first wish of a candidate who has some names them
+first_named : (d : DossierRows) (c target : ℕ) (own : List ℕ) → own ≡ own_places d target → target ≡ c → (k : ℕ)
+    → is_among k own ≡ true → is_among c (map (candidate_of d) (take 1 own)) ≡ true
+first_named d c target [] is same k here = absurd (false≢true here)
+first_named d c target (j ∷ rest) is same k here =
+    or_left (nat_eq c (candidate_of d j)) false (eq-eqb c (candidate_of d j)
+    (sym ((own_same d target (j ∷ rest) is 0 (omega arith)).1 ∙ same)))
+
 named_answer : (s : State) (kind : AnswerKind) (c target k : ℕ) → k < length s.dossier.wishes → candidate_at s k ≡ c
     → is_own_kind kind s c target ≡ true
     → is_among c (map (candidate_of s.dossier) (wishes_of_kind s.dossier kind target)) ≡ true
@@ -101,7 +110,7 @@ named_answer s Quit c target k lt its mine =
     let who : candidate_of d k ≡ target = its ∙ sym (eqb-true target c mine) in
     let here : is_among k (own_places d target) ≡ true =
     among-filter (λ (j : ℕ). candidate_of d j == target) k (length d.wishes) lt ∙ eq-eqb (candidate_of d k) target who in
-    rw its at (among-map (candidate_of d) k (own_places d target) here)
+    first_named d c target (own_places d target) refl (eqb-true target c mine) k here
 
 none_own : (s : State) (c k : ℕ) (answers : List Answer) → k < length s.dossier.wishes → candidate_at s k ≡ c
     → is_among c (map (candidate_of s.dossier) (flat_map (wishes_of_answer s.dossier) answers)) ≡ false → own s c answers ≡ []
@@ -206,7 +215,7 @@ kind_within : (d : DossierRows) (kind : AnswerKind) (target : ℕ) → IsTarget 
 kind_within d Accept target is = All-cons (λ (k : ℕ). k < length d.wishes) target [] is (All-nil (λ (k : ℕ). k < length d.wishes))
 kind_within d Refuse target is = All-cons (λ (k : ℕ). k < length d.wishes) target [] is (All-nil (λ (k : ℕ). k < length d.wishes))
 kind_within d Withdraw target is = All-cons (λ (k : ℕ). k < length d.wishes) target [] is (All-nil (λ (k : ℕ). k < length d.wishes))
-kind_within d Quit target is = own_within d target
+kind_within d Quit target is = All-take (λ (k : ℕ). k < length d.wishes) 1 (own_places d target) (own_within d target)
 
 answers_within : (d : DossierRows) (answers : List Answer) → All (λ (a : Answer). IsTarget d a.kind a.target) answers
     → AreWishesOf d (flat_map (wishes_of_answer d) answers)

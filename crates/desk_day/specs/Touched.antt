@@ -1,5 +1,5 @@
 -- Whose wishes the lapse and the answers of a day may change.
-use Rattle.std.specs.Prelude.{ℕ, List, [], ◌∷◌, ◌++◌, map}
+use Rattle.std.specs.Prelude.{ℕ, List, [], ◌∷◌, ◌++◌, map, take}
 use Rattle.std.specs.List.{flat_map}
 use Rattle.admit_core.specs.declared.dossier.Answer.{Answer}
 use Rattle.admit_core.specs.declared.dossier.AnswerKind.{AnswerKind}
@@ -9,12 +9,12 @@ use Rattle.admit_core.specs.Days.{answers_of}
 use Rattle.admit_core.specs.DossierRows.{DossierRows}
 use Rattle.admit_core.specs.OwnWishes.{own_places}
 
--- a wish of the candidate whose answer it is: the one that it names, or all of them
+-- a wish of the candidate whose answer it is: the one that it names, or the first that they have
 abbrev pub wishes_of_kind : DossierRows → AnswerKind → ℕ → List ℕ
 wishes_of_kind d Accept target = target ∷ []
 wishes_of_kind d Refuse target = target ∷ []
 wishes_of_kind d Withdraw target = target ∷ []
-wishes_of_kind d Quit target = own_places d target
+wishes_of_kind d Quit target = take 1 (own_places d target)
 
 abbrev pub wishes_of_answer : DossierRows → Answer → List ℕ
 wishes_of_answer d a = wishes_of_kind d a.kind a.target

@@ -1,5 +1,5 @@
 //! Whose wishes the lapse and the answers of a day may change.
-ghost use Rattle.std.specs.Prelude.{◌≡◌, ◌<◌, ◌++◌, All, OnOk, length, map};
+ghost use Rattle.std.specs.Prelude.{◌≡◌, ◌<◌, ◌++◌, All, OnOk, length, map, take};
 ghost use Rattle.std.specs.List.{flat_map};
 ghost use Rattle.desk_day.specs.DayPlaces.{AreWishesOf};
 ghost use Rattle.desk_day.specs.Touched.{touched, wishes_of_answer};
@@ -53,7 +53,14 @@ fn push_answered(
     Ok(())
 }
 
-/// Adds a wish, or all wishes, of the candidate whose answer it is.
+/// The first of some wishes, where there is one.
+fn first_of(wishes: &[u32]) -> &[u32]
+    ensures { result.now ≡ take 1 wishes.now }
+{
+    &wishes[..wishes.len().min(1)]
+}
+
+/// Adds one wish of the candidate whose answer it is, where they have one.
 fn push_wishes_of(
     places: &mut Vec<u32>,
     state: &DayState<'_>,
@@ -63,7 +70,7 @@ fn push_wishes_of(
         ≡ places.old.items ++ wishes_of_answer state.now.dossier answer) }
 {
     match answer.kind {
-        AnswerKind::Quit => places.extend_from_slice(state.own_wishes(answer.target))?,
+        AnswerKind::Quit => places.extend_from_slice(first_of(state.own_wishes(answer.target)))?,
         AnswerKind::Accept | AnswerKind::Refuse | AnswerKind::Withdraw => {
             places.push(answer.target)?;
         }

@@ -2,19 +2,18 @@ use Rattle.std.proofs.Common.{◌≡◌, ◌∙◌, ◌+◌, true, false, drop, 
 use Rattle.std.proofs.lemmas.List.{drop_all}
 use Rattle.std.proofs.lemmas.Result.{err_from_is_err_and}
 use Rattle.admit_core.specs.DossierRows.{DossierRows}
-use Rattle.linked_demand.specs.Lineups.{IsLineupOf}
 use Rattle.std.specs.Prelude.{Option, ℕ}
 use Rattle.admit_core.specs.declared.chain.CheckReason.{CheckReason}
 use Rattle.admit_core.specs.declared.state.Freed.{Freed}
 use Rattle.admit_core.specs.Chains.{frees_nothing_by, passes_fault}
 use Rattle.admit_core.specs.Days.{frees_nothing}
-use Rattle.certificate.specs.Checked.{Finds, ids_in, state_after}
+use Rattle.certificate.specs.Checked.{Finds, state_after}
 use Rattle.certificate.proofs.Lowering.{drop_item, pass_goes_on, pass_is_last, pass_stops, state_goes_on}
 use Rattle.certificate.proofs.passes.check_passes.Goals as goal
 
 pub loop-place-preserved : goal.loop-place-preserved
 loop-place-preserved c =
-    let orders = c.args.orders.now.orders in
+    let orders = c.args.grounds.now.orders in
     let ceilings = c.args.ceilings.now in
     let day = c.args.day in
     let end = c.args.chain.now.next_row in
@@ -39,7 +38,7 @@ loop-place-preserved c =
 
 pub returns-then-frees_nothing-clause-found : goal.returns-then-frees_nothing-clause-found
 returns-then-frees_nothing-clause-found c =
-    let orders = c.args.orders.now.orders in
+    let orders = c.args.grounds.now.orders in
     let ceilings = c.args.ceilings.now in
     let day = c.args.day in
     let end = c.args.chain.now.next_row in
@@ -56,14 +55,8 @@ returns-then-frees_nothing-clause-found c =
     ∙ ap (passes_fault orders ceilings day end (k + 1) s) here) c.in_ok-freed.ensures.found frees in
     subst (λ (fault : Option (ℕ × CheckReason)). Finds c.check_end.result fault) (sym last) c.check_end.ensures.found
 
-pub check_pass-requires-clause-index : goal.check_pass-requires-clause-index
-check_pass-requires-clause-index c =
-    subst (λ (d : DossierRows). c.args.index.now ≡ ids_in d) (sym c.loop-place.invariant.dossier) c.requires.index
-
-pub check_pass-requires-clause-lineup : goal.check_pass-requires-clause-lineup
-check_pass-requires-clause-lineup c =
-    subst (λ (d : DossierRows). IsLineupOf d c.args.orders.now.orders c.args.lineup.now)
-    (sym c.loop-place.invariant.dossier) c.requires.lineup
+pub check_pass-requires-clause-same : goal.check_pass-requires-clause-same
+check_pass-requires-clause-same c = c.requires.same ∙ sym c.loop-place.invariant.dossier
 
 pub check_pass-requires-clause-ceilings : goal.check_pass-requires-clause-ceilings
 check_pass-requires-clause-ceilings c =
@@ -71,7 +64,7 @@ check_pass-requires-clause-ceilings c =
 
 pub returns-in_err-freed-clause-found : goal.returns-in_err-freed-clause-found
 returns-in_err-freed-clause-found c =
-    let orders = c.args.orders.now.orders in
+    let orders = c.args.grounds.now.orders in
     let ceilings = c.args.ceilings.now in
     let day = c.args.day in
     let end = c.args.chain.now.next_row in
@@ -87,7 +80,7 @@ returns-in_err-freed-clause-found c =
 
 pub loop-place-init : goal.loop-place-init
 loop-place-init c =
-    let orders = c.args.orders.now.orders in
+    let orders = c.args.grounds.now.orders in
     let ceilings = c.args.ceilings.now in
     let day = c.args.day in
     let s = c.args.state.now in
@@ -102,5 +95,5 @@ returns-clause-found c =
     let end = c.args.chain.now.next_row in
     let k = c.loop-place.place in
     c.loop-place.invariant.fault
-    ∙ ap (passes_fault c.args.orders.now.orders c.args.ceilings.now c.args.day end (k + 1) c.loop-place.state)
+    ∙ ap (passes_fault c.args.grounds.now.orders c.args.ceilings.now c.args.day end (k + 1) c.loop-place.state)
     (drop_all k c.as_slice-passes.result.now c.loop-place-test.false)

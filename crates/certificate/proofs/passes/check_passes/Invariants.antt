@@ -7,9 +7,9 @@ abbrev pub invariant-loop-place : goal.invariant-loop-place
 invariant-loop-place l =
     let rest = drop l.place l.passes in
     record {
-      fault : day_fault l.orders.orders l.ceilings l.day l.fn.state l.chain ≡ passes_fault
-          l.orders.orders l.ceilings l.day l.chain.next_row (l.place + 1) l.state rest;
-      state : state_after l.orders.orders l.ceilings l.day 1 l.fn.state l.chain.passes
-          ≡ state_after l.orders.orders l.ceilings l.day (l.place + 1) l.state rest;
+      fault : day_fault l.grounds.orders l.ceilings l.day l.fn.state l.chain ≡ passes_fault
+          l.grounds.orders l.ceilings l.day l.chain.next_row (l.place + 1) l.state rest;
+      state : state_after l.grounds.orders l.ceilings l.day 1 l.fn.state l.chain.passes
+          ≡ state_after l.grounds.orders l.ceilings l.day (l.place + 1) l.state rest;
       dossier : l.state.dossier ≡ l.fn.state.dossier;
     }

@@ -7,11 +7,11 @@ use Rattle.certificate.specs.declared.check.Verdict.TheVariants as verdict
 use Rattle.certificate.specs.declared.stop.Stop.{Stop}
 use Rattle.certificate.proofs.Ending.{is_valid}
 use Rattle.certificate.proofs.Schools.{rejects_school}
-use Rattle.certificate.proofs.check.check_day.Goals as goal
+use Rattle.certificate.proofs.check.check_day_along.Goals as goal
 
 pub returns-in-Ok-clause-valid : goal.returns-in-Ok-clause-valid
 returns-in-Ok-clause-valid c =
-    let orders = c.args.orders.now.orders in
+    let orders = c.args.grounds.now.orders in
     let ceilings = c.args.ceilings.now in
     let chain = c.args.chain.now in
     let none : day_fault orders ceilings c.args.day c.args.morning.now chain ≡ None =
@@ -22,12 +22,12 @@ returns-in-Ok-clause-valid c =
 
 pub returns-in-Ok-clause-greatest : goal.returns-in-Ok-clause-greatest
 returns-in-Ok-clause-greatest c =
-    c.laws_of_chains.ensures.tells c.args.orders.now.orders c.args.ceilings.now c.args.day c.args.morning.now
+    c.laws_of_chains.ensures.tells c.args.grounds.now.orders c.args.ceilings.now c.args.day c.args.morning.now
     c.args.chain.now c.check_passes.new.state (returns-in-Ok-clause-valid c)
 
 pub returns-in-Err-Rejected-clause-school : goal.returns-in-Err-Rejected-clause-school
 returns-in-Err-Rejected-clause-school c =
-    let orders = c.args.orders.now.orders in
+    let orders = c.args.grounds.now.orders in
     let ceilings = c.args.ceilings.now in
     let chain = c.args.chain.now in
     subst (KeepsSchool (length c.args.morning.now.dossier.schools)) (sym c.in-Err-Rejected.reason-is)
