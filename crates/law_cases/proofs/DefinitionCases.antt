@@ -1,7 +1,7 @@
 -- The worked cases of definitions, by computation.
 use Rattle.std.proofs.Common.{refl}
 use Rattle.admit_core.specs.Faults.{first_after}
-use Rattle.law_cases.specs.Definitions.{FreedByOne, LimitExplained, MixedTheOtherWay, NameOfRank, OneIsAnsweredFor, OwnAnswers, PickersChoose, RepeatedRows, StillOverBehind, UnknownNames}
+use Rattle.law_cases.specs.Definitions.{FreedByOne, LimitExplained, MixedTheOtherWay, NameOfRank, OneIsAnsweredFor, OwnAnswers, PickersChoose, RepeatedRows, StillOverBehind, UnfitRow, UnknownNames}
 
 pub name_of_rank : NameOfRank
 name_of_rank = refl
@@ -20,6 +20,9 @@ freed_by_one = (refl, refl)
 
 pub own_answers : OwnAnswers
 own_answers = (refl, refl)
+
+pub unfit_row : UnfitRow
+unfit_row = (refl, refl)
 
 pub pickers_choose : PickersChoose
 pickers_choose = (refl, refl, refl, refl, refl)

@@ -9,5 +9,6 @@ pub mod MarketCases
 pub mod OrderCases
 pub mod PassCases
 pub mod PromiseCases
+pub mod ReadCases
 pub mod Tested
 pub mod Valid

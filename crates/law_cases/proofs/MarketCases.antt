@@ -59,7 +59,7 @@ markets_are_lawful = (contested_is, market_is_lawful contested contested_is)
 contested_bars : IsGreatest (market_system contested) (1 ∷ 1 ∷ [])
 contested_bars = bars_by contested (0 ∷ 1 ∷ []) (1 ∷ 1 ∷ []) contested_is (record { are_falls = (refl, refl, (refl, refl, tt)); settled = refl }) refl
 
-crossed_bars : IsGreatest (market_system crossed) (2 ∷ 2 ∷ [])
+pub crossed_bars : IsGreatest (market_system crossed) (2 ∷ 2 ∷ [])
 crossed_bars = bars_by crossed [] (2 ∷ 2 ∷ []) crossed_is (record { are_falls = tt; settled = refl }) refl
 
 pub greatest_bars_are_stable : GreatestBarsAreStableWitness

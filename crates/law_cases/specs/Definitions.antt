@@ -1,23 +1,28 @@
 -- Worked cases of definitions whose other cases leave an error room.
 use Rattle.std.specs.Prelude.{◌≡◌, List, [], ◌∷◌, Some, None}
 use Rattle.admit_core.specs.declared.chain.CheckReason.TheVariants.{StillOver}
-use Rattle.admit_core.specs.declared.dossier.AnswerKind.TheVariants.{Accept, Refuse, Withdraw}
+use Rattle.admit_core.specs.declared.dossier.Answer.{Answer}
+use Rattle.admit_core.specs.declared.dossier.AnswerKind.TheVariants.{Accept, Quit, Refuse, Withdraw}
 use Rattle.admit_core.specs.declared.explanation.Explanation.TheVariants.{Live, NoSeat}
-use Rattle.admit_core.specs.declared.refusal.Reason.TheVariants.{PreferenceMixed, Repeat, Unknown}
+use Rattle.admit_core.specs.declared.refusal.Reason.TheVariants.{PreferenceMixed, Repeat, UnfitAnswer, Unknown}
 use Rattle.admit_core.specs.declared.ranking.CallOrder.{CallOrder}
 use Rattle.admit_core.specs.declared.slot.Slot.TheVariants as S
-use Rattle.admit_core.specs.declared.state.Status.TheVariants.{Accepted, AutoRefused, Offered, Waiting}
+use Rattle.admit_core.specs.declared.state.Status.TheVariants.{Accepted, AutoRefused, Offered, Refused, Waiting}
 use Rattle.admit_core.specs.Answers.{own}
 use Rattle.admit_core.specs.AutoAnswer.{auto_all, auto_one, freed_by}
 use Rattle.admit_core.specs.Boarding.{boarding}
 use Rattle.admit_core.specs.Chains.{day_fault}
-use Rattle.admit_core.specs.Days.{offered}
+use Rattle.admit_core.specs.Days.{offered, unfit_on}
+use Rattle.admit_core.specs.DossierRows.{DossierRows}
 use Rattle.admit_core.specs.Explanations.{LastPass, explained}
 use Rattle.admit_core.specs.Relations.{first_fault}
 use Rattle.admit_core.specs.WorkedChains.{line, one_pass}
 use Rattle.admit_core.specs.WorkedFaults.{boarded, fine, good, programme, school, tables, wish}
 use Rattle.admit_core.specs.WorkedRows.{cascade, cascade_orders, first_pass, limit_state, marked, one_bed, one_bed_orders}
+use Rattle.admit_core.specs.State.{State}
 use Rattle.bar_fixpoint.specs.Choices.{first_of, last_of, turn_of}
+use Rattle.desk_day.specs.AnswersOn.{IsUnfitOf}
+use Rattle.desk_day.specs.declared.refusal.DayRefusal.TheVariants.{Unfit}
 use Rattle.fairness.specs.NotPromised.{plain}
 use Rattle.law_cases.specs.Answers.{accepts_second, both_offered, quits_other, refuses_first}
 
@@ -59,6 +64,20 @@ OwnAnswers =
     ≡ refuses_first ∷ accepts_second ∷ [])
     × (own both_offered 82 (quits_other ∷ refuses_first ∷ accepts_second ∷ [])
     ≡ quits_other ∷ [])
+
+-- the second answer of day 2 stands in row 4, below the header and an answer of day 1
+abbrev pub UnfitRow : Type 0
+UnfitRow =
+    let earlier : Answer = record { day = 1; kind = Quit; target = 82 } in
+    let later : Answer = record { day = 3; kind = Quit; target = 81 } in
+    let d : DossierRows =
+    record both_offered.dossier {
+      answers = earlier ∷ refuses_first ∷ refuses_first ∷ later ∷ [];
+    } in
+    let s : State = record { dossier = d; marks = both_offered.marks } in
+    (unfit_on None 2 s ≡ Some (1, Refused))
+    × IsUnfitOf d 2 (unfit_on None 2 s)
+    (Unfit (record { slot = S.Answers; row = 4; reason = UnfitAnswer Refused }))
 
 -- ---- the picker that takes turns goes on from the last place told, and begins again
 abbrev pub PickersChoose : Type 0

@@ -3,9 +3,12 @@ pub mod AutomaticDays
 pub mod Bars
 pub mod Beds
 pub mod CallOrders
+pub mod Dates
 pub mod Days
 pub mod Definitions
 pub mod Explanations
 pub mod Fairness
 pub mod Markets
+pub mod Samples
+pub mod Slots
 pub mod WrittenChains

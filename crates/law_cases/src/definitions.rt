@@ -1,5 +1,5 @@
 //! Worked cases of definitions.
-ghost use Rattle.law_cases.specs.Definitions.{FreedByOne, LimitExplained, NameOfRank, OneIsAnsweredFor, OwnAnswers, PickersChoose, StillOverBehind};
+ghost use Rattle.law_cases.specs.Definitions.{FreedByOne, LimitExplained, NameOfRank, OneIsAnsweredFor, OwnAnswers, PickersChoose, StillOverBehind, UnfitRow};
 ghost use Rattle.law_cases.specs.Definitions.{MixedTheOtherWay, RepeatedRows, UnknownNames};
 
 /// What definitions give in cases that no other theorem has.
@@ -10,10 +10,11 @@ pub fn worked_definitions()
     ensures answered { OneIsAnsweredFor }
     ensures freed { FreedByOne }
     ensures own { OwnAnswers }
+    ensures unfit { UnfitRow }
     ensures pickers { PickersChoose }
 {}
 
-/// What the first fault is in cases that no other theorem has.
+/// What the first fault between rows is in cases that no other theorem has.
 pub fn worked_relations()
     ensures mixed { MixedTheOtherWay }
     ensures repeats { RepeatedRows }

@@ -16,6 +16,7 @@ mod definitions;
 mod matchings;
 mod passes;
 mod promises;
+mod read;
 mod told;
 
 pub use answers::{witnesses_of_answers, witnesses_of_automatic_answers};
@@ -30,4 +31,5 @@ pub use matchings::{
 };
 pub use passes::{witnesses_of_evenings, witnesses_of_passes};
 pub use promises::{witnesses_of_exchanges, witnesses_of_offers, witnesses_of_places};
+pub use read::{worked_dates, worked_samples, worked_shapes, worked_slots};
 pub use told::{witnesses_of_days, witnesses_of_explanations};

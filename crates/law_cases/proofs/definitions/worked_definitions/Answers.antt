@@ -1,4 +1,4 @@
-use Rattle.law_cases.proofs.DefinitionCases.{freed_by_one, limit_explained, name_of_rank, one_is_answered_for, own_answers, pickers_choose, still_over_behind}
+use Rattle.law_cases.proofs.DefinitionCases.{freed_by_one, limit_explained, name_of_rank, one_is_answered_for, own_answers, pickers_choose, still_over_behind, unfit_row}
 use Rattle.law_cases.proofs.definitions.worked_definitions.Goals as goal
 
 pub returns : goal.returns
@@ -9,5 +9,6 @@ returns c = record {
   answered = one_is_answered_for;
   freed = freed_by_one;
   own = own_answers;
+  unfit = unfit_row;
   pickers = pickers_choose;
 }
