@@ -1,0 +1,4 @@
+pub mod Days
+pub mod Steps
+pub mod Unstamped
+pub mod WorkedCampaign

@@ -1,0 +1,4 @@
+pub mod Alike
+pub mod StampsDecideNothing
+pub mod Witnesses
+pub mod WorkedCampaign

@@ -1,0 +1,25 @@
+-- For each law a worked case that meets all its premises, with what it concludes there: the law's
+-- text, with a value for each variable and a product for each arrow.
+use Rattle.std.specs.Prelude.{◌≡◌, ℕ, List, [], ◌∷◌, None}
+use Rattle.admit_core.specs.declared.ranking.CallOrder.{CallOrder}
+use Rattle.admit_core.specs.declared.records.DayRecord.{DayRecord}
+use Rattle.admit_core.specs.Days.{IsDay, answers_of}
+use Rattle.admit_core.specs.State.{State}
+use Rattle.cut_laws.specs.Alike.{HaveEqualStatuses, undated}
+use Rattle.cut_laws.specs.StampsDecideNothing.{LeadsAlike}
+use Rattle.cut_laws.specs.WorkedCampaign.{call_orders, first_night, other_night, second_day, second_night}
+
+-- ---- day 2 is the same from other stamps, as day 7
+abbrev pub StampsDecideNothingWitness : Type 0
+StampsDecideNothingWitness =
+    let orders : List CallOrder = call_orders in
+    let ceilings : List ℕ = 0 ∷ [] in
+    let s : State = first_night in
+    let t : State = other_night in
+    let day : DayRecord = second_day in
+    let number : ℕ = 7 in
+    let evening : State = second_night in
+    HaveEqualStatuses s t
+    × (undated (answers_of s.dossier day.day) ≡ undated (answers_of t.dossier number))
+    × IsDay None orders ceilings s day evening
+    × LeadsAlike orders ceilings t day number evening
