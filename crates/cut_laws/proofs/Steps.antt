@@ -32,7 +32,7 @@ status_if : (p : Bool) (x : Status) (stamp : Stamp) (m : Mark)
 status_if true x stamp m = changed_status x stamp m
 status_if false x stamp m = refl
 
-status_alike : (p q : Bool) (x : Status) (one other : Stamp) (m n : Mark) → p ≡ q → m.status ≡ n.status
+pub status_alike : (p q : Bool) (x : Status) (one other : Stamp) (m n : Mark) → p ≡ q → m.status ≡ n.status
     → (if p then changed_to x one m else m).status ≡ (if q then changed_to x other n else n).status
 status_alike p q x one other m n tests same =
     status_if p x one m ∙ (λ i. if tests i then x else same i) ∙ sym (status_if q x other n)
@@ -87,11 +87,11 @@ same_status s place = ap (λ (m : Mark). m.status) (bare_at s place)
 status_at_alike : (s t : State) (place : ℕ) → HaveEqualStatuses s t → status_at s place ≡ status_at t place
 status_at_alike s t place = read_alike (λ u. status_at u place) (λ u. same_status u place) s t
 
-who_alike : (s t : State) (place : ℕ) → HaveEqualStatuses s t → candidate_at s place ≡ candidate_at t place
+pub who_alike : (s t : State) (place : ℕ) → HaveEqualStatuses s t → candidate_at s place ≡ candidate_at t place
 who_alike s t place e = ap (λ (u : State). candidate_at u place) e
 
 -- ---- an answer
-refused_alike : (s t : State) (c k : ℕ) (one other : Stamp) → HaveEqualStatuses s t → c ≡ k
+pub refused_alike : (s t : State) (c k : ℕ) (one other : Stamp) → HaveEqualStatuses s t → c ≡ k
     → HaveEqualStatuses (refuse_live s c one) (refuse_live t k other)
 refused_alike s t c k one other e who =
     with_alike s t (λ w m. if is_live m && (w.candidate == c) then changed_to Refused one m else m)
@@ -123,13 +123,13 @@ kind_alike Quit s t c one other e =
     (λ i. (is_live_status (same i) || is_waiting_status (same i)) && (w.candidate == c)) same)
 
 -- answers whose days may differ
-first_of : {X : Type 0} (x y : X) (xs ys : List X) → x ∷ xs ≡ y ∷ ys → x ≡ y
+pub first_of : {X : Type 0} (x y : X) (xs ys : List X) → x ∷ xs ≡ y ∷ ys → x ≡ y
 first_of x y xs ys e = cc
 
-rest_of : {X : Type 0} (x y : X) (xs ys : List X) → x ∷ xs ≡ y ∷ ys → xs ≡ ys
+pub rest_of : {X : Type 0} (x y : X) (xs ys : List X) → x ∷ xs ≡ y ∷ ys → xs ≡ ys
 rest_of x y xs ys e = cc
 
-after_alike : (s t : State) (a b : Answer) (one other : Stamp) → HaveEqualStatuses s t → a.kind ≡ b.kind
+pub after_alike : (s t : State) (a b : Answer) (one other : Stamp) → HaveEqualStatuses s t → a.kind ≡ b.kind
     → a.target ≡ b.target
     → HaveEqualStatuses (after s one a) (after t other b)
 after_alike s t a b one other e kind target =
@@ -191,7 +191,7 @@ bare_preference : (o : Option (Wish × Mark)) → best_preference (option_map ba
 bare_preference None = refl
 bare_preference (Some x) = refl
 
-preference_alike : (s t : State) (c : ℕ) → HaveEqualStatuses s t
+pub preference_alike : (s t : State) (c : ℕ) → HaveEqualStatuses s t
     → best_preference (best_live s c) ≡ best_preference (best_live t c)
 preference_alike s t c = read_alike (λ u. best_preference (best_live u c))
     (λ u. ap best_preference (same_best u c) ∙ bare_preference (best_live u c)) s t

@@ -1,9 +1,10 @@
 -- The worked campaign, by computation.
-use Rattle.std.proofs.Common.{[], ◌∷◌, None, refl}
-use Rattle.admit_core.specs.Days.{IsDay}
+use Rattle.std.proofs.Common.{[], ◌∷◌, None, Some, refl}
+use Rattle.admit_core.specs.Days.{Days, IsDay, ceilings_of}
 use Rattle.admit_core.proofs.Rows.{passes_with}
-use Rattle.cut_laws.specs.Witnesses.{StampsDecideNothingWitness}
-use Rattle.cut_laws.specs.WorkedCampaign.{call_orders, first_night, other_night, second_day, second_night}
+use Rattle.cut_laws.specs.Witnesses.{CampaignsMayBeCutWitness, StampsDecideNothingWitness}
+use Rattle.cut_laws.specs.WorkedCampaign.{NextMorning, call_orders, campaign, first_night, one_day_more, other_night, second_day, second_night, third_day, third_night}
+use Rattle.cut_laws.proofs.Cut.{campaigns_may_be_cut}
 use Rattle.cut_laws.proofs.Days.{stamps_decide_nothing}
 
 second_holds : IsDay None call_orders (0 ∷ []) first_night second_day second_night
@@ -30,3 +31,52 @@ stamps_witness = (
   second_holds,
   stamps_decide_nothing call_orders (0 ∷ []) first_night other_night second_day 7 second_night refl refl second_holds,
 )
+
+next_holds : IsDay (Some one_day_more) call_orders (ceilings_of campaign 2) first_night second_day second_night
+next_holds = record {
+  lapsed = refl;
+  fits = refl;
+  passes = (
+    record {
+      pass = passes_with _ call_orders (0 ∷ []) _ (record { are_falls = tt; settled = refl }) refl refl;
+      autos = refl;
+      freed = refl;
+    },
+    refl,
+    refl,
+  );
+  left = refl;
+  free = refl;
+}
+
+third_holds : IsDay (Some one_day_more) call_orders (ceilings_of campaign 3) second_night third_day third_night
+third_holds = record {
+  lapsed = refl;
+  fits = refl;
+  passes = (
+    record {
+      pass = passes_with _ call_orders (9 ∷ []) _ (record { are_falls = tt; settled = refl }) refl refl;
+      autos = refl;
+      freed = refl;
+    },
+    refl,
+    refl,
+  );
+  left = refl;
+  free = refl;
+}
+
+rest_holds : Days (Some one_day_more) call_orders 2 first_night (second_day ∷ third_day ∷ []) third_night
+rest_holds = (second_night, refl, next_holds, (third_night, refl, third_holds, refl))
+
+pub cut_witness : CampaignsMayBeCutWitness
+cut_witness = (
+  refl,
+  refl,
+  rest_holds,
+  campaigns_may_be_cut (Some one_day_more) call_orders 1 first_night (second_day ∷ third_day ∷ []) third_night refl refl
+      rest_holds,
+)
+
+pub next_morning : NextMorning
+next_morning = (refl, refl, refl)

@@ -2,7 +2,7 @@
 -- 12, 13, 14. On day 1 the school's ceiling bars 11, so 12 and 13 have offers. On day 2 13 refuses,
 -- and 14 has that seat. From day 3 on the ceiling is 9: there 12's offer lapses, and 11 has a seat
 -- and the bed.
-use Rattle.std.specs.Prelude.{List, [], ◌∷◌, pos}
+use Rattle.std.specs.Prelude.{◌≡◌, List, [], ◌∷◌, map, negsuc, pos, Some}
 use Rattle.admit_core.specs.declared.dossier.AnswerKind.TheVariants.{Refuse}
 use Rattle.admit_core.specs.declared.ranking.CallOrder.{CallOrder}
 use Rattle.admit_core.specs.declared.records.DayRecord.{DayRecord}
@@ -11,6 +11,7 @@ use Rattle.admit_core.specs.declared.state.Status.TheVariants.{Lapsed, Offered, 
 use Rattle.admit_core.specs.DossierRows.{DossierRows}
 use Rattle.admit_core.specs.State.{State}
 use Rattle.admit_core.specs.WorkedDays.{day, in_order, quiet}
+use Rattle.cut_laws.specs.Cut.{cut_at, earlier, terms_at}
 use Rattle.admit_core.specs.WorkedRows.{boarder, marked, programme, rows, school, wish}
 
 abbrev pub campaign : DossierRows
@@ -46,14 +47,16 @@ abbrev pub first_night : State
 first_night =
     record {
       dossier = campaign;
-      marks = marked Waiting 0 0 ∷ marked Offered 1 1 ∷ marked Offered 1 1 ∷ marked Waiting 0 0 ∷ [];
+      marks = marked Waiting 0 0 ∷ marked Offered 1 1 ∷ marked Offered 1 1
+          ∷ marked Waiting 0 0 ∷ [];
     }
 
 abbrev pub second_night : State
 second_night =
     record {
       dossier = campaign;
-      marks = marked Waiting 0 0 ∷ marked Offered 1 1 ∷ marked Refused 2 0 ∷ marked Offered 2 1 ∷ [];
+      marks = marked Waiting 0 0 ∷ marked Offered 1 1 ∷ marked Refused 2 0
+          ∷ marked Offered 2 1 ∷ [];
     }
 
 abbrev pub third_night : State
@@ -68,5 +71,21 @@ abbrev pub other_night : State
 other_night =
     record {
       dossier = record campaign { answers = record { day = 7; kind = Refuse; target = 2 } ∷ [] };
-      marks = marked Waiting 4 2 ∷ marked Offered 0 0 ∷ marked Offered 6 1 ∷ marked Waiting 0 0 ∷ [];
+      marks = marked Waiting 4 2 ∷ marked Offered 0 0 ∷ marked Offered 6 1
+          ∷ marked Waiting 0 0 ∷ [];
     }
+
+-- what the cut in the evening of day 1 gives: the answer is one of day 1, and the ceiling one of
+-- day 2; the offers were made on the day before day 1; and 12's lapses on day 2
+abbrev pub NextMorning : Type 0
+NextMorning =
+    (cut_at 1 first_night ≡ record campaign {
+      statuses = Waiting ∷ Offered ∷ Offered ∷ Waiting ∷ [];
+      ceilings = record { day = 2; school = 0; ceiling = 9 } ∷ [];
+      answers = record { day = 1; kind = Refuse; target = 2 } ∷ [];
+    })
+    × (terms_at 1 (Some one_day_more) first_night
+    ≡ Some (record one_day_more { before = negsuc 0 ∷ pos 0 ∷ pos 0 ∷ negsuc 0 ∷ [] }))
+    × (map (earlier 1) (second_day ∷ third_day ∷ [])
+    ≡ record second_day { day = 1 }
+    ∷ record third_day { day = 2; lapsed = record { wish = 1; offered = pos 0 } ∷ [] } ∷ [])

@@ -1,7 +1,14 @@
 //! For each law a worked case that meets all its premises.
-ghost use Rattle.cut_laws.specs.Witnesses.{StampsDecideNothingWitness};
+ghost use Rattle.cut_laws.specs.Witnesses.{CampaignsMayBeCutWitness, StampsDecideNothingWitness};
+ghost use Rattle.cut_laws.specs.WorkedCampaign.{NextMorning};
 
 /// Of the law of stamps.
 pub fn witness_of_stamps()
     ensures stamps { StampsDecideNothingWitness }
+{}
+
+/// Of the law of cuts, with the dossier and the terms of its next morning.
+pub fn witness_of_cuts()
+    ensures cut { CampaignsMayBeCutWitness }
+    ensures morning { NextMorning }
 {}
