@@ -1,5 +1,5 @@
 -- A campaign that is cut at an evening, and begun again from what it left.
-use Rattle.std.specs.Prelude.{◌≡◌, ℕ, ℤ, pos, ◌+◌, ◌-◌, ◌+ℤ◌, ◌-ℤ◌, List, length, map, filter, nat_lt, Option, Some, None, option_map, zip, if◌then◌else◌, ⊤}
+use Rattle.std.specs.Prelude.{◌<◌, ◌≡◌, ℕ, ℤ, pos, ◌+◌, ◌-◌, ◌+ℤ◌, ◌-ℤ◌, List, length, map, filter, nat_lt, Option, Some, None, option_map, zip, if◌then◌else◌, ⊤}
 use Rattle.std.specs.List.{enumerate_from}
 use Rattle.admit_core.specs.declared.dossier.Answer.{Answer}
 use Rattle.admit_core.specs.declared.dossier.CeilingChange.{CeilingChange}
@@ -9,11 +9,11 @@ use Rattle.admit_core.specs.declared.records.DayRecord.{DayRecord}
 use Rattle.admit_core.specs.declared.records.Lapse.{Lapse}
 use Rattle.admit_core.specs.declared.records.Terms.{Terms}
 use Rattle.admit_core.specs.declared.state.Mark.{Mark}
-use Rattle.admit_core.specs.Days.{Days, ceiling_on, first_evening}
+use Rattle.admit_core.specs.Days.{Days, IsDay, answers_of, ceiling_on, first_evening}
 use Rattle.admit_core.specs.DossierRows.{DossierRows}
 use Rattle.admit_core.specs.Lapses.{AreTermsFor, is_offered, offer_day}
 use Rattle.admit_core.specs.State.{State}
-use Rattle.cut_laws.specs.Alike.{HaveEqualStatuses}
+use Rattle.cut_laws.specs.Alike.{HaveEqualStatuses, undated}
 
 -- the dossier of the morning after day a: the statuses of the evening and the ceilings of that day
 -- are what it comes in with, and what is given for later days is dated a days earlier
@@ -59,6 +59,30 @@ StandAlike a (Some terms) s (Some others) t =
     × (open_offers terms s ≡ map (option_map (λ day. day +ℤ pos a)) (open_offers others t))
 StandAlike a None s (Some others) t = ⊥
 StandAlike a (Some terms) s None t = ⊥
+
+-- a day that is numbered a days earlier leads from this state to one with the statuses and the open
+-- offers of the evening
+abbrev pub LeadsOnAlike : ℕ → Option Terms → Option Terms → List CallOrder → List ℕ → State
+    → DayRecord → State → Type 0
+LeadsOnAlike a terms others orders ceilings t day evening =
+    (other : State) × HaveEqualStatuses evening other × StandAlike a terms evening others other
+    × IsDay others orders ceilings t (earlier a day) other
+
+-- where offers have deadlines, of the stamps those of the open offers alone count, and of these
+-- the day of the offer: so a day is one of any state with the same statuses and open offers
+abbrev pub OpenOffersDecide : Type 0
+OpenOffersDecide =
+    (a : ℕ) (terms others : Option Terms) (orders : List CallOrder) (ceilings : List ℕ)
+    (s t : State) (day : DayRecord) (evening : State)
+    → HaveEqualStatuses s t
+    → StandAlike a terms s others t
+    → length s.marks ≡ length s.dossier.wishes
+    → AreTermsFor s.dossier terms
+    → AreTermsFor t.dossier others
+    → a < day.day
+    → undated (answers_of s.dossier day.day) ≡ undated (answers_of t.dossier (day.day - a))
+    → IsDay terms orders ceilings s day evening
+    → LeadsOnAlike a terms others orders ceilings t day evening
 
 -- the days that follow are those of the cut campaign, and leave the same statuses and open offers
 abbrev pub GoesOnAlike :

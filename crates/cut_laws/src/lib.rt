@@ -7,5 +7,5 @@
 mod laws;
 mod witnesses;
 
-pub use laws::{law_of_cuts, law_of_stamps};
-pub use witnesses::{witness_of_cuts, witness_of_stamps};
+pub use laws::{law_of_cuts, laws_of_stamps};
+pub use witnesses::{witness_of_cuts, witnesses_of_stamps};

@@ -1,5 +1,0 @@
-use Rattle.cut_laws.proofs.Days.{stamps_decide_nothing}
-use Rattle.cut_laws.proofs.laws.law_of_stamps.Goals as goal
-
-pub returns : goal.returns
-returns c = record { stamps = stamps_decide_nothing }
