@@ -1,0 +1,9 @@
+pub mod Cut
+pub mod CutRows
+pub mod Dated
+pub mod DatedLapses
+pub mod DatedSteps
+pub mod Days
+pub mod Steps
+pub mod Unstamped
+pub mod WorkedCampaign

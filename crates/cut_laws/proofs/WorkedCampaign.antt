@@ -1,0 +1,98 @@
+-- The worked campaign, by computation.
+use Rattle.std.proofs.Common.{arith, [], ◌∷◌, None, Some, refl}
+use Rattle.admit_core.specs.Days.{Days, IsDay, ceilings_of, first_evening}
+use Rattle.admit_core.proofs.Rows.{passes_with}
+use Rattle.cut_laws.specs.Cut.{cut_at, terms_at}
+use Rattle.cut_laws.specs.Witnesses.{CampaignsMayBeCutWitness, OpenOffersDecideWitness, StampsDecideNothingWitness}
+use Rattle.cut_laws.specs.WorkedCampaign.{NextMorning, call_orders, campaign, first_night, one_day_more, other_night, second_day, second_night, third_day, third_night}
+use Rattle.cut_laws.proofs.Cut.{campaigns_may_be_cut, open_offers_decide}
+use Rattle.cut_laws.proofs.Days.{stamps_decide_nothing}
+
+second_holds : IsDay None call_orders (0 ∷ []) first_night second_day second_night
+second_holds = record {
+  lapsed = refl;
+  fits = refl;
+  passes = (
+    record {
+      pass = passes_with _ call_orders (0 ∷ []) _ (record { are_falls = tt; settled = refl }) refl refl;
+      autos = refl;
+      freed = refl;
+    },
+    refl,
+    refl,
+  );
+  left = refl;
+  free = refl;
+}
+
+pub stamps_witness : StampsDecideNothingWitness
+stamps_witness = (
+  refl,
+  refl,
+  second_holds,
+  stamps_decide_nothing call_orders (0 ∷ []) first_night other_night second_day 7 second_night refl refl second_holds,
+)
+
+next_holds : IsDay (Some one_day_more) call_orders (ceilings_of campaign 2) first_night second_day second_night
+next_holds = record {
+  lapsed = refl;
+  fits = refl;
+  passes = (
+    record {
+      pass = passes_with _ call_orders (0 ∷ []) _ (record { are_falls = tt; settled = refl }) refl refl;
+      autos = refl;
+      freed = refl;
+    },
+    refl,
+    refl,
+  );
+  left = refl;
+  free = refl;
+}
+
+third_holds : IsDay (Some one_day_more) call_orders (ceilings_of campaign 3) second_night third_day third_night
+third_holds = record {
+  lapsed = refl;
+  fits = refl;
+  passes = (
+    record {
+      pass = passes_with _ call_orders (9 ∷ []) _ (record { are_falls = tt; settled = refl }) refl refl;
+      autos = refl;
+      freed = refl;
+    },
+    refl,
+    refl,
+  );
+  left = refl;
+  free = refl;
+}
+
+rest_holds : Days (Some one_day_more) call_orders 2 first_night (second_day ∷ third_day ∷ []) third_night
+rest_holds = (second_night, refl, next_holds, (third_night, refl, third_holds, refl))
+
+pub offers_witness : OpenOffersDecideWitness
+offers_witness =
+    let t = first_evening (cut_at 2 second_night) in (
+      refl,
+      (refl, refl),
+      refl,
+      refl,
+      refl,
+      omega arith,
+      refl,
+      third_holds,
+      open_offers_decide 2 (Some one_day_more) (terms_at 2 (Some one_day_more) second_night) call_orders (9 ∷ [])
+          second_night t third_day third_night refl (refl, refl) refl refl refl (omega arith) refl third_holds,
+    )
+
+pub cut_witness : CampaignsMayBeCutWitness
+cut_witness = (
+  refl,
+  refl,
+  rest_holds,
+  campaigns_may_be_cut (Some one_day_more) call_orders 1 first_night (second_day ∷ third_day ∷ []) third_night refl refl
+      rest_holds,
+)
+
+pub next_morning : NextMorning
+next_morning = (refl, refl, refl)

@@ -1,0 +1,105 @@
+-- A campaign that is cut at an evening, and begun again from what it left.
+use Rattle.std.specs.Prelude.{◌<◌, ◌≡◌, ℕ, ℤ, pos, ◌+◌, ◌-◌, ◌+ℤ◌, ◌-ℤ◌, List, length, map, filter, nat_lt, Option, Some, None, option_map, zip, if◌then◌else◌, ⊤}
+use Rattle.std.specs.List.{enumerate_from}
+use Rattle.admit_core.specs.declared.dossier.Answer.{Answer}
+use Rattle.admit_core.specs.declared.dossier.CeilingChange.{CeilingChange}
+use Rattle.admit_core.specs.declared.dossier.School.{School}
+use Rattle.admit_core.specs.declared.ranking.CallOrder.{CallOrder}
+use Rattle.admit_core.specs.declared.records.DayRecord.{DayRecord}
+use Rattle.admit_core.specs.declared.records.Lapse.{Lapse}
+use Rattle.admit_core.specs.declared.records.Terms.{Terms}
+use Rattle.admit_core.specs.declared.state.Mark.{Mark}
+use Rattle.admit_core.specs.Days.{Days, IsDay, answers_of, ceiling_on, first_evening}
+use Rattle.admit_core.specs.DossierRows.{DossierRows}
+use Rattle.admit_core.specs.Lapses.{AreTermsFor, is_offered, offer_day}
+use Rattle.admit_core.specs.State.{State}
+use Rattle.cut_laws.specs.Alike.{HaveEqualStatuses, undated}
+
+-- the dossier of the morning after day a: the statuses of the evening and the ceilings of that day
+-- are what it comes in with, and what is given for later days is dated a days earlier
+abbrev pub cut_at : ℕ → State → DossierRows
+cut_at a evening =
+    let d = evening.dossier in
+    record d {
+      schools = map (λ (x : ℕ × School). record x.1 { ceiling = ceiling_on d a x.0 x.1 })
+          (enumerate_from 0 d.schools);
+      statuses = map (λ m. m.status) evening.marks;
+      ceilings = map (λ (c : CeilingChange). record c { day = c.day - a })
+          (filter (λ c. nat_lt a c.day) d.ceilings);
+      answers = map (λ (x : Answer). record x { day = x.day - a })
+          (filter (λ x. nat_lt a x.day) d.answers);
+    }
+
+-- its terms: each offer is dated a days earlier
+abbrev pub terms_at : ℕ → Option Terms → State → Option Terms
+terms_at a terms evening =
+    option_map (λ (t : Terms). record t {
+      before = map (λ (x : ℤ × Mark). offer_day x.0 x.1 -ℤ pos a) (zip t.before evening.marks);
+    }) terms
+
+-- the record of a day that is numbered, and whose lapsed offers are dated, a days earlier
+abbrev pub earlier : ℕ → DayRecord → DayRecord
+earlier a day =
+    record day {
+      day = day.day - a;
+      lapsed = map (λ (l : Lapse). record l { offered = l.offered -ℤ pos a }) day.lapsed;
+    }
+
+-- the day of each open offer, by place
+abbrev pub open_offers : Terms → State → List (Option ℤ)
+open_offers terms s =
+    map (λ (x : ℤ × Mark). if is_offered x.1.status then Some (offer_day x.0 x.1) else None)
+    (zip terms.before s.marks)
+
+-- offers stand alike where each has the same term, and is dated a days earlier in the second state
+abbrev pub StandAlike : ℕ → Option Terms → State → Option Terms → State → Type 0
+StandAlike a None s None t = ⊤
+StandAlike a (Some terms) s (Some others) t =
+    (terms.term ≡ others.term)
+    × (open_offers terms s ≡ map (option_map (λ day. day +ℤ pos a)) (open_offers others t))
+StandAlike a None s (Some others) t = ⊥
+StandAlike a (Some terms) s None t = ⊥
+
+-- a day that is numbered a days earlier leads from this state to one with the statuses and the open
+-- offers of the evening
+abbrev pub LeadsOnAlike : ℕ → Option Terms → Option Terms → List CallOrder → List ℕ → State
+    → DayRecord → State → Type 0
+LeadsOnAlike a terms others orders ceilings t day evening =
+    (other : State) × HaveEqualStatuses evening other × StandAlike a terms evening others other
+    × IsDay others orders ceilings t (earlier a day) other
+
+-- where offers have deadlines, of the stamps those of the open offers alone count, and of these
+-- the day of the offer: so a day is one of any state with the same statuses and open offers
+abbrev pub OpenOffersDecide : Type 0
+OpenOffersDecide =
+    (a : ℕ) (terms others : Option Terms) (orders : List CallOrder) (ceilings : List ℕ)
+    (s t : State) (day : DayRecord) (evening : State)
+    → HaveEqualStatuses s t
+    → StandAlike a terms s others t
+    → length s.marks ≡ length s.dossier.wishes
+    → AreTermsFor s.dossier terms
+    → AreTermsFor t.dossier others
+    → a < day.day
+    → undated (answers_of s.dossier day.day) ≡ undated (answers_of t.dossier (day.day - a))
+    → IsDay terms orders ceilings s day evening
+    → LeadsOnAlike a terms others orders ceilings t day evening
+
+-- the days that follow are those of the cut campaign, and leave the same statuses and open offers
+abbrev pub GoesOnAlike :
+    Option Terms → List CallOrder → ℕ → State → List DayRecord → State → Type 0
+GoesOnAlike terms orders a evening days last =
+    (other : State) × HaveEqualStatuses last other
+    × StandAlike a terms last (terms_at a terms evening) other
+    × Days (terms_at a terms evening) orders 1 (first_evening (cut_at a evening))
+    (map (earlier a) days) other
+
+-- so a campaign may be cut at the evening of any day a: day k of the new one is day a + k of the
+-- old one
+abbrev pub CampaignsMayBeCut : Type 0
+CampaignsMayBeCut =
+    (terms : Option Terms) (orders : List CallOrder) (a : ℕ) (evening : State)
+    (days : List DayRecord) (last : State)
+    → AreTermsFor evening.dossier terms
+    → length evening.marks ≡ length evening.dossier.wishes
+    → Days terms orders (a + 1) evening days last
+    → GoesOnAlike terms orders a evening days last

@@ -1,0 +1,5 @@
+pub mod Alike
+pub mod Cut
+pub mod StampsDecideNothing
+pub mod Witnesses
+pub mod WorkedCampaign
