@@ -21,6 +21,7 @@ pub mod Items
 pub mod Keeping
 pub mod Keyed
 pub mod Leaving
+pub mod LeftOpen
 pub mod Lined
 pub mod Lining
 pub mod Lowered

@@ -2,7 +2,7 @@
 ghost use Rattle.std.specs.Prelude.{◌≡◌, ◌<◌, ◌≤◌, ◌&&◌, drop, false, length, nat_lt, not, slice_index_or, All};
 ghost use Rattle.std.specs.List.{list_any};
 
-use crate::seats::is_set;
+use crate::open_wishes::OpenWishes;
 use admit_core::OutOfMemory;
 use std::alloc::Global;
 
@@ -15,7 +15,7 @@ pub struct Cursors {
 }
 
 /// The place of the first open wish of a claim from a place on, or how many there are.
-fn next_open(opens: &[bool], claim: &[u32], from: usize) -> usize
+fn next_open(opens: &OpenWishes<'_, '_>, claim: &[u32], from: usize) -> usize
     requires claim { All (λ k. k < length opens.now) claim.now }
     requires from { from ≤ length claim.now }
     ensures open { nat_lt result (length claim.now)
@@ -23,7 +23,7 @@ fn next_open(opens: &[bool], claim: &[u32], from: usize) -> usize
 {
     let mut at = from;
     while at < claim.len() {
-        if is_set(opens, claim[at]) {
+        if opens.get(claim[at]) {
             return at;
         }
         at += 1;
@@ -66,7 +66,7 @@ impl Cursors {
     }
 
     /// Whether a wish of a claim is open.
-    fn is_any_open(&mut self, opens: &[bool], beside: &[u32], claim: &[u32]) -> bool
+    fn is_any_open(&mut self, opens: &OpenWishes<'_, '_>, beside: &[u32], claim: &[u32]) -> bool
         requires { All (λ k. k < length opens.now) claim.now }
         ensures { result ≡ list_any (λ k. slice_index_or opens.now k false) claim.now }
     {
@@ -84,7 +84,7 @@ impl Cursors {
     pub fn wants_seat(
         &mut self,
         is_live: bool,
-        opens: &[bool],
+        opens: &OpenWishes<'_, '_>,
         beside: &[u32],
         claim: &[u32],
     ) -> bool

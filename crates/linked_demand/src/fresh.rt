@@ -8,6 +8,7 @@ ghost use Rattle.linked_demand.specs.Opens.{all_sure};
 ghost use Rattle.linked_demand.specs.Marks.{is_fresh, with_mark, MarksSchools};
 
 use crate::marks::Marks;
+use crate::open_wishes::OpenWishes;
 use crate::seats::needs_no_seat;
 use admit_core::Steps;
 use day_state::DayState;
@@ -15,14 +16,20 @@ use proposals::{is_open, wish_at};
 use std::sync::ledger::Ledger;
 
 /// Whether a wish is open, by its flag and under bars, and is called by its turn alone.
-fn is_fresh(state: &DayState<'_>, bars: &[u32], opens: &[bool], early: &[bool], wish: u32) -> bool
+fn is_fresh(
+    state: &DayState<'_>,
+    bars: &[u32],
+    opens: &OpenWishes<'_, '_>,
+    early: &[bool],
+    wish: u32,
+) -> bool
     requires wish { wish < length state.now.dossier.wishes }
     requires bars { length bars.now ≡ length state.now.dossier.schools }
     requires opens { length opens.now ≡ length state.now.dossier.wishes }
     requires early { length early.now ≡ length state.now.dossier.wishes }
     ensures { result ≡ is_fresh state.now bars.now opens.now (all_sure state.now early.now) wish }
 {
-    opens[wish as usize] && !needs_no_seat(state, early, wish) && is_open(state, bars, wish)
+    opens.get(wish) && !needs_no_seat(state, early, wish) && is_open(state, bars, wish)
 }
 
 /// Marks a school, if there is one.
@@ -39,7 +46,7 @@ fn mark(marked: &mut Marks, school: Option<u32>)
 pub fn note_fresh<L: Ledger>(
     state: &DayState<'_>,
     bars: &[u32],
-    opens: &[bool],
+    opens: &OpenWishes<'_, '_>,
     early: &[bool],
     claim: &[u32],
     marked: &mut Marks,

@@ -8,7 +8,8 @@ ghost use Rattle.linked_demand.specs.Opens.{all_sure};
 ghost use Rattle.linked_demand.specs.Wants.{AreBelow};
 
 use crate::claims::Claims;
-use crate::seats::{is_set, needs_no_seat};
+use crate::open_wishes::OpenWishes;
+use crate::seats::needs_no_seat;
 use admit_core::OutOfMemory;
 use day_state::DayState;
 use std::alloc::Global;
@@ -21,19 +22,24 @@ pub fn no_flags(alloc: Global, count: usize) -> Result<Vec<bool>, OutOfMemory>
 }
 
 /// Whether the wish at a place is open and needs no seat.
-fn is_sure_open(state: &DayState<'_>, opens: &[bool], early: &[bool], place: u32) -> bool
+fn is_sure_open(
+    state: &DayState<'_>,
+    opens: &OpenWishes<'_, '_>,
+    early: &[bool],
+    place: u32,
+) -> bool
     requires place { place < length state.now.dossier.wishes }
     requires opens { length opens.now ≡ length state.now.dossier.wishes }
     requires early { length early.now ≡ length state.now.dossier.wishes }
     ensures { result ≡ sure_open opens.now (all_sure state.now early.now) place }
 {
-    is_set(opens, place) && needs_no_seat(state, early, place)
+    opens.get(place) && needs_no_seat(state, early, place)
 }
 
 /// Sets the flags of those of some wishes that are open and need no seat.
 pub fn flag_sure(
     state: &DayState<'_>,
-    opens: &[bool],
+    opens: &OpenWishes<'_, '_>,
     early: &[bool],
     wishes: &[u32],
     flags: &mut Vec<bool>,
@@ -53,21 +59,21 @@ pub fn flag_sure(
 }
 
 /// Sets the flags of those wishes of a claim that are open.
-fn flag_claim(opens: &[bool], claim: &[u32], flags: &mut Vec<bool>)
+fn flag_claim(opens: &OpenWishes<'_, '_>, claim: &[u32], flags: &mut Vec<bool>)
     requires claim { All (λ k. k < length opens.now) claim.now }
     requires flags { length flags.old.items ≡ length opens.now }
     ensures { SetsAlso (λ k. is_among k claim.now && slice_index_or opens.now k false)
         flags.old.items flags.new.items }
 {
     for wish in claim {
-        if is_set(opens, *wish) {
+        if opens.get(*wish) {
             flags[*wish as usize] = true;
         }
     }
 }
 
 /// Sets the flags of the open wishes of the first claims of a line.
-fn flag_front(opens: &[bool], claims: &Claims, reached: usize, flags: &mut Vec<bool>)
+fn flag_front(opens: &OpenWishes<'_, '_>, claims: &Claims, reached: usize, flags: &mut Vec<bool>)
     requires reached { reached ≤ length claims.now }
     requires claims { AreBelow (length opens.now) claims.now }
     requires flags { length flags.old.items ≡ length opens.now }
@@ -80,7 +86,12 @@ fn flag_front(opens: &[bool], claims: &Claims, reached: usize, flags: &mut Vec<b
 }
 
 /// Sets the flags of the open wishes of the claims that are reached, in each line.
-pub fn flag_fronts(opens: &[bool], lines: &[Claims], reached: &[usize], flags: &mut Vec<bool>)
+pub fn flag_fronts(
+    opens: &OpenWishes<'_, '_>,
+    lines: &[Claims],
+    reached: &[usize],
+    flags: &mut Vec<bool>,
+)
     requires fronts { AreFronts (length opens.now) lines.now reached.now }
     requires flags { length flags.old.items ≡ length opens.now }
     ensures { SetsAlso (reached_open opens.now lines.now reached.now (length lines.now))

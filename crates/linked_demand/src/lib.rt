@@ -20,6 +20,7 @@ mod lineup;
 mod links;
 mod marks;
 mod maybe_sure;
+mod open_wishes;
 mod over;
 mod overfilled;
 mod rising;

@@ -9,20 +9,21 @@ ghost use Rattle.linked_demand.specs.Opens.{wanting_at};
 ghost use Rattle.linked_demand.specs.Wants.{wants_along, AreBelow, AllNeedSeatAlone};
 
 use crate::claims::Claims;
+use crate::open_wishes::OpenWishes;
 use day_state::DayState;
 
 /// Whether the wish at a place is open, by its flag, and its candidate is not live in its
 /// programme.
-fn is_wanting(state: &DayState<'_>, opens: &[bool], place: u32) -> bool
+fn is_wanting(state: &DayState<'_>, opens: &OpenWishes<'_, '_>, place: u32) -> bool
     requires place { place < length state.now.dossier.wishes }
     requires opens { length opens.now ≡ length state.now.dossier.wishes }
     ensures { result ≡ wanting_at state.now opens.now place }
 {
-    opens[place as usize] && !state.is_live_in_its_programme(place)
+    opens.get(place) && !state.is_live_in_its_programme(place)
 }
 
 /// Whether one with this claim wants a seat.
-fn wants_seat(state: &DayState<'_>, opens: &[bool], claim: &[u32]) -> bool
+fn wants_seat(state: &DayState<'_>, opens: &OpenWishes<'_, '_>, claim: &[u32]) -> bool
     requires claim { All (λ k. k < length state.now.dossier.wishes) claim.now }
     requires opens { length opens.now ≡ length state.now.dossier.wishes }
     ensures { result ≡ list_any (wanting_at state.now opens.now) claim.now }
@@ -32,14 +33,14 @@ fn wants_seat(state: &DayState<'_>, opens: &[bool], claim: &[u32]) -> bool
 
 /// Whether one with this claim wants a seat, where an open wish that stands alone needs one: it is
 /// then not asked who is live.
-fn wants_alone(state: &DayState<'_>, opens: &[bool], claim: &[u32]) -> bool
+fn wants_alone(state: &DayState<'_>, opens: &OpenWishes<'_, '_>, claim: &[u32]) -> bool
     requires claim { All (λ k. k < length state.now.dossier.wishes) claim.now }
     requires opens { length opens.now ≡ length state.now.dossier.wishes }
     requires alone { NeedsSeatAlone state.now opens.now claim.now }
     ensures { result ≡ list_any (wanting_at state.now opens.now) claim.now }
 {
     if claim.len() == 1 {
-        opens[claim[0] as usize]
+        opens.get(claim[0])
     } else {
         wants_seat(state, opens, claim)
     }
@@ -47,7 +48,12 @@ fn wants_alone(state: &DayState<'_>, opens: &[bool], claim: &[u32]) -> bool
 
 /// How many places of a line are reached: those with fewer who want a seat before them than there
 /// are seats.
-pub fn reach_of(state: &DayState<'_>, opens: &[bool], claims: &Claims, seats: usize) -> usize
+pub fn reach_of(
+    state: &DayState<'_>,
+    opens: &OpenWishes<'_, '_>,
+    claims: &Claims,
+    seats: usize,
+) -> usize
     requires claims { AreBelow (length state.now.dossier.wishes) claims.now }
     requires opens { length opens.now ≡ length state.now.dossier.wishes }
     requires alone { AllNeedSeatAlone state.now opens.now claims.now }
@@ -68,7 +74,12 @@ pub fn reach_of(state: &DayState<'_>, opens: &[bool], claims: &Claims, seats: us
 
 /// How many places there are up to the first one from a place on who wants a seat, with it; or all
 /// of them.
-pub fn next_wanting(state: &DayState<'_>, opens: &[bool], claims: &Claims, from: usize) -> usize
+pub fn next_wanting(
+    state: &DayState<'_>,
+    opens: &OpenWishes<'_, '_>,
+    claims: &Claims,
+    from: usize,
+) -> usize
     requires from { from ≤ length claims.now }
     requires claims { AreBelow (length state.now.dossier.wishes) claims.now }
     requires opens { length opens.now ≡ length state.now.dossier.wishes }
@@ -89,7 +100,7 @@ pub fn next_wanting(state: &DayState<'_>, opens: &[bool], claims: &Claims, from:
 /// The last place that is reached, where it was not reached before and wants a seat.
 pub fn last_wanting(
     state: &DayState<'_>,
-    opens: &[bool],
+    opens: &OpenWishes<'_, '_>,
     claims: &Claims,
     before: usize,
     reached: usize,

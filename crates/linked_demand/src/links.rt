@@ -2,7 +2,7 @@
 ghost use Rattle.std.specs.Prelude.{◌≡◌, ℕ, ◌+◌, ◌<◌, ◌&&◌, ◌||◌, true, false, not, length, map, slice_set, slice_index_or, count_by, IfOk};
 ghost use Rattle.std.specs.List.{enumerate_from};
 ghost use Rattle.admit_core.specs.Proposals.{is_behind_bar};
-ghost use Rattle.admit_core.specs.State.{entries, is_waiting};
+ghost use Rattle.admit_core.specs.State.{entries};
 ghost use Rattle.day_state.specs.Kept.{wish_in};
 ghost use Rattle.linked_demand.specs.Marks.{is_new, MarksSchools};
 ghost use Rattle.linked_demand.specs.Lineups.{IsLineupOf};
@@ -22,21 +22,15 @@ use crate::fronts::{flag_fronts, flag_sure, no_flags};
 use crate::line::{is_reached, last_wanting, leaves_seat, next_wanting};
 use crate::lineup::Lineup;
 use crate::marks::Marks;
+use crate::open_wishes::OpenWishes;
 use crate::rows::RowWish;
 use crate::seats::{needs_no_seat, reached_of};
-use admit_core::{CallOrders, Mark, OutOfMemory, Steps};
+use admit_core::{CallOrders, OutOfMemory, Steps};
 use day_state::DayState;
 use proposals::wish_at;
 use std::alloc::Global;
 use std::marker::Model;
 use std::sync::ledger::Ledger;
-
-/// Whether each of these marks waits.
-fn waiting_flags(alloc: Global, marks: &[Mark]) -> Result<Vec<bool>, OutOfMemory>
-    ensures { IfOk result (λ v. v.items ≡ map is_waiting marks.now) }
-{
-    Ok(marks.iter().map(|mark| mark.is_waiting()).collect(alloc)?)
-}
 
 /// Whether a boarder's wish stays open: its candidate ranks at most at the bar of the school, or
 /// has a bed there.
@@ -51,25 +45,27 @@ fn stays_open(state: &DayState<'_>, bars: &[u32], boarder: Boarder, open: bool) 
         || state.is_live_in_its_school(boarder.wish))
 }
 
-/// Whether each wish is open under bars, by place. Of those that wait only the wishes with a school
-/// are asked for its bar.
-fn open_flags(
+/// The open wishes under bars: of those that wait only the wishes with a school are asked for its
+/// bar.
+fn open_under<'a, 'd>(
     alloc: Global,
-    state: &DayState<'_>,
+    state: &'a DayState<'d>,
     boarders: &[Boarder],
     bars: &[u32],
-) -> Result<Vec<bool>, OutOfMemory>
+) -> Result<OpenWishes<'a, 'd>, OutOfMemory>
     requires boarders { AreBoarders state.now.dossier boarders.now }
     requires bars { length bars.now ≡ length state.now.dossier.schools }
-    ensures flags { IfOk result (λ v. v.items ≡ opens_of state.now bars.now) }
-    ensures one_each { IfOk result (λ v. length v.items ≡ length state.now.dossier.wishes) }
+    ensures flags { IfOk result (λ o. o ≡ opens_of state.now bars.now) }
+    ensures one_each { IfOk result (λ o. length o ≡ length state.now.dossier.wishes) }
 {
-    let mut flags = waiting_flags(alloc, state.marks())?;
+    let _ = state.marks(); // one for each wish
+    let mut opens = OpenWishes::all_waiting(alloc, state)?;
     for boarder in boarders {
-        let place = boarder.wish as usize;
-        flags[place] = stays_open(state, bars, *boarder, flags[place]);
+        let open = opens.get(boarder.wish);
+        let stays = stays_open(state, bars, *boarder, open);
+        opens.keep_if(boarder.wish, stays);
     }
-    Ok(flags)
+    Ok(opens)
 }
 
 /// Whether a wish has a seat, where it is open: by its place, which may be reached, or by need of
@@ -94,7 +90,7 @@ fn is_seated(reached: bool, sure: bool) -> bool
 pub struct SeatLinks<'a, 'd> {
     state: &'a DayState<'d>,
     orders: &'a CallOrders,
-    opens: Vec<bool>,
+    opens: OpenWishes<'a, 'd>,
     lineup: &'a Lineup,
     reached: Vec<usize>,
     cursors: Cursors,
@@ -123,10 +119,10 @@ impl<'a, 'd> Model for SeatLinks<'a, 'd> {
     ghost view = { λ l. record {
       state = l.state.now;
       orders = l.orders.now.orders;
-      opens = l.opens.items;
+      opens = l.opens;
     } };
 
-    ghost invariant = { λ l. AreKept l.state.now l.orders.now.orders l.opens.items
+    ghost invariant = { λ l. AreKept l.state.now l.orders.now.orders l.opens
         l.reached.items l.lineup.now };
 }
 
@@ -148,7 +144,7 @@ impl<'a, 'd> SeatLinks<'a, 'd> {
         }) }
     {
         let _ = state.marks(); // one for each wish
-        let opens = open_flags(alloc, state, &lineup.boarders, bars)?;
+        let opens = open_under(alloc, state, &lineup.boarders, bars)?;
         let reached = reached_of(alloc, state, orders, lineup, &opens)?;
         let cursors = Cursors::new(alloc, lineup.maybe_sure.len())?;
         Ok(SeatLinks {
@@ -216,7 +212,7 @@ impl<'a, 'd> SeatLinks<'a, 'd> {
         let beside = lineup.maybe_sure.as_slice();
         let is_live = self.state.is_live_in_its_programme(item.wish);
         let wanted = self.cursors.wants_seat(is_live, &self.opens, beside, claim);
-        self.opens[item.wish as usize] = false;
+        self.opens.close(item.wish);
         let wants = self.cursors.wants_seat(is_live, &self.opens, beside, claim);
         let before = self.reached[programme];
         if leaves_seat(wanted, wants, place, before) {
@@ -249,7 +245,7 @@ impl<'a, 'd> SeatLinks<'a, 'd> {
         requires { IsBoarder self.now.state.dossier boarder }
         ensures { result ≡ wants_bed self.now.state self.now.opens boarder.wish }
     {
-        self.opens[boarder.wish as usize] && !self.state.is_live_in_its_school(boarder.wish)
+        self.opens.get(boarder.wish) && !self.state.is_live_in_its_school(boarder.wish)
     }
 
     /// Whether a wish is open.
@@ -257,7 +253,7 @@ impl<'a, 'd> SeatLinks<'a, 'd> {
         requires { wish < length self.now.state.dossier.wishes }
         ensures { result ≡ slice_index_or self.now.opens wish false }
     {
-        self.opens[wish as usize]
+        self.opens.get(wish)
     }
 
     /// Whether each wish is proposed, by place, where those that are open wait.
@@ -268,7 +264,7 @@ impl<'a, 'd> SeatLinks<'a, 'd> {
             → slice_index_or v.items k false ≡ is_proposed_at self.now k) }
     {
         let lineup = self.lineup;
-        let mut flags = no_flags(alloc, self.opens.len())?;
+        let mut flags = no_flags(alloc, self.opens.count())?;
         flag_sure(
             self.state,
             &self.opens,
@@ -288,7 +284,7 @@ impl<'a, 'd> SeatLinks<'a, 'd> {
         let lineup = self.lineup;
         let programme = wish_at(self.state, wish).programme as usize;
         let place = lineup.places[wish as usize] as usize;
-        let open = self.opens[wish as usize];
+        let open = self.opens.get(wish);
         let reached = is_reached(place, self.reached[programme]);
         is_served(self.state, &lineup.early, wish, open, reached)
     }

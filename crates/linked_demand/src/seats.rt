@@ -6,6 +6,7 @@ ghost use Rattle.linked_demand.specs.Opens.{all_sure};
 
 use crate::line::reach_of;
 use crate::lineup::Lineup;
+use crate::open_wishes::OpenWishes;
 use admit_core::{CallOrders, OutOfMemory};
 use day_state::{DayState, seats_left};
 use proposals::programme_count;
@@ -44,7 +45,7 @@ pub fn reached_of(
     state: &DayState<'_>,
     orders: &CallOrders,
     lineup: &Lineup,
-    opens: &[bool],
+    opens: &OpenWishes<'_, '_>,
 ) -> Result<Vec<usize>, OutOfMemory>
     requires lineup { IsLineupOf state.now.dossier orders.now.orders lineup.now }
     requires opens { length opens.now ≡ length state.now.dossier.wishes }

@@ -1,4 +1,4 @@
-use Rattle.std.proofs.Common.{false, get_or, refl, arith}
+use Rattle.std.proofs.Common.{false, get_or, refl, arith, ◌∙◌}
 use Rattle.linked_demand.proofs.Waiting.{single_wants}
 use Rattle.linked_demand.proofs.line.wants_alone.Goals as goal
 
@@ -7,5 +7,5 @@ returns-then-claim-eq1 c =
     let opens = c.args.opens.now in
     let claim = c.args.claim.now in
     let wish = get_or claim 0 0 in
-    single_wants c.args.state.now opens claim (omega (arith, c.if-claim-eq1.true)) c.requires.alone wish
+    c.get.ensures ∙ single_wants c.args.state.now opens claim (omega (arith, c.if-claim-eq1.true)) c.requires.alone wish
     (get_or opens wish false) refl refl

@@ -1,5 +1,6 @@
 use Rattle.std.proofs.Common.{◌≡◌, ℕ, ◌+◌, ◌<◌, ◌&&◌, not, Bool, List, arith, ap, length, drop, refl, sym, ◌∙◌, get_or, false, slice_set, None, subst}
 use Rattle.std.specs.Prelude.{All}
+use Rattle.std.proofs.lemmas.List.{length-set}
 use Rattle.std.specs.List.{list_any}
 use Rattle.linked_demand.specs.Line.{next, last_new}
 use Rattle.linked_demand.specs.Links.{LinksRow}
@@ -16,8 +17,8 @@ use Rattle.linked_demand.proofs.links.SeatLinks.close.Goals as goal
 abbrev any_wanted : Bool → List ℕ → List Bool → Bool
 any_wanted live claim flags = not live && list_any (λ v. get_or flags v false) claim
 
-pub index_mut-requires : goal.index_mut-requires
-index_mut-requires g c =
+pub close-requires : goal.close-requires
+close-requires g c =
     let k = closes_item c.self.invariant.reach.links c.args.self.now c.self.view_is c.args.item
     c.requires.waits c.requires.item in
     omega (arith, wish_within k, c.self.invariant.reach.links.opens_each)
@@ -43,17 +44,20 @@ is_live_in_its_programme-is_live-requires g c =
 pub wants_seat-wanted-requires : goal.wants_seat-wanted-requires
 wants_seat-wanted-requires g c =
     let P = λ (n : ℕ). All (λ v. v < n) c.at-claim.result.now in
-    let long : length c.self.inside.state.now.dossier.wishes ≡ length c.deref.result.now =
-    omega (arith, c.deref.ensures.len, c.self.invariant.reach.links.opens_each) in
-    subst P long
+    subst P (sym c.self.invariant.reach.links.opens_each)
     (item_claim c.self.invariant.reach.links c.args.self.now c.self.view_is c.args.item c.requires.waits c.requires.item
     c.index-claims.result.now c.index-claims.ensures c.at-claim.result.now c.at-claim.ensures)
 
 pub wants_seat-wants-requires : goal.wants_seat-wants-requires
 wants_seat-wants-requires g c =
     let P = λ (n : ℕ). All (λ v. v < n) c.at-claim.result.now in
-    let long : length c.self.inside.state.now.dossier.wishes ≡ length c.deref-2.result.now =
-    omega (arith, c.deref-2.ensures.len, c.self.invariant.reach.links.opens_each) in
+    let long : length c.self.inside.state.now.dossier.wishes ≡ length c.close.new.self =
+    omega (
+      arith,
+      ap length c.close.ensures,
+      length-set c.self.inside.opens c.args.item.wish false,
+      c.self.invariant.reach.links.opens_each,
+    ) in
     subst P long
     (item_claim c.self.invariant.reach.links c.args.self.now c.self.view_is c.args.item c.requires.waits c.requires.item
     c.index-claims.result.now c.index-claims.ensures c.at-claim.result.now c.at-claim.ensures)
@@ -64,8 +68,8 @@ index-before-requires g c =
     c.requires.waits c.requires.item in
     omega (arith, programme_within k, reached_each k c.self.inside.reached.items c.self.invariant.reach.reached_are)
 
-pub index_mut-requires-then-leaves_seat : goal.index_mut-requires-then-leaves_seat
-index_mut-requires-then-leaves_seat g c =
+pub index_mut-requires : goal.index_mut-requires
+index_mut-requires g c =
     let k = closes_item c.self.invariant.reach.links c.args.self.now c.self.view_is c.args.item
     c.requires.waits c.requires.item in
     omega (arith, programme_within k, reached_each k c.self.inside.reached.items c.self.invariant.reach.reached_are)
@@ -88,12 +92,10 @@ next_wanting-now-requires-clause-from g c =
       before_read = c.index-before.ensures;
       live_is = item_live c.self.invariant.reach.links c.args.self.now c.self.view_is c.args.item c.requires.waits
           c.requires.item c.is_live_in_its_programme-is_live.result c.is_live_in_its_programme-is_live.ensures;
-      wanted_is =
-          c.wants_seat-wanted.ensures
-          ∙ ap (any_wanted c.is_live_in_its_programme-is_live.result claim) c.deref.ensures.value;
+      wanted_is = c.wants_seat-wanted.ensures;
       wants_is =
           c.wants_seat-wants.ensures
-          ∙ ap (any_wanted c.is_live_in_its_programme-is_live.result claim) c.deref-2.ensures.value;
+          ∙ ap (any_wanted c.is_live_in_its_programme-is_live.result claim) c.close.ensures;
       leaves_is = c.leaves_seat.ensures;
     } in
     before_within reads
@@ -116,12 +118,10 @@ next_wanting-now-requires-clause-claims g c =
       before_read = c.index-before.ensures;
       live_is = item_live c.self.invariant.reach.links c.args.self.now c.self.view_is c.args.item c.requires.waits
           c.requires.item c.is_live_in_its_programme-is_live.result c.is_live_in_its_programme-is_live.ensures;
-      wanted_is =
-          c.wants_seat-wanted.ensures
-          ∙ ap (any_wanted c.is_live_in_its_programme-is_live.result claim) c.deref.ensures.value;
+      wanted_is = c.wants_seat-wanted.ensures;
       wants_is =
           c.wants_seat-wants.ensures
-          ∙ ap (any_wanted c.is_live_in_its_programme-is_live.result claim) c.deref-2.ensures.value;
+          ∙ ap (any_wanted c.is_live_in_its_programme-is_live.result claim) c.close.ensures;
       leaves_is = c.leaves_seat.ensures;
     } in
     row_below reads
@@ -144,12 +144,10 @@ last_wanting-requires-clause-claims g c =
       before_read = c.index-before.ensures;
       live_is = item_live c.self.invariant.reach.links c.args.self.now c.self.view_is c.args.item c.requires.waits
           c.requires.item c.is_live_in_its_programme-is_live.result c.is_live_in_its_programme-is_live.ensures;
-      wanted_is =
-          c.wants_seat-wanted.ensures
-          ∙ ap (any_wanted c.is_live_in_its_programme-is_live.result claim) c.deref.ensures.value;
+      wanted_is = c.wants_seat-wanted.ensures;
       wants_is =
           c.wants_seat-wants.ensures
-          ∙ ap (any_wanted c.is_live_in_its_programme-is_live.result claim) c.deref-2.ensures.value;
+          ∙ ap (any_wanted c.is_live_in_its_programme-is_live.result claim) c.close.ensures;
       leaves_is = c.leaves_seat.ensures;
     } in
     row_below reads
@@ -172,22 +170,20 @@ invariant_of-self-else-leaves_seat g c =
       before_read = c.index-before.ensures;
       live_is = item_live c.self.invariant.reach.links c.args.self.now c.self.view_is c.args.item c.requires.waits
           c.requires.item c.is_live_in_its_programme-is_live.result c.is_live_in_its_programme-is_live.ensures;
-      wanted_is =
-          c.wants_seat-wanted.ensures
-          ∙ ap (any_wanted c.is_live_in_its_programme-is_live.result claim) c.deref.ensures.value;
+      wanted_is = c.wants_seat-wanted.ensures;
       wants_is =
           c.wants_seat-wants.ensures
-          ∙ ap (any_wanted c.is_live_in_its_programme-is_live.result claim) c.deref-2.ensures.value;
+          ∙ ap (any_wanted c.is_live_in_its_programme-is_live.result claim) c.close.ensures;
       leaves_is = c.leaves_seat.ensures;
     } in
     let stays = stays_closed reads c.if-leaves_seat.false in
-    record {
+    rw c.close.ensures (record {
       reach =
           reach_kept k r.reached.items c.self.invariant.reach.reached_are
           c.index-before.result.now c.index-before.ensures stays.reach;
       early_each = c.self.invariant.early_each;
       maybe_sure_are = c.self.invariant.maybe_sure_are;
-    }
+    })
 
 pub invariant_of-self : goal.invariant_of-self
 invariant_of-self g c =
@@ -207,12 +203,10 @@ invariant_of-self g c =
       before_read = c.index-before.ensures;
       live_is = item_live c.self.invariant.reach.links c.args.self.now c.self.view_is c.args.item c.requires.waits
           c.requires.item c.is_live_in_its_programme-is_live.result c.is_live_in_its_programme-is_live.ensures;
-      wanted_is =
-          c.wants_seat-wanted.ensures
-          ∙ ap (any_wanted c.is_live_in_its_programme-is_live.result claim) c.deref.ensures.value;
+      wanted_is = c.wants_seat-wanted.ensures;
       wants_is =
           c.wants_seat-wants.ensures
-          ∙ ap (any_wanted c.is_live_in_its_programme-is_live.result claim) c.deref-2.ensures.value;
+          ∙ ap (any_wanted c.is_live_in_its_programme-is_live.result claim) c.close.ensures;
       leaves_is = c.leaves_seat.ensures;
     } in
     let row = c.index-claims.result.now in
@@ -221,14 +215,14 @@ invariant_of-self g c =
     let moved =
     moves_closed reads c.if-leaves_seat.true now c.last_wanting.result
     (c.next_wanting-now.ensures.place
-    ∙ ap (λ (fs : List Bool). before + next (drop before (wants_along s fs row))) c.deref-then-leaves_seat.ensures.value)
+    ∙ ap (λ (fs : List Bool). before + next (drop before (wants_along s fs row))) c.close.ensures)
     (c.last_wanting.ensures.answer
-    ∙ ap (λ (fs : List Bool). last_new (wants_along s fs row) before now) c.deref-then-leaves_seat-2.ensures.value) in
-    record {
+    ∙ ap (λ (fs : List Bool). last_new (wants_along s fs row) before now) c.close.ensures) in
+    rw c.close.ensures (record {
       reach = reach_put k r.reached.items c.self.invariant.reach.reached_are now moved.reach;
       early_each = c.self.invariant.early_each;
       maybe_sure_are = c.self.invariant.maybe_sure_are;
-    }
+    })
 
 pub invariant_of-self-in_default : goal.invariant_of-self-in_default
 invariant_of-self-in_default g c =
@@ -248,12 +242,10 @@ invariant_of-self-in_default g c =
       before_read = c.index-before.ensures;
       live_is = item_live c.self.invariant.reach.links c.args.self.now c.self.view_is c.args.item c.requires.waits
           c.requires.item c.is_live_in_its_programme-is_live.result c.is_live_in_its_programme-is_live.ensures;
-      wanted_is =
-          c.wants_seat-wanted.ensures
-          ∙ ap (any_wanted c.is_live_in_its_programme-is_live.result claim) c.deref.ensures.value;
+      wanted_is = c.wants_seat-wanted.ensures;
       wants_is =
           c.wants_seat-wants.ensures
-          ∙ ap (any_wanted c.is_live_in_its_programme-is_live.result claim) c.deref-2.ensures.value;
+          ∙ ap (any_wanted c.is_live_in_its_programme-is_live.result claim) c.close.ensures;
       leaves_is = c.leaves_seat.ensures;
     } in
     let row = c.index-claims.result.now in
@@ -262,14 +254,14 @@ invariant_of-self-in_default g c =
     let moved =
     moves_closed reads c.if-leaves_seat.true now c.last_wanting.result
     (c.next_wanting-now.ensures.place
-    ∙ ap (λ (fs : List Bool). before + next (drop before (wants_along s fs row))) c.deref-then-leaves_seat.ensures.value)
+    ∙ ap (λ (fs : List Bool). before + next (drop before (wants_along s fs row))) c.close.ensures)
     (c.last_wanting.ensures.answer
-    ∙ ap (λ (fs : List Bool). last_new (wants_along s fs row) before now) c.deref-then-leaves_seat-2.ensures.value) in
-    record {
+    ∙ ap (λ (fs : List Bool). last_new (wants_along s fs row) before now) c.close.ensures) in
+    rw c.close.ensures (record {
       reach = reach_put k r.reached.items c.self.invariant.reach.reached_are now moved.reach;
       early_each = c.self.invariant.early_each;
       maybe_sure_are = c.self.invariant.maybe_sure_are;
-    }
+    })
 
 pub note_fresh-requires : goal.note_fresh-requires
 note_fresh-requires g c =
@@ -283,8 +275,13 @@ note_fresh-requires g c =
     record {
       claim = claim_fits k _ _ c.at.result.now fresh_claim (length c.self.inside.state.now.dossier.wishes) refl;
       bars = c.requires.bars ∙ schools;
-      opens = omega (arith, c.deref-in-Some.ensures.len, c.self.invariant.reach.links.opens_each);
-      early = omega (arith, c.deref-in-Some-2.ensures.len, c.self.invariant.early_each);
+      opens = omega (
+        arith,
+        ap length c.close.ensures,
+        length-set c.self.inside.opens c.args.item.wish false,
+        c.self.invariant.reach.links.opens_each,
+      );
+      early = omega (arith, c.deref.ensures.len, c.self.invariant.early_each);
       marked = c.requires.marked ∙ schools;
     }
 
@@ -306,19 +303,17 @@ returns-else-leaves_seat g c =
       before_read = c.index-before.ensures;
       live_is = item_live c.self.invariant.reach.links c.args.self.now c.self.view_is c.args.item c.requires.waits
           c.requires.item c.is_live_in_its_programme-is_live.result c.is_live_in_its_programme-is_live.ensures;
-      wanted_is =
-          c.wants_seat-wanted.ensures
-          ∙ ap (any_wanted c.is_live_in_its_programme-is_live.result claim) c.deref.ensures.value;
+      wanted_is = c.wants_seat-wanted.ensures;
       wants_is =
           c.wants_seat-wants.ensures
-          ∙ ap (any_wanted c.is_live_in_its_programme-is_live.result claim) c.deref-2.ensures.value;
+          ∙ ap (any_wanted c.is_live_in_its_programme-is_live.result claim) c.close.ensures;
       leaves_is = c.leaves_seat.ensures;
     } in
     let stays = stays_closed reads c.if-leaves_seat.false in
     let closed = λ (l : LinksRow). record l { opens = slice_set l.opens c.args.item.wish false } in
-    let told = told_none s r.orders.now.orders r.opens.items c.args.item.wish c.args.self.now c.self.view_is
+    let told = told_none s r.orders.now.orders r.opens c.args.item.wish c.args.self.now c.self.view_is
     (newly_none k None stays.fresh refl) c.args.bars.now c.args.steps.now c.args.marked.now in
-    record { value = ap closed c.self.view_is; steps = told.steps; marked = told.marked }
+    rw c.close.ensures (record { value = ap closed c.self.view_is; steps = told.steps; marked = told.marked })
 
 pub returns-in_default : goal.returns-in_default
 returns-in_default g c =
@@ -338,12 +333,10 @@ returns-in_default g c =
       before_read = c.index-before.ensures;
       live_is = item_live c.self.invariant.reach.links c.args.self.now c.self.view_is c.args.item c.requires.waits
           c.requires.item c.is_live_in_its_programme-is_live.result c.is_live_in_its_programme-is_live.ensures;
-      wanted_is =
-          c.wants_seat-wanted.ensures
-          ∙ ap (any_wanted c.is_live_in_its_programme-is_live.result claim) c.deref.ensures.value;
+      wanted_is = c.wants_seat-wanted.ensures;
       wants_is =
           c.wants_seat-wants.ensures
-          ∙ ap (any_wanted c.is_live_in_its_programme-is_live.result claim) c.deref-2.ensures.value;
+          ∙ ap (any_wanted c.is_live_in_its_programme-is_live.result claim) c.close.ensures;
       leaves_is = c.leaves_seat.ensures;
     } in
     let row = c.index-claims.result.now in
@@ -352,14 +345,14 @@ returns-in_default g c =
     let moved =
     moves_closed reads c.if-leaves_seat.true now c.last_wanting.result
     (c.next_wanting-now.ensures.place
-    ∙ ap (λ (fs : List Bool). before + next (drop before (wants_along s fs row))) c.deref-then-leaves_seat.ensures.value)
+    ∙ ap (λ (fs : List Bool). before + next (drop before (wants_along s fs row))) c.close.ensures)
     (c.last_wanting.ensures.answer
-    ∙ ap (λ (fs : List Bool). last_new (wants_along s fs row) before now) c.deref-then-leaves_seat-2.ensures.value) in
+    ∙ ap (λ (fs : List Bool). last_new (wants_along s fs row) before now) c.close.ensures) in
     let closed = λ (l : LinksRow). record l { opens = slice_set l.opens c.args.item.wish false } in
     let told =
-    told_none s r.orders.now.orders r.opens.items c.args.item.wish c.args.self.now c.self.view_is
+    told_none s r.orders.now.orders r.opens c.args.item.wish c.args.self.now c.self.view_is
     (newly_none k c.last_wanting.result moved.fresh c.in_default.is) c.args.bars.now c.args.steps.now c.args.marked.now in
-    record { value = ap closed c.self.view_is; steps = told.steps; marked = told.marked }
+    rw c.close.ensures (record { value = ap closed c.self.view_is; steps = told.steps; marked = told.marked })
 
 pub returns-in-Some : goal.returns-in-Some
 returns-in-Some g c =
@@ -379,12 +372,10 @@ returns-in-Some g c =
       before_read = c.index-before.ensures;
       live_is = item_live c.self.invariant.reach.links c.args.self.now c.self.view_is c.args.item c.requires.waits
           c.requires.item c.is_live_in_its_programme-is_live.result c.is_live_in_its_programme-is_live.ensures;
-      wanted_is =
-          c.wants_seat-wanted.ensures
-          ∙ ap (any_wanted c.is_live_in_its_programme-is_live.result claim) c.deref.ensures.value;
+      wanted_is = c.wants_seat-wanted.ensures;
       wants_is =
           c.wants_seat-wants.ensures
-          ∙ ap (any_wanted c.is_live_in_its_programme-is_live.result claim) c.deref-2.ensures.value;
+          ∙ ap (any_wanted c.is_live_in_its_programme-is_live.result claim) c.close.ensures;
       leaves_is = c.leaves_seat.ensures;
     } in
     let row = c.index-claims.result.now in
@@ -393,9 +384,9 @@ returns-in-Some g c =
     let moved =
     moves_closed reads c.if-leaves_seat.true now c.last_wanting.result
     (c.next_wanting-now.ensures.place
-    ∙ ap (λ (fs : List Bool). before + next (drop before (wants_along s fs row))) c.deref-then-leaves_seat.ensures.value)
+    ∙ ap (λ (fs : List Bool). before + next (drop before (wants_along s fs row))) c.close.ensures)
     (c.last_wanting.ensures.answer
-    ∙ ap (λ (fs : List Bool). last_new (wants_along s fs row) before now) c.deref-then-leaves_seat-2.ensures.value) in
+    ∙ ap (λ (fs : List Bool). last_new (wants_along s fs row) before now) c.close.ensures) in
     let within = c.in-Some.ensures.within in
     let fresh_claim = claim_there k row c.index-claims.ensures c.in-Some.next within c.at.result.now c.at.ensures in
     let p : ℕ = c.args.item.programme in
@@ -404,11 +395,11 @@ returns-in-Some g c =
     (arith, within, in_claims k row c.index-claims.ensures) in
     let closed = λ (l : LinksRow). record l { opens = slice_set l.opens c.args.item.wish false } in
     let told =
-    told_some s orders r.opens.items (all_sure s r.lineup.now.early.items) c.args.item.wish p
+    told_some s orders r.opens (all_sure s r.lineup.now.early.items) c.args.item.wish p
     (get_or (line_of s.dossier orders p) c.in-Some.next 0) c.args.self.now c.self.view_is
     (newly_some k c.last_wanting.result moved.fresh c.in-Some.next c.in-Some.is lt)
     c.self.invariant.reach.links.marks_each c.args.bars.now c.at.result.now fresh_claim
-    c.deref-in-Some.result.now (all_sure s c.deref-in-Some-2.result.now) c.deref-in-Some.ensures.value
-    (ap (all_sure s) c.deref-in-Some-2.ensures.value) c.args.steps.now c.note_fresh.new.steps
+    c.close.new.self (all_sure s c.deref.result.now) c.close.ensures
+    (ap (all_sure s) c.deref.ensures.value) c.args.steps.now c.note_fresh.new.steps
     c.args.marked.now c.note_fresh.new.marked c.note_fresh.ensures.steps c.note_fresh.ensures.marked in
-    record { value = ap closed c.self.view_is; steps = told.steps; marked = told.marked }
+    rw c.close.ensures (record { value = ap closed c.self.view_is; steps = told.steps; marked = told.marked })

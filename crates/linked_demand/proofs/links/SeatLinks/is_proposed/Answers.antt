@@ -16,8 +16,8 @@ index-requires c =
     c.wish_at-programme.result c.wish_at-programme.ensures.wish in
     omega (arith, wish_within k, c.self.invariant.reach.links.places_each)
 
-pub index-open-requires : goal.index-open-requires
-index-open-requires c =
+pub get-open-requires : goal.get-open-requires
+get-open-requires c =
     let k = closes_read c.self.invariant.reach.links c.args.self.now c.self.view_is c.args.wish c.requires
     c.wish_at-programme.result c.wish_at-programme.ensures.wish in
     omega (arith, wish_within k, c.self.invariant.reach.links.opens_each)
@@ -41,7 +41,7 @@ returns c =
     let r = c.self.inside in
     let s = r.state.now in
     let orders = r.orders.now.orders in
-    let opens = r.opens.items in
+    let opens = r.opens in
     let p : ℕ = c.wish_at-programme.result.programme in
     let k = closes_read c.self.invariant.reach.links c.args.self.now c.self.view_is c.args.wish c.requires
     c.wish_at-programme.result c.wish_at-programme.ensures.wish in
@@ -54,8 +54,10 @@ returns c =
     let flag : Bool = get_or (all_sure s early) c.args.wish false in
     let sure : flag ≡ get_or (all_sure s early) c.args.wish flag =
     get_or_default (all_sure s early) c.args.wish false flag (omega (arith, wish_within k, sure_each k)) in
-    let opens_now : Bool = c.index-open.result.now in
+    let opens_now : Bool = c.get-open.result in
     let near : Bool = c.is_reached-reached.result in
+    let opens_read : opens_now ≡ get_or opens c.args.wish opens_now = c.get-open.ensures
+    ∙ get_or_default opens c.args.wish false opens_now (omega (arith, wish_within k, c.self.invariant.reach.links.opens_each)) in
     let served : c.is_served.result ≡ (opens_now && (flag || near)) =
     c.is_served.ensures
     ∙ ap (λ (es : List Bool). opens_now && (near || get_or (all_sure s es) c.args.wish false)) c.deref.ensures.value
@@ -63,6 +65,6 @@ returns c =
     proposed_goal c.self.invariant.reach.links c.args.self.now c.self.view_is c.args.wish w m waits
     c.wish_at-programme.result c.wish_at-programme.ensures.wish
     c.index.result.now c.index.ensures (seat_row s orders opens p)
-    (row_there s orders opens p (programme_within k)) c.index-open.result.now
-    flag near c.is_served.result c.index-open.ensures sure reached served
+    (row_there s orders opens p (programme_within k)) c.get-open.result
+    flag near c.is_served.result opens_read sure reached served
     ∙ sym (proposed_at_is c.args.self.now c.args.wish w m waits)

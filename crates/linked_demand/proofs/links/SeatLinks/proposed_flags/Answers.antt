@@ -1,4 +1,4 @@
-use Rattle.std.proofs.Common.{ℕ, ◌≡◌, false, length, replicate, sym, ◌∙◌, ap}
+use Rattle.std.proofs.Common.{ℕ, ◌≡◌, false, length, replicate, ◌∙◌, ap}
 use Rattle.std.proofs.lemmas.List.{length-replicate}
 use Rattle.proposals.specs.Flags.{SetsAlso}
 use Rattle.linked_demand.specs.Fronts.{listed_open, reached_open}
@@ -15,30 +15,23 @@ flag_sure-requires c =
     let r = c.self.inside in
     let d = r.state.now.dossier in
     let kept = c.self.invariant in
-    let opens = ap length c.deref.ensures.value ∙ kept.reach.links.opens_each in
     record {
       wishes =
-          passing_within (may_be_sure d r.lineup.now.early.items) (length d.wishes) c.deref-3.result.now
-          (c.deref-3.ensures.value ∙ kept.maybe_sure_are);
-      opens = opens;
-      early = ap length c.deref-2.ensures.value ∙ kept.early_each;
-      flags =
-          ap length c.in_ok-flags.ensures
-          ∙ length-replicate c.len.result false
-          ∙ c.len.ensures
-          ∙ sym c.deref.ensures.len;
+          passing_within (may_be_sure d r.lineup.now.early.items) (length d.wishes) c.deref-2.result.now
+          (c.deref-2.ensures.value ∙ kept.maybe_sure_are);
+      opens = kept.reach.links.opens_each;
+      early = ap length c.deref.ensures.value ∙ kept.early_each;
+      flags = ap length c.in_ok-flags.ensures ∙ length-replicate c.count.result false ∙ c.count.ensures;
     }
 
 pub flag_fronts-requires : goal.flag_fronts-requires
 flag_fronts-requires c = record {
-  fronts =
-      rw (c.deref-4.ensures.value, c.deref-5.ensures.value, c.deref-6.ensures.value) (fronts c.self.invariant.reach);
+  fronts = rw (c.deref-3.ensures.value, c.deref-4.ensures.value) (fronts c.self.invariant.reach);
   flags =
       c.flag_sure.ensures.as_long
       ∙ ap length c.in_ok-flags.ensures
-      ∙ length-replicate c.len.result false
-      ∙ c.len.ensures
-      ∙ sym c.deref-4.ensures.len;
+      ∙ length-replicate c.count.result false
+      ∙ c.count.ensures;
 }
 
 pub returns : goal.returns
@@ -50,20 +43,17 @@ returns c =
     let early = r.lineup.now.early.items in
     let listed = r.lineup.now.maybe_sure.items in
     let sure = all_sure s early in
-    let opens = r.opens.items in
+    let opens = r.opens in
     let lines = r.lineup.now.claims.items in
     let test = listed_open opens sure listed in
     let blank = c.in_ok-flags.flags.items in
     let now = c.flag_sure.new.flags.items in
     let flags = c.flag_fronts.new.flags.items in
-    let count : c.len.result ≡ length opens =
-    c.len.ensures ∙ sym c.deref.ensures.len ∙ ap length c.deref.ensures.value in
     let blank_is : blank ≡ replicate (length opens) false =
-    c.in_ok-flags.ensures ∙ ap (λ (n : ℕ). replicate n false) count in
-    let first : SetsAlso test blank now =
-    rw (c.deref.ensures.value, c.deref-2.ensures.value, c.deref-3.ensures.value) at c.flag_sure.ensures in
+    c.in_ok-flags.ensures ∙ ap (λ (n : ℕ). replicate n false) c.count.ensures in
+    let first : SetsAlso test blank now = rw (c.deref.ensures.value, c.deref-2.ensures.value) at c.flag_sure.ensures in
     let second : SetsAlso (reached_open opens lines r.reached.items (length lines)) now flags =
-    rw (c.deref-4.ensures.value, c.deref-5.ensures.value, c.deref-6.ensures.value) at c.flag_fronts.ensures in
+    rw (c.deref-3.ensures.value, c.deref-4.ensures.value) at c.flag_fronts.ensures in
     record {
       long =
           as_many_flags right test blank now flags blank_is first second

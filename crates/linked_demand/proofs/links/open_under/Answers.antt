@@ -1,12 +1,12 @@
-use Rattle.std.proofs.Common.{List, ℕ, ◌<◌, Bool, false, not, ◌&&◌, arith, ap, get_or, length, subst, ◌∙◌}
-use Rattle.std.proofs.lemmas.List.{get_or_read, length-map, take_all}
+use Rattle.std.proofs.Common.{List, ℕ, ◌+◌, ◌<◌, Bool, not, ◌&&◌, arith, ap, get_or, length, subst, sym, take, ◌∙◌}
+use Rattle.std.proofs.lemmas.List.{length-map, take_all}
 use Rattle.admit_core.specs.Proposals.{is_behind_bar}
 use Rattle.day_state.specs.Kept.{wish_in}
 use Rattle.linked_demand.specs.declared.boarders.Boarder.{Boarder}
 use Rattle.linked_demand.specs.Boarders.{IsBoarder, wishes_of}
 use Rattle.linked_demand.proofs.Askings.{AreAsked, asked_all, asked_more}
 use Rattle.linked_demand.proofs.Boarding.{place_of}
-use Rattle.linked_demand.proofs.links.open_flags.Goals as goal
+use Rattle.linked_demand.proofs.links.open_under.Goals as goal
 
 pub loop-boarder-preserved : goal.loop-boarder-preserved
 loop-boarder-preserved c =
@@ -14,25 +14,25 @@ loop-boarder-preserved c =
     let bars = c.args.bars.now in
     let boarders = c.args.boarders.now in
     let i = c.loop-boarder.boarder-index in
-    let flags = c.loop-boarder.flags.items in
+    let flags = c.loop-boarder.opens in
     let none : Boarder = record { wish = 0; school = 0; rank = 0; programme = 0 } in
     let b = get_or boarders i none in
     let lt : i < length boarders = c.loop-boarder-test.true in
     let right : IsBoarder s.dossier b = c.requires.boarders.each i none lt in
     let w = wish_in s.dossier.wishes b.wish in
-    let within : b.wish < length flags = omega (arith, right.within, c.loop-boarder.invariant.as_long) in
-    let flag = c.stays_open.ensures
-    ∙ ap (λ (f : Bool). f && not (is_behind_bar s bars w w.school))
-    (get_or_read flags b.wish c.index.result.now within c.index.ensures false) in
-    asked_more s bars (wishes_of boarders) i b.wish flags c.stays_open.result
+    let flag = c.stays_open-stays.ensures
+    ∙ ap (λ (f : Bool). f && not (is_behind_bar s bars w w.school)) c.get-open.ensures in
+    let P = λ (fs : List Bool). AreAsked s bars (take (i + 1) (wishes_of boarders)) fs in
+    subst P (sym c.keep_if.ensures)
+    (asked_more s bars (wishes_of boarders) i b.wish flags c.stays_open-stays.result
     (omega (arith, lt, length-map boarders (λ (x : Boarder). x.wish))) (place_of boarders i none lt)
-    right.within flag c.loop-boarder.invariant
+    right.within flag c.loop-boarder.invariant)
 
 pub returns-clause-flags : goal.returns-clause-flags
 returns-clause-flags c =
     let boarders = c.args.boarders.now in
-    let P = λ (ks : List ℕ). AreAsked c.args.state.now c.args.bars.now ks c.loop-boarder.flags.items in
-    asked_all c.args.state.now c.args.bars.now (wishes_of boarders) c.loop-boarder.flags.items
+    let P = λ (ks : List ℕ). AreAsked c.args.state.now c.args.bars.now ks c.loop-boarder.opens in
+    asked_all c.args.state.now c.args.bars.now (wishes_of boarders) c.loop-boarder.opens
     (rw c.marks.ensures.marks at c.marks.ensures.one_each) c.requires.boarders.wishes
     (subst P (take_all c.loop-boarder.boarder-index (wishes_of boarders)
     (omega (arith, c.loop-boarder-test.false, length-map boarders (λ (b : Boarder). b.wish)))) c.loop-boarder.invariant)
