@@ -52,15 +52,14 @@ module _ (terms : Option Terms) (orders : List CallOrder) (ceilings : List ℕ) 
       (λ done. IsDayDone terms orders ceilings day (at old other was told choice) done (at new later opening told_after choice_after))
   done_there old was new opening one other late later told told_after choice choice_after (Err e) is = tt
   done_there old was new opening one other late later told told_after choice choice_after (Ok done) is = record {
-    number = is.number;
-    is_day = is.is_day;
-    laws = is.laws;
-    few = is.few;
-    opening = is.opening;
-    places = is.places;
-    stamps = is.stamps;
-    told = is.told;
-    chosen = is.chosen;
+    rule = record {
+      number = is.rule.number;
+      is_day = is.rule.is_day;
+      opening = is.rule.opening;
+      told = is.rule.told;
+      chosen = is.rule.chosen;
+    };
+    follows = is.follows;
   }
 
   pub ends_played : (desk : DeskStates) (old evening was new now opening : State) (told told_after : List ℕ)

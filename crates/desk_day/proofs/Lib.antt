@@ -18,3 +18,4 @@ pub mod LaterPasses
 pub mod BesideChanges
 pub mod Touching
 pub mod OnceEach
+pub mod IdleDays

@@ -149,7 +149,7 @@ lapse_long None day s long each = (refl, long)
 lapse_long (Some terms) day s long each = (refl, length-lapse terms day s (each ∙ sym long) ∙ long)
 
 -- where nobody is named, the day begins as the evening before
-nothing_changed : (terms : Option Terms) (day : ℕ) (s : State) → length s.marks ≡ length s.dossier.wishes
+pub nothing_changed : (terms : Option Terms) (day : ℕ) (s : State) → length s.marks ≡ length s.dossier.wishes
     → AreTermsFor s.dossier terms → touched s.dossier (lapsed_on terms day s) day ≡ []
     → morning terms day s ≡ s
 nothing_changed terms day s long each none =

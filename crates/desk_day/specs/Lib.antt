@@ -9,4 +9,5 @@ pub mod DayLaws
 pub mod DayPlaces
 pub mod LastPasses
 pub mod RunDay
+pub mod Idle
 pub mod Once

@@ -44,20 +44,34 @@ recorded day passes lapsed evening = record {
   lapsed = lapsed;
 }
 
--- a day that came about
-pub record IsDayDone (terms : Option Terms) (orders : List CallOrder) (ceilings : List ℕ) (day : ℕ)
-    (before : Moment) (done : DayRecord) (after : Moment) : Type 0 where
+-- the rule of a day on a desk: lapses, answers and passes led from the evening before to this one;
+-- the desk keeps what the last pass opened with; each school that fell was the choice of the picker,
+-- who was told of it
+pub record IsDayByRule (terms : Option Terms) (orders : List CallOrder) (ceilings : List ℕ)
+    (day : ℕ) (before : Moment) (done : DayRecord) (after : Moment) : Type 0 where
   pub number : done.day ≡ day
   pub is_day : IsDay terms orders ceilings before.desk.present done after.desk.present
-  pub laws : KeepsLaws terms orders ceilings before.desk.present done after.desk.present
-  pub few : length done.passes ≤ length before.desk.present.dossier.wishes + 1
   pub opening : after.desk.opening
       ≡ last_opening orders day 1 (morning terms day before.desk.present) done.passes
-  pub places : IsDayIn before.desk.present.dossier done
-  pub stamps : KeepsStamps day before.desk.present after.desk.present
   pub told : after.told ≡ before.told ++ schools_of_passes done.passes
   pub chosen : AreChosenPasses orders ceilings day 1 (morning terms day before.desk.present)
       before.choice before.told done.passes
+
+-- what follows from the rule over a valid dossier: the day keeps the laws of days, has at most one
+-- pass more than wishes, is recorded by places of the dossier, and stamps no mark later than itself
+pub record FollowsFromDay (terms : Option Terms) (orders : List CallOrder) (ceilings : List ℕ)
+    (day : ℕ) (old : State) (done : DayRecord) (evening : State) : Type 0 where
+  pub laws : KeepsLaws terms orders ceilings old done evening
+  pub few : length done.passes ≤ length old.dossier.wishes + 1
+  pub places : IsDayIn old.dossier done
+  pub stamps : KeepsStamps day old evening
+
+-- a day that came about
+pub record IsDayDone (terms : Option Terms) (orders : List CallOrder) (ceilings : List ℕ) (day : ℕ)
+    (before : Moment) (done : DayRecord) (after : Moment) : Type 0 where
+  pub rule : IsDayByRule terms orders ceilings day before done after
+  pub follows : FollowsFromDay terms orders ceilings day before.desk.present done
+      after.desk.present
 
 -- before an unfit answer a picker told of nothing; where memory ran out, what it told before is a
 -- prefix of what it tells now

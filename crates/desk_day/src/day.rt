@@ -14,6 +14,7 @@ ghost use Rattle.linked_demand.specs.Lineups.{IsLineupOf};
 use crate::answers_on::answer;
 use crate::desk::{Desk, keep_evening};
 use crate::evening::record_day;
+use crate::idle::is_idle;
 use crate::lapses::lapse_offers;
 use crate::passes::make_passes;
 use crate::refusal::DayRefusal;
@@ -46,6 +47,7 @@ pub fn run_day_along(
         (record { desk = desk.old; told = told picker.old; choice = choice picker.old })
         (record { desk = desk.new; told = told picker.new; choice = choice picker.new }) result }
 {
+    let _ = desk.present.marks(); // one for each wish
     keep_evening(&mut desk.evening, &desk.present, desk.is_alike);
     let outcome = play(
         alloc,
@@ -62,12 +64,17 @@ pub fn run_day_along(
         picker,
     );
     desk.is_alike = false;
-    if outcome.is_err() {
-        desk.present.set_from(&desk.evening);
-    } else {
-        desk.is_answered = true;
+    match outcome {
+        Ok(done) => {
+            desk.is_alike = desk.is_answered && is_idle(desk.present.dossier(), &done);
+            desk.is_answered = true;
+            Ok(done)
+        }
+        Err(refusal) => {
+            desk.present.set_from(&desk.evening);
+            Err(refusal)
+        }
     }
-    outcome
 }
 
 /// Makes the lapse, the answers and the passes of a day. A refusal may come in their midst.

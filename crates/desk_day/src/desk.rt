@@ -13,7 +13,8 @@ use std::marker::Model;
 ///
 /// It also knows whether all have been answered for in the present state, as after each day: the
 /// next day then asks fewer, whose wishes are listed in `beside`. And it knows whether all three
-/// states are the same, as before the first day: then none has to be copied.
+/// states are the same, as before the first day and after one on which nothing happened: then none
+/// has to be copied.
 pub struct Desk<'d> {
     pub(crate) present: DayState<'d>,
     pub(crate) evening: DayState<'d>,

@@ -10,6 +10,7 @@ mod changes;
 mod day;
 mod desk;
 mod evening;
+mod idle;
 mod lapses;
 mod morning;
 mod once;

@@ -136,15 +136,14 @@ held_places = record {
 
 held_is_done : IsDayDone None two_candidates (9 ∷ []) 1 (desk_at held_start []) held_day (desk_at held_bed_evening (0 ∷ []))
 held_is_done = record {
-  number = refl;
-  is_day = held_is_day;
-  laws = laws_kept None two_candidates (9 ∷ []) held_start held_day held_bed_evening (valid_by held_bed refl) held_called refl held_is_day;
-  few = lit≤ tt;
-  opening = refl;
-  places = held_places;
-  stamps = stamps_kept None two_candidates (9 ∷ []) held_start held_day held_bed_evening held_is_day;
-  told = refl;
-  chosen = ((refl, tt), tt);
+  rule = record { number = refl; is_day = held_is_day; opening = refl; told = refl; chosen = ((refl, tt), tt) };
+  follows = record {
+    laws = laws_kept None two_candidates (9 ∷ []) held_start held_day held_bed_evening (valid_by held_bed refl)
+        held_called refl held_is_day;
+    few = lit≤ tt;
+    places = held_places;
+    stamps = stamps_kept None two_candidates (9 ∷ []) held_start held_day held_bed_evening held_is_day;
+  };
 }
 
 pub desks_end_so_here : DesksEndSoWitness

@@ -138,6 +138,15 @@ module _ (terms : Option Terms) (orders : List CallOrder) (k : ℕ) (s next : St
   pub days_stop : (found : Unproved) (whole : Option Unproved) → whole ≡ why_none terms orders k s (chain ∷ rest) → StopsBy found (why_not terms orders k s chain) → StopsBy found whole
   days_stop found whole e stops = why_stops found (why_not terms orders k s chain) (why_none terms orders (k + 1) (evening_by terms orders k s chain) rest) whole e stops
 
+-- the same days along the same orders from the same evening
+module _ {terms told : Option Terms} {orders lent : List CallOrder} {first begun : State} (days : List DayChain)
+    (as_told : told ≡ terms) (as_lent : lent ≡ orders) (as_begun : begun ≡ first) where
+  pub why_alike : why_none told lent 1 begun days ≡ why_none terms orders 1 first days
+  why_alike = λ i. why_none (as_told i) (as_lent i) 1 (as_begun i) days
+
+  pub evening_alike : evening_after told lent 1 begun days ≡ evening_after terms orders 1 first days
+  evening_alike = λ i. evening_after (as_told i) (as_lent i) 1 (as_begun i) days
+
 -- a run is done where nothing is against its days
 pub proof_ends : (d : DossierRows) (found : Option Unproved) (whole : List ℕ) (exit : Exit) (text : List ℕ) → found ≡ None → IsReply exits.Done whole exit text → EndsProof d found whole exit text
 proof_ends d found whole exit text none is = subst (λ (o : Option Unproved). EndsProof d o whole exit text) (sym none) is

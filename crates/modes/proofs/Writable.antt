@@ -137,13 +137,13 @@ day_written : (plan : Plan) (d : DossierRows) (dated : Option DatedTerms) (k : �
     → IfSome dated (AreDatedFor d) → k ≤ 366 → IsBefore d dated old.present → IsNext plan k old before day new → CanBeWritten d dated day × IsBefore d dated new.present
 day_written plan d dated k old before day new terms is few known next = (
   record {
-    passes = λ n x lt. falls_of d _ (subst (λ (e : DossierRows). IsPassIn e (get_or day.passes n x)) known.dossier (next.done.places.passes n x lt));
+    passes = λ n x lt. falls_of d _ (subst (λ (e : DossierRows). IsPassIn e (get_or day.passes n x)) known.dossier (next.done.follows.places.passes n x lt));
     lapses =
         subst (λ (e : DossierRows). IfSome dated (λ x. All (IsLapseOf e x.start x.terms.term) day.lapsed)) known.dossier
         (lapses_where old.present dated day.day day.lapsed (subst (λ (e : DossierRows). IfSome dated (AreDatedFor e)) (sym known.dossier) is) known.stamped
-        (subst (λ t. day.lapsed ≡ lapsed_on t day.day old.present) terms next.done.is_day.lapsed));
+        (subst (λ t. day.lapsed ≡ lapsed_on t day.day old.present) terms next.done.rule.is_day.lapsed));
   },
-  record { dossier = next.dossier ∙ known.dossier; stamped = next.done.stamps 366 few known.stamped },
+  record { dossier = next.dossier ∙ known.dossier; stamped = next.done.follows.stamps 366 few known.stamped },
 )
 
 days_written : (plan : Plan) (d : DossierRows) (dated : Option DatedTerms) (k : ℕ) (old : DeskStates) (before : Lent) (days : List DayRecord) (new : DeskStates) → plan.terms ≡ terms_in dated

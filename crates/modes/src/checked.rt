@@ -20,10 +20,11 @@ use crate::replay::push_final_lines;
 use crate::reply::Reply;
 use crate::unproved::Unproved;
 use admit_core::{CallOrders, DayChain, Dossier, OutOfMemory, Terms};
-use certificate::{ChainRefusal, Verdict, chain_fault_text, check_day, read_chain, verdict_text};
+use certificate::{
+    ChainRefusal, Grounds, Verdict, chain_fault_text, check_day_along, read_chain, verdict_text,
+};
 use day_state::DayState;
 use desk_day::{ceilings_on, make_morning};
-use dossier_check::Index;
 use intake::{DatedTerms, Input};
 use report::refusal_text;
 use std::alloc::Global;
@@ -31,25 +32,23 @@ use std::alloc::Global;
 /// Tests the chain of a day in its morning, and leaves the evening of the day.
 fn check_morning<'d>(
     alloc: Global,
-    index: &Index,
-    orders: &CallOrders,
+    grounds: &Grounds<'_>,
     ceilings: &[u32],
     state: &mut DayState<'d>,
     day: u32,
     chain: &DayChain,
 ) -> Result<(), Unproved>
-    requires index { index.now ≡ ids_in state.old.dossier }
-    requires orders { AreCallOrders state.old.dossier.groups orders.now.orders }
+    requires same { grounds.now.dossier ≡ state.old.dossier }
     requires ceilings { length ceilings.now ≡ length state.old.dossier.schools }
     requires passes { length chain.now.passes < 2 ^ 32 }
 
     ensures found { TellsWhy result (option_map (λ x. whys.Rejected x.0 x.1)
-        (day_fault orders.now.orders ceilings.now day state.old chain.now)) }
-    ensures valid { OnOk result (IsDayChain orders.now.orders ceilings.now day state.old
+        (day_fault grounds.now.orders ceilings.now day state.old chain.now)) }
+    ensures valid { OnOk result (IsDayChain grounds.now.orders ceilings.now day state.old
         chain.now state.new) }
     ensures school { IfErr result (KeepsIn (length state.old.dossier.schools)) }
 {
-    match check_day(alloc, index, orders, state, ceilings, day, chain)? {
+    match check_day_along(alloc, grounds, state, ceilings, day, chain)? {
         Verdict::Proved { evening } => {
             *state = evening;
             Ok(())
@@ -61,57 +60,53 @@ fn check_morning<'d>(
 /// Tests the chain of a day from the evening before, and leaves the evening of the day.
 fn check_next(
     alloc: Global,
-    index: &Index,
-    orders: &CallOrders,
+    grounds: &Grounds<'_>,
     terms: Option<&Terms>,
     state: &mut DayState<'_>,
     day: u32,
     chain: &DayChain,
 ) -> Result<(), Unproved>
-    requires index { index.now ≡ ids_in state.old.dossier }
-    requires orders { AreCallOrders state.old.dossier.groups orders.now.orders }
+    requires same { grounds.now.dossier ≡ state.old.dossier }
     requires terms { AreTermsFor state.old.dossier (option_copied terms) }
     requires passes { length chain.now.passes < 2 ^ 32 }
 
-    ensures found { TellsWhy result (why_not (option_copied terms.entry) orders.now.orders day
+    ensures found { TellsWhy result (why_not (option_copied terms.entry) grounds.now.orders day
         state.old chain.now) }
     ensures evening { OnOk result (state.new ≡ evening_by (option_copied terms.entry)
-        orders.now.orders day state.old chain.now) }
+        grounds.now.orders day state.old chain.now) }
     ensures dossier { OnOk result (state.new.dossier ≡ state.old.dossier) }
     ensures stamps { OnOk result (KeepsStamps day state.old state.new) }
     ensures school { IfErr result (KeepsIn (length state.old.dossier.schools)) }
 {
     let ceilings = ceilings_on(alloc, state.dossier(), day)?;
     make_morning(state, terms, day)?;
-    check_morning(alloc, index, orders, &ceilings, state, day, chain)
+    check_morning(alloc, grounds, &ceilings, state, day, chain)
 }
 
 /// Tests the days of a chain from day 1 on, and leaves the evening of the last.
 fn check_days(
     alloc: Global,
-    index: &Index,
-    orders: &CallOrders,
+    grounds: &Grounds<'_>,
     terms: Option<&Terms>,
     state: &mut DayState<'_>,
     days: &[DayChain],
 ) -> Result<(), Unproved>
-    requires index { index.now ≡ ids_in state.old.dossier }
-    requires orders { AreCallOrders state.old.dossier.groups orders.now.orders }
+    requires same { grounds.now.dossier ≡ state.old.dossier }
     requires terms { AreTermsFor state.old.dossier (option_copied terms) }
     requires days { length days.now ≤ 366 }
     requires passes { All (λ day. length day.passes < 2 ^ 32) days.now }
 
-    ensures found { TellsWhy result (why_none (option_copied terms.entry) orders.now.orders 1
+    ensures found { TellsWhy result (why_none (option_copied terms.entry) grounds.now.orders 1
         state.old days.now) }
     ensures evening { OnOk result (state.new ≡ evening_after (option_copied terms.entry)
-        orders.now.orders 1 state.old days.now) }
+        grounds.now.orders 1 state.old days.now) }
     ensures dossier { OnOk result (state.new.dossier ≡ state.old.dossier) }
     ensures stamps { OnOk result (All (IsStampedBy 366) state.old.marks → All (IsStampedBy 366)
         state.new.marks) }
     ensures school { IfErr result (KeepsIn (length state.old.dossier.schools)) }
 {
     for (place, chain) in days.iter().enumerate() {
-        check_next(alloc, index, orders, terms, state, place as u32 + 1, chain)?;
+        check_next(alloc, grounds, terms, state, place as u32 + 1, chain)?;
     }
     Ok(())
 }
@@ -180,15 +175,9 @@ fn check_chain(
         (option_copied dated.entry))
         reply.exit reply.text.items) }
 {
+    let grounds = Grounds::build(alloc, &input.index, orders, first)?;
     let mut state = first.copy(alloc)?;
-    match check_days(
-        alloc,
-        &input.index,
-        orders,
-        terms_in(dated),
-        &mut state,
-        days,
-    ) {
+    match check_days(alloc, &grounds, terms_in(dated), &mut state, days) {
         Ok(()) => Ok(reply(Exit::Done, proved_text(alloc, days.len(), &state, dated)?)),
         Err(why) => unproved(alloc, &input.dossier, why),
     }

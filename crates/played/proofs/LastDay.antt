@@ -29,7 +29,7 @@ next_ends plan d rows old before day new called same next =
     (ceilings_of rows day.day) (last_bars day.passes) d (moment_of plan d old before)
     (moment_of plan d new (lent_after plan.who day before)) day
     (subst (λ (e : DossierRows). AreCallOrders e.groups plan.orders) (sym same) called) (length-ceilings_of old.present.dossier d) next.done
-    (ap (λ (e : DossierRows). ceilings_of e d) same ∙ ap (ceilings_of rows) (sym next.done.number)) refl
+    (ap (λ (e : DossierRows). ceilings_of e d) same ∙ ap (ceilings_of rows) (sym next.done.rule.number)) refl
 
 -- the last of several days is the last of all but the first
 last_later : (one two : DayRecord) (days : List DayRecord) (day : DayRecord) → IsLastOf (one ∷ two ∷ days) day → IsLastOf (two ∷ days) day

@@ -52,8 +52,8 @@ module _ (plan : Plan) (d : ℕ) (old new : DeskStates) (before after : Lent) (o
       (moment_of plan d old before) day (record { desk = new; told = told; choice = choice }) in
       record {
         done = subst (λ choice. P (before.told name ++ picked_by plan.who name (day ∷ [])) choice) ends.choice
-            (subst (λ told. P told (after.choice name)) (ends.done.told
-            ∙ ap (λ l. before.told name ++ l) (sym (picked day ends.done.number))) ends.done);
+            (subst (λ told. P told (after.choice name)) (ends.done.rule.told
+            ∙ ap (λ l. before.told name ++ l) (sym (picked day ends.done.rule.number))) ends.done);
         evening = ends.evening;
         dossier = ends.dossier;
       }
@@ -61,10 +61,10 @@ module _ (plan : Plan) (d : ℕ) (old new : DeskStates) (before after : Lent) (o
   pub ends_at : (r : Result DayRecord DayRefusal) → Ends r → EndsNext plan d old before r new after
   ends_at (Ok day) ends = record {
     done = is_next day ends;
-    told = told_on day ends.done.number ends.done.told;
+    told = told_on day ends.done.rule.number ends.done.rule.told;
     unfit = tt;
     untold = tt;
-    back = record { choice = choices ends.choice; told = more (schools_of_passes day.passes, ends.done.told) };
+    back = record { choice = choices ends.choice; told = more (schools_of_passes day.passes, ends.done.rule.told) };
   }
   ends_at (Err (refusals.Unfit refusal)) ends = record {
     done = tt;

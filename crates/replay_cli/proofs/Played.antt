@@ -81,7 +81,7 @@ job_ends job request d ids chain dates dated before between after played exit te
 lead_days : (plan : Plan) (d : ℕ) (old : DeskStates) (before : Lent) (days : List DayRecord) (new : DeskStates) → Lead plan d old before days new → Days plan.terms plan.orders d old.present days new.present
 lead_days plan d old before [] new same = ap (λ (desk : DeskStates). desk.present) same
 lead_days plan d old before (day ∷ days) new lead =
-    (lead.0.present, lead.1.done.number, lead.1.done.is_day, lead_days plan (d + 1) lead.0 (lent_after plan.who day before) days new lead.2)
+    (lead.0.present, lead.1.done.rule.number, lead.1.done.rule.is_day, lead_days plan (d + 1) lead.0 (lent_after plan.who day before) days new lead.2)
 
 end_exit : (mode : Mode) (seen : Seen) (played : Played) (desk : DeskStates) (exit : Exit) (text : List ℕ) → IsEndOf mode seen played desk exit text → IsAfterDays exit
 end_exit modes.Order seen played desk exit text ends = is_after exit exits.Done ends.0 tt

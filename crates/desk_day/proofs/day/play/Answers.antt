@@ -90,14 +90,19 @@ returns-clause-done g c =
       free = refl;
     } in
     done_so _ _ _ _ _ _ _ done c.in_ok-done.ensures (record {
-      number = refl;
-      is_day = is;
-      laws = laws_kept terms orders ceilings s done evening valid c.requires.orders c.requires.ceilings is;
-      few = subst (λ (d : DossierRows). length passes ≤ length d.wishes + 1) c.begin_day.ensures.dossier c.in_ok-passes.ensures.few;
-      opening = c.in_ok-passes.ensures.opening ∙ ap (λ (m : State). last_opening orders day 1 m passes) morning;
-      places = day_in terms orders ceilings s done evening c.requires.before c.requires.ceilings is;
-      stamps = stamps_kept terms orders ceilings s done evening is;
-      told = c.in_ok-passes.ensures.told;
-      chosen = subst (λ (m : State). AreChosenPasses orders ceilings day 1 m (first.choice c.args.picker.now.1)
-          (first.told c.args.picker.now.1) passes) morning c.in_ok-passes.ensures.chosen;
+      rule = record {
+        number = refl;
+        is_day = is;
+        opening = c.in_ok-passes.ensures.opening ∙ ap (λ (m : State). last_opening orders day 1 m passes) morning;
+        told = c.in_ok-passes.ensures.told;
+        chosen = subst (λ (m : State). AreChosenPasses orders ceilings day 1 m (first.choice c.args.picker.now.1)
+            (first.told c.args.picker.now.1) passes) morning c.in_ok-passes.ensures.chosen;
+      };
+      follows = record {
+        laws = laws_kept terms orders ceilings s done evening valid c.requires.orders c.requires.ceilings is;
+        few = subst (λ (d : DossierRows). length passes ≤ length d.wishes + 1) c.begin_day.ensures.dossier
+            c.in_ok-passes.ensures.few;
+        places = day_in terms orders ceilings s done evening c.requires.before c.requires.ceilings is;
+        stamps = stamps_kept terms orders ceilings s done evening is;
+      };
     })

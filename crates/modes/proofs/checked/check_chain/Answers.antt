@@ -1,27 +1,33 @@
 use Rattle.std.proofs.Common.{◌≡◌, ◌∙◌, None, Option, ap, length, subst, sym}
 use Rattle.std.specs.Option.{option_copied}
+use Rattle.std.proofs.lemmas.Result.{IfOk-weaker}
 use Rattle.admit_core.specs.CallOrder.{AreCallOrders}
 use Rattle.admit_core.specs.Days.{first_evening}
 use Rattle.admit_core.specs.Lapses.{AreTermsFor}
 use Rattle.admit_core.specs.State.{State}
 use Rattle.admit_core.specs.declared.records.Terms.{Terms}
 use Rattle.certificate.specs.Checked.{ids_in}
+use Rattle.certificate.specs.Grounds.{Ground}
 use Rattle.certificate.specs.ProvedDays.{evening_after}
 use Rattle.intake.specs.Dated.{terms_in}
 use Rattle.intake.proofs.DatedOffers.{terms_known}
-use Rattle.modes.specs.CheckedDays.{KeepsIn}
+use Rattle.modes.specs.CheckedDays.{KeepsIn, StopsBy}
 use Rattle.modes.specs.Checking.{proved_text, why_none}
-use Rattle.modes.proofs.CheckedDay.{evening_dated, proof_ends}
+use Rattle.modes.proofs.CheckedDay.{evening_alike, evening_dated, proof_ends, stop_ends, why_alike}
 use Rattle.modes.proofs.checked.check_chain.Goals as goal
 
-pub check_days-requires-clause-index : goal.check_days-requires-clause-index
-check_days-requires-clause-index c =
-    c.requires.index ∙ ap (λ (s : State). ids_in s.dossier) (sym (c.in_ok-state.ensures ∙ c.requires.first))
+pub build-requires-clause-index : goal.build-requires-clause-index
+build-requires-clause-index c = c.requires.index ∙ ap (λ (s : State). ids_in s.dossier) (sym c.requires.first)
 
-pub check_days-requires-clause-orders : goal.check_days-requires-clause-orders
-check_days-requires-clause-orders c =
-    subst (λ (s : State). AreCallOrders s.dossier.groups c.args.orders.now.orders)
-    (sym (c.in_ok-state.ensures ∙ c.requires.first)) c.requires.orders
+pub build-requires-clause-orders : goal.build-requires-clause-orders
+build-requires-clause-orders c =
+    subst (λ (s : State). AreCallOrders s.dossier.groups c.args.orders.now.orders) (sym c.requires.first)
+    c.requires.orders
+
+pub check_days-requires-clause-same : goal.check_days-requires-clause-same
+check_days-requires-clause-same c =
+    ap (λ (g : Ground). g.dossier) c.in_ok-grounds.ensures
+    ∙ ap (λ (s : State). s.dossier) (sym c.in_ok-state.ensures)
 
 pub check_days-requires-clause-terms : goal.check_days-requires-clause-terms
 check_days-requires-clause-terms c =
@@ -48,11 +54,29 @@ returns-in-Ok c =
     let dated = option_copied c.args.dated in
     let orders = c.args.orders.now.orders in
     let days = c.args.days.now in
-    let told = option_copied c.terms_in.result in
+    let lent = ap (λ (g : Ground). g.orders) c.in_ok-grounds.ensures in
     let begun : c.in_ok-state.state ≡ first_evening d = c.in_ok-state.ensures ∙ c.requires.first in
     let none : why_none (terms_in dated) orders 1 (first_evening d) days ≡ None =
-    ap (λ (t : Option Terms). why_none t orders 1 (first_evening d) days) (sym c.terms_in.ensures) ∙ ap (λ (s : State). why_none told orders 1 s days) (sym begun) ∙ c.in-Ok.ensures.found in
+    sym (why_alike days c.terms_in.ensures lent begun) ∙ c.in-Ok.ensures.found in
     let evening : c.check_days.new.state ≡ evening_after (terms_in dated) orders 1 (first_evening d) days =
-    c.in-Ok.ensures.evening ∙ ap (λ (s : State). evening_after told orders 1 s days) begun ∙ ap (λ (t : Option Terms). evening_after t orders 1 (first_evening d) days) c.terms_in.ensures in
-    proof_ends d _ (proved_text (length days) (evening_after (terms_in dated) orders 1 (first_evening d) days) dated) _ _ none
-    (c.reply.ensures.0, c.reply.ensures.1 ∙ c.in_ok-proved_text-in-Ok.ensures ∙ ap (λ (s : State). proved_text (length days) s dated) evening)
+    c.in-Ok.ensures.evening ∙ evening_alike days c.terms_in.ensures lent begun in
+    proof_ends d _ (proved_text (length days)
+    (evening_after (terms_in dated) orders 1 (first_evening d) days) dated) _ _ none (
+      c.reply.ensures.0,
+      c.reply.ensures.1 ∙ c.in_ok-proved_text-in-Ok.ensures
+          ∙ ap (λ (s : State). proved_text (length days) s dated) evening,
+    )
+
+pub returns : goal.returns
+returns c =
+    let d = c.args.input.now.dossier in
+    let dated = option_copied c.args.dated in
+    let orders = c.args.orders.now.orders in
+    let days = c.args.days.now in
+    let lent = ap (λ (g : Ground). g.orders) c.in_ok-grounds.ensures in
+    let begun : c.in_ok-state.state ≡ first_evening d = c.in_ok-state.ensures ∙ c.requires.first in
+    let stops = subst (StopsBy c.in-Err.why) (why_alike days c.terms_in.ensures lent begun) c.in-Err.ensures.found in
+    IfOk-weaker c.unproved.result _ _ (λ reply is. stop_ends d c.in-Err.why
+    (why_none (terms_in dated) orders 1 (first_evening d) days)
+    (proved_text (length days) (evening_after (terms_in dated) orders 1 (first_evening d) days) dated)
+    reply.exit reply.text.items stops is) c.unproved.ensures

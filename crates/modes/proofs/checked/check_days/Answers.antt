@@ -1,21 +1,15 @@
 use Rattle.std.proofs.Common.{◌∙◌, ◌+◌, ◌≤◌, ap, arith, drop, subst, sym}
 use Rattle.std.specs.Option.{option_copied}
-use Rattle.admit_core.specs.CallOrder.{AreCallOrders}
 use Rattle.admit_core.specs.DossierRows.{DossierRows}
 use Rattle.admit_core.specs.Lapses.{AreTermsFor}
 use Rattle.certificate.proofs.Lowering.{drop_item}
-use Rattle.certificate.specs.Checked.{ids_in}
 use Rattle.certificate.specs.ProvedDays.{evening_after}
 use Rattle.modes.specs.Checking.{why_none}
 use Rattle.modes.proofs.CheckedDay.{days_go_on, evening_goes_on}
 use Rattle.modes.proofs.checked.check_days.Goals as goal
 
-pub check_next-requires-clause-index : goal.check_next-requires-clause-index
-check_next-requires-clause-index c = c.requires.index ∙ ap ids_in (sym c.loop-place.invariant.dossier)
-
-pub check_next-requires-clause-orders : goal.check_next-requires-clause-orders
-check_next-requires-clause-orders c =
-    subst (λ (d : DossierRows). AreCallOrders d.groups c.args.orders.now.orders) (sym c.loop-place.invariant.dossier) c.requires.orders
+pub check_next-requires-clause-same : goal.check_next-requires-clause-same
+check_next-requires-clause-same c = c.requires.same ∙ sym c.loop-place.invariant.dossier
 
 pub check_next-requires-clause-terms : goal.check_next-requires-clause-terms
 check_next-requires-clause-terms c =
@@ -25,7 +19,7 @@ check_next-requires-clause-terms c =
 pub loop-place-preserved : goal.loop-place-preserved
 loop-place-preserved c =
     let terms = option_copied c.args.terms in
-    let orders = c.args.orders.now.orders in
+    let orders = c.args.grounds.now.orders in
     let days = c.args.days.now in
     let i = c.loop-place.place in
     let s = c.loop-place.state in

@@ -8,7 +8,7 @@ use Rattle.modes.proofs.checked.check_days.Given as goal
 abbrev pub invariant-loop-place : goal.invariant-loop-place
 invariant-loop-place l =
     let terms = option_copied l.terms in
-    let orders = l.orders.orders in
+    let orders = l.grounds.orders in
     let rest = drop l.place l.days in
     record {
       why : why_none terms orders 1 l.fn.state l.days ≡ why_none terms orders (l.place + 1) l.state rest;

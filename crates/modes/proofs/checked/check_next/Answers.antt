@@ -1,21 +1,14 @@
 use Rattle.std.proofs.Common.{◌∙◌, IfErr, ap, length, subst, sym}
 use Rattle.std.specs.Option.{option_copied}
 use Rattle.std.proofs.lemmas.Result.{on_ok_weaker}
-use Rattle.admit_core.specs.CallOrder.{AreCallOrders}
 use Rattle.admit_core.specs.Days.{ceilings_of}
 use Rattle.admit_core.specs.DossierRows.{DossierRows}
-use Rattle.certificate.specs.Checked.{ids_in}
 use Rattle.modes.specs.CheckedDays.{KeepsIn}
 use Rattle.modes.proofs.CheckedDay.{chain_tells, keeps_dossier, keeps_stamps, leads}
 use Rattle.modes.proofs.checked.check_next.Goals as goal
 
-pub check_morning-requires-clause-index : goal.check_morning-requires-clause-index
-check_morning-requires-clause-index c = c.requires.index ∙ ap ids_in (sym c.make_morning.ensures.dossier)
-
-pub check_morning-requires-clause-orders : goal.check_morning-requires-clause-orders
-check_morning-requires-clause-orders c =
-    subst (λ (d : DossierRows). AreCallOrders d.groups c.args.orders.now.orders) (sym c.make_morning.ensures.dossier)
-    c.requires.orders
+pub check_morning-requires-clause-same : goal.check_morning-requires-clause-same
+check_morning-requires-clause-same c = c.requires.same ∙ sym c.make_morning.ensures.dossier
 
 pub check_morning-requires-clause-ceilings : goal.check_morning-requires-clause-ceilings
 check_morning-requires-clause-ceilings c =
@@ -26,7 +19,7 @@ pub returns-clause-found : goal.returns-clause-found
 returns-clause-found c =
     let under = c.deref.ensures.value ∙ c.in_ok-ceilings.ensures.ceilings
     ∙ ap (λ (d : DossierRows). ceilings_of d c.args.day) c.dossier.ensures in
-    chain_tells (option_copied c.args.terms) c.args.orders.now.orders c.args.day c.args.state.now c.make_morning.new.state
+    chain_tells (option_copied c.args.terms) c.args.grounds.now.orders c.args.day c.args.state.now c.make_morning.new.state
     c.deref.result.now c.args.chain.now
     c.in_ok-make_morning.ensures.fits c.in_ok-make_morning.ensures.morning under c.check_morning.result
     c.check_morning.ensures.found
@@ -41,7 +34,7 @@ returns-clause-evening c =
     let under = c.deref.ensures.value ∙ c.in_ok-ceilings.ensures.ceilings
     ∙ ap (λ (d : DossierRows). ceilings_of d c.args.day) c.dossier.ensures in
     on_ok_weaker c.check_morning.result
-    (leads (option_copied c.args.terms) c.args.orders.now.orders c.args.day c.args.state.now c.make_morning.new.state
+    (leads (option_copied c.args.terms) c.args.grounds.now.orders c.args.day c.args.state.now c.make_morning.new.state
     c.deref.result.now c.args.chain.now
     c.in_ok-make_morning.ensures.fits c.in_ok-make_morning.ensures.morning under c.check_morning.new.state) c.check_morning.ensures.valid
 
@@ -50,7 +43,7 @@ returns-clause-dossier c =
     let under = c.deref.ensures.value ∙ c.in_ok-ceilings.ensures.ceilings
     ∙ ap (λ (d : DossierRows). ceilings_of d c.args.day) c.dossier.ensures in
     on_ok_weaker c.check_morning.result
-    (keeps_dossier (option_copied c.args.terms) c.args.orders.now.orders c.args.day c.args.state.now c.make_morning.new.state
+    (keeps_dossier (option_copied c.args.terms) c.args.grounds.now.orders c.args.day c.args.state.now c.make_morning.new.state
     c.deref.result.now c.args.chain.now
     c.in_ok-make_morning.ensures.fits c.in_ok-make_morning.ensures.morning under c.check_morning.new.state) c.check_morning.ensures.valid
 
@@ -59,6 +52,6 @@ returns-clause-stamps c =
     let under = c.deref.ensures.value ∙ c.in_ok-ceilings.ensures.ceilings
     ∙ ap (λ (d : DossierRows). ceilings_of d c.args.day) c.dossier.ensures in
     on_ok_weaker c.check_morning.result
-    (keeps_stamps (option_copied c.args.terms) c.args.orders.now.orders c.args.day c.args.state.now c.make_morning.new.state
+    (keeps_stamps (option_copied c.args.terms) c.args.grounds.now.orders c.args.day c.args.state.now c.make_morning.new.state
     c.deref.result.now c.args.chain.now
     c.in_ok-make_morning.ensures.fits c.in_ok-make_morning.ensures.morning under c.check_morning.new.state) c.check_morning.ensures.valid

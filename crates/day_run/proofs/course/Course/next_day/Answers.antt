@@ -22,7 +22,7 @@ keep_bars-requires g c =
     ∙ ap (λ (d : DossierRows). length d.schools) (c.dossier.ensures ∙ ap (λ (s : State). s.dossier) c.now.ensures) in
     c.self.invariant.progress.bars
     ∙ sym (ap (λ (l : List PassEnd). length (last_bars l)) c.as_slice-2.ensures
-    ∙ last_bars_long _ _ _ _ _ _ c.in_ok-done.done.passes c.in_ok-done.ensures.done.is_day.passes ∙ schools)
+    ∙ last_bars_long _ _ _ _ _ _ c.in_ok-done.done.passes c.in_ok-done.ensures.done.rule.is_day.passes ∙ schools)
 
 pub invariant_of-self-2 : goal.invariant_of-self-2
 invariant_of-self-2 g c =
@@ -37,7 +37,7 @@ invariant_of-self-2 g c =
         bars =
             ap (λ (l : List ℕ). length l) c.keep_bars.ensures
             ∙ ap (λ (l : List PassEnd). length (last_bars l)) c.as_slice-2.ensures
-            ∙ last_bars_long _ _ _ _ _ _ c.in_ok-done.done.passes c.in_ok-done.ensures.done.is_day.passes
+            ∙ last_bars_long _ _ _ _ _ _ c.in_ok-done.done.passes c.in_ok-done.ensures.done.rule.is_day.passes
             ∙ schools
             ∙ ap (λ (d : DossierRows). length d.schools) (sym c.run_day_along.ensures.dossier);
         last = λ _.
