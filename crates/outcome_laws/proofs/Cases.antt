@@ -36,6 +36,8 @@ own_texts_are_proved_here =
 pub markets_tell_the_best_here : MarketsTellTheBestWitness
 markets_tell_the_best_here =
     let valid = valid_by crossed_wishes refl in
-    let orders_called : AreCallOrders crossed_wishes.groups crossed_orders = (called 2 _ _ refl (refl, (refl, tt)) (λ k. refl), (called 2 _ _ refl (refl, (refl, tt)) (λ k. refl), tt)) in
-    let tells : TellsMarket crossed_wishes crossed_orders _ = record { bars = 2 ∷ 2 ∷ []; greatest = crossed_bars; is_text = refl } in
+    let orders_called : AreCallOrders crossed_wishes.groups crossed_orders =
+    (called 2 _ _ refl (refl, (refl, tt)) (λ k. refl), (called 2 _ _ refl (refl, (refl, tt)) (λ k. refl), tt)) in
+    let tells : TellsMarket crossed_wishes crossed_orders _ =
+    record { bars = 2 ∷ 2 ∷ []; greatest = crossed_bars; is_text = refl } in
     (valid, orders_called, tells, markets_tell_the_best crossed_wishes crossed_orders _ valid orders_called tells)
