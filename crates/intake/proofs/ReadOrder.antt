@@ -17,9 +17,9 @@ use Rattle.intake.specs.declared.stop.Stop.TheVariants as stops
 
 -- the slots before a place of the order were read, into these files, and no other slot
 pub record AreReadTo (order : List Slot) (before after : OnShelf) (place : ℕ) (files : Files) : Type 0 where
-  pub files_are : (slots : Slot → List ℕ) → Tells before.left slots → files_in (take place order) slots ≡ Ok files
+  pub files_are : (slots : Slot → List ℕ) → Tells order before.left slots → files_in (take place order) slots ≡ Ok files
   pub ranges : AreTables files.tables
-  pub ends : (slots : Slot → List ℕ) → Tells before.left slots → (i : ℕ) (slot : Slot) → i < place → slice_index_or order i slot ≡ slot → after.left slot ≡ Some []
+  pub ends : (slots : Slot → List ℕ) → Tells order before.left slots → (i : ℕ) (slot : Slot) → i < place → slice_index_or order i slot ≡ slot → after.left slot ≡ Some []
   pub once : (i : ℕ) (slot : Slot) → i < place → slice_index_or order i slot ≡ slot → after.taken slot ≤ before.taken slot + 1073807360
   pub rest : (i : ℕ) (slot : Slot) → place ≤ i → i < length order → slice_index_or order i slot ≡ slot → after.left slot ≡ before.left slot
   pub rest_taken : (i : ℕ) (slot : Slot) → place ≤ i → i < length order → slice_index_or order i slot ≡ slot → after.taken slot ≡ before.taken slot
@@ -64,8 +64,8 @@ module _ (order : List Slot) (distinct : AllPairs (λ one other. one ≢ other) 
   taken_there : mid.taken slot ≡ before.taken slot
   taken_there = so_far.rest_taken place slot (omega arith) within is_there
 
-  told_there : (slots : Slot → List ℕ) → Tells before.left slots → mid.left slot ≡ Some (slots slot)
-  told_there slots tells = left_there ∙ tells slot
+  told_there : (slots : Slot → List ℕ) → Tells order before.left slots → mid.left slot ≡ Some (slots slot)
+  told_there slots tells = left_there ∙ tells slot (place, within, is_there)
 
   front : take (place + 1) order ≡ take place order ++ slot ∷ []
   front = take_more order place slot within ∙ ap (λ s. take place order ++ s ∷ []) is_there
@@ -123,7 +123,7 @@ module _ (order : List Slot) (distinct : AllPairs (λ one other. one ≢ other) 
   }
 
   -- the files that stop here or go on
-  onward : (slots : Slot → List ℕ) → Tells before.left slots
+  onward : (slots : Slot → List ℕ) → Tells order before.left slots
       → files_in order slots ≡ (with_slots files (slot ∷ []) slots >>= λ more. with_slots more (drop (place + 1) order) slots)
   onward slots tells =
       let parts = ap (λ xs. with_slots no_files xs slots) (sym (take-append-drop (place + 1) order)) in
@@ -131,14 +131,14 @@ module _ (order : List Slot) (distinct : AllPairs (λ one other. one ≢ other) 
 
   -- the size of the slot stops the reading
   pub size_stops : (stop : Stop) → ((read : List ℕ) → mid.left slot ≡ Some read → Stopped stop (sized slot read))
-      → (slots : Slot → List ℕ) → Tells before.left slots → Stopped stop (files_in order slots)
+      → (slots : Slot → List ℕ) → Tells order before.left slots → Stopped stop (files_in order slots)
   unfolding with_slots
   size_stops stop stopped slots tells =
       rw (onward slots tells) (stopped_then stop (with_slots files (slot ∷ []) slots) _ (stopped_then stop (sized slot (slots slot)) _ (stopped (slots slot) (told_there slots tells))))
 
   -- what it holds stops the reading
   pub rows_stop : (bytes : List ℕ) (fault : InFault) → ((read : List ℕ) → mid.left slot ≡ Some read → sized slot read ≡ Ok bytes) → Refuses fault (with_slot files slot bytes)
-      → (slots : Slot → List ℕ) → Tells before.left slots → Stopped (stop_of fault) (files_in order slots)
+      → (slots : Slot → List ℕ) → Tells order before.left slots → Stopped (stop_of fault) (files_in order slots)
   unfolding with_slots
   rows_stop bytes faults.OutOfMemory has refuses slots tells = tt
   rows_stop bytes (faults.Refused refusal) has refuses slots tells = rw (onward slots tells, has (slots slot) (told_there slots tells), refuses) refl
@@ -190,7 +190,7 @@ nothing_read order before files is ranges = record {
 }
 
 pub all_read : (order : List Slot) (before after : OnShelf) (place : ℕ) (files : Files) → length order ≤ place
-    → AreReadTo order before after place files → (slots : Slot → List ℕ) → Tells before.left slots → files_in order slots ≡ Ok files
+    → AreReadTo order before after place files → (slots : Slot → List ℕ) → Tells order before.left slots → files_in order slots ≡ Ok files
 all_read order before after place files end so_far slots tells =
     ap (λ xs. files_in xs slots) (sym (take_all place order end)) ∙ so_far.files_are slots tells
 

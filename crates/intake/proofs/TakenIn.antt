@@ -99,7 +99,7 @@ named_there (Some refusal) name files is = absurd (cc)
 
 module _ (request : Request) (before after : OnShelf) where
   -- what stops the files stops the job
-  pub stops_in : (stop : Stop) (r : Result Input Stop) → ((slots : Slot → List ℕ) → Tells before.left slots → Stopped stop (files_of request.mode slots))
+  pub stops_in : (stop : Stop) (r : Result Input Stop) → ((slots : Slot → List ℕ) → Tells (slots_of request.mode) before.left slots → Stopped stop (files_of request.mode slots))
       → (let q : Result Files Stop = Err stop in TakesSlots (slots_of request.mode) before after q) → IsErrAnd r (λ s. s ≡ stop) → TakesIn request before after r
   unfolding job_of
   stops_in stop (Ok input) stopped taken from = absurd from
@@ -116,7 +116,7 @@ module _ (request : Request) (before after : OnShelf) where
   }
 
   -- the files give the input, or are not accepted
-  pub takes_in : (files : Files) (r : Result Input Stop) → ((slots : Slot → List ℕ) → Tells before.left slots → files_of request.mode slots ≡ Ok files)
+  pub takes_in : (files : Files) (r : Result Input Stop) → ((slots : Slot → List ℕ) → Tells (slots_of request.mode) before.left slots → files_of request.mode slots ≡ Ok files)
       → IfSome (sample_of request.mode) (λ number. files.tables ≡ sample_tables number)
       → (let q : Result Files Stop = Ok files in TakesSlots (slots_of request.mode) before after q)
       → MatchResult r (IsInputFrom request.mode files) (λ stop. Stopped stop (tested request.mode files)) → IfErr r IsOfFiles → TakesIn request before after r

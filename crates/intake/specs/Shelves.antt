@@ -19,9 +19,9 @@ abbrev pub on_shelf : {S : Type 0} → (S → Slot → Option (List ℕ)) → (S
 on_shelf left taken faults shelf =
     record { left = left shelf; taken = taken shelf; faults = faults shelf }
 
--- the shelf tells these bytes
-abbrev pub Tells : (Slot → Option (List ℕ)) → (Slot → List ℕ) → Type 0
-Tells left slots = (slot : Slot) → left slot ≡ Some (slots slot)
+-- the shelf tells these bytes of the slots of the order
+abbrev pub Tells : List Slot → (Slot → Option (List ℕ)) → (Slot → List ℕ) → Type 0
+Tells order left slots = (slot : Slot) → Contains order slot → left slot ≡ Some (slots slot)
 
 -- the slot at a place of the order could not be read: its count rose, and the slots before it have
 -- their sizes and shapes
@@ -30,7 +30,7 @@ pub record IsFaultAt (order : List Slot) (before after : OnShelf) (slot : Slot) 
   pub within : place < length order
   pub is_there : slice_index_or order place slot ≡ slot
   pub rose : Rose (before.faults slot) (after.faults slot)
-  pub shapes : (slots : Slot → List ℕ) → Tells before.left slots
+  pub shapes : (slots : Slot → List ℕ) → Tells order before.left slots
       → IsOk (files_in (take place order) slots)
 
 -- one slot is read, of which no more is taken than one reading may take, and no other is touched
@@ -60,7 +60,7 @@ HasCause order before after stops.OutOfMemory = ⊤
 pub record TakesSlots {A : Type 0} (order : List Slot) (before after : OnShelf)
     (result : Result A Stop) : Type 0 where
   -- to their ends, where there is an answer and the shelf tells its bytes
-  pub ends : (slots : Slot → List ℕ) → Tells before.left slots
+  pub ends : (slots : Slot → List ℕ) → Tells order before.left slots
       → OnOk result ((slot : Slot) → Contains order slot → after.left slot ≡ Some [])
   -- of a slot no more is taken than one reading may take
   pub once : (slot : Slot) → Contains order slot → after.taken slot ≤ before.taken slot + 1073807360

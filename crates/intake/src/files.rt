@@ -160,7 +160,7 @@ pub(crate) fn read_slots<S: Shelf>(
     order: &[Slot],
 ) -> Result<Files, Stop>
     requires { AllPairs (λ one other. one ≢ other) order.now }
-    ensures value { (slots : Slot → List ℕ) → Tells (S.left shelf.old) slots
+    ensures value { (slots : Slot → List ℕ) → Tells order.now (S.left shelf.old) slots
         → Gives (λ files. files) result (Reading.files_in order.now slots) }
     ensures ranges { IfOk result (λ files. AreTables files.tables) }
     ensures slots { TakesSlots order.now

@@ -24,7 +24,7 @@ use std::alloc::Global;
 /// The files that a mode is about: those of a sample, or of the slots that it reads.
 fn files_of<S: Shelf>(alloc: Global, shelf: &mut S, mode: Mode) -> Result<Files, Stop>
     requires { IsMode mode }
-    ensures value { (slots : Slot → List ℕ) → Tells (S.left shelf.old) slots
+    ensures value { (slots : Slot → List ℕ) → Tells (Modes.slots_of mode) (S.left shelf.old) slots
         → Gives (λ files. files) result (Reading.files_of mode slots) }
     ensures ranges { IfOk result (λ files. AreTables files.tables) }
     ensures made { IfSome (Modes.sample_of mode) (λ number.

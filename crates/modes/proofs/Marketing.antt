@@ -5,10 +5,9 @@ use Rattle.admit_core.specs.Falls.{IsGreatest}
 use Rattle.admit_core.specs.declared.ranking.CallOrder.{CallOrder}
 use Rattle.bar_fixpoint.specs.Runs.{schools_of}
 use Rattle.desk_day.specs.DayPasses.{TellsMore}
-use Rattle.markets.specs.Bars.{market_system}
+use Rattle.markets.specs.Bars.{market_system, matched_under}
 use Rattle.markets.specs.Dossiers.{market_candidates, market_of}
 use Rattle.markets.specs.Markets.{MarketRows}
-use Rattle.markets.specs.Matchings.{IsBestForAll, IsStable}
 use Rattle.markets.specs.Solving.{IsLedTo}
 use Rattle.markets.specs.Text.{market_text}
 use Rattle.modes.specs.Asking.{TellsPicks}
@@ -16,15 +15,13 @@ use Rattle.modes.specs.Market.{PicksForMarket, TellsMarket}
 
 module _ (d : DossierRows) (orders : List CallOrder) (m : MarketRows) (same : m ≡ market_of d orders) where
   pub tells_market : (candidates bars : List ℕ) (places : List (Option ℕ)) (text : List ℕ) → candidates ≡ market_candidates d → IsGreatest (market_system m) bars
-      → IsStable m places → IsBestForAll m places → text ≡ market_text d candidates bars places → TellsMarket d orders text
-  tells_market candidates bars places text named greatest stable best is =
+      → places ≡ matched_under m bars → text ≡ market_text d candidates bars places → TellsMarket d orders text
+  tells_market candidates bars places text named greatest under is =
       record {
         bars = bars;
-        places = places;
         greatest = subst (λ (x : MarketRows). IsGreatest (market_system x) bars) same greatest;
-        stable = subst (λ (x : MarketRows). IsStable x places) same stable;
-        best = subst (λ (x : MarketRows). IsBestForAll x places) same best;
-        is_text = is ∙ ap (λ (cs : List ℕ). market_text d cs bars places) named;
+        is_text = is ∙ ap (λ (cs : List ℕ). market_text d cs bars places) named
+            ∙ ap (market_text d (market_candidates d) bars) (under ∙ ap (λ (x : MarketRows). matched_under x bars) same);
       }
 
   pub picks_market : (choice : List ℕ → List ℕ → ℕ) (told after bars : List ℕ) → IsLedTo (market_system m) choice told after bars

@@ -1,24 +1,20 @@
--- The mode `market`: the dossier's market, and its stable matching that is best for every
--- candidate.
-use Rattle.std.specs.Prelude.{◌≡◌, ℕ, ◌++◌, List, Option}
+-- The mode `market`: the dossier's market, its greatest bars, and the places under them.
+use Rattle.std.specs.Prelude.{◌≡◌, ℕ, ◌++◌, List}
 use Rattle.admit_core.specs.DossierRows.{DossierRows}
 use Rattle.admit_core.specs.Falls.{IsGreatest}
 use Rattle.admit_core.specs.declared.ranking.CallOrder.{CallOrder}
-use Rattle.markets.specs.Bars.{market_system}
+use Rattle.markets.specs.Bars.{market_system, matched_under}
 use Rattle.markets.specs.Dossiers.{market_candidates, market_of}
-use Rattle.markets.specs.Matchings.{IsBestForAll, IsStable}
 use Rattle.markets.specs.Solving.{IsLedTo}
 use Rattle.markets.specs.Text.{market_text}
 
--- the text tells the greatest bars of the dossier's market, and a stable matching in which each
--- candidate has the best programme that they have in any
+-- the text tells the greatest bars of the dossier's market, and the places under them: each
+-- candidate has the programme that they prefer of those within their reach
 pub record TellsMarket (d : DossierRows) (orders : List CallOrder) (text : List ℕ) : Type 0 where
   pub bars : List ℕ
-  pub places : List (Option ℕ)
   pub greatest : IsGreatest (market_system (market_of d orders)) bars
-  pub stable : IsStable (market_of d orders) places
-  pub best : IsBestForAll (market_of d orders) places
-  pub is_text : text ≡ market_text d (market_candidates d) bars places
+  pub is_text : text
+      ≡ market_text d (market_candidates d) bars (matched_under (market_of d orders) bars)
 
 -- a picker told of the programmes whose bars fell to the greatest, each of which it chose
 pub record PicksForMarket (d : DossierRows) (orders : List CallOrder) (choice : List ℕ → List ℕ → ℕ)

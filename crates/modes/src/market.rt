@@ -7,9 +7,9 @@ ghost use Rattle.bar_fixpoint.specs.Chosen.{TellsOfFalls};
 ghost use Rattle.desk_day.specs.DayPasses.{TellsMore};
 ghost use Rattle.modes.specs.Asking.{TellsPicks};
 ghost use Rattle.modes.specs.Market.{PicksForMarket, TellsMarket};
-ghost use Rattle.markets.specs.Bars.{market_system};
+ghost use Rattle.markets.specs.Bars.{market_system, matched_under};
 ghost use Rattle.markets.specs.Dossiers.{market_candidates, market_of};
-ghost use Rattle.markets.specs.Matchings.{IsBestForAll, IsStable};
+ghost use Rattle.markets.specs.Matchings.{IsStable};
 ghost use Rattle.markets.specs.Solving.{IsLedTo};
 
 use admit_core::{CallOrders, Dossier, OutOfMemory, Steps};
@@ -31,7 +31,8 @@ fn solved<L: Ledger>(
     requires shared { 0 < L.parts }
 
     ensures stable { IfOk result (λ solved. IsStable market.now solved.places.items) }
-    ensures best { IfOk result (λ solved. IsBestForAll market.now solved.places.items) }
+    ensures places { IfOk result (λ solved. solved.places.items
+        ≡ matched_under market.now solved.bars.items) }
     ensures greatest { IfOk result (λ solved. IsGreatest
         (market_system market.now) solved.bars.items) }
     ensures led { IfOk result (λ solved. IsLedTo (market_system market.now)

@@ -85,10 +85,13 @@ module _ {A : Type 0} (before after : OnShelf) (r : Result A Stop) where
 -- the run came to its days
 module _ (words : List (List ℕ)) (shelf shelf' : OnShelf) (before after : Lent) (x : Request × Input) (takes : TakesAll words shelf shelf' (Ok x)) (back : AreBack before after)
     (idle : IsIdle x.0 → Untold before after) where
-  accepted_is : (slots : Slot → List ℕ) → Tells shelf.left slots → accepted words slots ≡ Ok takes.input.job
+  told_of_mode : (slots : Slot → List ℕ) → Tells (slots_read (request_of words)) shelf.left slots → Tells (slots_of x.0.mode) shelf.left slots
+  told_of_mode slots = let P : Option Request → Type 0 = λ q. Tells (slots_read q) shelf.left slots in subst P takes.asked
+
+  accepted_is : (slots : Slot → List ℕ) → Tells (slots_read (request_of words)) shelf.left slots → accepted words slots ≡ Ok takes.input.job
   accepted_is slots tells =
       let P : Option Request → Type 0 = λ q. (asked q >>= (λ request. job_of request slots)) ≡ Ok takes.input.job in
-      subst P (sym takes.asked) (takes.input.is_accepted slots tells)
+      subst P (sym takes.asked) (takes.input.is_accepted slots (told_of_mode slots tells))
 
   read : TakesSlots (slots_of x.0.mode) shelf shelf' (Ok x)
   read = let P : Option Request → Type 0 = λ q. TakesAsked q shelf shelf' (Ok x) in subst P takes.asked takes.slots
@@ -99,9 +102,9 @@ module _ (words : List (List ℕ)) (shelf shelf' : OnShelf) (before after : Lent
   asks_none : WantsNoPicker (request_of words) → Untold before after
   asks_none none = idle (subst WantsNoPicker takes.asked none)
 
-  all_read : (slots : Slot → List ℕ) → Tells shelf.left slots → (slot : Slot) → Contains (slots_read (request_of words)) slot → shelf'.left slot ≡ Some []
+  all_read : (slots : Slot → List ℕ) → Tells (slots_read (request_of words)) shelf.left slots → (slot : Slot) → Contains (slots_read (request_of words)) slot → shelf'.left slot ≡ Some []
   all_read slots tells slot among =
-      let P : Option Request → Type 0 = λ q. Contains (slots_read q) slot in read.ends slots tells slot (subst P takes.asked among)
+      let P : Option Request → Type 0 = λ q. Contains (slots_read q) slot in read.ends slots (told_of_mode slots tells) slot (subst P takes.asked among)
 
   pub replies_played : {E : Type 0} (result : Result Reply E)
       → ((job : Job) → IsJobOf x.0 job → IsInputOf job x.1 → IfOk result (λ reply. IsEnding job before after reply.exit reply.text.items)) → Replies words shelf shelf' before after result

@@ -11,7 +11,7 @@ use Rattle.admit_core.specs.declared.tables.WishRow.{WishRow}
 use Rattle.certificate.specs.Checked.{ids_in}
 use Rattle.dossier_check.specs.Ids.{ids_of}
 use Rattle.intake.specs.Input.{IsInputFor, Job, NamesIn, TakesIn, job_of}
-use Rattle.intake.specs.Shelves.{OnShelf, TakesSlots}
+use Rattle.intake.specs.Shelves.{OnShelf, TakesSlots, Tells}
 use Rattle.intake.specs.Stops.{◌>>=◌, Stopped, asked, words_stop}
 use Rattle.intake.specs.declared.input.Input.{Input}
 use Rattle.intake.specs.declared.stop.Stop.{Stop}
@@ -22,6 +22,7 @@ use Rattle.request.specs.declared.refusal.WordsRefusal.{WordsRefusal}
 use Rattle.request.specs.declared.refusal.WordsRefusal.TheVariants as refusals
 use Rattle.request.specs.declared.request.Request.{Request}
 use Rattle.replay_cli.specs.Answering.{IsOfWords, TakesAll, TakesAsked}
+use Rattle.replay_cli.specs.Outcome.{slots_read}
 
 -- memory runs out before anything is taken
 takes_nothing : (A : Type 0) (order : List Slot) (shelf : OnShelf) → TakesSlots {A = A} order shelf shelf (Err stops.OutOfMemory)
@@ -74,7 +75,8 @@ module _ (words : List (List ℕ)) (request : Request) (before after : OnShelf) 
     input = tt;
     stop = λ slots tells.
         let P : Option Request → Type 0 = λ q. Stopped stop (asked q >>= (λ x. job_of x slots)) in
-        subst P (sym is) (takes.value slots tells);
+        let Q : Option Request → Type 0 = λ q. Tells (slots_read q) before.left slots in
+        subst P (sym is) (takes.value slots (subst Q is tells));
     slots = asked_slots (record {
       ends = λ slots tells. tt;
       once = takes.slots.once;

@@ -11,10 +11,12 @@ use Rattle.modes.specs.declared.exit.Exit.TheVariants as exits
 use Rattle.modes.specs.declared.reply.Reply.{Reply}
 use Rattle.slot_io.specs.Bytes.{AppendsPart}
 use Rattle.slot_io.specs.Faults.{Rose}
+use Rattle.request.specs.Request.{request_of}
 use Rattle.replay_cli.specs.Answering.{Replies}
 use Rattle.slot_io.specs.declared.refusal.IoRefusal.{IoRefusal}
 use Rattle.slot_io.specs.declared.refusal.IoRefusal.TheVariants as refusals
 use Rattle.replay_cli.specs.Delivering.{Delivers, Takes, exit_after}
+use Rattle.replay_cli.specs.Outcome.{slots_read}
 use Rattle.replay_cli.specs.Run.{Around, AtSink, IsRun, IsWhole}
 
 appends_none : (held : Option (List ℕ)) → Appends held held []
@@ -31,7 +33,7 @@ fault_of exit Fault kind is = elim kind [ inl answers ↦ absurd (false≢true (
 
 module _ {E : Type 0} (words : List (List ℕ)) (before after : Around) (counts : before.sink.faults ≤ after.sink.faults) where
   module _ (reply : Reply) (replies : Replies {E = E} words before.shelf after.shelf before.pickers after.pickers (Ok reply)) where
-    whole : (slots : Slot → List ℕ) → Tells before.shelf.left slots → IsWhole words slots before after reply.text.items
+    whole : (slots : Slot → List ℕ) → Tells (slots_read (request_of words)) before.shelf.left slots → IsWhole words slots before after reply.text.items
     whole slots tells =
         elim replies.kinds [
           | inl answers ↦ inl (reply.exit, replies.outcome slots tells answers)

@@ -40,7 +40,7 @@ pub record TakesAll (words : List (List ℕ)) (before after : OnShelf)
   pub asked : IfOk result (λ x. request_of words ≡ Some x.0)
   pub known : IfOk result (λ x. IsRequest x.0)
   pub input : IfOk result (λ x. IsInputFor x.0 before x.1)
-  pub stop : IfErr result (λ stop. (slots : Slot → List ℕ) → Tells before.left slots
+  pub stop : IfErr result (λ stop. (slots : Slot → List ℕ) → Tells (slots_read (request_of words)) before.left slots
       → Stopped stop (accepted words slots))
   pub slots : TakesAsked (request_of words) before after result
 
@@ -48,7 +48,7 @@ pub record TakesAll (words : List (List ℕ)) (before after : OnShelf)
 -- it and after it
 pub record Replies {E : Type 0} (words : List (List ℕ)) (shelf shelf' : OnShelf)
     (before after : Lent) (result : Result Reply E) : Type 0 where
-  pub outcome : IfOk result (λ reply. (slots : Slot → List ℕ) → Tells shelf.left slots
+  pub outcome : IfOk result (λ reply. (slots : Slot → List ℕ) → Tells (slots_read (request_of words)) shelf.left slots
       → IsTrue (is_answer reply.exit)
       → IsOutcome words slots before after reply.exit reply.text.items)
   pub kinds : IfOk result (λ reply. IsTrue (is_answer reply.exit)
@@ -57,14 +57,14 @@ pub record Replies {E : Type 0} (words : List (List ℕ)) (shelf shelf' : OnShel
   pub bad_words : IfOk result (λ reply. reply.exit ≡ BadWords → IsNone (request_of words))
   pub only_bad : IsNone (request_of words) → IfOk result (λ reply. reply.exit ≡ BadWords)
   pub untouched : IsNone (request_of words) → shelf' ≡ shelf
-  pub ends : (slots : Slot → List ℕ) → Tells shelf.left slots
+  pub ends : (slots : Slot → List ℕ) → Tells (slots_read (request_of words)) shelf.left slots
       → IfOk result (λ reply. reply.exit ≡ Done → (slot : Slot)
       → Contains (slots_read (request_of words)) slot → shelf'.left slot ≡ Some [])
   pub others : KeepsOthers (slots_read (request_of words)) shelf shelf'
   pub counts : NoneFell shelf.faults shelf'.faults
   pub back : AreBack before after
   pub idle : WantsNoPicker (request_of words) → Untold before after
-  pub complete : (slots : Slot → List ℕ) → Tells shelf.left slots
+  pub complete : (slots : Slot → List ℕ) → Tells (slots_read (request_of words)) shelf.left slots
       → IsOkAnd (accepted words slots) CanBeDone
       → ((slot : Slot) → ¬ Rose (shelf.faults slot) (shelf'.faults slot))
       → IfOk result (λ reply. reply.exit ≡ Done)

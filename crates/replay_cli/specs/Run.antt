@@ -55,7 +55,7 @@ pub record NoneFails (before after : Around) : Type 0 where
   pub reads : (slot : Slot) → ¬ Rose (before.shelf.faults slot) (after.shelf.faults slot)
   pub writes : ¬ Rose before.sink.faults after.sink.faults
 
--- what holds of a run where the shelf tells these bytes
+-- what holds of a run where the shelf tells these bytes of the slots that are read
 pub record Answers (words : List (List ℕ)) (slots : Slot → List ℕ) (before after : Around)
     (exit : Exit) : Type 0 where
   -- the exit and the text are the outcome of the words and these bytes
@@ -91,14 +91,18 @@ pub record NoCountFell (before after : Around) : Type 0 where
 
 -- a run with these words, from what stood around it before to what stands after it
 pub record IsRun (words : List (List ℕ)) (before after : Around) (exit : Exit) : Type 0 where
-  pub answers : (slots : Slot → List ℕ) → Tells before.shelf.left slots
+  -- what is asked for, of the bytes of the slots that are read, where the shelf tells them
+  pub answers : (slots : Slot → List ℕ)
+      → Tells (slots_read (request_of words)) before.shelf.left slots
       → Answers words slots before after exit
-  pub others : KeepsOthers (slots_read (request_of words)) before.shelf after.shelf
+  -- when a run ends otherwise
   pub bad_words : exit ≡ BadWords → IsNone (request_of words)
   pub words_first : IsNone (request_of words) → IsRefusal before after exit
   pub read_fault : exit ≡ ReadFault → Writes before after (IsFaultLine words before after)
   pub write_fault : exit ≡ WriteFault → Rose before.sink.faults after.sink.faults
-  pub counts : NoCountFell before after
-  pub back : AreBack before.pickers after.pickers
+  -- what becomes of the pickers and of the slots, whether or not the shelf tells their bytes
   pub untold : IsTrue (ends_unasked exit) → Untold before.pickers after.pickers
   pub idle : WantsNoPicker (request_of words) → Untold before.pickers after.pickers
+  pub back : AreBack before.pickers after.pickers
+  pub others : KeepsOthers (slots_read (request_of words)) before.shelf after.shelf
+  pub counts : NoCountFell before after

@@ -37,7 +37,7 @@ returns-clause-text g c =
     IfOk-weaker c.market_text.result (λ text. text.items ≡ market_text d candidates bars places) (λ text. TellsMarket d orders text.items)
     (λ text is.
     tells_market d orders c.args.named.now.market c.requires.market candidates bars places text.items c.requires.candidates c.in_ok-solved.ensures.greatest
-    c.in_ok-solved.ensures.stable c.in_ok-solved.ensures.best is)
+    c.in_ok-solved.ensures.places is)
     c.market_text.ensures
 
 pub returns-clause-picks : goal.returns-clause-picks

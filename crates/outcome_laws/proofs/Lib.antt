@@ -1,0 +1,3 @@
+pub mod BestMarkets
+pub mod Cases
+pub mod OwnTexts

@@ -1,0 +1,25 @@
+//! The laws of outcomes, and their witnesses.
+ghost use Rattle.outcome_laws.specs.Checks.{OwnTextsAreProved};
+ghost use Rattle.outcome_laws.specs.MarketTexts.{MarketsTellTheBest};
+ghost use Rattle.outcome_laws.specs.Witnesses.{MarketsTellTheBestWitness, OwnTextsAreProvedWitness};
+
+/// What joins the modes `chain`, `check` and `replay`: a check of the chain of a run's own days is
+/// done, and ends with the final state of a replay of as many days.
+pub fn laws_of_checks()
+    ensures proved { OwnTextsAreProved }
+{}
+
+/// What the mode `market` tells, beside the rule by which it finds it.
+pub fn laws_of_market_texts()
+    ensures best { MarketsTellTheBest }
+{}
+
+/// Of the laws of checks.
+pub fn witnesses_of_checks()
+    ensures proved { OwnTextsAreProvedWitness }
+{}
+
+/// Of the laws of market texts.
+pub fn witnesses_of_market_texts()
+    ensures best { MarketsTellTheBestWitness }
+{}

@@ -1,0 +1,12 @@
+//! What is proved of the texts and exits of several modes together, over their definitions alone:
+//! that the chain of a run's own days ends a check as done, and that a market's text tells the best
+//! stable matching. The calls do nothing: their clauses are theorems.
+//!
+//! `laws_of_checks();`
+#![tactic(auto)]
+
+mod laws;
+
+pub use laws::{
+    laws_of_checks, laws_of_market_texts, witnesses_of_checks, witnesses_of_market_texts,
+};
