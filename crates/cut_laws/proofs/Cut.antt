@@ -151,7 +151,8 @@ module _ (a : ℕ) (terms others : Option Terms) (orders : List CallOrder) (d c 
           let ceilings : ceilings_of s.dossier number ≡ ceilings_of t.dossier (number - a) =
           ap (λ (x : DossierRows). ceilings_of x number) kept.0 ∙ ceilings_alike number later
           ∙ ap (λ (x : DossierRows). ceilings_of x (number - a)) (sym kept.1) in
-          let next = days_there rest (number + 1) evening first.0 last (omega (arith, later)) first.1 first.2 are_rest in
+          let next = days_there rest (number + 1) evening first.0 last (omega (arith, later)) first.1 first.2
+          are_rest in
           let after_that : number + 1 - a ≡ number - a + 1 = omega (arith, later) in (
             next.0,
             next.1,
