@@ -43,7 +43,7 @@ pub record IsLapsedAlike (a : ℕ) (terms others : Option Terms) (s t : State) (
   pub told : map (λ (l : Lapse). record l { offered = l.offered -ℤ pos a }) (lapsed_on terms late s)
       ≡ lapsed_on others early t
 
-lapsed_alike : (a : ℕ) (terms others : Option Terms) (s t : State) (late early : ℕ) → late ≡ early + a → 0 < early
+pub lapsed_alike : (a : ℕ) (terms others : Option Terms) (s t : State) (late early : ℕ) → late ≡ early + a → 0 < early
     → HaveEqualStatuses s t → Dates a terms others s t → IsLapsedAlike a terms others s t late early
 lapsed_alike a None None s t late early days begun e are = record {
   dossier = refl;
@@ -70,7 +70,7 @@ lapsed_alike a (Some x) (Some u) s t late early days begun e are =
           ∙ ap (λ (v : Terms). lapses_of v early t) same;
     }
 
-answered_alike : (a : ℕ) (terms others : Option Terms) (one other : Stamp) → AreApart a one other → (s t : State)
+pub answered_alike : (a : ℕ) (terms others : Option Terms) (one other : Stamp) → AreApart a one other → (s t : State)
     → (answers same : List Answer) → HaveEqualStatuses s t → undated answers ≡ undated same
     → Dates a terms others s t → Dates a terms others (after_all s one answers) (after_all t other same)
 answered_alike a None None one other apart s t answers same e they are = tt
@@ -79,7 +79,7 @@ answered_alike a (Some x) None one other apart s t answers same e they are = abs
 answered_alike a (Some x) (Some u) one other apart s t answers same e they are =
     (are.0, answers_dated a x.before u.before one other apart s t answers same e they are.1)
 
-closed_on : (a : ℕ) (terms others : Option Terms) (one other : Stamp) → AreApart a one other → (s t : State)
+pub closed_on : (a : ℕ) (terms others : Option Terms) (one other : Stamp) → AreApart a one other → (s t : State)
     (orders : List CallOrder) (bars : List ℕ) → HaveEqualStatuses s t → Dates a terms others s t
     → Dates a terms others (closing s orders bars one) (closing t orders bars other)
 closed_on a None None one other apart s t orders bars e are = tt
@@ -166,10 +166,10 @@ module _ (a : ℕ) (terms others : Option Terms) (orders : List CallOrder) (d c 
           )
 
 -- ---- the morning after the cut
-taken_back : (o : ℤ) (a : ℕ) → o ≡ o -ℤ pos a +ℤ pos a
+pub taken_back : (o : ℤ) (a : ℕ) → o ≡ o -ℤ pos a +ℤ pos a
 taken_back o a = grind (arith, ints)
 
-first_dates : (a : ℕ) (terms : Option Terms) (evening : State) → AreTermsFor evening.dossier terms
+pub first_dates : (a : ℕ) (terms : Option Terms) (evening : State) → AreTermsFor evening.dossier terms
     → length evening.marks ≡ length evening.dossier.wishes
     → Dates a terms (terms_at a terms evening) evening (first_evening (cut_at a evening))
 first_dates a None evening fit long = tt
@@ -197,7 +197,7 @@ first_dates a (Some x) evening fit long = (
     before_cut : ℤ × Mark → ℤ
     before_cut y = offer_day y.0 y.1 -ℤ pos a
 
-standing : (a : ℕ) (terms others : Option Terms) (s t : State) → HaveEqualStatuses s t → Dates a terms others s t
+pub standing : (a : ℕ) (terms others : Option Terms) (s t : State) → HaveEqualStatuses s t → Dates a terms others s t
     → StandAlike a terms s others t
 standing a None None s t e are = tt
 standing a None (Some u) s t e are = absurd are

@@ -1,11 +1,15 @@
 -- The worked campaign, by computation.
 use Rattle.std.proofs.Common.{arith, [], ◌∷◌, None, Some, refl}
 use Rattle.admit_core.specs.Days.{Days, IsDay, ceilings_of, first_evening}
+use Rattle.admit_core.specs.declared.state.Status.TheVariants.{Offered, Refused, Waiting}
+use Rattle.admit_core.specs.State.{State}
+use Rattle.admit_core.specs.WorkedRows.{marked}
 use Rattle.admit_core.proofs.Rows.{passes_with}
 use Rattle.cut_laws.specs.Cut.{cut_at, terms_at}
-use Rattle.cut_laws.specs.Witnesses.{CampaignsMayBeCutWitness, OpenOffersDecideWitness, StampsDecideNothingWitness}
-use Rattle.cut_laws.specs.WorkedCampaign.{NextMorning, call_orders, campaign, first_night, one_day_more, other_night, second_day, second_night, third_day, third_night}
+use Rattle.cut_laws.specs.Witnesses.{CampaignsMayBeCutWitness, CutDaysAreTheRestWitness, OpenOffersDecideWitness, StampsDecideNothingWitness}
+use Rattle.cut_laws.specs.WorkedCampaign.{NextMorning, call_orders, campaign, cut_days, cut_night, first_night, one_day_more, other_night, second_day, second_night, third_day, third_night}
 use Rattle.cut_laws.proofs.Cut.{campaigns_may_be_cut, open_offers_decide}
+use Rattle.cut_laws.proofs.Rest.{cut_days_are_the_rest}
 use Rattle.cut_laws.proofs.Days.{stamps_decide_nothing}
 
 second_holds : IsDay None call_orders (0 ∷ []) first_night second_day second_night
@@ -92,6 +96,63 @@ cut_witness = (
   rest_holds,
   campaigns_may_be_cut (Some one_day_more) call_orders 1 first_night (second_day ∷ third_day ∷ []) third_night refl refl
       rest_holds,
+)
+
+-- the days of the cut campaign, by computation
+middle_night : State
+middle_night = record cut_night {
+  marks = marked Waiting 0 0 ∷ marked Offered 0 0 ∷ marked Refused 1 0 ∷ marked Offered 1 1 ∷ [];
+}
+
+cut_holds : Days (terms_at 1 (Some one_day_more) first_night) call_orders 1 (first_evening (cut_at 1 first_night))
+    cut_days cut_night
+unfolding middle_night
+cut_holds = (
+  middle_night,
+  refl,
+  record {
+    lapsed = refl;
+    fits = refl;
+    passes = (
+      record {
+        pass = passes_with _ call_orders (0 ∷ []) _ (record { are_falls = tt; settled = refl }) refl refl;
+        autos = refl;
+        freed = refl;
+      },
+      refl,
+      refl,
+    );
+    left = refl;
+    free = refl;
+  },
+  (
+    cut_night,
+    refl,
+    record {
+      lapsed = refl;
+      fits = refl;
+      passes = (
+        record {
+          pass = passes_with _ call_orders (9 ∷ []) _ (record { are_falls = tt; settled = refl }) refl refl;
+          autos = refl;
+          freed = refl;
+        },
+        refl,
+        refl,
+      );
+      left = refl;
+      free = refl;
+    },
+    refl,
+  ),
+)
+
+pub rest_witness : CutDaysAreTheRestWitness
+rest_witness = (
+  refl,
+  refl,
+  cut_holds,
+  cut_days_are_the_rest (Some one_day_more) call_orders 1 first_night cut_days cut_night refl refl cut_holds,
 )
 
 pub next_morning : NextMorning

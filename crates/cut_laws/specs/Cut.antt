@@ -103,3 +103,29 @@ CampaignsMayBeCut =
     → length evening.marks ≡ length evening.dossier.wishes
     → Days terms orders (a + 1) evening days last
     → GoesOnAlike terms orders a evening days last
+
+-- the record of a day that is numbered, and whose lapsed offers are dated, a days later
+abbrev pub later : ℕ → DayRecord → DayRecord
+later a day =
+    record day {
+      day = day.day + a;
+      lapsed = map (λ (l : Lapse). record l { offered = l.offered +ℤ pos a }) day.lapsed;
+    }
+
+-- days of the cut campaign are the days that follow, and leave the same statuses and open offers
+abbrev pub AreTheRest :
+    Option Terms → List CallOrder → ℕ → State → List DayRecord → State → Type 0
+AreTheRest terms orders a evening days other =
+    (last : State) × HaveEqualStatuses last other
+    × StandAlike a terms last (terms_at a terms evening) other
+    × Days terms orders (a + 1) evening (map (later a) days) last
+
+-- and so whatever days are run of the cut campaign, they are the rest of the one that was cut
+abbrev pub CutDaysAreTheRest : Type 0
+CutDaysAreTheRest =
+    (terms : Option Terms) (orders : List CallOrder) (a : ℕ) (evening : State)
+    (days : List DayRecord) (other : State)
+    → AreTermsFor evening.dossier terms
+    → length evening.marks ≡ length evening.dossier.wishes
+    → Days (terms_at a terms evening) orders 1 (first_evening (cut_at a evening)) days other
+    → AreTheRest terms orders a evening days other

@@ -8,9 +8,9 @@ use Rattle.admit_core.specs.Days.{Days, IsDay, answers_of, first_evening}
 use Rattle.admit_core.specs.Lapses.{AreTermsFor}
 use Rattle.admit_core.specs.State.{State}
 use Rattle.cut_laws.specs.Alike.{HaveEqualStatuses, undated}
-use Rattle.cut_laws.specs.Cut.{GoesOnAlike, LeadsOnAlike, StandAlike, cut_at, terms_at}
+use Rattle.cut_laws.specs.Cut.{AreTheRest, GoesOnAlike, LeadsOnAlike, StandAlike, cut_at, terms_at}
 use Rattle.cut_laws.specs.StampsDecideNothing.{LeadsAlike}
-use Rattle.cut_laws.specs.WorkedCampaign.{call_orders, first_night, one_day_more, other_night, second_day, second_night, third_day, third_night}
+use Rattle.cut_laws.specs.WorkedCampaign.{call_orders, cut_days, cut_night, first_night, one_day_more, other_night, second_day, second_night, third_day, third_night}
 
 -- ---- day 2 is the same from other stamps, as day 7
 abbrev pub StampsDecideNothingWitness : Type 0
@@ -62,3 +62,17 @@ CampaignsMayBeCutWitness =
     × (length evening.marks ≡ length evening.dossier.wishes)
     × Days terms orders (a + 1) evening days last
     × GoesOnAlike terms orders a evening days last
+
+-- ---- and days 1 and 2 of that campaign are days 2 and 3
+abbrev pub CutDaysAreTheRestWitness : Type 0
+CutDaysAreTheRestWitness =
+    let terms : Option Terms = Some one_day_more in
+    let orders : List CallOrder = call_orders in
+    let a : ℕ = 1 in
+    let evening : State = first_night in
+    let days : List DayRecord = cut_days in
+    let other : State = cut_night in
+    AreTermsFor evening.dossier terms
+    × (length evening.marks ≡ length evening.dossier.wishes)
+    × Days (terms_at a terms evening) orders 1 (first_evening (cut_at a evening)) days other
+    × AreTheRest terms orders a evening days other

@@ -75,6 +75,20 @@ other_night =
           ∷ marked Waiting 0 0 ∷ [];
     }
 
+-- the days of the campaign that is cut in the evening of day 1, and the evening after them
+abbrev pub cut_days : List DayRecord
+cut_days =
+    record second_day { day = 1 }
+    ∷ record third_day { day = 2; lapsed = record { wish = 1; offered = pos 0 } ∷ [] } ∷ []
+
+abbrev pub cut_night : State
+cut_night =
+    record {
+      dossier = cut_at 1 first_night;
+      marks = marked Offered 2 1 ∷ marked Lapsed 2 0 ∷ marked Refused 1 0
+          ∷ marked Offered 1 1 ∷ [];
+    }
+
 -- what the cut in the evening of day 1 gives: the answer is one of day 1, and the ceiling one of
 -- day 2; the offers were made on the day before day 1; and 12's lapses on day 2
 abbrev pub NextMorning : Type 0
@@ -86,6 +100,4 @@ NextMorning =
     })
     × (terms_at 1 (Some one_day_more) first_night
     ≡ Some (record one_day_more { before = negsuc 0 ∷ pos 0 ∷ pos 0 ∷ negsuc 0 ∷ [] }))
-    × (map (earlier 1) (second_day ∷ third_day ∷ [])
-    ≡ record second_day { day = 1 }
-    ∷ record third_day { day = 2; lapsed = record { wish = 1; offered = pos 0 } ∷ [] } ∷ [])
+    × (map (earlier 1) (second_day ∷ third_day ∷ []) ≡ cut_days)

@@ -1,5 +1,5 @@
 //! For each law a worked case that meets all its premises.
-ghost use Rattle.cut_laws.specs.Witnesses.{CampaignsMayBeCutWitness, OpenOffersDecideWitness, StampsDecideNothingWitness};
+ghost use Rattle.cut_laws.specs.Witnesses.{CampaignsMayBeCutWitness, CutDaysAreTheRestWitness, OpenOffersDecideWitness, StampsDecideNothingWitness};
 ghost use Rattle.cut_laws.specs.WorkedCampaign.{NextMorning};
 
 /// Of the laws of stamps.
@@ -8,8 +8,9 @@ pub fn witnesses_of_stamps()
     ensures offers { OpenOffersDecideWitness }
 {}
 
-/// Of the law of cuts, with the dossier and the terms of its next morning.
-pub fn witness_of_cuts()
+/// Of the laws of cuts, with the dossier and the terms of the next morning.
+pub fn witnesses_of_cuts()
     ensures cut { CampaignsMayBeCutWitness }
+    ensures rest { CutDaysAreTheRestWitness }
     ensures morning { NextMorning }
 {}
