@@ -19,7 +19,7 @@ use Rattle.admit_core.specs.Lapses.{AreTermsFor, lapse, lapses_of, offer_day}
 use Rattle.admit_core.specs.State.{State}
 use Rattle.day_state.proofs.Independence.{dossier_after_all}
 use Rattle.cut_laws.specs.Alike.{HaveEqualStatuses, undated, unstamped}
-use Rattle.cut_laws.specs.Cut.{CampaignsMayBeCut, OpenOffersDecide, StandAlike, cut_at, earlier, terms_at}
+use Rattle.cut_laws.specs.Cut.{AlikeStatesGoOnAlike, CampaignsMayBeCut, OpenOffersDecide, StandAlike, cut_at, earlier, terms_at}
 use Rattle.cut_laws.proofs.Unstamped.{bare}
 use Rattle.cut_laws.proofs.CutRows.{same_answers, same_ceilings, statuses_taken_in}
 use Rattle.cut_laws.proofs.Dated.{AreApart, AreDated, no_mark}
@@ -229,6 +229,17 @@ open_offers_decide a terms others orders ceilings s t day evening e stand long f
       there.1,
       standing a terms others evening there.0 there.1 there.2.2,
       there.3,
+    )
+
+pub alike_states_go_on : AlikeStatesGoOnAlike
+alike_states_go_on a terms others orders s t days last e stand long fit other_fit given are =
+    let there = days_there a terms others orders s.dossier t.dossier given.ceilings given.answers days (a + 1) s t last
+    (omega arith) e (refl, refl, dates_of a terms others s t e stand long fit other_fit) are in
+    let one : a + 1 - a ≡ 1 = omega arith in (
+      there.0,
+      there.1,
+      standing a terms others last there.0 there.1 there.2.2,
+      subst (λ n. Days others orders n t (map (earlier a) days) there.0) one there.3,
     )
 
 pub campaigns_may_be_cut : CampaignsMayBeCut

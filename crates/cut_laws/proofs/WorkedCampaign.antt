@@ -1,14 +1,15 @@
 -- The worked campaign, by computation.
-use Rattle.std.proofs.Common.{arith, [], ◌∷◌, None, Some, refl}
+use Rattle.std.proofs.Common.{◌≡◌, ◌-◌, false, nat_eq, nat_le, true, arith, [], ◌∷◌, None, Some, refl}
+use Rattle.std.proofs.lemmas.Bool.Decides.{nat_tests}
 use Rattle.admit_core.specs.Days.{Days, IsDay, ceilings_of, first_evening}
 use Rattle.admit_core.specs.declared.state.Status.TheVariants.{Offered, Refused, Waiting}
 use Rattle.admit_core.specs.State.{State}
 use Rattle.admit_core.specs.WorkedRows.{marked}
 use Rattle.admit_core.proofs.Rows.{passes_with}
-use Rattle.cut_laws.specs.Cut.{cut_at, terms_at}
-use Rattle.cut_laws.specs.Witnesses.{CampaignsMayBeCutWitness, CutDaysAreTheRestWitness, OpenOffersDecideWitness, StampsDecideNothingWitness}
-use Rattle.cut_laws.specs.WorkedCampaign.{NextMorning, call_orders, campaign, cut_days, cut_night, first_night, one_day_more, other_night, second_day, second_night, third_day, third_night}
-use Rattle.cut_laws.proofs.Cut.{campaigns_may_be_cut, open_offers_decide}
+use Rattle.cut_laws.specs.Cut.{IsGivenAlike, cut_at, terms_at}
+use Rattle.cut_laws.specs.Witnesses.{AlikeStatesGoOnAlikeWitness, CampaignsMayBeCutWitness, CutDaysAreTheRestWitness, OpenOffersDecideWitness, StampsDecideNothingWitness}
+use Rattle.cut_laws.specs.WorkedCampaign.{NextMorning, call_orders, campaign, cut_days, cut_night, first_night, one_day_more, other_morning, other_night, second_day, second_night, third_day, third_night}
+use Rattle.cut_laws.proofs.Cut.{alike_states_go_on, campaigns_may_be_cut, open_offers_decide}
 use Rattle.cut_laws.proofs.Rest.{cut_days_are_the_rest}
 use Rattle.cut_laws.proofs.Days.{stamps_decide_nothing}
 
@@ -157,3 +158,32 @@ rest_witness = (
 
 pub next_morning : NextMorning
 next_morning = (refl, refl, refl)
+
+-- the ceiling and the answers of the days from 3 on
+given_alike : IsGivenAlike 2 campaign other_morning
+given_alike = record {
+  ceilings = λ day past.
+      let late : nat_le 3 day ≡ true = grind (arith, nat_tests, past) in
+      let early : nat_le 1 (day - 2) ≡ true = grind (arith, nat_tests, past) in
+      rw (late, early) refl;
+  answers = λ day past.
+      let none : nat_eq 2 day ≡ false = grind (arith, nat_tests, past) in
+      rw none refl;
+}
+
+third_alone : Days (Some one_day_more) call_orders 3 second_night (third_day ∷ []) third_night
+third_alone = (third_night, refl, third_holds, refl)
+
+pub alike_witness : AlikeStatesGoOnAlikeWitness
+alike_witness = (
+  refl,
+  (refl, refl),
+  refl,
+  refl,
+  refl,
+  given_alike,
+  third_alone,
+  alike_states_go_on 2 (Some one_day_more) (terms_at 2 (Some one_day_more) second_night) call_orders second_night
+      (first_evening other_morning) (third_day ∷ []) third_night refl (refl, refl) refl refl refl given_alike
+      third_alone,
+)

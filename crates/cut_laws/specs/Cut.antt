@@ -9,7 +9,7 @@ use Rattle.admit_core.specs.declared.records.DayRecord.{DayRecord}
 use Rattle.admit_core.specs.declared.records.Lapse.{Lapse}
 use Rattle.admit_core.specs.declared.records.Terms.{Terms}
 use Rattle.admit_core.specs.declared.state.Mark.{Mark}
-use Rattle.admit_core.specs.Days.{Days, IsDay, answers_of, ceiling_on, first_evening}
+use Rattle.admit_core.specs.Days.{Days, IsDay, answers_of, ceiling_on, ceilings_of, first_evening}
 use Rattle.admit_core.specs.DossierRows.{DossierRows}
 use Rattle.admit_core.specs.Lapses.{AreTermsFor, is_offered, offer_day}
 use Rattle.admit_core.specs.State.{State}
@@ -83,6 +83,35 @@ OpenOffersDecide =
     → undated (answers_of s.dossier day.day) ≡ undated (answers_of t.dossier (day.day - a))
     → IsDay terms orders ceilings s day evening
     → LeadsOnAlike a terms others orders ceilings t day evening
+
+-- from day a + 1 on the first dossier has the ceilings and answers that the second one has a days
+-- earlier
+pub record IsGivenAlike (a : ℕ) (d c : DossierRows) : Type 0 where
+  pub ceilings : (day : ℕ) → a < day → ceilings_of d day ≡ ceilings_of c (day - a)
+  pub answers : (day : ℕ) → a < day → undated (answers_of d day) ≡ undated (answers_of c (day - a))
+
+-- the days that follow are days from the other state on, and leave the same statuses and open
+-- offers
+abbrev pub FollowAlike : ℕ → Option Terms → Option Terms → List CallOrder → State → List DayRecord
+    → State → Type 0
+FollowAlike a terms others orders t days last =
+    (other : State) × HaveEqualStatuses last other × StandAlike a terms last others other
+    × Days others orders 1 t (map (earlier a) days) other
+
+-- so it is of any two states with the same statuses and open offers, whichever way the ceilings and
+-- answers of the days to come are said
+abbrev pub AlikeStatesGoOnAlike : Type 0
+AlikeStatesGoOnAlike =
+    (a : ℕ) (terms others : Option Terms) (orders : List CallOrder) (s t : State)
+    (days : List DayRecord) (last : State)
+    → HaveEqualStatuses s t
+    → StandAlike a terms s others t
+    → length s.marks ≡ length s.dossier.wishes
+    → AreTermsFor s.dossier terms
+    → AreTermsFor t.dossier others
+    → IsGivenAlike a s.dossier t.dossier
+    → Days terms orders (a + 1) s days last
+    → FollowAlike a terms others orders t days last
 
 -- the days that follow are those of the cut campaign, and leave the same statuses and open offers
 abbrev pub GoesOnAlike :

@@ -8,9 +8,9 @@ use Rattle.admit_core.specs.Days.{Days, IsDay, answers_of, first_evening}
 use Rattle.admit_core.specs.Lapses.{AreTermsFor}
 use Rattle.admit_core.specs.State.{State}
 use Rattle.cut_laws.specs.Alike.{HaveEqualStatuses, undated}
-use Rattle.cut_laws.specs.Cut.{AreTheRest, GoesOnAlike, LeadsOnAlike, StandAlike, cut_at, terms_at}
+use Rattle.cut_laws.specs.Cut.{AreTheRest, FollowAlike, GoesOnAlike, IsGivenAlike, LeadsOnAlike, StandAlike, cut_at, terms_at}
 use Rattle.cut_laws.specs.StampsDecideNothing.{LeadsAlike}
-use Rattle.cut_laws.specs.WorkedCampaign.{call_orders, cut_days, cut_night, first_night, one_day_more, other_night, second_day, second_night, third_day, third_night}
+use Rattle.cut_laws.specs.WorkedCampaign.{call_orders, cut_days, cut_night, first_night, one_day_more, other_morning, other_night, second_day, second_night, third_day, third_night}
 
 -- ---- day 2 is the same from other stamps, as day 7
 abbrev pub StampsDecideNothingWitness : Type 0
@@ -76,3 +76,23 @@ CutDaysAreTheRestWitness =
     × (length evening.marks ≡ length evening.dossier.wishes)
     × Days (terms_at a terms evening) orders 1 (first_evening (cut_at a evening)) days other
     × AreTheRest terms orders a evening days other
+
+-- ---- day 3 is day 1 of a dossier in which its ceiling is a change
+abbrev pub AlikeStatesGoOnAlikeWitness : Type 0
+AlikeStatesGoOnAlikeWitness =
+    let a : ℕ = 2 in
+    let terms : Option Terms = Some one_day_more in
+    let others : Option Terms = terms_at 2 (Some one_day_more) second_night in
+    let orders : List CallOrder = call_orders in
+    let s : State = second_night in
+    let t : State = first_evening other_morning in
+    let days : List DayRecord = third_day ∷ [] in
+    let last : State = third_night in
+    HaveEqualStatuses s t
+    × StandAlike a terms s others t
+    × (length s.marks ≡ length s.dossier.wishes)
+    × AreTermsFor s.dossier terms
+    × AreTermsFor t.dossier others
+    × IsGivenAlike a s.dossier t.dossier
+    × Days terms orders (a + 1) s days last
+    × FollowAlike a terms others orders t days last

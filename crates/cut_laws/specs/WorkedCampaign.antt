@@ -89,6 +89,16 @@ cut_night =
           ∷ marked Offered 1 1 ∷ [];
     }
 
+-- the morning after day 2 with the ceiling of day 3 as a change of its own day 1, and without
+-- the answer that was applied
+abbrev pub other_morning : DossierRows
+other_morning =
+    record campaign {
+      statuses = Waiting ∷ Offered ∷ Refused ∷ Offered ∷ [];
+      ceilings = record { day = 1; school = 0; ceiling = 9 } ∷ [];
+      answers = [];
+    }
+
 -- what the cut in the evening of day 1 gives: the answer is one of day 1, and the ceiling one of
 -- day 2; the offers were made on the day before day 1; and 12's lapses on day 2
 abbrev pub NextMorning : Type 0

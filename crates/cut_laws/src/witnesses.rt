@@ -1,5 +1,5 @@
 //! For each law a worked case that meets all its premises.
-ghost use Rattle.cut_laws.specs.Witnesses.{CampaignsMayBeCutWitness, CutDaysAreTheRestWitness, OpenOffersDecideWitness, StampsDecideNothingWitness};
+ghost use Rattle.cut_laws.specs.Witnesses.{AlikeStatesGoOnAlikeWitness, CampaignsMayBeCutWitness, CutDaysAreTheRestWitness, OpenOffersDecideWitness, StampsDecideNothingWitness};
 ghost use Rattle.cut_laws.specs.WorkedCampaign.{NextMorning};
 
 /// Of the laws of stamps.
@@ -11,6 +11,7 @@ pub fn witnesses_of_stamps()
 /// Of the laws of cuts, with the dossier and the terms of the next morning.
 pub fn witnesses_of_cuts()
     ensures cut { CampaignsMayBeCutWitness }
+    ensures alike { AlikeStatesGoOnAlikeWitness }
     ensures rest { CutDaysAreTheRestWitness }
     ensures morning { NextMorning }
 {}
