@@ -7,4 +7,5 @@ pub mod Days
 pub mod Rest
 pub mod Steps
 pub mod Unstamped
+pub mod ValidCut
 pub mod WorkedCampaign

@@ -6,11 +6,13 @@ use Rattle.admit_core.specs.declared.state.Status.TheVariants.{Offered, Refused,
 use Rattle.admit_core.specs.State.{State}
 use Rattle.admit_core.specs.WorkedRows.{marked}
 use Rattle.admit_core.proofs.Rows.{passes_with}
+use Rattle.admit_core.proofs.SmallDossier.{small_dossier_holds}
 use Rattle.cut_laws.specs.Cut.{IsGivenAlike, cut_at, terms_at}
-use Rattle.cut_laws.specs.Witnesses.{AlikeStatesGoOnAlikeWitness, CampaignsMayBeCutWitness, CutDaysAreTheRestWitness, OpenOffersDecideWitness, StampsDecideNothingWitness}
-use Rattle.cut_laws.specs.WorkedCampaign.{NextMorning, call_orders, campaign, cut_days, cut_night, first_night, one_day_more, other_morning, other_night, second_day, second_night, third_day, third_night}
+use Rattle.cut_laws.specs.Witnesses.{AlikeStatesGoOnAlikeWitness, CampaignsMayBeCutWitness, CutDaysAreTheRestWitness, CutsAreValidWitness, OpenOffersDecideWitness, StampsDecideNothingWitness}
+use Rattle.cut_laws.specs.WorkedCampaign.{NextMorning, call_orders, campaign, cut_days, cut_night, first_night, one_day_more, other_morning, other_night, second_day, second_night, small_night, third_day, third_night}
 use Rattle.cut_laws.proofs.Cut.{alike_states_go_on, campaigns_may_be_cut, open_offers_decide}
 use Rattle.cut_laws.proofs.Rest.{cut_days_are_the_rest}
+use Rattle.cut_laws.proofs.ValidCut.{cuts_are_valid}
 use Rattle.cut_laws.proofs.Days.{stamps_decide_nothing}
 
 second_holds : IsDay None call_orders (0 ∷ []) first_night second_day second_night
@@ -186,4 +188,12 @@ alike_witness = (
   alike_states_go_on 2 (Some one_day_more) (terms_at 2 (Some one_day_more) second_night) call_orders second_night
       (first_evening other_morning) (third_day ∷ []) third_night refl (refl, refl) refl refl refl given_alike
       third_alone,
+)
+
+pub valid_witness : CutsAreValidWitness
+valid_witness = (
+  small_dossier_holds,
+  refl,
+  (λ i j e below lt. absurd (omega (arith, below, lt))),
+  cuts_are_valid 1 small_night small_dossier_holds refl (λ i j e below lt. absurd (omega (arith, below, lt))),
 )

@@ -1,16 +1,18 @@
 -- For each law a worked case that meets all its premises, with what it concludes there: the law's
 -- text, with a value for each variable and a product for each arrow.
-use Rattle.std.specs.Prelude.{◌≡◌, ◌<◌, ◌+◌, ◌-◌, ℕ, List, [], ◌∷◌, None, Option, Some, length}
+use Rattle.std.specs.Prelude.{AllPairs, map, zip, ◌≡◌, ◌<◌, ◌+◌, ◌-◌, ℕ, List, [], ◌∷◌, None, Option, Some, length}
 use Rattle.admit_core.specs.declared.ranking.CallOrder.{CallOrder}
 use Rattle.admit_core.specs.declared.records.DayRecord.{DayRecord}
 use Rattle.admit_core.specs.declared.records.Terms.{Terms}
 use Rattle.admit_core.specs.Days.{Days, IsDay, answers_of, first_evening}
 use Rattle.admit_core.specs.Lapses.{AreTermsFor}
 use Rattle.admit_core.specs.State.{State}
+use Rattle.admit_core.specs.Validity.{IsValid, NotBothAccepted}
+use Rattle.admit_core.specs.declared.state.Mark.{Mark}
 use Rattle.cut_laws.specs.Alike.{HaveEqualStatuses, undated}
 use Rattle.cut_laws.specs.Cut.{AreTheRest, FollowAlike, GoesOnAlike, IsGivenAlike, LeadsOnAlike, StandAlike, cut_at, terms_at}
 use Rattle.cut_laws.specs.StampsDecideNothing.{LeadsAlike}
-use Rattle.cut_laws.specs.WorkedCampaign.{call_orders, cut_days, cut_night, first_night, one_day_more, other_morning, other_night, second_day, second_night, third_day, third_night}
+use Rattle.cut_laws.specs.WorkedCampaign.{call_orders, cut_days, cut_night, first_night, one_day_more, other_morning, other_night, second_day, second_night, small_night, third_day, third_night}
 
 -- ---- day 2 is the same from other stamps, as day 7
 abbrev pub StampsDecideNothingWitness : Type 0
@@ -96,3 +98,15 @@ AlikeStatesGoOnAlikeWitness =
     × IsGivenAlike a s.dossier t.dossier
     × Days terms orders (a + 1) s days last
     × FollowAlike a terms others orders t days last
+
+-- ---- the small dossier in the evening of day 1: its ceiling of that day is the school's, and the
+-- answer is dropped
+abbrev pub CutsAreValidWitness : Type 0
+CutsAreValidWitness =
+    let a : ℕ = 1 in
+    let evening : State = small_night in
+    IsValid evening.dossier
+    × (length evening.marks ≡ length evening.dossier.wishes)
+    × AllPairs NotBothAccepted
+    (zip evening.dossier.wishes (map (λ (m : Mark). m.status) evening.marks))
+    × IsValid (cut_at a evening)

@@ -7,12 +7,12 @@ use Rattle.admit_core.specs.declared.dossier.AnswerKind.TheVariants.{Refuse}
 use Rattle.admit_core.specs.declared.ranking.CallOrder.{CallOrder}
 use Rattle.admit_core.specs.declared.records.DayRecord.{DayRecord}
 use Rattle.admit_core.specs.declared.records.Terms.{Terms}
-use Rattle.admit_core.specs.declared.state.Status.TheVariants.{Lapsed, Offered, Refused, Waiting}
+use Rattle.admit_core.specs.declared.state.Status.TheVariants.{Accepted, Lapsed, Offered, Refused, Waiting}
 use Rattle.admit_core.specs.DossierRows.{DossierRows}
 use Rattle.admit_core.specs.State.{State}
 use Rattle.admit_core.specs.WorkedDays.{day, in_order, quiet}
 use Rattle.cut_laws.specs.Cut.{cut_at, earlier, terms_at}
-use Rattle.admit_core.specs.WorkedRows.{boarder, marked, programme, rows, school, wish}
+use Rattle.admit_core.specs.WorkedRows.{boarder, marked, programme, rows, school, small_dossier, wish}
 
 abbrev pub campaign : DossierRows
 campaign =
@@ -111,3 +111,7 @@ NextMorning =
     × (terms_at 1 (Some one_day_more) first_night
     ≡ Some (record one_day_more { before = negsuc 0 ∷ pos 0 ∷ pos 0 ∷ negsuc 0 ∷ [] }))
     × (map (earlier 1) (second_day ∷ third_day ∷ []) ≡ cut_days)
+
+-- the small dossier in an evening on which its wish is accepted
+abbrev pub small_night : State
+small_night = record { dossier = small_dossier; marks = marked Accepted 1 1 ∷ [] }

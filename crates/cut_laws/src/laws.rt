@@ -1,5 +1,5 @@
 //! What a day reads of the evening before, and what follows for a campaign that is cut there.
-ghost use Rattle.cut_laws.specs.Cut.{AlikeStatesGoOnAlike, CampaignsMayBeCut, CutDaysAreTheRest, OpenOffersDecide};
+ghost use Rattle.cut_laws.specs.Cut.{AlikeStatesGoOnAlike, CampaignsMayBeCut, CutDaysAreTheRest, CutsAreValid, OpenOffersDecide};
 ghost use Rattle.cut_laws.specs.StampsDecideNothing.{StampsDecideNothing};
 
 /// Two states of one dossier with equal statuses have the same days, whatever their stamps are;
@@ -17,4 +17,9 @@ pub fn laws_of_cuts()
     ensures cut { CampaignsMayBeCut }
     ensures alike { AlikeStatesGoOnAlike }
     ensures rest { CutDaysAreTheRest }
+{}
+
+/// The dossier of the morning after a cut is a valid one, so a run of its own takes it in.
+pub fn law_of_next_mornings()
+    ensures valid { CutsAreValid }
 {}

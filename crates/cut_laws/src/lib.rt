@@ -7,5 +7,5 @@
 mod laws;
 mod witnesses;
 
-pub use laws::{laws_of_cuts, laws_of_stamps};
-pub use witnesses::{witnesses_of_cuts, witnesses_of_stamps};
+pub use laws::{law_of_next_mornings, laws_of_cuts, laws_of_stamps};
+pub use witnesses::{witness_of_next_mornings, witnesses_of_cuts, witnesses_of_stamps};

@@ -1,5 +1,5 @@
 //! For each law a worked case that meets all its premises.
-ghost use Rattle.cut_laws.specs.Witnesses.{AlikeStatesGoOnAlikeWitness, CampaignsMayBeCutWitness, CutDaysAreTheRestWitness, OpenOffersDecideWitness, StampsDecideNothingWitness};
+ghost use Rattle.cut_laws.specs.Witnesses.{AlikeStatesGoOnAlikeWitness, CampaignsMayBeCutWitness, CutDaysAreTheRestWitness, CutsAreValidWitness, OpenOffersDecideWitness, StampsDecideNothingWitness};
 ghost use Rattle.cut_laws.specs.WorkedCampaign.{NextMorning};
 
 /// Of the laws of stamps.
@@ -14,4 +14,9 @@ pub fn witnesses_of_cuts()
     ensures alike { AlikeStatesGoOnAlikeWitness }
     ensures rest { CutDaysAreTheRestWitness }
     ensures morning { NextMorning }
+{}
+
+/// Of the law of next mornings.
+pub fn witness_of_next_mornings()
+    ensures valid { CutsAreValidWitness }
 {}
