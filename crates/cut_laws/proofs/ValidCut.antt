@@ -1,5 +1,5 @@
 -- The dossier of the morning after a cut is a valid one.
-use Rattle.std.proofs.Common.{ℕ, ◌+◌, ◌-◌, ◌<◌, ◌≤◌, ◌≡◌, Bool, true, filter, List, [], ◌∷◌, length, map, Option, Some, None, inl, inr, refl, sym, ◌∙◌, ap, arith, subst, get_or, nat_eq, nat_lt, nat_le, option_map, unwrap_or}
+use Rattle.std.proofs.Common.{ℕ, ◌+◌, ◌-◌, ◌<◌, ◌≤◌, ◌≡◌, Bool, true, filter, List, [], ◌∷◌, length, map, Option, Some, None, inl, inr, refl, sym, ◌∙◌, ap, arith, subst, get_or, nat_eq, nat_lt, nat_le, option_map, unwrap_or, zip}
 use Rattle.std.specs.Prelude.{◌==◌, All, AllPairs, ◌&&◌}
 use Rattle.std.specs.List.{AllByRecursion, IsDistinct, enumerate_from}
 use Rattle.std.specs.List.Sorted.{IsNonDecreasing, IsNonDecreasingBy}
@@ -22,8 +22,13 @@ use Rattle.admit_core.specs.Days.{ceiling_on}
 use Rattle.admit_core.specs.DossierRows.{DossierRows}
 use Rattle.admit_core.specs.Lists.{least_by, lesser}
 use Rattle.admit_core.specs.Ranges.{IsDay}
-use Rattle.admit_core.specs.State.{State}
-use Rattle.admit_core.specs.Validity.{IsTarget, IsValid, IsValidAnswer, IsValidCeiling, IsValidSchool, NotSameDay}
+use Rattle.admit_core.specs.State.{State, entries}
+use Rattle.admit_core.specs.declared.state.Status.{Status}
+use Rattle.admit_core.specs.declared.dossier.Wish.{Wish}
+use Rattle.admit_core.specs.OwnWishes.{AcceptsOne, IsOneAccepted}
+use Rattle.std.proofs.lemmas.Slice.Zip.{get_or-zip, length-zip}
+use Rattle.cut_laws.proofs.Dated.{no_mark}
+use Rattle.admit_core.specs.Validity.{NotBothAccepted, IsTarget, IsValid, IsValidAnswer, IsValidCeiling, IsValidSchool, NotSameDay}
 use Rattle.cut_laws.specs.Cut.{CutsAreValid, cut_at}
 
 -- ---- what is kept of a list for later days
@@ -205,6 +210,35 @@ module _ (a : ℕ) (evening : State) (valid : IsValid evening.dossier) where
       AllPairs-filter NotSameDay (λ (z : CeilingChange). nat_lt a z.day) d.ceilings valid.ceilings_apart i j no_ceiling
       below in_j day schools
 
+-- what holds of the entries of a state holds of its wishes with their statuses
+still_one : (s : State) → length s.marks ≡ length s.dossier.wishes → IsOneAccepted s
+    → AllPairs NotBothAccepted (zip s.dossier.wishes (map (λ (m : Mark). m.status) s.marks))
+still_one s long one i j e below lt same first second =
+    let ws = s.dossier.wishes in
+    let ms = s.marks in
+    let status : Mark → Status = λ m. m.status in
+    let whole = length-zip ws (map status ms) in
+    let many = length-map ms status in
+    let in_ws : (k : ℕ) → k < length (zip ws (map status ms)) → k < length ws =
+    λ k k_lt. omega (arith, k_lt, whole, many, long) in
+    let at : (k : ℕ) (k_lt : k < length (zip ws (map status ms))) → get_or (zip ws (map status ms)) k e
+    ≡ (get_or ws k e.0, (get_or ms k no_mark).status) =
+    λ k k_lt. get_or-zip ws (map status ms) k e (in_ws k k_lt) (omega (arith, in_ws k k_lt, many, long))
+    ∙ ap (λ (x : Status). (get_or ws k e.0, x))
+    (get_or-map status ms k no_mark e.1 (omega (arith, in_ws k k_lt, long))) in
+    let entry : (k : ℕ) (k_lt : k < length (zip ws (map status ms))) → get_or (entries s) k (e.0, no_mark)
+    ≡ (get_or ws k e.0, get_or ms k no_mark) =
+    λ k k_lt. get_or-zip ws ms k (e.0, no_mark) (in_ws k k_lt) (omega (arith, in_ws k k_lt, long)) in
+    let i_lt : i < length (zip ws (map status ms)) = omega (arith, below, lt) in
+    let j_in : j < length (entries s) = omega (arith, lt, whole, many, long, length-zip ws ms) in
+    let accepts = subst (λ (x : Wish × Mark). AcceptsOne x (get_or (entries s) j (e.0, no_mark))) (entry i i_lt)
+    (one i j (e.0, no_mark) below j_in) in
+    let both = subst (λ (x : Wish × Mark). AcceptsOne (get_or ws i e.0, get_or ms i no_mark) x) (entry j lt) accepts in
+    both (ap (λ (x : Wish × Status). x.0.candidate) (sym (at i i_lt)) ∙ same
+    ∙ ap (λ (x : Wish × Status). x.0.candidate) (at j lt))
+    (ap (λ (x : Wish × Status). x.1) (sym (at i i_lt)) ∙ first)
+    (ap (λ (x : Wish × Status). x.1) (sym (at j lt)) ∙ second)
+
 pub cuts_are_valid : CutsAreValid
 cuts_are_valid a evening valid long accepted =
     let d = evening.dossier in
@@ -259,7 +293,7 @@ cuts_are_valid a evening valid long accepted =
           };
       wishes_apart = valid.wishes_apart;
       one_status_each = length-map evening.marks (λ (m : Mark). m.status) ∙ long;
-      one_accepted = accepted;
+      one_accepted = still_one evening long accepted;
       ceilings = All-from_recursion (IsValidCeiling (cut_at a evening)) (map moved_c changes)
           (valid_ceilings a evening valid changes
           (recursion_from_All (IsValidCeiling d) changes

@@ -1,5 +1,5 @@
 -- A campaign that is cut at an evening, and begun again from what it left.
-use Rattle.std.specs.Prelude.{AllPairs, ◌<◌, ◌≡◌, ℕ, ℤ, pos, ◌+◌, ◌-◌, ◌+ℤ◌, ◌-ℤ◌, List, length, map, filter, nat_lt, Option, Some, None, option_map, zip, if◌then◌else◌, ⊤}
+use Rattle.std.specs.Prelude.{◌<◌, ◌≡◌, ℕ, ℤ, pos, ◌+◌, ◌-◌, ◌+ℤ◌, ◌-ℤ◌, List, length, map, filter, nat_lt, Option, Some, None, option_map, zip, if◌then◌else◌, ⊤}
 use Rattle.std.specs.List.{enumerate_from}
 use Rattle.admit_core.specs.declared.dossier.Answer.{Answer}
 use Rattle.admit_core.specs.declared.dossier.CeilingChange.{CeilingChange}
@@ -12,8 +12,9 @@ use Rattle.admit_core.specs.declared.state.Mark.{Mark}
 use Rattle.admit_core.specs.Days.{Days, IsDay, answers_of, ceiling_on, ceilings_of, first_evening}
 use Rattle.admit_core.specs.DossierRows.{DossierRows}
 use Rattle.admit_core.specs.Lapses.{AreTermsFor, is_offered, offer_day}
+use Rattle.admit_core.specs.OwnWishes.{IsOneAccepted}
 use Rattle.admit_core.specs.State.{State}
-use Rattle.admit_core.specs.Validity.{IsValid, NotBothAccepted}
+use Rattle.admit_core.specs.Validity.{IsValid}
 use Rattle.cut_laws.specs.Alike.{HaveEqualStatuses, undated}
 
 -- the dossier of the morning after day a: the statuses of the evening and the ceilings of that day
@@ -167,6 +168,5 @@ CutsAreValid =
     (a : ℕ) (evening : State)
     → IsValid evening.dossier
     → length evening.marks ≡ length evening.dossier.wishes
-    → AllPairs NotBothAccepted
-    (zip evening.dossier.wishes (map (λ (m : Mark). m.status) evening.marks))
+    → IsOneAccepted evening
     → IsValid (cut_at a evening)

@@ -1,14 +1,14 @@
 -- For each law a worked case that meets all its premises, with what it concludes there: the law's
 -- text, with a value for each variable and a product for each arrow.
-use Rattle.std.specs.Prelude.{AllPairs, map, zip, ◌≡◌, ◌<◌, ◌+◌, ◌-◌, ℕ, List, [], ◌∷◌, None, Option, Some, length}
+use Rattle.std.specs.Prelude.{◌≡◌, ◌<◌, ◌+◌, ◌-◌, ℕ, List, [], ◌∷◌, None, Option, Some, length}
 use Rattle.admit_core.specs.declared.ranking.CallOrder.{CallOrder}
 use Rattle.admit_core.specs.declared.records.DayRecord.{DayRecord}
 use Rattle.admit_core.specs.declared.records.Terms.{Terms}
 use Rattle.admit_core.specs.Days.{Days, IsDay, answers_of, first_evening}
 use Rattle.admit_core.specs.Lapses.{AreTermsFor}
+use Rattle.admit_core.specs.OwnWishes.{IsOneAccepted}
 use Rattle.admit_core.specs.State.{State}
-use Rattle.admit_core.specs.Validity.{IsValid, NotBothAccepted}
-use Rattle.admit_core.specs.declared.state.Mark.{Mark}
+use Rattle.admit_core.specs.Validity.{IsValid}
 use Rattle.cut_laws.specs.Alike.{HaveEqualStatuses, undated}
 use Rattle.cut_laws.specs.Cut.{AreTheRest, FollowAlike, GoesOnAlike, IsGivenAlike, LeadsOnAlike, StandAlike, cut_at, terms_at}
 use Rattle.cut_laws.specs.StampsDecideNothing.{LeadsAlike}
@@ -107,6 +107,5 @@ CutsAreValidWitness =
     let evening : State = small_night in
     IsValid evening.dossier
     × (length evening.marks ≡ length evening.dossier.wishes)
-    × AllPairs NotBothAccepted
-    (zip evening.dossier.wishes (map (λ (m : Mark). m.status) evening.marks))
+    × IsOneAccepted evening
     × IsValid (cut_at a evening)
