@@ -19,7 +19,7 @@ use Rattle.admit_core.specs.Lapses.{AreTermsFor, lapse, lapses_of, offer_day}
 use Rattle.admit_core.specs.State.{State}
 use Rattle.day_state.proofs.Independence.{dossier_after_all}
 use Rattle.cut_laws.specs.Alike.{HaveEqualStatuses, undated, unstamped}
-use Rattle.cut_laws.specs.Cut.{CampaignsMayBeCut, OpenOffersDecide, StandAlike, cut_at, earlier, terms_at}
+use Rattle.cut_laws.specs.Cut.{AlikeStatesGoOnAlike, CampaignsMayBeCut, OpenOffersDecide, StandAlike, cut_at, earlier, terms_at}
 use Rattle.cut_laws.proofs.Unstamped.{bare}
 use Rattle.cut_laws.proofs.CutRows.{same_answers, same_ceilings, statuses_taken_in}
 use Rattle.cut_laws.proofs.Dated.{AreApart, AreDated, no_mark}
@@ -43,7 +43,7 @@ pub record IsLapsedAlike (a : ℕ) (terms others : Option Terms) (s t : State) (
   pub told : map (λ (l : Lapse). record l { offered = l.offered -ℤ pos a }) (lapsed_on terms late s)
       ≡ lapsed_on others early t
 
-lapsed_alike : (a : ℕ) (terms others : Option Terms) (s t : State) (late early : ℕ) → late ≡ early + a → 0 < early
+pub lapsed_alike : (a : ℕ) (terms others : Option Terms) (s t : State) (late early : ℕ) → late ≡ early + a → 0 < early
     → HaveEqualStatuses s t → Dates a terms others s t → IsLapsedAlike a terms others s t late early
 lapsed_alike a None None s t late early days begun e are = record {
   dossier = refl;
@@ -70,7 +70,7 @@ lapsed_alike a (Some x) (Some u) s t late early days begun e are =
           ∙ ap (λ (v : Terms). lapses_of v early t) same;
     }
 
-answered_alike : (a : ℕ) (terms others : Option Terms) (one other : Stamp) → AreApart a one other → (s t : State)
+pub answered_alike : (a : ℕ) (terms others : Option Terms) (one other : Stamp) → AreApart a one other → (s t : State)
     → (answers same : List Answer) → HaveEqualStatuses s t → undated answers ≡ undated same
     → Dates a terms others s t → Dates a terms others (after_all s one answers) (after_all t other same)
 answered_alike a None None one other apart s t answers same e they are = tt
@@ -79,7 +79,7 @@ answered_alike a (Some x) None one other apart s t answers same e they are = abs
 answered_alike a (Some x) (Some u) one other apart s t answers same e they are =
     (are.0, answers_dated a x.before u.before one other apart s t answers same e they are.1)
 
-closed_on : (a : ℕ) (terms others : Option Terms) (one other : Stamp) → AreApart a one other → (s t : State)
+pub closed_on : (a : ℕ) (terms others : Option Terms) (one other : Stamp) → AreApart a one other → (s t : State)
     (orders : List CallOrder) (bars : List ℕ) → HaveEqualStatuses s t → Dates a terms others s t
     → Dates a terms others (closing s orders bars one) (closing t orders bars other)
 closed_on a None None one other apart s t orders bars e are = tt
@@ -151,7 +151,8 @@ module _ (a : ℕ) (terms others : Option Terms) (orders : List CallOrder) (d c 
           let ceilings : ceilings_of s.dossier number ≡ ceilings_of t.dossier (number - a) =
           ap (λ (x : DossierRows). ceilings_of x number) kept.0 ∙ ceilings_alike number later
           ∙ ap (λ (x : DossierRows). ceilings_of x (number - a)) (sym kept.1) in
-          let next = days_there rest (number + 1) evening first.0 last (omega (arith, later)) first.1 first.2 are_rest in
+          let next = days_there rest (number + 1) evening first.0 last (omega (arith, later)) first.1 first.2
+          are_rest in
           let after_that : number + 1 - a ≡ number - a + 1 = omega (arith, later) in (
             next.0,
             next.1,
@@ -165,10 +166,10 @@ module _ (a : ℕ) (terms others : Option Terms) (orders : List CallOrder) (d c 
           )
 
 -- ---- the morning after the cut
-taken_back : (o : ℤ) (a : ℕ) → o ≡ o -ℤ pos a +ℤ pos a
+pub taken_back : (o : ℤ) (a : ℕ) → o ≡ o -ℤ pos a +ℤ pos a
 taken_back o a = grind (arith, ints)
 
-first_dates : (a : ℕ) (terms : Option Terms) (evening : State) → AreTermsFor evening.dossier terms
+pub first_dates : (a : ℕ) (terms : Option Terms) (evening : State) → AreTermsFor evening.dossier terms
     → length evening.marks ≡ length evening.dossier.wishes
     → Dates a terms (terms_at a terms evening) evening (first_evening (cut_at a evening))
 first_dates a None evening fit long = tt
@@ -196,7 +197,7 @@ first_dates a (Some x) evening fit long = (
     before_cut : ℤ × Mark → ℤ
     before_cut y = offer_day y.0 y.1 -ℤ pos a
 
-standing : (a : ℕ) (terms others : Option Terms) (s t : State) → HaveEqualStatuses s t → Dates a terms others s t
+pub standing : (a : ℕ) (terms others : Option Terms) (s t : State) → HaveEqualStatuses s t → Dates a terms others s t
     → StandAlike a terms s others t
 standing a None None s t e are = tt
 standing a None (Some u) s t e are = absurd are
@@ -228,6 +229,17 @@ open_offers_decide a terms others orders ceilings s t day evening e stand long f
       there.1,
       standing a terms others evening there.0 there.1 there.2.2,
       there.3,
+    )
+
+pub alike_states_go_on : AlikeStatesGoOnAlike
+alike_states_go_on a terms others orders s t days last e stand long fit other_fit given are =
+    let there = days_there a terms others orders s.dossier t.dossier given.ceilings given.answers days (a + 1) s t last
+    (omega arith) e (refl, refl, dates_of a terms others s t e stand long fit other_fit) are in
+    let one : a + 1 - a ≡ 1 = omega arith in (
+      there.0,
+      there.1,
+      standing a terms others last there.0 there.1 there.2.2,
+      subst (λ n. Days others orders n t (map (earlier a) days) there.0) one there.3,
     )
 
 pub campaigns_may_be_cut : CampaignsMayBeCut

@@ -4,6 +4,8 @@ pub mod Dated
 pub mod DatedLapses
 pub mod DatedSteps
 pub mod Days
+pub mod Rest
 pub mod Steps
 pub mod Unstamped
+pub mod ValidCut
 pub mod WorkedCampaign

@@ -9,10 +9,12 @@ use Rattle.admit_core.specs.declared.records.DayRecord.{DayRecord}
 use Rattle.admit_core.specs.declared.records.Lapse.{Lapse}
 use Rattle.admit_core.specs.declared.records.Terms.{Terms}
 use Rattle.admit_core.specs.declared.state.Mark.{Mark}
-use Rattle.admit_core.specs.Days.{Days, IsDay, answers_of, ceiling_on, first_evening}
+use Rattle.admit_core.specs.Days.{Days, IsDay, answers_of, ceiling_on, ceilings_of, first_evening}
 use Rattle.admit_core.specs.DossierRows.{DossierRows}
 use Rattle.admit_core.specs.Lapses.{AreTermsFor, is_offered, offer_day}
+use Rattle.admit_core.specs.OwnWishes.{IsOneAccepted}
 use Rattle.admit_core.specs.State.{State}
+use Rattle.admit_core.specs.Validity.{IsValid}
 use Rattle.cut_laws.specs.Alike.{HaveEqualStatuses, undated}
 
 -- the dossier of the morning after day a: the statuses of the evening and the ceilings of that day
@@ -84,6 +86,35 @@ OpenOffersDecide =
     → IsDay terms orders ceilings s day evening
     → LeadsOnAlike a terms others orders ceilings t day evening
 
+-- from day a + 1 on the first dossier has the ceilings and answers that the second one has a days
+-- earlier
+pub record IsGivenAlike (a : ℕ) (d c : DossierRows) : Type 0 where
+  pub ceilings : (day : ℕ) → a < day → ceilings_of d day ≡ ceilings_of c (day - a)
+  pub answers : (day : ℕ) → a < day → undated (answers_of d day) ≡ undated (answers_of c (day - a))
+
+-- the days that follow are days from the other state on, and leave the same statuses and open
+-- offers
+abbrev pub FollowAlike : ℕ → Option Terms → Option Terms → List CallOrder → State → List DayRecord
+    → State → Type 0
+FollowAlike a terms others orders t days last =
+    (other : State) × HaveEqualStatuses last other × StandAlike a terms last others other
+    × Days others orders 1 t (map (earlier a) days) other
+
+-- so it is of any two states with the same statuses and open offers, whichever way the ceilings and
+-- answers of the days to come are said
+abbrev pub AlikeStatesGoOnAlike : Type 0
+AlikeStatesGoOnAlike =
+    (a : ℕ) (terms others : Option Terms) (orders : List CallOrder) (s t : State)
+    (days : List DayRecord) (last : State)
+    → HaveEqualStatuses s t
+    → StandAlike a terms s others t
+    → length s.marks ≡ length s.dossier.wishes
+    → AreTermsFor s.dossier terms
+    → AreTermsFor t.dossier others
+    → IsGivenAlike a s.dossier t.dossier
+    → Days terms orders (a + 1) s days last
+    → FollowAlike a terms others orders t days last
+
 -- the days that follow are those of the cut campaign, and leave the same statuses and open offers
 abbrev pub GoesOnAlike :
     Option Terms → List CallOrder → ℕ → State → List DayRecord → State → Type 0
@@ -103,3 +134,39 @@ CampaignsMayBeCut =
     → length evening.marks ≡ length evening.dossier.wishes
     → Days terms orders (a + 1) evening days last
     → GoesOnAlike terms orders a evening days last
+
+-- the record of a day that is numbered, and whose lapsed offers are dated, a days later
+abbrev pub later : ℕ → DayRecord → DayRecord
+later a day =
+    record day {
+      day = day.day + a;
+      lapsed = map (λ (l : Lapse). record l { offered = l.offered +ℤ pos a }) day.lapsed;
+    }
+
+-- days of the cut campaign are the days that follow, and leave the same statuses and open offers
+abbrev pub AreTheRest :
+    Option Terms → List CallOrder → ℕ → State → List DayRecord → State → Type 0
+AreTheRest terms orders a evening days other =
+    (last : State) × HaveEqualStatuses last other
+    × StandAlike a terms last (terms_at a terms evening) other
+    × Days terms orders (a + 1) evening (map (later a) days) last
+
+-- and so whatever days are run of the cut campaign, they are the rest of the one that was cut
+abbrev pub CutDaysAreTheRest : Type 0
+CutDaysAreTheRest =
+    (terms : Option Terms) (orders : List CallOrder) (a : ℕ) (evening : State)
+    (days : List DayRecord) (other : State)
+    → AreTermsFor evening.dossier terms
+    → length evening.marks ≡ length evening.dossier.wishes
+    → Days (terms_at a terms evening) orders 1 (first_evening (cut_at a evening)) days other
+    → AreTheRest terms orders a evening days other
+
+-- the dossier of the morning after a cut is a valid one, where that of the evening is one and each
+-- candidate has one accepted wish at most
+abbrev pub CutsAreValid : Type 0
+CutsAreValid =
+    (a : ℕ) (evening : State)
+    → IsValid evening.dossier
+    → length evening.marks ≡ length evening.dossier.wishes
+    → IsOneAccepted evening
+    → IsValid (cut_at a evening)

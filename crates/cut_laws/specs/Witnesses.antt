@@ -6,11 +6,13 @@ use Rattle.admit_core.specs.declared.records.DayRecord.{DayRecord}
 use Rattle.admit_core.specs.declared.records.Terms.{Terms}
 use Rattle.admit_core.specs.Days.{Days, IsDay, answers_of, first_evening}
 use Rattle.admit_core.specs.Lapses.{AreTermsFor}
+use Rattle.admit_core.specs.OwnWishes.{IsOneAccepted}
 use Rattle.admit_core.specs.State.{State}
+use Rattle.admit_core.specs.Validity.{IsValid}
 use Rattle.cut_laws.specs.Alike.{HaveEqualStatuses, undated}
-use Rattle.cut_laws.specs.Cut.{GoesOnAlike, LeadsOnAlike, StandAlike, cut_at, terms_at}
+use Rattle.cut_laws.specs.Cut.{AreTheRest, FollowAlike, GoesOnAlike, IsGivenAlike, LeadsOnAlike, StandAlike, cut_at, terms_at}
 use Rattle.cut_laws.specs.StampsDecideNothing.{LeadsAlike}
-use Rattle.cut_laws.specs.WorkedCampaign.{call_orders, first_night, one_day_more, other_night, second_day, second_night, third_day, third_night}
+use Rattle.cut_laws.specs.WorkedCampaign.{call_orders, cut_days, cut_night, first_night, one_day_more, other_morning, other_night, second_day, second_night, small_night, third_day, third_night}
 
 -- ---- day 2 is the same from other stamps, as day 7
 abbrev pub StampsDecideNothingWitness : Type 0
@@ -62,3 +64,48 @@ CampaignsMayBeCutWitness =
     × (length evening.marks ≡ length evening.dossier.wishes)
     × Days terms orders (a + 1) evening days last
     × GoesOnAlike terms orders a evening days last
+
+-- ---- and days 1 and 2 of that campaign are days 2 and 3
+abbrev pub CutDaysAreTheRestWitness : Type 0
+CutDaysAreTheRestWitness =
+    let terms : Option Terms = Some one_day_more in
+    let orders : List CallOrder = call_orders in
+    let a : ℕ = 1 in
+    let evening : State = first_night in
+    let days : List DayRecord = cut_days in
+    let other : State = cut_night in
+    AreTermsFor evening.dossier terms
+    × (length evening.marks ≡ length evening.dossier.wishes)
+    × Days (terms_at a terms evening) orders 1 (first_evening (cut_at a evening)) days other
+    × AreTheRest terms orders a evening days other
+
+-- ---- day 3 is day 1 of a dossier in which its ceiling is a change
+abbrev pub AlikeStatesGoOnAlikeWitness : Type 0
+AlikeStatesGoOnAlikeWitness =
+    let a : ℕ = 2 in
+    let terms : Option Terms = Some one_day_more in
+    let others : Option Terms = terms_at 2 (Some one_day_more) second_night in
+    let orders : List CallOrder = call_orders in
+    let s : State = second_night in
+    let t : State = first_evening other_morning in
+    let days : List DayRecord = third_day ∷ [] in
+    let last : State = third_night in
+    HaveEqualStatuses s t
+    × StandAlike a terms s others t
+    × (length s.marks ≡ length s.dossier.wishes)
+    × AreTermsFor s.dossier terms
+    × AreTermsFor t.dossier others
+    × IsGivenAlike a s.dossier t.dossier
+    × Days terms orders (a + 1) s days last
+    × FollowAlike a terms others orders t days last
+
+-- ---- the small dossier in the evening of day 1: its ceiling of that day is the school's, and the
+-- answer is dropped
+abbrev pub CutsAreValidWitness : Type 0
+CutsAreValidWitness =
+    let a : ℕ = 1 in
+    let evening : State = small_night in
+    IsValid evening.dossier
+    × (length evening.marks ≡ length evening.dossier.wishes)
+    × IsOneAccepted evening
+    × IsValid (cut_at a evening)

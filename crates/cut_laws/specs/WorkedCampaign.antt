@@ -7,12 +7,12 @@ use Rattle.admit_core.specs.declared.dossier.AnswerKind.TheVariants.{Refuse}
 use Rattle.admit_core.specs.declared.ranking.CallOrder.{CallOrder}
 use Rattle.admit_core.specs.declared.records.DayRecord.{DayRecord}
 use Rattle.admit_core.specs.declared.records.Terms.{Terms}
-use Rattle.admit_core.specs.declared.state.Status.TheVariants.{Lapsed, Offered, Refused, Waiting}
+use Rattle.admit_core.specs.declared.state.Status.TheVariants.{Accepted, Lapsed, Offered, Refused, Waiting}
 use Rattle.admit_core.specs.DossierRows.{DossierRows}
 use Rattle.admit_core.specs.State.{State}
 use Rattle.admit_core.specs.WorkedDays.{day, in_order, quiet}
 use Rattle.cut_laws.specs.Cut.{cut_at, earlier, terms_at}
-use Rattle.admit_core.specs.WorkedRows.{boarder, marked, programme, rows, school, wish}
+use Rattle.admit_core.specs.WorkedRows.{boarder, marked, programme, rows, school, small_dossier, wish}
 
 abbrev pub campaign : DossierRows
 campaign =
@@ -75,6 +75,30 @@ other_night =
           ∷ marked Waiting 0 0 ∷ [];
     }
 
+-- the days of the campaign that is cut in the evening of day 1, and the evening after them
+abbrev pub cut_days : List DayRecord
+cut_days =
+    record second_day { day = 1 }
+    ∷ record third_day { day = 2; lapsed = record { wish = 1; offered = pos 0 } ∷ [] } ∷ []
+
+abbrev pub cut_night : State
+cut_night =
+    record {
+      dossier = cut_at 1 first_night;
+      marks = marked Offered 2 1 ∷ marked Lapsed 2 0 ∷ marked Refused 1 0
+          ∷ marked Offered 1 1 ∷ [];
+    }
+
+-- the morning after day 2 with the ceiling of day 3 as a change of its own day 1, and without
+-- the answer that was applied
+abbrev pub other_morning : DossierRows
+other_morning =
+    record campaign {
+      statuses = Waiting ∷ Offered ∷ Refused ∷ Offered ∷ [];
+      ceilings = record { day = 1; school = 0; ceiling = 9 } ∷ [];
+      answers = [];
+    }
+
 -- what the cut in the evening of day 1 gives: the answer is one of day 1, and the ceiling one of
 -- day 2; the offers were made on the day before day 1; and 12's lapses on day 2
 abbrev pub NextMorning : Type 0
@@ -86,6 +110,8 @@ NextMorning =
     })
     × (terms_at 1 (Some one_day_more) first_night
     ≡ Some (record one_day_more { before = negsuc 0 ∷ pos 0 ∷ pos 0 ∷ negsuc 0 ∷ [] }))
-    × (map (earlier 1) (second_day ∷ third_day ∷ [])
-    ≡ record second_day { day = 1 }
-    ∷ record third_day { day = 2; lapsed = record { wish = 1; offered = pos 0 } ∷ [] } ∷ [])
+    × (map (earlier 1) (second_day ∷ third_day ∷ []) ≡ cut_days)
+
+-- the small dossier in an evening on which its wish is accepted
+abbrev pub small_night : State
+small_night = record { dossier = small_dossier; marks = marked Accepted 1 1 ∷ [] }

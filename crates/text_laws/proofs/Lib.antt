@@ -1,0 +1,3 @@
+pub mod StateSlots
+pub mod WorkedEvening
+pub mod WrittenRows
