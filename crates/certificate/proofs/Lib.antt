@@ -1,3 +1,9 @@
+-- Reading order. Each file says in its first line what it shows.
+-- Text to chain: Cutting, Numbering, Saying (what lines say, the reader's invariant), Counting.
+-- Chain to text and back: WordLines, ReadBack.
+-- A chain is tested: Naming (wishes by their ids, ranks by their wishes), Testing (line by line
+-- at the present bars), Lowering (lines and passes, one after another), Schools, Ending.
+-- Worked texts, by computation: WorkedCases.
 pub mod Cutting
 pub mod Numbering
 pub mod Saying

@@ -1,5 +1,5 @@
-//! Days and campaigns. A `Campaign` runs day after day; `run_day` runs one day on a `Desk`, along a
-//! lineup of its own.
+//! Campaigns: day after day of `desk_day`, with a picker of their own. `run_day` runs one day on a
+//! `Desk`, along a lineup of its own.
 //!
 //! `let day = campaign.next_day(alloc)?;`
 #![tactic(auto)]

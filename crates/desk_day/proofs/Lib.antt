@@ -1,3 +1,9 @@
+-- Reading order. Each file says in its first line what it shows.
+-- The morning: LatestCeilings, LastBars, DaysAnswers, Listed, LapsedOffers, Touching.
+-- A pass and its answers: OnePass, ChangedMarks, BesideChanges, OnceEach, MarkPairs.
+-- Passes one after another: LaterPasses (who need not be asked again), PassesSoFar, PassEnds.
+-- The whole day: DayEnds, DayPlaces, Stamps, SameDossier, IdleDays (nothing happens).
+-- Laws of days: SameDays, DayLaws.
 pub mod Listed
 pub mod ChangedMarks
 pub mod LapsedOffers

@@ -1,5 +1,6 @@
-//! One day on a `Desk`: its lapses and answers, passes until the automatic answers free nothing,
-//! and the evening.
+//! One day on a `Desk`, along a lineup that is lent: its lapses and answers, passes until the
+//! automatic answers free nothing, and the evening. Day after day is a campaign in `day_run`, and
+//! `played` in the program.
 //!
 //! `let day = run_day_along(alloc, &mut desk, &orders, &lineup, ceilings, None, 1, picker)?;`
 #![tactic(auto)]

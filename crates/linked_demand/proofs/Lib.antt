@@ -1,3 +1,13 @@
+-- Reading order. Each file says in its first line what it shows.
+-- Tools: Keeping, Keyed, Dealing, Putting, PlaceOrder, Marked, Counting.
+-- The lineup: CalledRows, ClaimSpans, Seating, Lining, Lined.
+-- Open wishes and flags: Opens, LeftOpen, Falling, Closing, Flagging, Waiting, AnyOpen, MaybeSure,
+-- Boarding, Askings.
+-- How far seats reach: Reach, Leaving; the proposed wishes: Walking, Fronting, Fronted.
+-- Rows of the schools: Filling, Items, RowSteps, RowFronts, Demanded, Naming.
+-- A wish is closed: Moving, Ticking, Marking, Staying; the end of a row falls: Cutting, Telling.
+-- A bar falls: OneFall, Asking, Asked, Answered, RoundFalls, TickLaw, Spending.
+-- The system as a whole: BarEach, Rounding, and last Lowered.
 pub mod Answered
 pub mod AnyOpen
 pub mod Asked

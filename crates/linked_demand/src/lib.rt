@@ -1,6 +1,6 @@
 //! The boarding schools of a state as a system of falling bars that keeps who is served and which
 //! schools are overfilled: a fall costs the rows of the schools whose demand it changes, not a look
-//! at all schools or all wishes. The `Lineup` of a day is shared by its passes.
+//! at all schools or all wishes. The plain form is `demand`. The `Lineup` is shared by all passes.
 //!
 //! `let schools = LinkedRound::build(alloc, &state, &orders, &lineup, ceilings)?;`
 #![tactic(auto)]

@@ -1,5 +1,5 @@
-//! The days of a run: one loop over them, which keeps their records, with three pickers that take
-//! turns by the day.
+//! The days of a run of the program: one loop over the days of `desk_day`, which keeps their
+//! records, with three pickers that take turns by the day.
 //!
 //! `let played = play(alloc, &input.dossier, terms, request.days, request.picker, &mut pickers)?;`
 #![tactic(auto)]

@@ -1,5 +1,6 @@
-//! What the systems of falling bars look at: which wishes are open under given bars, the call order
-//! and limit of a programme, and items in order of their rank.
+//! What both systems of boarding schools look at, the plain one in `demand` and the one with links
+//! in `linked_demand`: which wishes are open under given bars, the call order and limit of a
+//! programme, and items in order of their rank.
 //!
 //! `let open = is_open(&state, bars.as_slice(), place);`
 #![tactic(auto)]
