@@ -1,12 +1,11 @@
 -- The summary of a sample.
-use Rattle.std.specs.Prelude.{ℕ, Bool, not, ◌&&◌, List, [], ◌∷◌, ◌++◌, codes, count_by, flat_map, length, map, sum_by}
+use Rattle.std.specs.Prelude.{ℕ, Bool, List, [], ◌∷◌, ◌++◌, codes, count_by, flat_map, length, map, sum_by}
 use Rattle.std.specs.Fmt.{decimal}
 use Rattle.std.specs.List.{range_with_len}
 use Rattle.admit_core.specs.Answers.{mark_at}
-use Rattle.admit_core.specs.State.{State, is_live, is_live_status, is_waiting, is_waiting_status}
+use Rattle.admit_core.specs.State.{State, is_gone, is_live, is_waiting}
 use Rattle.admit_core.specs.declared.records.DayRecord.{DayRecord}
 use Rattle.admit_core.specs.declared.records.PassEnd.{PassEnd}
-use Rattle.admit_core.specs.declared.state.Status.{Status}
 use Rattle.admit_core.specs.declared.state.Mark.{Mark}
 use Rattle.report.specs.Words.{line}
 
@@ -22,13 +21,6 @@ day_summary day =
     line (codes "day" ∷ decimal day.day ∷ codes "passes" ∷ decimal (length day.passes)
     ∷ codes "falls" ∷ decimal (sum_by falls_in day.passes) ∷ codes "offers"
     ∷ decimal (sum_by offers_in day.passes) ∷ [])
-
--- a status that is neither live nor waiting
-abbrev pub is_gone_status : Status → Bool
-is_gone_status status = not (is_live_status status) && not (is_waiting_status status)
-
-abbrev pub is_gone : Mark → Bool
-is_gone m = is_gone_status m.status
 
 -- the marks of the first n wishes, by place
 abbrev pub marks_until : State → ℕ → List Mark

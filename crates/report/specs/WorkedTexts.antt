@@ -1,5 +1,5 @@
 -- Texts of small cases.
-use Rattle.std.specs.Prelude.{◌≡◌, ℕ, ℤ, pos, negsuc, List, [], ◌∷◌, codes, flat_map}
+use Rattle.std.specs.Prelude.{◌≡◌, ℕ, ℤ, pos, negsuc, List, [], ◌∷◌, ◌++◌, codes, flat_map}
 use Rattle.admit_core.specs.DossierRows.{DossierRows}
 use Rattle.admit_core.specs.State.{State}
 use Rattle.admit_core.specs.WorkedRows.{better_waits, boarder, cascade, last_marks, limit_state, marked, nothing_freed, old_offer, order, programme, realistic, realistic_days, rows, school, terms, two_offers, wish}
@@ -19,7 +19,7 @@ use Rattle.report.specs.ExplainText.{explain_text}
 use Rattle.report.specs.FinalText.{final_dated_text, final_text}
 use Rattle.report.specs.OrderText.{order_text}
 use Rattle.report.specs.RefusalText.{refusal_line}
-use Rattle.report.specs.SampleText.{sample_text}
+use Rattle.report.specs.SampleText.{day_summary, sample_text, state_summary}
 
 -- a group without candidates, and one letter of each kind
 abbrev pub OrderTexts : Type 0
@@ -179,21 +179,22 @@ DatedFinals =
     ≡ codes "final\nwish,status,since\n1,lapsed,\n2,offered,2025-06-04\n")
     × (final_dated_text old_offer march (terms 2).before ≡ codes "final\nwish,status,since\n1,offered,2024-02-28\n2,waiting,\n")
 
--- four candidates of one programme, of whom two ask for boarding too; the last answers by their preferences
+-- the sample of four candidates: one programme, for which two ask for boarding too; the last answers by their preferences
 abbrev pub four_candidates : State
 four_candidates =
     record {
       dossier =
           rows (programme 1 0 200 ∷ []) (school 1 40 1073741824 ∷ [])
-          (wish 1 1 0 0 ∷ wish 7 2 0 0 ∷ boarder 8 2 0 0 4000006 0 ∷ wish 13 3 0 0 ∷ wish 19 4 0 2 ∷ boarder 20 4 0 0 8000012 1 ∷ []) [];
+          (wish 1 1 0 0 ∷ wish 7 2 0 0 ∷ boarder 8 2 0 0 4000007 0 ∷ wish 13 3 0 0 ∷ wish 19 4 0 2 ∷ boarder 20 4 0 0 8000013 1 ∷ []) [];
       marks =
           marked Offered 1 1 ∷ marked Offered 1 1 ∷ marked Offered 1 1 ∷ marked Offered 1 1 ∷ marked AutoRefused 1 1 ∷ marked Accepted 1 1 ∷ [];
     }
 
--- sums over the passes of each day, and the wishes of the evening
+-- the sample of four candidates; and, of days that are no sample's, sums over several passes, and
+-- wishes that wait or were refused
 abbrev pub Samples : Type 0
 Samples =
     (sample_text 4 6 (one_pass 1 (1073741824 ∷ []) [] (0 ∷ 1 ∷ 2 ∷ 3 ∷ 4 ∷ 5 ∷ []) (196 ∷ []) (38 ∷ []) ∷ []) four_candidates
     ≡ codes "sample 4 wishes 6\nday 1 passes 1 falls 0 offers 6\nlive 5 waiting 0 gone 1\n")
-    × (sample_text 4 8 realistic_days realistic_evening
-    ≡ codes "sample 4 wishes 8\nday 1 passes 2 falls 1 offers 5\nday 2 passes 1 falls 0 offers 1\nlive 3 waiting 2 gone 3\n")
+    × (flat_map day_summary realistic_days ++ state_summary realistic_evening
+    ≡ codes "day 1 passes 2 falls 1 offers 5\nday 2 passes 1 falls 0 offers 1\nlive 3 waiting 2 gone 3\n")

@@ -1,7 +1,7 @@
 //! The summary of a sample.
-ghost use Rattle.std.specs.Prelude.{◌≡◌, ◌<◌, ◌+◌, ◌++◌, if◌then◌else◌, IfOk, OnOk, flat_map, string_bytes, sum_by};
-ghost use Rattle.admit_core.specs.State.{is_live, is_live_status, is_waiting, is_waiting_status};
-ghost use Rattle.report.specs.SampleText.{day_summary, falls_in, is_gone, is_gone_status, offers_in, sample_text, state_summary, wishes_with};
+ghost use Rattle.std.specs.Prelude.{◌≡◌, ◌<◌, ◌+◌, ◌++◌, ◌||◌, if◌then◌else◌, IfOk, OnOk, flat_map, not, string_bytes, sum_by};
+ghost use Rattle.admit_core.specs.State.{is_gone, is_live, is_live_status, is_waiting, is_waiting_status};
+ghost use Rattle.report.specs.SampleText.{day_summary, falls_in, offers_in, sample_text, state_summary, wishes_with};
 
 use admit_core::{DayRecord, OutOfMemory, PassEnd, Status};
 use day_state::DayState;
@@ -43,7 +43,8 @@ impl WishCounts {
         ensures live { result.live ≡ self.live + (if is_live_status status then 1 else 0) }
         ensures waiting { result.waiting
             ≡ self.waiting + (if is_waiting_status status then 1 else 0) }
-        ensures gone { result.gone ≡ self.gone + (if is_gone_status status then 1 else 0) }
+        ensures gone { result.gone ≡ self.gone
+            + (if not (is_live_status status || is_waiting_status status) then 1 else 0) }
         ensures total { result.live + result.waiting + result.gone
             ≡ self.live + self.waiting + self.gone + 1 }
     {

@@ -1,9 +1,9 @@
 use Rattle.std.proofs.Common.{◌≡◌, ◌+◌, ℕ, Bool, cond, count_by, refl, arith}
 use Rattle.std.proofs.lemmas.List.FromFn.{sum_by-map-range_with_len_more}
 use Rattle.admit_core.specs.Answers.{mark_at}
-use Rattle.admit_core.specs.State.{State, is_live, is_waiting}
+use Rattle.admit_core.specs.State.{State, is_gone, is_live, is_waiting}
 use Rattle.admit_core.specs.declared.state.Mark.{Mark}
-use Rattle.report.specs.SampleText.{is_gone, marks_until}
+use Rattle.report.specs.SampleText.{marks_until}
 use Rattle.report.proofs.sample.wish_counts.Goals as goal
 
 -- one more wish

@@ -1,6 +1,6 @@
 use Rattle.std.proofs.Common.{◌≡◌, ◌+◌, count_by}
-use Rattle.admit_core.specs.State.{is_live, is_waiting}
-use Rattle.report.specs.SampleText.{is_gone, marks_until}
+use Rattle.admit_core.specs.State.{is_gone, is_live, is_waiting}
+use Rattle.report.specs.SampleText.{marks_until}
 use Rattle.report.proofs.sample.wish_counts.Given as goal
 
 abbrev pub invariant-loop-wish : goal.invariant-loop-wish
