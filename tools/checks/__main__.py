@@ -10,7 +10,7 @@ from functools import partial
 from dossier.program import program
 from dossier.wording import Words
 
-from . import answered, auditing, days, disks, exporting, hostile, installing, killing, lemmas, rechecking, rounds
+from . import answered, auditing, cutting, days, disks, exporting, hostile, installing, killing, lemmas, rechecking, rounds
 from . import script, sheets, stored, tabled, whys, workbooks
 from .harness import EXAMPLES, Tally, until_told
 
@@ -42,8 +42,11 @@ def topics(program: str) -> dict[str, list[Checks]]:
         "script": [script.check_script],
         "exporting": [exporting.check_round_trips, partial(exporting.check_acceptance, program=program)],
         "days": [partial(days.check_seven_days, program=program), days.check_answers_that_do_not_fit,
-                 days.check_stopped_days, days.check_changes_after_a_stop, days.check_days_anew,
+                 days.check_unfit_in_the_midst, days.check_stopped_days, days.check_changes_after_a_stop,
+                 days.check_days_anew, days.check_each_day_anew, days.check_told_changes,
                  days.check_rights, days.check_killed_while_running, days.check_full_disk],
+        "cutting": [partial(cutting.check_two_days, program=program), partial(cutting.check_random, program=program),
+                    partial(cutting.check_finds, program=program)],
         "installing": [installing.check_installed],
         "workbooks": [workbooks.check_workbooks],
         "answered": [answered.check_taken, answered.check_faults, partial(answered.check_random, program=program)],

@@ -107,6 +107,96 @@ def check_answers_that_do_not_fit(tally: Tally) -> None:
         tally.equal("mended, the day is made", run(TOOLS / "next_day", folder).status, 0)
 
 
+def check_unfit_in_the_midst(tally: Tally) -> None:
+    """An unfit answer on any day leaves everything as it was; without its row the day is as if it had not been."""
+    tally.begin("next_day, an answer that does not fit in the midst of a campaign")
+    for name, days, dated in (("lycee/slots", 3, ("--start", "2026-06-02", "--term", "1")), ("two-days", 2, ())):
+        with scratch() as place:
+            plain, tried = place / "plain", place / "tried"
+            for folder in (plain, tried):
+                shutil.copytree(EXAMPLES / name, folder)
+            for day in range(1, days + 1):
+                words = dated if day == 1 else ()
+                answers = (tried / "answers.csv").read_text()
+                header, _, rows = answers.partition("\n")
+                (tried / "answers.csv").write_text(f"{header}\n1,accept,1\n1,withdraw,1\n{rows}")
+                before = contents(tried)
+                ended = run(TOOLS / "next_day", tried, *words)
+                is_told = ended.status == 1 and "answers.csv, row " in ended.complaint
+                tally.check(f"{name}, day {day}: it is refused", is_told, ended)
+                tally.equal(f"{name}, day {day}: nothing has changed", contents(tried), before)
+                (tried / "answers.csv").write_text(answers)
+                made = [run(TOOLS / "next_day", folder, *words).status for folder in (plain, tried)]
+                tally.equal(f"{name}, day {day}: mended, the day is made", made, [0, 0])
+                tally.equal(f"{name}, day {day}: and as without it", contents(tried), contents(plain))
+
+
+def made_anew(folder: Path, day: int) -> None:
+    """Puts back what a day's record has of before it, and deletes the record, as the pages say."""
+    record = folder / f"days/day-{day:03}"
+    for path in (record / "before").iterdir():
+        shutil.copy(path, folder)
+    if not (record / "before" / campaign.CALENDAR).exists():
+        (folder / campaign.CALENDAR).unlink()
+    shutil.rmtree(record)
+
+
+def check_each_day_anew(tally: Tally) -> None:
+    """Each day of a campaign, made anew from the same slots, is the same; with a correction, as if made with it."""
+    tally.begin("next_day, each day of a campaign made anew")
+    with scratch() as place:
+        folder = place / "dossier"
+        shutil.copytree(EXAMPLES / "lycee/slots", folder)
+        for day in (1, 2, 3):
+            words = ("--start", "2026-06-02", "--term", "1") if day == 1 else ()
+            morning = place / f"morning-{day}"
+            shutil.copytree(folder, morning)
+            tally.equal(f"day {day} is made", run(TOOLS / "next_day", folder, *words).status, 0)
+            evening = contents(folder)
+            made_anew(folder, day)
+            tally.equal(f"day {day}: the slots of its morning", contents(folder), contents(morning))
+            tally.equal(f"day {day}: anew", run(TOOLS / "next_day", folder, *words).status, 0)
+            tally.equal(f"day {day}: it is the same", contents(folder), evening)
+            corrected = place / f"corrected-{day}"
+            shutil.copytree(folder, corrected)
+            made_anew(corrected, day)
+            for each in (corrected, morning):
+                header, _, rows = (each / "answers.csv").read_text().partition("\n")
+                (each / "answers.csv").write_text(f"{header}\n1,quit,2\n{rows}")
+            statuses = [run(TOOLS / "next_day", each, *words).status for each in (corrected, morning)]
+            tally.equal(f"day {day}: corrected", statuses, [0, 0])
+            tally.equal(f"day {day}: as if made so", contents(corrected), contents(morning))
+
+
+# How a file is changed in the morning of day 2, where not by an empty row more.
+BY_HAND = {"answers.csv": (b"1,accept,4\n", b"1,refuse,4\n"), "ceilings.csv": (b"1,2,3\n", b"1,2,2\n"),
+           campaign.CALENDAR: (b",1\n", b",5\n")}
+
+
+def check_told_changes(tally: Tally) -> None:
+    """What is not as the day before left it is told; answers and ceilings are there to be changed."""
+    tally.begin("next_day, what is changed between two days")
+    with scratch() as place:
+        start = place / "start"
+        shutil.copytree(EXAMPLES / "lycee/slots", start)
+        ended = run(TOOLS / "next_day", start, "--start", "2026-06-02", "--term", "1")
+        tally.check("nothing is told of day 1", ended.status == 0 and ended.output.count(b"\n") == 1, ended)
+        for name in (*campaign.LASTING, *campaign.CHANGING, campaign.CALENDAR):
+            folder = place / "dossier"
+            shutil.copytree(start, folder)
+            was = (folder / name).read_bytes()
+            changed = was.replace(*BY_HAND[name]) if name in BY_HAND else was + b"\n"
+            (folder / name).write_bytes(changed)
+            ended = run(TOOLS / "next_day", folder)
+            told = b"" if name in ("answers.csv", "ceilings.csv") else b"changed since day 1: %s\n" % name.encode()
+            is_told = ended.status == 0 and ended.output.partition(b"\n")[2] == told
+            tally.check(f"{name}: told as it should be", changed != was and is_told, ended)
+            shutil.rmtree(folder)
+        shutil.rmtree(start / "days/day-001")
+        ended = run(TOOLS / "next_day", start)
+        tally.check("no record of the day before", ended.status == 0 and ended.output.count(b"\n") == 1, ended)
+
+
 def stopped_at(moment: int, action: Callable[[], object]) -> bool:
     """Runs the action in a process that ends abruptly at its step of that number; whether it came to the step."""
     process = os.fork()

@@ -209,6 +209,20 @@ def take_over(folder: Path, kept: Path, record: Record) -> None:
             replace_file(folder / name, record.after[name])
 
 
+def changed_by_hand(days: Path, calendar: Calendar, record: Record) -> str:
+    """A line on what is not as the day before left it, but for the answers and ceilings, which are there to be
+    changed; no line where all is, or where the record of that day is not whole any more."""
+    earlier = days / f"day-{calendar.day - 1:03}"
+    try:
+        then = (earlier / CHECKSUMS).read_bytes().splitlines()
+        left = {name: (earlier / "after" / name).read_bytes() for name in ("state.csv", CALENDAR)}
+    except OSError:
+        return ""
+    changed = [line.split()[-1].decode() for line in record.checksums.splitlines() if line not in then]
+    changed += [name for name, data in left.items() if record.before.get(name) != data]
+    return f"changed since day {calendar.day - 1}: {', '.join(changed)}" if changed else ""
+
+
 def told(calendar: Calendar, report: bytes, kept: Path) -> str:
     """A line on the day that is done."""
     lines = report.splitlines()
@@ -218,7 +232,8 @@ def told(calendar: Calendar, report: bytes, kept: Path) -> str:
 
 
 def next_day(folder: Path, asked: Calendar) -> str:
-    """Makes the coming day, or ends the one that was stopped half way; answers a line on it."""
+    """Makes the coming day, or ends the one that was stopped half way; answers a line on it, and one on what was
+    changed by hand since the day before."""
     with alone(folder):
         files = read_files(folder)
         calendar = calendar_of(files, asked)
@@ -233,7 +248,8 @@ def next_day(folder: Path, asked: Calendar) -> str:
         else:
             record = make_record(folder, files, calendar, kept)
         take_over(folder, kept, record)
-        return told(calendar, record.report, kept)
+        lines = (told(calendar, record.report, kept), changed_by_hand(days, calendar, record))
+        return "\n".join(line for line in lines if line)
 
 
 def make_record(folder: Path, files: Files, calendar: Calendar, kept: Path) -> Record:
