@@ -63,6 +63,8 @@ TRIES = {
               "safety, School::take: bounds-take-from"),
     "value": ("refused", ANSWER.format("`returns`: as printed, the two types differ only where one has `c.args.beds`"),
               "answer, School::take: ensures [as printed, the two types differ only where one has `c.args.beds` ..]"),
+    "search": ("refused", ANSWER.format("`returns`: `search`: no proof of `r ≡ nat_lt a b` was found. Every way"),
+               "answer, School::take: ensures [`search`: no proof of `r ≡ nat_lt a b` was found. Every way ..]"),
     "case": ("refused", ANSWER.format("`returns`: `omega`: the goal does not follow, and the goal fails, at x = 1"),
              "answer, School::take: ensures [`omega`: the goal does not follow, and the goal fails, at x = 1 ..]"),
     "cut": ("refused", ANSWER.format("`returns`: as printed, the two types first differ where one has `c.before.bef"),
@@ -76,8 +78,8 @@ TRIES = {
              "limit, left: ensures"),
     "odd": ("bad", "BAD EDIT: there is no file src/odd.rt", "bad, BAD EDIT: there is no file src/odd.rt"),
 }
-SUM = "of which {} not tried here: 5 refused at a clause or a safety condition, 2 at an answer that shows the changed " \
-    "value, 1 at an answer that is cut before it, 2 only for form, 1 at a limit; 1 bad"
+SUM = "of which {} not tried here: 5 refused at a clause or a safety condition, 3 at an answer that shows the " \
+    "changed value, 1 at an answer that is told only in part, 2 only for form, 1 at a limit; 1 bad"
 
 
 def keep(kit: Path, edit: Path, kind: str, said: str, of: str = "now") -> None:
@@ -121,23 +123,23 @@ def check_edits(tally: Tally) -> None:
             tally.equal(f"{name}: its end", (ended.status, ended.complaint), (0, ""))
             tally.equal(name, ended.output.decode().splitlines(), lines)
 
-        told("one crate", ("beds",), [*beds, f"12 edits, {SUM.format('0 were')}"])
+        told("one crate", ("beds",), [*beds, f"13 edits, {SUM.format('0 were')}"])
         told("all", (), [*beds, "seats", "    changed: not tried here", "    new: not tried here",
-                         f"14 edits, {SUM.format('2 were')}"])
+                         f"15 edits, {SUM.format('2 were')}"])
         told("earlier ones", ("seats", "--earlier"), [
             "seats", "    changed: safety (with other files), src/lib.rt: bounds-take-from", "    new: not tried here",
             "2 edits, of which 1 were not tried here: 1 refused at a clause or a safety condition, 0 at an answer that "
-            "shows the changed value, 0 at an answer that is cut before it, 0 only for form, 0 at a limit; 0 bad"])
+            "shows the changed value, 0 at an answer that is told only in part, 0 only for form, 0 at a limit; 0 bad"])
         for path in (folder / "kept/edits").iterdir():
             if "/odd.edit" in path.read_text():
                 path.write_text("{")
         told("a try that is not whole", ("beds",), [
             *(line if "odd" not in line else "    odd: not tried here" for line in beds),
-            f"12 edits, {SUM.format('1 were').replace('1 bad', '0 bad')}"])
+            f"13 edits, {SUM.format('1 were').replace('1 bad', '0 bad')}"])
         told("tried now", ("seats", "--try"), [
             "seats", "    changed: clause, src/lib.rt: ensures all", "    new: clause, src/lib.rt: ensures all",
             "2 edits, of which 0 were not tried here: 2 refused at a clause or a safety condition, 0 at an answer that "
-            "shows the changed value, 0 at an answer that is cut before it, 0 only for form, 0 at a limit; 0 bad"])
+            "shows the changed value, 0 at an answer that is told only in part, 0 only for form, 0 at a limit; 0 bad"])
         for words in (("none",), ("--fly",), ("",), ("../crates",), ("beds", "--earlie")):
             ended = call(folder, *words)
             is_told = ended.status == 2 and ended.complaint.count("\n") == 1 and not ended.output
