@@ -10,3 +10,4 @@ pub mod Counting
 pub mod Schools
 pub mod WordLines
 pub mod ReadBack
+pub mod ReadsWritten
