@@ -16,3 +16,4 @@ pub mod Counting
 pub mod Schools
 pub mod WordLines
 pub mod ReadBack
+pub mod ReadsWritten
