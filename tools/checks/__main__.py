@@ -1,6 +1,7 @@
 """Runs all checks, or those of the topics named; the last line says how many passed and failed."""
 
 import os
+import resource
 import subprocess
 import sys
 import time
@@ -10,8 +11,8 @@ from functools import partial
 from dossier.program import program
 from dossier.wording import Words
 
-from . import answered, auditing, cutting, days, disks, exporting, hostile, installing, killing, lemmas, rechecking, rounds
-from . import script, sheets, stored, tabled, whys, workbooks
+from . import answered, auditing, cutting, days, disks, edits, exporting, hostile, installing, killing, lemmas
+from . import rechecking, rounds, script, sheets, stored, tabled, whys, workbooks
 from .harness import EXAMPLES, Tally, until_told
 
 Checks = Callable[[Tally], None]
@@ -30,6 +31,7 @@ def topics(program: str) -> dict[str, list[Checks]]:
         "disks": [disks.check_full_devices, disks.check_small_disks],
         "killing": list(killing.CHECKS),
         "lemmas": [lemmas.check_same_lemmas, lemmas.check_witnesses],
+        "edits": [edits.check_edits],
         "rounds": [partial(rounds.check_small_rounds, program=program), partial(rounds.check_finds, program=program),
                    partial(rounds.check_unknown_modes, program=program),
                    rounds.check_endless, partial(rounds.check_stopped, program=program)],
@@ -76,6 +78,12 @@ def main(given: list[str]) -> int:
     return until_told(partial(run_topics, named, all_topics))
 
 
+def processor_seconds() -> float:
+    """What these checks, and all that they ran, took of a processor."""
+    used = [resource.getrusage(who) for who in (resource.RUSAGE_SELF, resource.RUSAGE_CHILDREN)]
+    return sum(it.ru_utime + it.ru_stime for it in used)
+
+
 def run_topics(named: list[str], all_topics: dict[str, list[Checks]]) -> int:
     if not is_there():
         print(f"FAILED {program()} does not run\n0 passed, 1 failed")
@@ -85,8 +93,10 @@ def run_topics(named: list[str], all_topics: dict[str, list[Checks]]) -> int:
     tally = Tally()
     begun = time.monotonic()
     for name in named or all_topics:
+        started, used = time.monotonic(), processor_seconds()
         for checks in all_topics[name]:
             tally.run(partial(checks, tally))
+        print(f"{name}: {time.monotonic() - started:.0f} s, {processor_seconds() - used:.0f} s of a processor")
     print(f"in {time.monotonic() - begun:.0f} s")
     print(f"{tally.passed} passed, {tally.failed} failed")
     return 0 if tally.failed == 0 else 1

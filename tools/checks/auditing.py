@@ -19,6 +19,10 @@ def replaced(name: str, old: bytes, new: bytes) -> Callable[[Path], None]:
     return change
 
 
+def emptied(name: str) -> Callable[[Path], None]:
+    return lambda campaign: (campaign / name).write_bytes(b"") and None
+
+
 def removed(name: str) -> Callable[[Path], None]:
     def change(campaign: Path) -> None:
         path = campaign / name
@@ -40,7 +44,12 @@ CHANGES: tuple[tuple[Callable[[Path], None], int, int, str], ...] = (
     (replaced("days/day-002/after/campaign.csv", b"3,", b"4,"), 2, 3, "says that day"),
     (replaced("days/day-002/after/campaign.csv", b"3,", b"x,"), 2, 3, "audit_day:"),
     (replaced("days/day-002/slots.sha256", b"  groups.csv", b""), 2, 3, "audit_day:"),
-    (replaced("days/day-002/slots.sha256", b"groups.csv", b"../groups.csv"), 2, 3, "no such file"),
+    (replaced("days/day-002/slots.sha256", b"groups.csv", b"../groups.csv"), 2, 3, "not one checksum of each"),
+    (emptied("days/day-002/slots.sha256"), 2, 3, "not one checksum of each"),
+    (emptied("days/day-002/after/campaign.csv"), 2, 3, "campaign.csv: not enough values"),
+    (replaced("days/day-002/after/campaign.csv", b"3,,", b"3,0001-01-01,1"), 2, 3, "campaign.csv: date value"),
+    (replaced("days/day-002/after/campaign.csv", b"3,,", b"3,2026-13-01,1"), 2, 3, "campaign.csv: month"),
+    (emptied("days/day-002/report.txt"), 2, 1, "report     WRONG: it has no line `day 2`"),
     (removed("days/day-002/report.txt"), 2, 3, "report.txt"),
     (removed("days/day-001"), 2, 0, "morning    not tested: there is no record of day 1"),
     (removed("days/day-002"), 2, 3, "no such record"),

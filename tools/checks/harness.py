@@ -9,11 +9,11 @@ import sys
 import tempfile
 import traceback
 from collections.abc import Callable, Iterator
-from contextlib import contextmanager
+from contextlib import contextmanager, suppress
 from dataclasses import dataclass, field
 from pathlib import Path
 
-from dossier.writing import Told, stop_cleanly
+from dossier.writing import STOPS, Told, stop_cleanly, stop_no_more
 
 TOP = Path(__file__).resolve().parents[2]
 TOOLS = TOP / "tools"
@@ -54,13 +54,24 @@ class Tally:
 
 
 def until_told(main: Callable[[], int]) -> int:
-    """Runs checks until they end or are told to stop; either way their folders vanish, and what they run is ended."""
+    """Runs checks until they end or are told to stop; either way what they run is ended, and what they and all that
+    they ran left in the temporary folder vanishes, since they have a folder of their own there."""
+    # (a signal waits until there is what takes the folder away)
+    signal.pthread_sigmask(signal.SIG_BLOCK, STOPS)
+    place = tempfile.mkdtemp(prefix="parcours-check.")
     try:
         stop_cleanly()
+        signal.pthread_sigmask(signal.SIG_UNBLOCK, STOPS)
+        # Some checks run the program as another user, below this folder.
+        os.chmod(place, 0o711)
+        os.environ["TMPDIR"] = tempfile.tempdir = place
         return main()
     except Told as stop:
         print("stopped", file=sys.stderr)
         return stop.status
+    finally:
+        stop_no_more()
+        shutil.rmtree(place, ignore_errors=True)
 
 
 def shortened(found: object) -> str:
@@ -90,7 +101,9 @@ def run(*words: str | Path, folder: Path = TOP, given: bytes = b"", environment:
         try:
             told, complained = call.communicate(given, LONGEST_RUN)
         except BaseException:
-            os.killpg(call.pid, signal.SIGKILL)
+            # It may have ended meanwhile, and that must not be told in place of what stops this.
+            with suppress(ProcessLookupError):
+                os.killpg(call.pid, signal.SIGKILL)
             raise
     return Ended(call.returncode, told or b"", complained.decode(errors="replace"))
 

@@ -29,6 +29,8 @@ BAD_WORDS = (
     *(("write_sample.sh", number, "x") for number in BAD_NUMBERS),
     ("write_sample.sh", "5", "x", "many"), ("write_sample.sh", "5", "x", "-1"),
     ("shapes.sh", "round"), ("shapes.sh", "quits", "--runs", "0"), ("shapes.sh", "--beside"),
+    ("check_pages.sh", "README.md"), ("check_pages.sh", "--link"), ("edit_clauses", "--tried"),
+    ("edit_clauses", "none"),
 )
 
 

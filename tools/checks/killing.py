@@ -114,4 +114,32 @@ def check_sample(tally: Tally) -> None:
         tally.equal("its slots", len(contents(folder / "sample")), 9)
 
 
-CHECKS = (check_steps, check_prepare, check_next_day, check_sample)
+def check_checks(tally: Tally) -> None:
+    """Told to stop, a check leaves nothing in the temporary folder."""
+    tally.begin("check_pages.sh and check.sh, told to stop")
+    for words in (("check_pages.sh",), ("check.sh", "answered")):
+        for number in (signal.SIGINT, signal.SIGTERM):
+            for wait in (0, 1, 3):
+                with scratch() as folder:
+                    ended = stopped_once_begun(number, wait, folder, *words)
+                    name = f"{' '.join(words)}, {number.name} {wait} s after its first file"
+                    tally.check(f"{name}: how it ends", (ended.status, ended.complaint) == (128 + number, "stopped\n"),
+                                ended)
+                    tally.equal(f"{name}: what is left", list(folder.iterdir()), [])
+
+
+def stopped_once_begun(number: signal.Signals, wait: float, folder: Path, tool: str, *words: str) -> Ended:
+    """Sends the signal to a check so many seconds after it has something in this temporary folder."""
+    with subprocess.Popen([TOOLS / tool, *words], env={**os.environ, "TMPDIR": str(folder)},
+                          stdout=subprocess.PIPE, stderr=subprocess.PIPE,
+                          # A shell that runs this beside others has its interrupts passed over.
+                          preexec_fn=lambda: signal.signal(signal.SIGINT, signal.SIG_DFL)) as call:
+        while call.poll() is None and not list(folder.iterdir()):
+            time.sleep(0.01)
+        time.sleep(wait)
+        call.send_signal(number)
+        output, complaint = call.communicate(timeout=60)
+    return Ended(call.returncode, output, complaint.decode())
+
+
+CHECKS = (check_steps, check_prepare, check_next_day, check_sample, check_checks)

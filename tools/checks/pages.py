@@ -18,7 +18,7 @@ from pathlib import Path
 from dossier.program import program
 from dossier.wording import Words
 
-from .harness import LONGEST_RUN, TOP, Tally, scratch
+from .harness import TOP, Tally, run, scratch, until_told
 
 COPIED = ("README.md", "LISEZMOI.md", "docs", "examples", "tools")
 BEFORE_COMMAND = "\x1e"
@@ -77,9 +77,8 @@ def blocks_of(page: str) -> list[Block]:
 def outputs_of(runs: list[Run], folder: Path, environment: dict[str, str]) -> list[str]:
     """What each command of a block prints, on standard output and standard error; they run in one shell."""
     marked = (f"status=$?; printf '\\036'; (exit $status)\n{run.command}\n" for run in runs)
-    done = subprocess.run([*SHELL, "exec 2>&1\n" + "".join(marked)], cwd=folder, stdin=subprocess.DEVNULL,
-                          env=environment, stdout=subprocess.PIPE, timeout=LONGEST_RUN, check=False)
-    outputs = done.stdout.decode(errors="replace").split(BEFORE_COMMAND)[1:]
+    ended = run(*SHELL, "exec 2>&1\n" + "".join(marked), folder=folder, environment=environment)
+    outputs = ended.output.decode(errors="replace").split(BEFORE_COMMAND)[1:]
     return outputs + [""] * (len(runs) - len(outputs))
 
 
@@ -91,11 +90,17 @@ def is_as_shown(output: str, shown: str) -> bool:
     return output.startswith(begin) and len(output) > len(begin)
 
 
-def check_page(tally: Tally, name: Path) -> None:
-    """Runs what stands in one page, in a copy of the repository."""
+def check_links(tally: Tally, name: Path) -> str:
+    """Tests the links and the paths of one page, and answers its text."""
     tally.begin(str(name))
     page = (TOP / name).read_text()
     check_paths(tally, page, (TOP / name).parent)
+    return page
+
+
+def check_page(tally: Tally, name: Path) -> None:
+    """Tests one page, and runs what stands in it in a copy of the repository."""
+    page = check_links(tally, name)
     blocks = [block for block in blocks_of(page) if block.runs()]
     in_blocks = {run.line for block in blocks for run in block.runs()}
     for number, text in enumerate(page.splitlines(), start=1):
@@ -108,9 +113,9 @@ def check_page(tally: Tally, name: Path) -> None:
         folder = top / name.parent if name.parts[0] == "examples" else top
         for block in blocks:
             runs = block.runs()
-            for run, output in zip(runs, outputs_of(runs, folder, environment), strict=True):
-                seen = f"{run.shown}  but printed\n{output}"
-                tally.check(f"line {run.line}: {run.command}", is_as_shown(output, run.shown), seen)
+            for each, output in zip(runs, outputs_of(runs, folder, environment), strict=True):
+                seen = f"{each.shown}  but printed\n{output}"
+                tally.check(f"line {each.line}: {each.command}", is_as_shown(output, each.shown), seen)
 
 
 def check_paths(tally: Tally, page: str, folder: Path) -> None:
@@ -139,17 +144,27 @@ def pages() -> list[Path]:
 
 
 def main(given: list[str]) -> int:
-    Words("check_pages.sh", "Runs what stands behind $ in the README, in docs/ and in examples/, and compares what is "
-          "printed with the bytes below it. The last line is `N passed, M failed`.",
-          "Status: 0 all passed, 1 some failed, 2 bad words.").of(given)
+    words = Words(
+        "check_pages.sh",
+        "Runs what stands behind $ in the README, in docs/ and in examples/, and compares what is printed with the "
+        "bytes below it. They run with the program that PARCOURS names in the environment, else with the script "
+        "parcours, which builds the program first where it is not built, and that takes long. What a page links to, or "
+        "names as a path, must be there. The last line is `N passed, M failed`.",
+        "Status: 0 all passed, 1 some failed, 2 bad words.")
+    words.add_argument("--links", action="store_true", help="test links and paths alone, which needs no program")
+    return until_told(partial(check_pages, words.of(given).links))
+
+
+def check_pages(has_links_alone: bool) -> int:
+    if not has_links_alone:
+        # The script `parcours` says so where it has to build first: that is no part of a page.
+        try:
+            subprocess.run([program(), "order"], cwd=TOP / "examples/two-groups", stdout=subprocess.DEVNULL, check=True)
+        except (OSError, subprocess.CalledProcessError):
+            print(f"FAILED {program()} does not run\n0 passed, 1 failed")
+            return 1
     tally = Tally()
-    # The script `parcours` says so where it has to build first: that is no part of a page.
-    try:
-        subprocess.run([program(), "order"], cwd=TOP / "examples/two-groups", stdout=subprocess.DEVNULL, check=True)
-    except (OSError, subprocess.CalledProcessError):
-        print(f"FAILED {program()} does not run\n0 passed, 1 failed")
-        return 1
     for page in pages():
-        tally.run(partial(check_page, tally, page))
+        tally.run(partial(check_links if has_links_alone else check_page, tally, page))
     print(f"{tally.passed} passed, {tally.failed} failed")
     return 0 if tally.failed == 0 and tally.passed > 0 else 1

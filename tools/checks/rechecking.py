@@ -47,16 +47,14 @@ RECHECK = tool()
 
 def told(folder: Path, text: bytes, words: tuple[str, ...]) -> Told:
     """What `recheck` says of a text: right with its lines, wrong with the number of the line, or untested."""
-    start = RECHECK.day_of(words[words.index("--start") + 1]) if "--start" in words else None
+    start = RECHECK.DATES[words[words.index("--start") + 1]] if "--start" in words else None
     term = int(words[words.index("--term") + 1]) if "--term" in words else None
     report = folder / "report"
     report.write_bytes(text)
     try:
-        return RIGHT, RECHECK.test(str(folder), str(report), start, term)[1]
+        return RIGHT, RECHECK.Report(str(report)).test(str(folder), start, term)[1]
     except RECHECK.Wrong as wrong:
         return WRONG, wrong.args[0]
-    except RECHECK.Refused:
-        return WRONG, 1
     except OSError:
         return UNTESTED, 0
 
@@ -199,8 +197,10 @@ def check_said(tally: Tally, program: str) -> None:
     for name in ("recheck", "audit_day"):
         text = (TOOLS / name).read_text()
         tally.check(f"Python 3.8 reads {name}", bool(ast.parse(text, feature_version=(3, 8))))
-    written = [line for line in (TOOLS / "recheck").read_text().splitlines() if line]
+    lines = (TOOLS / "recheck").read_text().splitlines()
+    written = [line for line in lines if line]
     tally.check("recheck is read in a quarter of an hour", len(written) <= 500, f"{len(written)} lines")
+    tally.check("its lines are short", max(map(len, lines)) <= 100, max(lines, key=len))
     recheck, days = TOOLS / "recheck", EXAMPLES / "two-days"
     with scratch() as folder:
         report = folder / "report"
@@ -220,7 +220,7 @@ def check_said(tally: Tally, program: str) -> None:
         says("a report that is missing", 3, "No such file", days, report)
         says("a report that is a folder", 3, "directory", days, folder)
         report.write_bytes(b"")
-        says("a folder that is missing", 3, "no such file", folder / "missing", report)
+        says("a folder that is missing", 3, "No such file", folder / "missing", report)
         dated = ("replay", "--days", "2", "--start", "2026-06-02", "--term", "0")
         report.write_bytes(run_text(program, dated, days)[1])
         says("deadlines that are forgotten", 1, "were --start and --term forgotten?", days, report)

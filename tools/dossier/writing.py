@@ -95,6 +95,15 @@ def is_folder(path: Path) -> bool:
         return False
 
 
+STOPS = (signal.SIGINT, signal.SIGTERM, signal.SIGHUP)
+
+
+def stop_no_more() -> None:
+    """From here on no such signal ends the tool, which takes away what it made and ends."""
+    for number in STOPS:
+        signal.signal(number, signal.SIG_IGN)
+
+
 class Told(KeyboardInterrupt):
     """The tool was told to stop, by an interrupt, an end or a hang-up."""
 
@@ -104,11 +113,13 @@ class Told(KeyboardInterrupt):
 
 
 def stop_cleanly() -> None:
-    """From here on a signal to stop ends the tool by `Told`, so that what is half made is taken away."""
+    """From here on a signal to stop ends the tool by `Told`, so that what is half made is taken away; a second one
+    does not break that off."""
     def stop(number: int, _: FrameType | None) -> None:
+        stop_no_more()
         raise Told(number)
 
-    for number in (signal.SIGINT, signal.SIGTERM, signal.SIGHUP):
+    for number in STOPS:
         if signal.getsignal(number) is not signal.SIG_IGN:
             signal.signal(number, stop)
 

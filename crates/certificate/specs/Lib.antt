@@ -1,4 +1,5 @@
 pub mod Grammar
+pub mod TextGrammar
 pub mod Open
 pub mod WorkedTexts
 pub mod ChainText

@@ -6,4 +6,4 @@
 
 mod laws;
 
-pub use laws::laws_of_written_chains;
+pub use laws::{laws_of_grammar, laws_of_written_chains};

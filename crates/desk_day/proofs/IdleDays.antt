@@ -1,5 +1,5 @@
 -- A day on which nothing happens leaves all three states of a desk alike.
-use Rattle.std.proofs.Common.{ℕ, ◌+◌, ◌≡◌, ◌++◌, ◌&&◌, true, List, [], ◌∷◌, Option, length, map, refl, sym, ◌∙◌, ap, subst, arith, nat_eq}
+use Rattle.std.proofs.Common.{ℕ, ◌+◌, ◌≡◌, ◌&&◌, true, List, [], ◌∷◌, Option, length, refl, sym, ◌∙◌, ap, subst, arith, nat_eq}
 use Rattle.std.specs.List.{flat_map, list_all}
 use Rattle.std.proofs.lemmas.Bool.{and_parts, eqb-true}
 use Rattle.admit_core.specs.declared.dossier.Answer.{Answer}
@@ -69,7 +69,8 @@ idle_day terms orders ceilings day before done after long each answered rule idl
     ∙ ap (λ (answers : List Answer). flat_map (wishes_of_answer d) answers) no_answer in
     let stays : morning terms done.day s ≡ s = nothing_changed terms done.day s long each untouched in
     let ends = idle_passes orders ceilings done.day 1 s done.passes after.desk.present long answered later.1
-    (subst (λ (m : State). Passes orders ceilings done.day 1 m done.passes after.desk.present) stays rule.is_day.passes) in (
+    (subst (λ (m : State). Passes orders ceilings done.day 1 m done.passes after.desk.present) stays
+    rule.is_day.passes) in (
       ends.0,
       rule.opening
           ∙ ap (λ (n : ℕ). last_opening orders n 1 (morning terms n s) done.passes) (sym rule.number)

@@ -49,7 +49,8 @@ pub desk_ends_so : (terms : Option Terms) (orders : List CallOrder) (ceilings ke
 desk_ends_so terms orders ceilings kept bars day before after done called long is kept_are bars_are =
     let old = before.desk.present in
     let evening = after.desk.present in
-    let opened = ap (λ (d : ℕ). last_opening orders d 1 (morning terms d old) done.passes) is.rule.number ∙ sym is.rule.opening in
+    let opened = ap (λ (d : ℕ). last_opening orders d 1 (morning terms d old) done.passes) is.rule.number
+    ∙ sym is.rule.opening in
     let by_day = day_ends_so terms orders ceilings old done evening called long is.rule.is_day in
     let by_opening = subst (λ (o : State). IsLastPass (last_pass o orders ceilings (last_bars done.passes)) evening) opened by_day in
     let by_bars = subst (λ (bs : List ℕ). IsLastPass (last_pass after.desk.opening orders ceilings bs) evening) (sym bars_are) by_opening in

@@ -45,8 +45,8 @@ recorded day passes lapsed evening = record {
 }
 
 -- the rule of a day on a desk: lapses, answers and passes led from the evening before to this one;
--- the desk keeps what the last pass opened with; each school that fell was the choice of the picker,
--- who was told of it
+-- the desk keeps what the last pass opened with; each school that fell was the picker's choice, who
+-- was told of it
 pub record IsDayByRule (terms : Option Terms) (orders : List CallOrder) (ceilings : List ℕ)
     (day : ℕ) (before : Moment) (done : DayRecord) (after : Moment) : Type 0 where
   pub number : done.day ≡ day

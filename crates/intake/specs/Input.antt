@@ -112,7 +112,8 @@ pub record IsInputFor (request : Request) (before : OnShelf) (input : Input) : T
 -- there is no job: where the shelf tells its bytes, the stop says why
 abbrev pub IsStopFor : Request → OnShelf → Stop → Type 0
 IsStopFor request before stop =
-    (slots : Slot → List ℕ) → Tells (slots_of request.mode) before.left slots → Stopped stop (job_of request slots)
+    (slots : Slot → List ℕ) → Tells (slots_of request.mode) before.left slots
+    → Stopped stop (job_of request slots)
 
 -- a request's slots are taken in, and give its input or why it stops
 pub record TakesIn (request : Request) (before after : OnShelf) (result : Result Input Stop) :

@@ -1,10 +1,7 @@
 -- The search for an open wish of a claim.
-use Rattle.std.proofs.Common.{ℕ, zero, suc, ◌≡◌, Bool, true, false, ◌||◌, List, [], ◌∷◌, drop, refl, ◌∙◌, ap}
+use Rattle.std.proofs.Common.{ℕ, zero, suc, ◌≡◌, Bool, true, ◌||◌, List, [], ◌∷◌, drop, ◌∙◌, ap}
 use Rattle.std.specs.List.{list_any}
-
-or_true : (a : Bool) → (a || true) ≡ true
-or_true true = refl
-or_true false = refl
+use Rattle.admit_core.proofs.Plain.{or_true}
 
 -- one that passes behind a place passes
 pub any_behind : (f : ℕ → Bool) (ks : List ℕ) (i : ℕ) → list_any f (drop i ks) ≡ true → list_any f ks ≡ true

@@ -15,7 +15,8 @@ left_long marks closed = length-map-range_with_len (is_left_open marks closed) 0
 
 left_at : (marks : List Mark) (closed : List Bool) (k : ℕ) → k < length marks
     → get_or (left_open marks closed) k false ≡ is_left_open marks closed k
-left_at marks closed k lt = get_or-map-range_with_len (is_left_open marks closed) 0 (length marks) k k false lt (zero-add k)
+left_at marks closed k lt =
+    get_or-map-range_with_len (is_left_open marks closed) 0 (length marks) k k false lt (zero-add k)
 
 mark_at : (marks : List Mark) (k : ℕ) → mark_in marks k ≡ get_or marks k waiting_mark
 mark_at marks k = unwrap_or-slice_get marks k waiting_mark
@@ -44,7 +45,8 @@ one_closed marks closed k lt long =
     ∙ elim (cases_eq i k) [
       | inl here ↦
           let flag : get_or (set closed k true) i false ≡ true =
-          ap (λ j. get_or (set closed k true) j false) here ∙ get_or-set_same closed k true false (omega (arith, lt, long)) in
+          ap (λ j. get_or (set closed k true) j false) here
+          ∙ get_or-set_same closed k true false (omega (arith, lt, long)) in
           ap (λ b. is_waiting (mark_in marks i) && not b) flag
           ∙ and_false (is_waiting (mark_in marks i))
           ∙ sym (ap (λ j. get_or (set was k false) j false) here

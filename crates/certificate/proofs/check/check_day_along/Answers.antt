@@ -17,8 +17,10 @@ returns-in-Ok-clause-valid c =
     let none : day_fault orders ceilings c.args.day c.args.morning.now chain ≡ None =
     ap (λ (t : State). day_fault orders ceilings c.args.day t chain)
     (sym c.in_ok-evening.ensures) ∙ c.in-Ok.ensures.found in
-    is_valid c.laws_of_chains.ensures.no_fault orders ceilings c.args.day c.args.morning.now chain c.check_passes.new.state none
-    (c.in-Ok.ensures.state ∙ ap (λ (t : State). state_after orders ceilings c.args.day 1 t chain.passes) c.in_ok-evening.ensures)
+    is_valid c.laws_of_chains.ensures.no_fault orders ceilings c.args.day c.args.morning.now chain
+    c.check_passes.new.state none
+    (c.in-Ok.ensures.state
+    ∙ ap (λ (t : State). state_after orders ceilings c.args.day 1 t chain.passes) c.in_ok-evening.ensures)
 
 pub returns-in-Ok-clause-greatest : goal.returns-in-Ok-clause-greatest
 returns-in-Ok-clause-greatest c =

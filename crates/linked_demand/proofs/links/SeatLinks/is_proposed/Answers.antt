@@ -57,7 +57,8 @@ returns c =
     let opens_now : Bool = c.get-open.result in
     let near : Bool = c.is_reached-reached.result in
     let opens_read : opens_now ≡ get_or opens c.args.wish opens_now = c.get-open.ensures
-    ∙ get_or_default opens c.args.wish false opens_now (omega (arith, wish_within k, c.self.invariant.reach.links.opens_each)) in
+    ∙ get_or_default opens c.args.wish false opens_now
+    (omega (arith, wish_within k, c.self.invariant.reach.links.opens_each)) in
     let served : c.is_served.result ≡ (opens_now && (flag || near)) =
     c.is_served.ensures
     ∙ ap (λ (es : List Bool). opens_now && (near || get_or (all_sure s es) c.args.wish false)) c.deref.ensures.value

@@ -12,6 +12,7 @@ returns c =
     let r = c.self.inside in
     let marks = r.state.now.marks in
     let closed = r.closed.items in
-    let lt : c.args.place < length marks = omega (arith, c.requires, ap length c.self.view_is, left_long marks closed) in
+    let lt : c.args.place < length marks =
+    omega (arith, c.requires, ap length c.self.view_is, left_long marks closed) in
     one_closed marks closed c.args.place lt c.self.invariant
     ∙ ap (λ (fs : List Bool). set fs c.args.place false) c.self.view_is

@@ -23,7 +23,8 @@ returns c =
     let r = c.self.inside in
     let marks = r.state.now.marks in
     let closed = r.closed.items in
-    let lt : c.args.place < length marks = omega (arith, c.requires, ap length c.self.view_is, left_long marks closed) in
+    let lt : c.args.place < length marks =
+    omega (arith, c.requires, ap length c.self.view_is, left_long marks closed) in
     c.is_left.ensures
     ∙ left_read marks closed c.args.place _ c.index.result.now c.marks.result.now c.marks.ensures.marks lt
     c.self.invariant c.index.ensures

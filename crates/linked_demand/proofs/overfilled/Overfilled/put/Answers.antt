@@ -9,7 +9,8 @@ use Rattle.linked_demand.proofs.overfilled.Overfilled.put.Goals.{then-is_over-wa
 pub first_not_below-at-requires : goal.first_not_below-at-requires
 first_not_below-at-requires c =
     let P = λ (ks : List ℕ). IsNonDecreasing ks in
-    subst P (sym c.as_slice.ensures) (listed_rises c.self.inside.ranks.items c.self.inside.places.items _ c.self.invariant)
+    subst P (sym c.as_slice.ensures)
+    (listed_rises c.self.inside.ranks.items c.self.inside.places.items _ c.self.invariant)
 
 pub insert-requires-clause-at : goal.insert-requires-clause-at
 insert-requires-clause-at c =
