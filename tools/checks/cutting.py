@@ -1,6 +1,6 @@
 """A campaign that is cut at an evening, and begun again from what it left, goes on as if it had not been cut.
 
-`check.sh` cuts some dozens of random campaigns, each at every evening; `PYTHONPATH=tools python3 -m checks.cutting N`
+`check.sh cutting` cuts some dozens of random campaigns; `PYTHONPATH=tools python3 -m checks.cutting N`, at the top,
 cuts as many as it is told. What the days are, the program says: once in one run of all days, and once in a run of the
 days after the evening, of a folder that has
 
@@ -108,7 +108,7 @@ class Campaign:
         return words_of(Calendar(1, dated, self.first.term), self.picker, days)
 
     def cuts(self, evening: int) -> Iterator[tuple[str, Files]]:
-        """The slots of the morning after an evening: by the rule, and where they are others as `next_day` keeps them."""
+        """The slots of the morning after an evening: by the rule, and as `next_day` keeps them where that differs."""
         state = self.evenings[evening - 1].state
         assert state is not None
         ruled = {**self.files, **self.ruled(evening), "state.csv": state}
@@ -227,10 +227,12 @@ def kept_everywhere(tally: Tally, program: str, campaign: Campaign, name: str, f
         try:
             next_day(folder, campaign.first if evening == 1 else Calendar())
         except Stopped as stop:
-            is_told = stop.status == 1 and told.state is None and told.end.partition(b" reason ")[2].decode() in str(stop)
+            reason = told.end.partition(b" reason ")[2].decode()
+            is_told = stop.status == 1 and told.state is None and reason in str(stop)
             tally.check(f"{name}: next_day is refused on day {evening} alone", is_told, stop)
             return
-        tally.equal(f"{name}: next_day, the state of evening {evening}", (folder / "state.csv").read_bytes(), told.state)
+        state = (folder / "state.csv").read_bytes()
+        tally.equal(f"{name}: next_day, the state of evening {evening}", state, told.state)
         coming = Calendar.from_bytes((folder / CALENDAR).read_bytes())
         text = replayed(program, folder, words_of(coming, campaign.picker, campaign.days - evening))
         tally.equal(f"{name}: next_day, the days after evening {evening}", text, campaign.after(evening).to_bytes())
@@ -248,7 +250,8 @@ def check_random(tally: Tally, program: str, number: int = CAMPAIGNS, seed: int 
             if each % BY_NEXT_DAY in (0, 1):
                 kept_everywhere(tally, program, campaign, name, place / "kept")
             whole = campaign.whole.to_bytes()
-            seen.update({"campaigns": 1, "with deadlines": campaign.first.today is not None, "runs from an evening": runs})
+            is_dated = campaign.first.today is not None
+            seen.update({"campaigns": 1, "with deadlines": is_dated, "runs from an evening": runs})
             seen.update(word for word in SEEN if re.search(rb"(?m)^%s " % word.encode(), whole))
     missed = [word for word in SEEN if not seen[word]]
     tally.check("there are lapses, falls, offers, automatic answers and unfit answers among them", not missed, missed)
