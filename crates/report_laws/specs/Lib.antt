@@ -1,0 +1,4 @@
+pub mod Told
+pub mod Lines
+pub mod Days
+pub mod Witnesses
