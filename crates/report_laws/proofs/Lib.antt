@@ -5,4 +5,5 @@ pub mod Runs
 pub mod Lines
 pub mod Days
 pub mod Telling
+pub mod Whole
 pub mod Worked

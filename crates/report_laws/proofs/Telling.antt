@@ -5,6 +5,7 @@ use Rattle.std.proofs.lemmas.List.Elements.{All-map}
 use Rattle.admit_core.specs.declared.dossier.Programme.{Programme}
 use Rattle.admit_core.specs.declared.dossier.School.{School}
 use Rattle.admit_core.specs.declared.dossier.Wish.{Wish}
+use Rattle.admit_core.specs.declared.ranking.RankGroup.{RankGroup}
 use Rattle.report_laws.specs.Days.{DatedDaysAreTold, DaysAreTold, PassesAreTold}
 use Rattle.report_laws.specs.Lines.{AutosAreTold, BarsAreTold, EveningsAreTold, FallsAreTold, FreedIsTold, LapsesAreTold, OffersAreTold}
 use Rattle.report_laws.specs.Told.{IsSmall, ValidDossiersHaveNames}
@@ -18,6 +19,9 @@ alone e = ap (λ (bs : List ℕ). bs ++ []) e
 
 pub names_of : ValidDossiersHaveNames
 names_of d valid =
+    let groups : All IsSmall (map (λ (g : RankGroup). g.id) d.groups) =
+    All-map IsSmall (λ (g : RankGroup). g.id) d.groups
+    (λ k x lt. let id = (valid.groups k x lt).id in omega arith) in
     let programmes : All IsSmall (map (λ (p : Programme). p.id) d.programmes) =
     All-map IsSmall (λ (p : Programme). p.id) d.programmes (λ k x lt. let id = (valid.programmes k x lt).id in omega
     arith) in
@@ -26,6 +30,7 @@ names_of d valid =
     let wishes : All IsSmall (map (λ (w : Wish). w.id) d.wishes) =
     All-map IsSmall (λ (w : Wish). w.id) d.wishes (λ k x lt. let id = (valid.wishes k x lt).id in omega arith) in
     record {
+      groups = record { small = groups; distinct = valid.ids.groups };
       programmes = record { small = programmes; distinct = valid.ids.programmes };
       schools = record { small = schools; distinct = valid.ids.schools };
       wishes = record { small = wishes; distinct = valid.ids.wishes };

@@ -1,5 +1,6 @@
 -- The worked cases, by computation.
-use Rattle.std.proofs.Common.{◌≡◌, ℕ, ◌<◌, ◌≤◌, true, List, [], ◌∷◌, All, arith, ap, get_or, length, map, nat_eq, nat_le, nat_lt, negsuc, refl, rules}
+use Rattle.std.proofs.Common.{◌≡◌, ℕ, ◌<◌, ◌≤◌, true, List, [], ◌∷◌, All, arith, ap, get_or, length, map, nat_eq, nat_le, nat_lt, negsuc, refl, rules, subst, sym}
+use Rattle.std.specs.Prelude.{slice_index_or}
 use Rattle.std.specs.List.{IsDistinct, list_all}
 use Rattle.std.proofs.lemmas.Bool.{leb-true, ltb-true}
 use Rattle.std.proofs.lemmas.List.Elements.{All-cons, All-nil}
@@ -7,10 +8,12 @@ use Rattle.std.proofs.lemmas.List.Sums.{AllPass-from_list_all}
 use Rattle.jiff_core.proofs.SignedLemmas.{signed_arith}
 use Rattle.admit_core.proofs.SmallDossier.{small_dossier_holds}
 use Rattle.admit_core.specs.DossierRows.{DossierRows}
-use Rattle.admit_core.specs.WorkedRows.{cascade, greatest_bar, greatest_bar_day, nothing_freed, old_offer, rows, school, small_dossier, two_offers}
+use Rattle.admit_core.specs.WorkedRows.{cascade, greatest_bar, greatest_bar_day, nothing_freed, old_offer, realistic, realistic_days, realistic_order, rows, school, small_dossier, the_fall, two_offers}
+use Rattle.admit_core.specs.declared.ranking.CallOrder.{CallOrder}
 use Rattle.admit_core.specs.declared.records.DayRecord.{DayRecord}
 use Rattle.admit_core.specs.declared.records.Fall.{Fall}
 use Rattle.admit_core.specs.declared.records.Lapse.{Lapse}
+use Rattle.admit_core.specs.declared.records.PassEnd.{PassEnd}
 use Rattle.admit_core.specs.declared.state.Change.{Change}
 use Rattle.admit_core.specs.declared.state.Freed.{Freed}
 use Rattle.admit_core.specs.declared.state.Status.TheVariants.{Accepted}
@@ -18,7 +21,9 @@ use Rattle.report.specs.DayText.{IsLapseOf}
 use Rattle.report.specs.WorkedTexts.{june, lapsing_day}
 use Rattle.report_laws.specs.Days.{IsDated, IsUndated}
 use Rattle.report_laws.specs.Told.{HasNames, HasNumbers, IsNumberEach, IsSmall, IsToldAuto, IsToldFall, IsToldFreed, IsToldPass, IsWishOf}
-use Rattle.report_laws.specs.Witnesses.{AutosAreToldWitness, BarsAreToldWitness, DatedDaysAreToldWitness, DaysAreToldWitness, EveningsAreToldWitness, FallsAreToldWitness, FreedIsToldWitness, LapsesAreToldWitness, OffersAreToldWitness, PassesAreToldWitness, SharedIdsHideFalls, ValidDossiersHaveNamesWitness, quiet_day, rules_day, written_pass}
+use Rattle.report_laws.specs.Witnesses.{AutosAreToldWitness, BarsAreToldWitness, DatedDaysAreToldWitness, DaysAreToldWitness, EveningsAreToldWitness, FallsAreToldWitness, FreedIsToldWitness, LapsesAreToldWitness, OffersAreToldWitness, OrdersAreToldWitness, PassesAreToldWitness, RunsAreToldWitness, SharedIdsHideFalls, ValidDossiersHaveNamesWitness, quiet_day, realistic_run, rules_day, unstamped_run, written_pass}
+use Rattle.report_laws.specs.Whole.{AreToldOrders, IsRunOf}
+use Rattle.report_laws.proofs.Whole.{orders_are_told, runs_are_told}
 use Rattle.report_laws.proofs.Telling.{autos_are_told, bars_are_told, dated_days_are_told, days_are_told, evenings_are_told, falls_are_told, freed_is_told, lapses_are_told, names_of, offers_are_told, passes_are_told}
 
 -- ---- tests that compute
@@ -33,12 +38,15 @@ each_by : {X : Type 0} (items : List X) (ns : List ℕ) → length ns ≡ length
     → list_all (λ n. nat_le n 4294967295) ns ≡ true → IsNumberEach items ns
 each_by items ns long t = record { one_each = long; small = small_by ns t }
 
-names_by : (d : DossierRows) → list_all (λ n. nat_le n 4294967295) (map (λ p. p.id) d.programmes) ≡ true
+names_by : (d : DossierRows) → list_all (λ n. nat_le n 4294967295) (map (λ g. g.id) d.groups) ≡ true
+    → list_all (λ n. nat_le n 4294967295) (map (λ p. p.id) d.programmes) ≡ true
     → list_all (λ n. nat_le n 4294967295) (map (λ h. h.id) d.schools) ≡ true
     → list_all (λ n. nat_le n 4294967295) (map (λ w. w.id) d.wishes) ≡ true
-    → IsDistinct nat_eq (map (λ p. p.id) d.programmes) → IsDistinct nat_eq (map (λ h. h.id) d.schools)
+    → IsDistinct nat_eq (map (λ g. g.id) d.groups) → IsDistinct nat_eq (map (λ p. p.id) d.programmes)
+    → IsDistinct nat_eq (map (λ h. h.id) d.schools)
     → IsDistinct nat_eq (map (λ w. w.id) d.wishes) → HasNames d
-names_by d programmes schools wishes apart beside own = record {
+names_by d groups programmes schools wishes alone apart beside own = record {
+  groups = record { small = small_by (map (λ g. g.id) d.groups) groups; distinct = alone };
   programmes = record { small = small_by (map (λ p. p.id) d.programmes) programmes; distinct = apart };
   schools = record { small = small_by (map (λ h. h.id) d.schools) schools; distinct = beside };
   wishes = record { small = small_by (map (λ w. w.id) d.wishes) wishes; distinct = own };
@@ -59,7 +67,7 @@ names_witness = (small_dossier_holds, names_of small_dossier small_dossier_holds
 -- ---- lines
 cascade_names : HasNames cascade.dossier
 unfolding IsDistinct
-cascade_names = names_by cascade.dossier refl refl refl (search rules) (search rules) (search rules)
+cascade_names = names_by cascade.dossier refl refl refl refl (search rules) (search rules) (search rules) (search rules)
 
 second_fall : Fall
 second_fall = record { school = 1; from = 9; to = 1; wishes = 2 ∷ 3 ∷ [] }
@@ -85,7 +93,7 @@ offers_witness =
 
 offers_names : HasNames two_offers.dossier
 unfolding IsDistinct
-offers_names = names_by two_offers.dossier refl refl refl (search rules) (search rules) (search rules)
+offers_names = names_by two_offers.dossier refl refl refl refl (search rules) (search rules) (search rules) (search rules)
 
 pub autos_witness : AutosAreToldWitness
 autos_witness =
@@ -107,7 +115,7 @@ freed_witness =
 
 old_names : HasNames old_offer.dossier
 unfolding IsDistinct
-old_names = names_by old_offer.dossier refl refl refl (search rules) (search rules) (search rules)
+old_names = names_by old_offer.dossier refl refl refl refl (search rules) (search rules) (search rules) (search rules)
 
 old_lapse : Lapse
 old_lapse = record { wish = 0; offered = negsuc 0 }
@@ -133,7 +141,7 @@ lapses_witness = (
 -- ---- passes and days
 bar_names : HasNames greatest_bar.dossier
 unfolding IsDistinct
-bar_names = names_by greatest_bar.dossier refl refl refl (search rules) (search rules) (search rules)
+bar_names = names_by greatest_bar.dossier refl refl refl refl (search rules) (search rules) (search rules) (search rules)
 
 bars_each : IsNumberEach greatest_bar.dossier.schools (2 ∷ [])
 bars_each = each_by greatest_bar.dossier.schools (2 ∷ []) refl refl
@@ -267,6 +275,111 @@ dated_days_witness =
       refl,
       dated_days_are_told old_offer.dossier june 1 days days old_names in_dossier in_dossier refl,
     )
+
+-- ---- two days of a realistic dossier
+autos_by : (d : DossierRows) (autos : List Change) → list_all (λ c. nat_lt c.wish (length d.wishes)) autos ≡ true
+    → All (IsToldAuto d) autos
+autos_by d autos t k c lt =
+    ltb-true (get_or autos k c).wish (length d.wishes)
+    (AllPass-from_list_all (λ (x : Change). nat_lt x.wish (length d.wishes)) autos t k c lt)
+
+pass_by : (d : DossierRows) (end : PassEnd) → All (IsToldFall d) end.pass.falls → length end.pass.bars ≡ length d.schools
+    → list_all (λ n. nat_le n 4294967295) end.pass.bars ≡ true
+    → list_all (λ n. nat_lt n (length d.wishes)) end.pass.offers ≡ true
+    → list_all (λ c. nat_lt c.wish (length d.wishes)) end.autos ≡ true → IsToldFreed end.freed → IsToldPass d end
+pass_by d end falls long bars offers autos freed = record {
+  falls = falls;
+  bars = each_by d.schools end.pass.bars long bars;
+  offers = within_by (length d.wishes) end.pass.offers offers;
+  autos = autos_by d end.autos autos;
+  freed = freed;
+}
+
+realistic_names : HasNames realistic
+unfolding IsDistinct
+realistic_names = names_by realistic refl refl refl refl (search rules) (search rules) (search rules) (search rules)
+
+some_fall : All (IsToldFall realistic) (the_fall ∷ [])
+some_fall =
+    All-cons (IsToldFall realistic) the_fall [] (fall_by realistic the_fall (omega arith) refl (omega arith) (omega arith))
+    (All-nil (IsToldFall realistic))
+
+no_falls : All (IsToldFall realistic) []
+no_falls = All-nil (IsToldFall realistic)
+
+realistic_numbers : (day : DayRecord) → day.left ≡ 0 ∷ 0 ∷ [] → day.free ≡ 0 ∷ [] → HasNumbers realistic day
+realistic_numbers day left free = record {
+  left = subst (IsNumberEach realistic.programmes) (sym left) (each_by realistic.programmes (0 ∷ 0 ∷ []) refl refl);
+  free = subst (IsNumberEach realistic.schools) (sym free) (each_by realistic.schools (0 ∷ []) refl refl);
+}
+
+abbrev realistic_day : ℕ → DayRecord
+realistic_day k = slice_index_or realistic_days k quiet_day
+
+abbrev realistic_pass : ℕ → ℕ → PassEnd
+realistic_pass k j = slice_index_or (realistic_day k).passes j written_pass
+
+freed_some : IsToldFreed (record { seats = 1; beds = 0 })
+freed_some = record { seats = omega arith; beds = omega arith }
+
+freed_none : IsToldFreed nothing_freed
+freed_none = record { seats = omega arith; beds = omega arith }
+
+first_passes : All (IsToldPass realistic) (realistic_day 0).passes
+first_passes =
+    All-cons (IsToldPass realistic) (realistic_pass 0 0) (realistic_pass 0 1 ∷ [])
+    (pass_by realistic (realistic_pass 0 0) no_falls refl refl refl refl freed_some)
+    (All-cons (IsToldPass realistic) (realistic_pass 0 1) []
+    (pass_by realistic (realistic_pass 0 1) some_fall refl refl refl refl freed_none) (All-nil (IsToldPass realistic)))
+
+second_passes : All (IsToldPass realistic) (realistic_day 1).passes
+second_passes =
+    All-cons (IsToldPass realistic) (realistic_pass 1 0) []
+    (pass_by realistic (realistic_pass 1 0) no_falls refl refl refl refl freed_none) (All-nil (IsToldPass realistic))
+
+first_undated : IsUndated realistic (realistic_day 0)
+first_undated = record {
+  day = record { day = omega arith; passes = first_passes; evening = realistic_numbers (realistic_day 0) refl refl };
+  no_lapse = refl;
+}
+
+second_undated : IsUndated realistic (realistic_day 1)
+second_undated = record {
+  day = record { day = omega arith; passes = second_passes; evening = realistic_numbers (realistic_day 1) refl refl };
+  no_lapse = refl;
+}
+
+realistic_in : All (IsUndated realistic) realistic_days
+realistic_in =
+    All-cons (IsUndated realistic) (realistic_day 0) (realistic_day 1 ∷ []) first_undated
+    (All-cons (IsUndated realistic) (realistic_day 1) [] second_undated (All-nil (IsUndated realistic)))
+
+realistic_orders : AreToldOrders realistic (realistic_order ∷ [])
+realistic_orders = record {
+  one_each = refl;
+  candidates = All-cons (λ (o : CallOrder). All IsSmall o.list) realistic_order []
+      (small_by (102 ∷ 101 ∷ 103 ∷ 104 ∷ []) refl) (All-nil (λ (o : CallOrder). All IsSmall o.list));
+}
+
+pub orders_witness : OrdersAreToldWitness
+orders_witness = (
+  realistic_names,
+  realistic_orders,
+  realistic_orders,
+  refl,
+  orders_are_told realistic (realistic_order ∷ []) (realistic_order ∷ []) realistic_names realistic_orders realistic_orders refl,
+)
+
+run_in : IsRunOf realistic realistic_run
+run_in = record { told_orders = realistic_orders; told_days = realistic_in; same_dossier = refl }
+
+other_in : IsRunOf realistic unstamped_run
+other_in = record { told_orders = realistic_orders; told_days = realistic_in; same_dossier = refl }
+
+pub runs_witness : RunsAreToldWitness
+runs_witness =
+    let told = runs_are_told realistic realistic_run unstamped_run realistic_names run_in other_in refl in
+    (realistic_names, run_in, other_in, refl, told.0, told.1, told.2)
 
 pub shared_ids : SharedIdsHideFalls
 shared_ids =

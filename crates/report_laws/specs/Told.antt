@@ -19,8 +19,9 @@ pub record AreNames (ids : List ℕ) : Type 0 where
   pub small : All IsSmall ids
   pub distinct : IsDistinct nat_eq ids
 
--- no two wishes, programmes or schools of the dossier have one id
+-- no two groups, programmes, schools or wishes of the dossier have one id
 pub record HasNames (d : DossierRows) : Type 0 where
+  pub groups : AreNames (map (λ g. g.id) d.groups)
   pub programmes : AreNames (map (λ p. p.id) d.programmes)
   pub schools : AreNames (map (λ h. h.id) d.schools)
   pub wishes : AreNames (map (λ w. w.id) d.wishes)

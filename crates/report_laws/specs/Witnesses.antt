@@ -11,7 +11,9 @@ use Rattle.admit_core.specs.Lapses.{lapses_of}
 use Rattle.admit_core.specs.Proposals.{proposed}
 use Rattle.admit_core.specs.State.{free_beds, seats_left}
 use Rattle.admit_core.specs.Validity.{IsValid}
-use Rattle.admit_core.specs.WorkedRows.{cascade, cascade_orders, first_pass, greatest_bar, greatest_bar_day, greatest_bar_evening, greatest_bar_orders, nothing_freed, old_offer, rows, school, small_dossier, terms, the_fall, two_offers, two_orders}
+use Rattle.admit_core.specs.WorkedRows.{cascade, cascade_orders, first_pass, greatest_bar, greatest_bar_day, greatest_bar_evening, greatest_bar_orders, last_marks, morning, nothing_freed, old_offer, order, realistic, realistic_days, realistic_order, rows, school, small_dossier, terms, the_fall, two_offers, two_orders}
+use Rattle.admit_core.specs.declared.ranking.Bound.TheVariants.{Both, Free, Resident}
+use Rattle.admit_core.specs.declared.ranking.CallOrder.{CallOrder}
 use Rattle.admit_core.specs.declared.records.DayRecord.{DayRecord}
 use Rattle.admit_core.specs.declared.records.Fall.{Fall}
 use Rattle.admit_core.specs.declared.records.Lapse.{Lapse}
@@ -21,9 +23,10 @@ use Rattle.admit_core.specs.declared.state.Freed.{Freed}
 use Rattle.admit_core.specs.declared.state.Status.TheVariants.{Accepted, Waiting}
 use Rattle.report.specs.DayText.{IsLapseOf, auto_line, dated_day_text, day_text, evening_text, fall_line, freed_line, lapse_line, offer_line, pass_text}
 use Rattle.report.specs.Ids.{numbers_text}
-use Rattle.report.specs.WorkedTexts.{june, lapsing_day}
+use Rattle.report.specs.WorkedTexts.{june, lapsing_day, realistic_evening}
 use Rattle.report_laws.specs.Days.{IsDated, IsUndated}
 use Rattle.report_laws.specs.Told.{HasNames, HasNumbers, IsNumberEach, IsSmall, IsToldAuto, IsToldFall, IsToldFreed, IsToldPass, IsWishOf}
+use Rattle.report_laws.specs.Whole.{AreToldOrders, HaveSameStatuses, IsRunOf, Run, orders_text, run_text}
 
 -- a dossier with a row of each kind
 abbrev pub ValidDossiersHaveNamesWitness : Type 0
@@ -220,6 +223,45 @@ DatedDaysAreToldWitness =
     × (flat_map (λ x. dated_day_text d x start term) days
     ≡ flat_map (λ x. dated_day_text d x start term) others)
     × (days ≡ others)
+
+-- ---- two days of a realistic dossier; of the second run's evening the stamps are others
+abbrev pub OrdersAreToldWitness : Type 0
+OrdersAreToldWitness =
+    let d : DossierRows = realistic in
+    let orders : List CallOrder = realistic_order ∷ [] in
+    let others : List CallOrder =
+    order (102 ∷ 101 ∷ 103 ∷ 104 ∷ []) (Both ∷ Free ∷ Resident ∷ Free ∷ []) ∷ [] in
+    HasNames d
+    × AreToldOrders d orders
+    × AreToldOrders d others
+    × (orders_text d.groups orders ≡ orders_text d.groups others)
+    × (orders ≡ others)
+
+abbrev pub realistic_run : Run
+realistic_run =
+    record {
+      orders = realistic_order ∷ [];
+      days = realistic_days;
+      evening = realistic_evening;
+    }
+
+abbrev pub unstamped_run : Run
+unstamped_run =
+    record realistic_run {
+      evening = record realistic_evening { marks = map (λ m. morning m.status) last_marks };
+    }
+
+abbrev pub RunsAreToldWitness : Type 0
+RunsAreToldWitness =
+    let d : DossierRows = realistic in
+    let one : Run = realistic_run in
+    let other : Run = unstamped_run in
+    HasNames d
+    × IsRunOf d one
+    × IsRunOf d other
+    × (run_text d one ≡ run_text d other)
+    × (one.orders ≡ other.orders) × (one.days ≡ other.days)
+    × HaveSameStatuses d one.evening other.evening
 
 -- ---- where an id stands twice, two falls have one line
 abbrev pub SharedIdsHideFalls : Type 0

@@ -2,6 +2,7 @@
 ghost use Rattle.report_laws.specs.Days.{DatedDaysAreTold, DaysAreTold, PassesAreTold};
 ghost use Rattle.report_laws.specs.Lines.{AutosAreTold, BarsAreTold, EveningsAreTold, FallsAreTold, FreedIsTold, LapsesAreTold, OffersAreTold};
 ghost use Rattle.report_laws.specs.Told.{ValidDossiersHaveNames};
+ghost use Rattle.report_laws.specs.Whole.{OrdersAreTold, RunsAreTold};
 
 /// Two records of one dossier with the same line are the same. The dossier's ids stand once, as those
 /// of a valid one do; places are its own, and numbers have 32 bits.
@@ -22,4 +23,11 @@ pub fn laws_of_days()
     ensures passes { PassesAreTold }
     ensures days { DaysAreTold }
     ensures dated { DatedDaysAreTold }
+{}
+
+/// The same of a whole run, as the mode `replay` writes it: its call orders with their rules, its
+/// days, and how each wish stands on the last evening.
+pub fn laws_of_runs()
+    ensures orders { OrdersAreTold }
+    ensures runs { RunsAreTold }
 {}

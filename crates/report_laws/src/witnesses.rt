@@ -1,5 +1,5 @@
 //! For each law a worked case that meets all its premises.
-ghost use Rattle.report_laws.specs.Witnesses.{AutosAreToldWitness, BarsAreToldWitness, DatedDaysAreToldWitness, DaysAreToldWitness, EveningsAreToldWitness, FallsAreToldWitness, FreedIsToldWitness, LapsesAreToldWitness, OffersAreToldWitness, PassesAreToldWitness, SharedIdsHideFalls, ValidDossiersHaveNamesWitness};
+ghost use Rattle.report_laws.specs.Witnesses.{AutosAreToldWitness, BarsAreToldWitness, DatedDaysAreToldWitness, DaysAreToldWitness, EveningsAreToldWitness, FallsAreToldWitness, FreedIsToldWitness, LapsesAreToldWitness, OffersAreToldWitness, OrdersAreToldWitness, PassesAreToldWitness, RunsAreToldWitness, SharedIdsHideFalls, ValidDossiersHaveNamesWitness};
 
 /// Of the laws of lines.
 pub fn witnesses_of_lines()
@@ -19,4 +19,10 @@ pub fn witnesses_of_days()
     ensures days { DaysAreToldWitness }
     ensures dated { DatedDaysAreToldWitness }
     ensures shared { SharedIdsHideFalls }
+{}
+
+/// Of the laws of runs.
+pub fn witnesses_of_runs()
+    ensures orders { OrdersAreToldWitness }
+    ensures runs { RunsAreToldWitness }
 {}
