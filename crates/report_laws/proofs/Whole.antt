@@ -16,8 +16,8 @@ use Rattle.report.specs.DayText.{day_text}
 use Rattle.report.specs.FinalText.{final_text, status_row}
 use Rattle.report.specs.OrderText.{order_text}
 use Rattle.report.specs.Words.{line, row}
-use Rattle.report_laws.specs.Told.{HasNames, IsSmall}
-use Rattle.report_laws.specs.Whole.{HaveSameStatuses, OrdersAreTold, Run, RunsAreTold, orders_text}
+use Rattle.report_laws.specs.Told.{HasNames, HaveSameStatuses, IsSmall}
+use Rattle.report_laws.specs.Whole.{OrdersAreTold, Run, RunsAreTold, orders_text}
 use Rattle.report_laws.proofs.Days.{FollowsDay, days_told}
 use Rattle.report_laws.proofs.Names.{bounds_told, bounds_words, status_is_word, status_told}
 use Rattle.report_laws.proofs.Words.{IsWord, cons_told, line_told, longer, number_word, numbers_told, numbers_words, parted_told}
@@ -96,7 +96,8 @@ rows_told s t k (w ∷ ws) small e zero lt =
     (row_told s t k w (rows_from s (k + 1) ws) (rows_from t (k + 1) ws) (All-head IsSmall w.id ids small) e).0
 rows_told s t k (w ∷ ws) small e (suc j) lt =
     let ids = map (λ (x : Wish). x.id) ws in
-    let first = row_told s t k w (rows_from s (k + 1) ws) (rows_from t (k + 1) ws) (All-head IsSmall w.id ids small) e in
+    let first = row_told s t k w (rows_from s (k + 1) ws) (rows_from t (k + 1) ws)
+    (All-head IsSmall w.id ids small) e in
     let there : k + suc j ≡ k + 1 + j = omega arith in
     subst (λ n. status_at s n ≡ status_at t n) (sym there)
     (rows_told s t (k + 1) ws (All-tail IsSmall w.id ids small) first.1 j (omega arith))
@@ -109,7 +110,8 @@ final_told : (d : DossierRows) (s t : State) → HasNames d → s.dossier ≡ d 
 final_told d s t names is are e place lt =
     let rows_in : State → DossierRows → List ℕ = λ u x. rows_from u 0 x.wishes in
     let same = append_cancel_left head_rows (rows_in s s.dossier) (rows_in t t.dossier) e in
-    let told = rows_told s t 0 d.wishes names.wishes.small (sym (ap (rows_in s) is) ∙ same ∙ ap (rows_in t) are) place lt in
+    let told = rows_told s t 0 d.wishes names.wishes.small
+    (sym (ap (rows_in s) is) ∙ same ∙ ap (rows_in t) are) place lt in
     let here : 0 + place ≡ place = omega arith in
     subst (λ n. status_at s n ≡ status_at t n) here told
 

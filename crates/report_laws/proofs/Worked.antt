@@ -67,7 +67,8 @@ names_witness = (small_dossier_holds, names_of small_dossier small_dossier_holds
 -- ---- lines
 cascade_names : HasNames cascade.dossier
 unfolding IsDistinct
-cascade_names = names_by cascade.dossier refl refl refl refl (search rules) (search rules) (search rules) (search rules)
+cascade_names = names_by cascade.dossier refl refl refl refl (search rules) (search rules)
+    (search rules) (search rules)
 
 second_fall : Fall
 second_fall = record { school = 1; from = 9; to = 1; wishes = 2 ∷ 3 ∷ [] }
@@ -93,7 +94,8 @@ offers_witness =
 
 offers_names : HasNames two_offers.dossier
 unfolding IsDistinct
-offers_names = names_by two_offers.dossier refl refl refl refl (search rules) (search rules) (search rules) (search rules)
+offers_names = names_by two_offers.dossier refl refl refl refl (search rules) (search rules)
+    (search rules) (search rules)
 
 pub autos_witness : AutosAreToldWitness
 autos_witness =
@@ -115,7 +117,8 @@ freed_witness =
 
 old_names : HasNames old_offer.dossier
 unfolding IsDistinct
-old_names = names_by old_offer.dossier refl refl refl refl (search rules) (search rules) (search rules) (search rules)
+old_names = names_by old_offer.dossier refl refl refl refl (search rules) (search rules)
+    (search rules) (search rules)
 
 old_lapse : Lapse
 old_lapse = record { wish = 0; offered = negsuc 0 }
@@ -141,7 +144,8 @@ lapses_witness = (
 -- ---- passes and days
 bar_names : HasNames greatest_bar.dossier
 unfolding IsDistinct
-bar_names = names_by greatest_bar.dossier refl refl refl refl (search rules) (search rules) (search rules) (search rules)
+bar_names = names_by greatest_bar.dossier refl refl refl refl (search rules) (search rules)
+    (search rules) (search rules)
 
 bars_each : IsNumberEach greatest_bar.dossier.schools (2 ∷ [])
 bars_each = each_by greatest_bar.dossier.schools (2 ∷ []) refl refl
@@ -172,11 +176,16 @@ evenings_witness =
     let told = evenings_are_told greatest_bar.dossier rules_day quiet_day bar_names rules_numbers quiet_numbers refl in
     (bar_names, rules_numbers, quiet_numbers, refl, told.0, told.1)
 
+abbrev bar_fall : Fall
+bar_fall = record { school = 0; from = 10; to = 2; wishes = 0 ∷ 2 ∷ [] }
+
+bar_fall_in : IsToldFall greatest_bar.dossier bar_fall
+bar_fall_in = fall_by greatest_bar.dossier bar_fall (omega arith) refl (omega arith) (omega arith)
+
 pass_in : IsToldPass greatest_bar.dossier written_pass
 pass_in = record {
-  falls = All-cons (IsToldFall greatest_bar.dossier) (record { school = 0; from = 10; to = 2; wishes = 0 ∷ 2 ∷ [] })
-      [] (fall_by greatest_bar.dossier (record { school = 0; from = 10; to = 2; wishes = 0 ∷ 2 ∷ [] }) (omega arith) refl
-      (omega arith) (omega arith)) (All-nil (IsToldFall greatest_bar.dossier));
+  falls =
+      All-cons (IsToldFall greatest_bar.dossier) bar_fall [] bar_fall_in (All-nil (IsToldFall greatest_bar.dossier));
   bars = bars_each;
   offers = within_by 3 (0 ∷ []) refl;
   autos = All-nil (IsToldAuto greatest_bar.dossier);
@@ -283,7 +292,8 @@ autos_by d autos t k c lt =
     ltb-true (get_or autos k c).wish (length d.wishes)
     (AllPass-from_list_all (λ (x : Change). nat_lt x.wish (length d.wishes)) autos t k c lt)
 
-pass_by : (d : DossierRows) (end : PassEnd) → All (IsToldFall d) end.pass.falls → length end.pass.bars ≡ length d.schools
+pass_by : (d : DossierRows) (end : PassEnd) → All (IsToldFall d) end.pass.falls
+    → length end.pass.bars ≡ length d.schools
     → list_all (λ n. nat_le n 4294967295) end.pass.bars ≡ true
     → list_all (λ n. nat_lt n (length d.wishes)) end.pass.offers ≡ true
     → list_all (λ c. nat_lt c.wish (length d.wishes)) end.autos ≡ true → IsToldFreed end.freed → IsToldPass d end
@@ -297,11 +307,13 @@ pass_by d end falls long bars offers autos freed = record {
 
 realistic_names : HasNames realistic
 unfolding IsDistinct
-realistic_names = names_by realistic refl refl refl refl (search rules) (search rules) (search rules) (search rules)
+realistic_names = names_by realistic refl refl refl refl (search rules) (search rules)
+    (search rules) (search rules)
 
 some_fall : All (IsToldFall realistic) (the_fall ∷ [])
 some_fall =
-    All-cons (IsToldFall realistic) the_fall [] (fall_by realistic the_fall (omega arith) refl (omega arith) (omega arith))
+    All-cons (IsToldFall realistic) the_fall []
+    (fall_by realistic the_fall (omega arith) refl (omega arith) (omega arith))
     (All-nil (IsToldFall realistic))
 
 no_falls : All (IsToldFall realistic) []
@@ -367,7 +379,8 @@ orders_witness = (
   realistic_orders,
   realistic_orders,
   refl,
-  orders_are_told realistic (realistic_order ∷ []) (realistic_order ∷ []) realistic_names realistic_orders realistic_orders refl,
+  orders_are_told realistic (realistic_order ∷ []) (realistic_order ∷ [])
+      realistic_names realistic_orders realistic_orders refl,
 )
 
 run_in : IsRunOf realistic realistic_run

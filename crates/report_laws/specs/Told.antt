@@ -1,7 +1,9 @@
 -- What of a record its text tells: places of the dossier, and numbers of 32 bits.
 use Rattle.std.specs.Prelude.{◌≡◌, ℕ, ◌≤◌, ◌<◌, List, All, length, map, nat_eq}
 use Rattle.std.specs.List.{IsDistinct}
+use Rattle.admit_core.specs.Answers.{status_at}
 use Rattle.admit_core.specs.DossierRows.{DossierRows}
+use Rattle.admit_core.specs.State.{State}
 use Rattle.admit_core.specs.declared.records.DayRecord.{DayRecord}
 use Rattle.admit_core.specs.declared.records.Fall.{Fall}
 use Rattle.admit_core.specs.declared.records.PassEnd.{PassEnd}
@@ -64,6 +66,11 @@ pub record IsToldDay (d : DossierRows) (told : DayRecord) : Type 0 where
   pub day : IsSmall told.day
   pub passes : All (IsToldPass d) told.passes
   pub evening : HasNumbers d told
+
+-- the wishes of the dossier have the same statuses
+abbrev pub HaveSameStatuses : DossierRows → State → State → Type 0
+HaveSameStatuses d s t =
+    (place : ℕ) → place < length d.wishes → status_at s place ≡ status_at t place
 
 -- a valid dossier has such ids
 abbrev pub ValidDossiersHaveNames : Type 0

@@ -1,6 +1,5 @@
 -- The whole text of a run, its call orders, its days and its final state, tells all of them.
-use Rattle.std.specs.Prelude.{◌≡◌, ℕ, ◌<◌, List, ◌++◌, All, flat_map, length, zip}
-use Rattle.admit_core.specs.Answers.{status_at}
+use Rattle.std.specs.Prelude.{◌≡◌, ℕ, List, ◌++◌, All, flat_map, length, zip}
 use Rattle.admit_core.specs.DossierRows.{DossierRows}
 use Rattle.admit_core.specs.State.{State}
 use Rattle.admit_core.specs.declared.ranking.CallOrder.{CallOrder}
@@ -10,7 +9,7 @@ use Rattle.report.specs.DayText.{day_text}
 use Rattle.report.specs.FinalText.{final_text}
 use Rattle.report.specs.OrderText.{order_text}
 use Rattle.report_laws.specs.Days.{IsUndated}
-use Rattle.report_laws.specs.Told.{HasNames, IsSmall}
+use Rattle.report_laws.specs.Told.{HasNames, HaveSameStatuses, IsSmall}
 
 -- the lines of all groups, in file order
 abbrev pub orders_text : List RankGroup → List CallOrder → List ℕ
@@ -47,10 +46,6 @@ pub record IsRunOf (d : DossierRows) (run : Run) : Type 0 where
   pub told_orders : AreToldOrders d run.orders
   pub told_days : All (IsUndated d) run.days
   pub same_dossier : run.evening.dossier ≡ d
-
--- the wishes of the dossier have the same statuses
-abbrev pub HaveSameStatuses : DossierRows → State → State → Type 0
-HaveSameStatuses d s t = (place : ℕ) → place < length d.wishes → status_at s place ≡ status_at t place
 
 -- two runs with the same text have the same orders, days and final statuses
 abbrev pub RunsAreTold : Type 0

@@ -25,8 +25,8 @@ use Rattle.report.specs.DayText.{IsLapseOf, auto_line, dated_day_text, day_text,
 use Rattle.report.specs.Ids.{numbers_text}
 use Rattle.report.specs.WorkedTexts.{june, lapsing_day, realistic_evening}
 use Rattle.report_laws.specs.Days.{IsDated, IsUndated}
-use Rattle.report_laws.specs.Told.{HasNames, HasNumbers, IsNumberEach, IsSmall, IsToldAuto, IsToldFall, IsToldFreed, IsToldPass, IsWishOf}
-use Rattle.report_laws.specs.Whole.{AreToldOrders, HaveSameStatuses, IsRunOf, Run, orders_text, run_text}
+use Rattle.report_laws.specs.Told.{HasNames, HasNumbers, HaveSameStatuses, IsNumberEach, IsSmall, IsToldAuto, IsToldFall, IsToldFreed, IsToldPass, IsWishOf}
+use Rattle.report_laws.specs.Whole.{AreToldOrders, IsRunOf, Run, orders_text, run_text}
 
 -- a dossier with a row of each kind
 abbrev pub ValidDossiersHaveNamesWitness : Type 0

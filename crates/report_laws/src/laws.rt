@@ -4,8 +4,8 @@ ghost use Rattle.report_laws.specs.Lines.{AutosAreTold, BarsAreTold, EveningsAre
 ghost use Rattle.report_laws.specs.Told.{ValidDossiersHaveNames};
 ghost use Rattle.report_laws.specs.Whole.{OrdersAreTold, RunsAreTold};
 
-/// Two records of one dossier with the same line are the same. The dossier's ids stand once, as those
-/// of a valid one do; places are its own, and numbers have 32 bits.
+/// Two records of one dossier with the same line are the same. The dossier's ids stand once, as
+/// those of a valid one do; places are its own, and numbers have 32 bits.
 pub fn laws_of_lines()
     ensures names { ValidDossiersHaveNames }
     ensures falls { FallsAreTold }
