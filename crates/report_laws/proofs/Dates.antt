@@ -66,8 +66,8 @@ text_word year month day =
       ),
     )
 
-pub date_word : (m : ℤ) → IsCivil m → IsWord (date_text m)
-date_word m is = text_word (date_of m).0 (date_of m).1 (date_of m).2
+pub date_word : (m : ℤ) → IsWord (date_text m)
+date_word m = text_word (date_of m).0 (date_of m).1 (date_of m).2
 
 pub deadline_is : (start : ℤ) (term : ℕ) (offered : ℤ) → IsCivil (date_on start offered)
     → last_date start term offered ≤ℤ last_day → IsCivil (last_date start term offered)

@@ -6,4 +6,5 @@ pub mod Lines
 pub mod Days
 pub mod Telling
 pub mod Whole
+pub mod WholeDated
 pub mod Worked

@@ -69,8 +69,8 @@ module _ (d : DossierRows) (names : HasNames d) where
       let written = deadline_is start term other.offered are.offered are.deadline in
       let told = line_told (codes "lapse") (decimal (wish_id d one.wish) ∷ date one ∷ [])
       (decimal (wish_id d other.wish) ∷ date other ∷ []) r q (search rules)
-      (wish_word d names one.wish is.wish, (date_word (last_date start term one.offered) civil, tt))
-      (wish_word d names other.wish are.wish, (date_word (last_date start term other.offered) written, tt)) e in
+      (wish_word d names one.wish is.wish, (date_word (last_date start term one.offered), tt))
+      (wish_word d names other.wish are.wish, (date_word (last_date start term other.offered), tt)) e in
       let wish = wish_told d names one.wish other.wish is.wish are.wish
       (cons_told told.0).0 in
       let last = (cons_told told.0).1 in

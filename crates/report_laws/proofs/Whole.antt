@@ -48,7 +48,7 @@ order_told id one other r q small is are e =
     let trace = bounds_told one.trace other.trace (cons_told second.0).1 in
     (λ i. record { list = list i; trace = trace i }, second.1)
 
-orders_told : (groups : List RankGroup) (orders others : List CallOrder) (r q : List ℕ)
+pub orders_told : (groups : List RankGroup) (orders others : List CallOrder) (r q : List ℕ)
     → All IsSmall (map (λ (g : RankGroup). g.id) groups) → length orders ≡ length groups → length others ≡ length groups
     → All HasSmallList orders → All HasSmallList others
     → orders_text groups orders ++ r ≡ orders_text groups others ++ q → (orders ≡ others) × (r ≡ q)

@@ -8,7 +8,7 @@ use Rattle.std.proofs.lemmas.List.Sums.{AllPass-from_list_all}
 use Rattle.jiff_core.proofs.SignedLemmas.{signed_arith}
 use Rattle.admit_core.proofs.SmallDossier.{small_dossier_holds}
 use Rattle.admit_core.specs.DossierRows.{DossierRows}
-use Rattle.admit_core.specs.WorkedRows.{cascade, greatest_bar, greatest_bar_day, nothing_freed, old_offer, realistic, realistic_days, realistic_order, rows, school, small_dossier, the_fall, two_offers}
+use Rattle.admit_core.specs.WorkedRows.{cascade, first_pass, greatest_bar, greatest_bar_day, nothing_freed, old_offer, realistic, realistic_days, realistic_order, rows, school, small_dossier, terms, the_fall, two_offers}
 use Rattle.admit_core.specs.declared.ranking.CallOrder.{CallOrder}
 use Rattle.admit_core.specs.declared.records.DayRecord.{DayRecord}
 use Rattle.admit_core.specs.declared.records.Fall.{Fall}
@@ -16,14 +16,16 @@ use Rattle.admit_core.specs.declared.records.Lapse.{Lapse}
 use Rattle.admit_core.specs.declared.records.PassEnd.{PassEnd}
 use Rattle.admit_core.specs.declared.state.Change.{Change}
 use Rattle.admit_core.specs.declared.state.Freed.{Freed}
+use Rattle.admit_core.specs.declared.state.Stamp.{Stamp}
 use Rattle.admit_core.specs.declared.state.Status.TheVariants.{Accepted}
 use Rattle.report.specs.DayText.{IsLapseOf}
 use Rattle.report.specs.WorkedTexts.{june, lapsing_day}
 use Rattle.report_laws.specs.Days.{IsDated, IsUndated}
 use Rattle.report_laws.specs.Told.{HasNames, HasNumbers, IsNumberEach, IsSmall, IsToldAuto, IsToldFall, IsToldFreed, IsToldPass, IsWishOf}
-use Rattle.report_laws.specs.Witnesses.{AutosAreToldWitness, BarsAreToldWitness, DatedDaysAreToldWitness, DaysAreToldWitness, EveningsAreToldWitness, FallsAreToldWitness, FreedIsToldWitness, LapsesAreToldWitness, OffersAreToldWitness, OrdersAreToldWitness, PassesAreToldWitness, RunsAreToldWitness, SharedIdsHideFalls, ValidDossiersHaveNamesWitness, quiet_day, realistic_run, rules_day, unstamped_run, written_pass}
-use Rattle.report_laws.specs.Whole.{AreToldOrders, IsRunOf}
+use Rattle.report_laws.specs.Witnesses.{AutosAreToldWitness, BarsAreToldWitness, DatedDaysAreToldWitness, DatedRunsAreToldWitness, DaysAreToldWitness, EveningsAreToldWitness, FallsAreToldWitness, FreedIsToldWitness, LapsesAreToldWitness, OffersAreToldWitness, OrdersAreToldWitness, PassesAreToldWitness, RunsAreToldWitness, SharedIdsHideFalls, ValidDossiersHaveNamesWitness, lapsed_run, quiet_day, realistic_run, rules_day, unstamped_run, written_pass}
+use Rattle.report_laws.specs.Whole.{AreToldOrders, IsDatedRunOf, IsRunOf}
 use Rattle.report_laws.proofs.Whole.{orders_are_told, runs_are_told}
+use Rattle.report_laws.proofs.WholeDated.{dated_runs_are_told}
 use Rattle.report_laws.proofs.Telling.{autos_are_told, bars_are_told, dated_days_are_told, days_are_told, evenings_are_told, falls_are_told, freed_is_told, lapses_are_told, names_of, offers_are_told, passes_are_told}
 
 -- ---- tests that compute
@@ -273,16 +275,19 @@ lapsing_in = record {
       (All-nil (IsLapseOf old_offer.dossier june 1));
 }
 
+lapsing_all : All (IsDated old_offer.dossier june 1) (lapsing_day 1 (negsuc 0) ∷ [])
+lapsing_all =
+    All-cons (IsDated old_offer.dossier june 1) (lapsing_day 1 (negsuc 0)) [] lapsing_in
+    (All-nil (IsDated old_offer.dossier june 1))
+
 pub dated_days_witness : DatedDaysAreToldWitness
 dated_days_witness =
-    let days : List DayRecord = lapsing_day 1 (negsuc 0) ∷ [] in
-    let in_dossier = All-cons (IsDated old_offer.dossier june 1) (lapsing_day 1 (negsuc 0)) [] lapsing_in
-    (All-nil (IsDated old_offer.dossier june 1)) in (
+    let days : List DayRecord = lapsing_day 1 (negsuc 0) ∷ [] in (
       old_names,
-      in_dossier,
-      in_dossier,
+      lapsing_all,
+      lapsing_all,
       refl,
-      dated_days_are_told old_offer.dossier june 1 days days old_names in_dossier in_dossier refl,
+      dated_days_are_told old_offer.dossier june 1 days days old_names lapsing_all lapsing_all refl,
     )
 
 -- ---- two days of a realistic dossier
@@ -393,6 +398,22 @@ pub runs_witness : RunsAreToldWitness
 runs_witness =
     let told = runs_are_told realistic realistic_run unstamped_run realistic_names run_in other_in refl in
     (realistic_names, run_in, other_in, refl, told.0, told.1, told.2)
+
+dated_run_in : (stamp : Stamp) → IsDatedRunOf old_offer.dossier june 1 (lapsed_run stamp)
+dated_run_in stamp = record {
+  told_orders = record { one_each = refl; candidates = All-nil (λ (o : CallOrder). All IsSmall o.list) };
+  told_days = lapsing_all;
+  same_dossier = refl;
+}
+
+pub dated_runs_witness : DatedRunsAreToldWitness
+dated_runs_witness =
+    let early : Stamp = record { day = 1; pass = 0 } in
+    let one = dated_run_in early in
+    let other = dated_run_in first_pass in
+    let told = dated_runs_are_told old_offer.dossier june 1 (terms 1).before (lapsed_run early) (lapsed_run first_pass)
+    old_names one other refl in
+    (old_names, one, other, refl, told.0, told.1, told.2)
 
 pub shared_ids : SharedIdsHideFalls
 shared_ids =

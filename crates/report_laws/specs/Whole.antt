@@ -1,14 +1,14 @@
 -- The whole text of a run, its call orders, its days and its final state, tells all of them.
-use Rattle.std.specs.Prelude.{◌≡◌, ℕ, List, ◌++◌, All, flat_map, length, zip}
+use Rattle.std.specs.Prelude.{◌≡◌, ℕ, ℤ, List, ◌++◌, All, flat_map, length, zip}
 use Rattle.admit_core.specs.DossierRows.{DossierRows}
 use Rattle.admit_core.specs.State.{State}
 use Rattle.admit_core.specs.declared.ranking.CallOrder.{CallOrder}
 use Rattle.admit_core.specs.declared.ranking.RankGroup.{RankGroup}
 use Rattle.admit_core.specs.declared.records.DayRecord.{DayRecord}
-use Rattle.report.specs.DayText.{day_text}
-use Rattle.report.specs.FinalText.{final_text}
+use Rattle.report.specs.DayText.{dated_day_text, day_text}
+use Rattle.report.specs.FinalText.{final_dated_text, final_text}
 use Rattle.report.specs.OrderText.{order_text}
-use Rattle.report_laws.specs.Days.{IsUndated}
+use Rattle.report_laws.specs.Days.{IsDated, IsUndated}
 use Rattle.report_laws.specs.Told.{HasNames, HaveSameStatuses, IsSmall}
 
 -- the lines of all groups, in file order
@@ -55,5 +55,29 @@ RunsAreTold =
     → IsRunOf d one
     → IsRunOf d other
     → (run_text d one ≡ run_text d other)
+    → (one.orders ≡ other.orders) × (one.days ≡ other.days)
+    × HaveSameStatuses d one.evening other.evening
+
+-- ---- with deadlines
+-- what the mode `replay` writes there: day 1 has a date, an offer stands for a term, and offers that
+-- came in are of the days before
+abbrev pub dated_run_text : DossierRows → ℤ → ℕ → List ℤ → Run → List ℕ
+dated_run_text d start term before run =
+    orders_text d.groups run.orders ++ flat_map (λ x. dated_day_text d x start term) run.days
+    ++ final_dated_text run.evening start before
+
+pub record IsDatedRunOf (d : DossierRows) (start : ℤ) (term : ℕ) (run : Run) : Type 0 where
+  pub told_orders : AreToldOrders d run.orders
+  pub told_days : All (IsDated d start term) run.days
+  pub same_dossier : run.evening.dossier ≡ d
+
+-- two such runs with the same text have the same orders, days, lapses too, and final statuses
+abbrev pub DatedRunsAreTold : Type 0
+DatedRunsAreTold =
+    (d : DossierRows) (start : ℤ) (term : ℕ) (before : List ℤ) (one other : Run)
+    → HasNames d
+    → IsDatedRunOf d start term one
+    → IsDatedRunOf d start term other
+    → (dated_run_text d start term before one ≡ dated_run_text d start term before other)
     → (one.orders ≡ other.orders) × (one.days ≡ other.days)
     × HaveSameStatuses d one.evening other.evening

@@ -9,9 +9,9 @@ use Rattle.admit_core.specs.DossierRows.{DossierRows}
 use Rattle.admit_core.specs.Falls.{falls_by}
 use Rattle.admit_core.specs.Lapses.{lapses_of}
 use Rattle.admit_core.specs.Proposals.{proposed}
-use Rattle.admit_core.specs.State.{free_beds, seats_left}
+use Rattle.admit_core.specs.State.{State, free_beds, seats_left}
 use Rattle.admit_core.specs.Validity.{IsValid}
-use Rattle.admit_core.specs.WorkedRows.{cascade, cascade_orders, first_pass, greatest_bar, greatest_bar_day, greatest_bar_evening, greatest_bar_orders, last_marks, morning, nothing_freed, old_offer, order, realistic, realistic_days, realistic_order, rows, school, small_dossier, terms, the_fall, two_offers, two_orders}
+use Rattle.admit_core.specs.WorkedRows.{cascade, cascade_orders, first_pass, greatest_bar, greatest_bar_day, greatest_bar_evening, greatest_bar_orders, last_marks, marked, morning, nothing_freed, old_offer, order, realistic, realistic_days, realistic_order, rows, school, small_dossier, terms, the_fall, two_offers, two_orders}
 use Rattle.admit_core.specs.declared.ranking.Bound.TheVariants.{Both, Free, Resident}
 use Rattle.admit_core.specs.declared.ranking.CallOrder.{CallOrder}
 use Rattle.admit_core.specs.declared.records.DayRecord.{DayRecord}
@@ -20,13 +20,14 @@ use Rattle.admit_core.specs.declared.records.Lapse.{Lapse}
 use Rattle.admit_core.specs.declared.records.PassEnd.{PassEnd}
 use Rattle.admit_core.specs.declared.state.Change.{Change}
 use Rattle.admit_core.specs.declared.state.Freed.{Freed}
-use Rattle.admit_core.specs.declared.state.Status.TheVariants.{Accepted, Waiting}
+use Rattle.admit_core.specs.declared.state.Stamp.{Stamp}
+use Rattle.admit_core.specs.declared.state.Status.TheVariants.{Accepted, Lapsed, Offered, Waiting}
 use Rattle.report.specs.DayText.{IsLapseOf, auto_line, dated_day_text, day_text, evening_text, fall_line, freed_line, lapse_line, offer_line, pass_text}
 use Rattle.report.specs.Ids.{numbers_text}
 use Rattle.report.specs.WorkedTexts.{june, lapsing_day, realistic_evening}
 use Rattle.report_laws.specs.Days.{IsDated, IsUndated}
 use Rattle.report_laws.specs.Told.{HasNames, HasNumbers, HaveSameStatuses, IsNumberEach, IsSmall, IsToldAuto, IsToldFall, IsToldFreed, IsToldPass, IsWishOf}
-use Rattle.report_laws.specs.Whole.{AreToldOrders, IsRunOf, Run, orders_text, run_text}
+use Rattle.report_laws.specs.Whole.{AreToldOrders, IsDatedRunOf, IsRunOf, Run, dated_run_text, orders_text, run_text}
 
 -- a dossier with a row of each kind
 abbrev pub ValidDossiersHaveNamesWitness : Type 0
@@ -260,6 +261,32 @@ RunsAreToldWitness =
     × IsRunOf d one
     × IsRunOf d other
     × (run_text d one ≡ run_text d other)
+    × (one.orders ≡ other.orders) × (one.days ≡ other.days)
+    × HaveSameStatuses d one.evening other.evening
+
+-- ---- the day of that lapse, and evenings whose stamps of closed wishes differ
+abbrev pub lapsed_evening : Stamp → State
+lapsed_evening stamp =
+    record old_offer {
+      marks = record { status = Lapsed; stamp = stamp } ∷ marked Offered 1 1 ∷ [];
+    }
+
+abbrev pub lapsed_run : Stamp → Run
+lapsed_run stamp =
+    record { orders = []; days = lapsing_day 1 (negsuc 0) ∷ []; evening = lapsed_evening stamp }
+
+abbrev pub DatedRunsAreToldWitness : Type 0
+DatedRunsAreToldWitness =
+    let d : DossierRows = old_offer.dossier in
+    let start : ℤ = june in
+    let term : ℕ = 1 in
+    let before : List ℤ = (terms 1).before in
+    let one : Run = lapsed_run (record { day = 1; pass = 0 }) in
+    let other : Run = lapsed_run first_pass in
+    HasNames d
+    × IsDatedRunOf d start term one
+    × IsDatedRunOf d start term other
+    × (dated_run_text d start term before one ≡ dated_run_text d start term before other)
     × (one.orders ≡ other.orders) × (one.days ≡ other.days)
     × HaveSameStatuses d one.evening other.evening
 

@@ -2,7 +2,7 @@
 ghost use Rattle.report_laws.specs.Days.{DatedDaysAreTold, DaysAreTold, PassesAreTold};
 ghost use Rattle.report_laws.specs.Lines.{AutosAreTold, BarsAreTold, EveningsAreTold, FallsAreTold, FreedIsTold, LapsesAreTold, OffersAreTold};
 ghost use Rattle.report_laws.specs.Told.{ValidDossiersHaveNames};
-ghost use Rattle.report_laws.specs.Whole.{OrdersAreTold, RunsAreTold};
+ghost use Rattle.report_laws.specs.Whole.{DatedRunsAreTold, OrdersAreTold, RunsAreTold};
 
 /// Two records of one dossier with the same line are the same. The dossier's ids stand once, as
 /// those of a valid one do; places are its own, and numbers have 32 bits.
@@ -30,4 +30,5 @@ pub fn laws_of_days()
 pub fn laws_of_runs()
     ensures orders { OrdersAreTold }
     ensures runs { RunsAreTold }
+    ensures dated { DatedRunsAreTold }
 {}

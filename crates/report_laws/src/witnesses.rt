@@ -1,5 +1,5 @@
 //! For each law a worked case that meets all its premises.
-ghost use Rattle.report_laws.specs.Witnesses.{AutosAreToldWitness, BarsAreToldWitness, DatedDaysAreToldWitness, DaysAreToldWitness, EveningsAreToldWitness, FallsAreToldWitness, FreedIsToldWitness, LapsesAreToldWitness, OffersAreToldWitness, OrdersAreToldWitness, PassesAreToldWitness, RunsAreToldWitness, SharedIdsHideFalls, ValidDossiersHaveNamesWitness};
+ghost use Rattle.report_laws.specs.Witnesses.{AutosAreToldWitness, BarsAreToldWitness, DatedDaysAreToldWitness, DatedRunsAreToldWitness, DaysAreToldWitness, EveningsAreToldWitness, FallsAreToldWitness, FreedIsToldWitness, LapsesAreToldWitness, OffersAreToldWitness, OrdersAreToldWitness, PassesAreToldWitness, RunsAreToldWitness, SharedIdsHideFalls, ValidDossiersHaveNamesWitness};
 
 /// Of the laws of lines.
 pub fn witnesses_of_lines()
@@ -25,4 +25,5 @@ pub fn witnesses_of_days()
 pub fn witnesses_of_runs()
     ensures orders { OrdersAreToldWitness }
     ensures runs { RunsAreToldWitness }
+    ensures dated { DatedRunsAreToldWitness }
 {}
