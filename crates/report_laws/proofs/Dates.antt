@@ -7,7 +7,7 @@ use Rattle.calendar.specs.Texts.{date_text, text_of, two_digits}
 use Rattle.calendar.proofs.DateLaws.{date_of-date, is_date-parts}
 use Rattle.calendar.proofs.TextLaws.{short}
 use Rattle.report.specs.DayText.{date_on, last_date}
-use Rattle.report_laws.proofs.Words.{IsWord, cons_told}
+use Rattle.report_laws.proofs.Words.{IsToken, cons_told}
 
 digits_told : (m n : ℕ) → m < 100 → n < 100 → 48 + m / 10 ≡ 48 + n / 10 → 48 + m % 10 ≡ 48 + n % 10 → m ≡ n
 digits_told m n short few tens ones = omega arith
@@ -49,7 +49,7 @@ date_told m n is are e =
     (omega (arith, one.year_in)) month day (omega (arith, other.year_in)) months days e in
     sym one.number_is ∙ (λ i. day_number (told.0 i) (told.1 i) (told.2 i)) ∙ other.number_is
 
-text_word : (year month day : ℕ) → IsWord (text_of (year, month, day))
+text_word : (year month day : ℕ) → IsToken (text_of (year, month, day))
 text_word year month day =
     let high : (k : ℕ) → 44 < 48 + k = λ k. omega arith in
     let line : 44 < 45 = omega arith in (
@@ -66,7 +66,7 @@ text_word year month day =
       ),
     )
 
-pub date_word : (m : ℤ) → IsWord (date_text m)
+pub date_word : (m : ℤ) → IsToken (date_text m)
 date_word m = text_word (date_of m).0 (date_of m).1 (date_of m).2
 
 pub deadline_is : (start : ℤ) (term : ℕ) (offered : ℤ) → IsCivil (date_on start offered)

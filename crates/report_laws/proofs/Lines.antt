@@ -13,11 +13,11 @@ use Rattle.report_laws.specs.Told.{HasNames, IsToldAuto, IsToldFall, IsToldFreed
 use Rattle.report_laws.proofs.Dates.{date_told, date_word, deadline_is, offered_is}
 use Rattle.report_laws.proofs.Names.{school_told, school_word, status_is_word, status_told, wish_told, wish_word, wishes_told, wishes_words}
 use Rattle.report_laws.proofs.Runs.{Any, Tells}
-use Rattle.report_laws.proofs.Words.{AreWords, cons_told, line_told, number_told, number_word}
+use Rattle.report_laws.proofs.Words.{AreTokens, cons_told, line_told, number_told, number_word}
 
 module _ (d : DossierRows) (names : HasNames d) where
   fall_words : (fall : Fall) → IsToldFall d fall
-      → AreWords (decimal (school_id d fall.school) ∷ decimal fall.from ∷ decimal fall.to
+      → AreTokens (decimal (school_id d fall.school) ∷ decimal fall.from ∷ decimal fall.to
       ∷ map (λ w. decimal (wish_id d w)) fall.wishes)
   fall_words fall is = (
     school_word d names fall.school is.places.school,

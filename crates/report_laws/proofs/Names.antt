@@ -18,7 +18,7 @@ use Rattle.admit_core.specs.declared.state.Status.{Status}
 use Rattle.admit_core.specs.declared.state.Status.TheVariants.{Waiting, Offered, Accepted, Refused, Withdrawn, Quit, AutoRefused, AutoWithdrawn, Lapsed}
 use Rattle.report.specs.Ids.{school_id, wish_id}
 use Rattle.report_laws.specs.Told.{AreNames, HasNames, IsWishOf}
-use Rattle.report_laws.proofs.Words.{AreWords, IsWord, cons_told, longer, number_told, number_word}
+use Rattle.report_laws.proofs.Words.{AreTokens, IsToken, cons_told, longer, number_told, number_word}
 
 -- ---- ids
 -- two places with one id are the same
@@ -51,10 +51,10 @@ module _ (d : DossierRows) (names : HasNames d) where
   school_in : (place : ℕ) → place < length d.schools → place < length (map (λ (h : School). h.id) d.schools)
   school_in place is = rw length-map is
 
-  pub wish_word : (place : ℕ) → IsWishOf d place → IsWord (decimal (wish_id d place))
+  pub wish_word : (place : ℕ) → IsWishOf d place → IsToken (decimal (wish_id d place))
   wish_word place is = number_word (wish_id d place) (names.wishes.small place 0 (wish_in place is))
 
-  pub school_word : (place : ℕ) → place < length d.schools → IsWord (decimal (school_id d place))
+  pub school_word : (place : ℕ) → place < length d.schools → IsToken (decimal (school_id d place))
   school_word place is = number_word (school_id d place) (names.schools.small place 0 (school_in place is))
 
   pub wish_told : (j k : ℕ) → IsWishOf d j → IsWishOf d k → decimal (wish_id d j) ≡ decimal (wish_id d k) → j ≡ k
@@ -66,7 +66,7 @@ module _ (d : DossierRows) (names : HasNames d) where
   school_told j k in_j in_k e = name_told (map (λ (h : School). h.id) d.schools) j k names.schools (school_in j in_j)
       (school_in k in_k) e
 
-  pub wishes_words : (ws : List ℕ) → All (IsWishOf d) ws → AreWords (map (λ w. decimal (wish_id d w)) ws)
+  pub wishes_words : (ws : List ℕ) → All (IsWishOf d) ws → AreTokens (map (λ w. decimal (wish_id d w)) ws)
   wishes_words [] are = tt
   wishes_words (w ∷ ws) are =
       (wish_word w (All-head (IsWishOf d) w ws are), wishes_words ws (All-tail (IsWishOf d) w ws are))
@@ -114,7 +114,7 @@ status_back Lapsed = refl
 pub status_told : (x y : Status) → status_word x ≡ status_word y → x ≡ y
 status_told x y e = sym (status_back x) ∙ ap status_in e ∙ status_back y
 
-pub status_is_word : (x : Status) → IsWord (status_word x)
+pub status_is_word : (x : Status) → IsToken (status_word x)
 status_is_word Waiting = search rules
 status_is_word Offered = search rules
 status_is_word Accepted = search rules
@@ -144,14 +144,14 @@ bound_back bound.Alone = refl
 bound_told : (x y : Bound) → bound_letter x ≡ bound_letter y → x ≡ y
 bound_told x y e = sym (bound_back x) ∙ ap bound_in e ∙ bound_back y
 
-bound_is_word : (x : Bound) → IsWord (bound_letter x)
+bound_is_word : (x : Bound) → IsToken (bound_letter x)
 bound_is_word bound.Free = search rules
 bound_is_word bound.Scholar = search rules
 bound_is_word bound.Resident = search rules
 bound_is_word bound.Both = search rules
 bound_is_word bound.Alone = search rules
 
-pub bounds_words : (xs : List Bound) → AreWords (map bound_letter xs)
+pub bounds_words : (xs : List Bound) → AreTokens (map bound_letter xs)
 bounds_words [] = tt
 bounds_words (x ∷ xs) = (bound_is_word x, bounds_words xs)
 

@@ -6,7 +6,7 @@ use Rattle.std.proofs.lemmas.List.Elements.{All-head, All-tail}
 use Rattle.report.specs.Ids.{numbers_text}
 use Rattle.report.specs.Words.{line}
 use Rattle.report_laws.specs.Told.{IsNumberEach, IsSmall}
-use Rattle.report_laws.proofs.Words.{IsWord, cons_told, line_told, longer, number_told, number_word}
+use Rattle.report_laws.proofs.Words.{IsToken, cons_told, line_told, longer, number_told, number_word}
 
 -- whether bytes begin with a word
 abbrev pub begins : List ℕ → List ℕ → Bool
@@ -56,7 +56,7 @@ module _ {X : Type 0} (P : X → Type 0) (F : List ℕ → Type 0) (t : X → Li
         (longer x y xs ys one.0 rest.0, rest.1)
 
 -- ---- a number for each item
-module _ {X : Type 0} (id : X → ℕ) (word : List ℕ) (is_word : IsWord word) where
+module _ {X : Type 0} (id : X → ℕ) (word : List ℕ) (is_word : IsToken word) where
   abbrev number_line : X → ℕ → List ℕ
   number_line x n = line (word ∷ decimal (id x) ∷ decimal n ∷ [])
 

@@ -20,11 +20,11 @@ use Rattle.report_laws.specs.Told.{HasNames, HaveSameStatuses, IsSmall}
 use Rattle.report_laws.specs.Whole.{OrdersAreTold, Run, RunsAreTold, orders_text}
 use Rattle.report_laws.proofs.Days.{FollowsDay, days_told}
 use Rattle.report_laws.proofs.Names.{bounds_told, bounds_words, status_is_word, status_told}
-use Rattle.report_laws.proofs.Words.{IsWord, cons_told, line_told, longer, number_word, numbers_told, numbers_words, parted_told}
+use Rattle.report_laws.proofs.Words.{IsToken, cons_told, line_told, longer, number_word, numbers_told, numbers_words, parted_told}
 
 -- ---- call orders
 -- a word goes on with a colon
-with_colon : (w : List ℕ) → IsWord w → IsWord (w ++ 58 ∷ [])
+with_colon : (w : List ℕ) → IsToken w → IsToken (w ++ 58 ∷ [])
 with_colon [] is = (omega arith, tt)
 with_colon (b ∷ bs) is = (is.0, with_colon bs is.1)
 
@@ -35,7 +35,7 @@ order_told : (id : ℕ) (one other : CallOrder) (r q : List ℕ) → IsSmall id 
     → order_text id one ++ r ≡ order_text id other ++ q → (one ≡ other) × (r ≡ q)
 order_told id one other r q small is are e =
     let group : List ℕ = decimal id ++ codes ":" in
-    let named : IsWord group = with_colon (decimal id) (number_word id small) in
+    let named : IsToken group = with_colon (decimal id) (number_word id small) in
     let called : CallOrder → List ℕ = λ o. line (codes "order" ∷ group ∷ map decimal o.list) in
     let rules_of : CallOrder → List ℕ = λ o. line (codes "rule" ∷ group ∷ map bound_letter o.trace) in
     let first = line_told (codes "order") (group ∷ map decimal one.list) (group ∷ map decimal other.list)

@@ -21,9 +21,9 @@ use Rattle.report_laws.proofs.Dates.{date_word}
 use Rattle.report_laws.proofs.Days.{FollowsDay, dated_days_told}
 use Rattle.report_laws.proofs.Names.{status_is_word, status_told}
 use Rattle.report_laws.proofs.Whole.{orders_told}
-use Rattle.report_laws.proofs.Words.{IsWord, cons_told, number_word, parted_told}
+use Rattle.report_laws.proofs.Words.{IsToken, cons_told, number_word, parted_told}
 
-word_or_none : (b : Bool) (w : List ℕ) → IsWord w → IsWord (if b then w else [])
+word_or_none : (b : Bool) (w : List ℕ) → IsToken w → IsToken (if b then w else [])
 word_or_none true w is = is
 word_or_none false w is = tt
 
@@ -31,7 +31,7 @@ module _ (start : ℤ) (before : List ℤ) where
   abbrev rows_from : State → ℕ → List Wish → List ℕ
   rows_from s k ws = flat_map (dated_row s start before) (enumerate_from k ws)
 
-  since_is_word : (s : State) (k : ℕ) → IsWord (since_word s start before k)
+  since_is_word : (s : State) (k : ℕ) → IsToken (since_word s start before k)
   since_is_word s k =
       word_or_none (is_offered (status_at s k)) (date_text (date_on start (offer_day_at s before k)))
       (date_word (date_on start (offer_day_at s before k)))
@@ -92,4 +92,5 @@ dated_runs_are_told d start term before one other names is are e =
     let days = dated_days_told d names start term one.days other.days (last one) (last other)
     is.told_days are.told_days (no_day start before one.evening) (no_day start before other.evening) refl refl
     orders.1 in
-    (orders.0, days.0, final_told start before d one.evening other.evening names is.same_dossier are.same_dossier days.1)
+    let statuses = final_told start before d one.evening other.evening names is.same_dossier are.same_dossier days.1 in
+    (orders.0, days.0, statuses)

@@ -59,8 +59,8 @@ RunsAreTold =
     × HaveSameStatuses d one.evening other.evening
 
 -- ---- with deadlines
--- what the mode `replay` writes there: day 1 has a date, an offer stands for a term, and offers that
--- came in are of the days before
+-- what the mode `replay` writes there: day 1 has a date, an offer stands for a term, and each wish
+-- has the day of the offer that it came in with
 abbrev pub dated_run_text : DossierRows → ℤ → ℕ → List ℤ → Run → List ℕ
 dated_run_text d start term before run =
     orders_text d.groups run.orders ++ flat_map (λ x. dated_day_text d x start term) run.days
