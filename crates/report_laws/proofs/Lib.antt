@@ -1,0 +1,10 @@
+pub mod Words
+pub mod Dates
+pub mod Names
+pub mod Runs
+pub mod Lines
+pub mod Days
+pub mod Telling
+pub mod Whole
+pub mod WholeDated
+pub mod Worked
