@@ -10,7 +10,7 @@ use Rattle.text_laws.proofs.StateSlots.{final_dated_text_reads_back, final_text_
 pub final_witness : FinalTextReadsBackWitness
 final_witness = (small_dossier_holds, final_text_reads_back small_evening small_dossier_holds)
 
-small_dates : HaveReadDates small_evening (pos 19876) (pos 0 ∷ [])
+pub small_dates : HaveReadDates small_evening (pos 19876) (pos 0 ∷ [])
 small_dates zero lt offered = (grind (arith, ints), grind (arith, ints))
 small_dates (suc place) lt offered = absurd (omega (arith, lt))
 

@@ -1,0 +1,2 @@
+pub mod ReadOffers
+pub mod Witnesses
