@@ -21,7 +21,7 @@ from dossier.program import program as program_named
 from .crowded import Crowd, crowd, other_dossier
 from .harness import EXAMPLES, TOOLS, Tally, run, scratch, until_told
 from .mutations import CHANGES
-from .reports import MUTATIONS, Case, Lines, first_wrong, run_text, word
+from .reports import MUTATIONS, Case, Lines, first_wrong, offer_changed, run_text, word
 from .runs import all_jobs, put
 from .samples import sample_slots
 
@@ -53,7 +53,7 @@ def told(folder: Path, text: bytes, words: tuple[str, ...]) -> Told:
     report.write_bytes(text)
     try:
         return RIGHT, RECHECK.Report(str(report)).test(str(folder), start, term)[1]
-    except RECHECK.Wrong as wrong:
+    except RECHECK.Fault as wrong:
         return WRONG, wrong.args[0]
     except OSError:
         return UNTESTED, 0
@@ -114,8 +114,9 @@ class Round:
                 self.of_other_dossier(random, asked, case, name)
 
     def changes(self, random: Random, case: Case, name: str, number: int) -> None:
+        kinds = {**MUTATIONS, "an offer more or less": lambda random, _: offer_changed(random, case)}
         for _ in range(number if case.lines else 0):
-            kind, change = random.choice(list(MUTATIONS.items()))
+            kind, change = random.choice(list(kinds.items()))
             self.changed_text(case, name, kind, change(random, case.lines))
 
     def of_other_dossier(self, random: Random, asked: Crowd, case: Case, name: str) -> None:
@@ -198,8 +199,7 @@ def check_said(tally: Tally, program: str) -> None:
         text = (TOOLS / name).read_text()
         tally.check(f"Python 3.8 reads {name}", bool(ast.parse(text, feature_version=(3, 8))))
     lines = (TOOLS / "recheck").read_text().splitlines()
-    written = [line for line in lines if line]
-    tally.check("recheck is read in a quarter of an hour", len(written) <= 500, f"{len(written)} lines")
+    tally.check("recheck is read in a quarter of an hour", len(lines) <= 500, f"{len(lines)} lines")
     tally.check("its lines are short", max(map(len, lines)) <= 100, max(lines, key=len))
     recheck, days = TOOLS / "recheck", EXAMPLES / "two-days"
     with scratch() as folder:

@@ -4,10 +4,12 @@ What is wrong is told without `recheck`: lines that are no falls are compared wi
 falls are tested by the program's own mode `check`.
 """
 
+import csv
 import re
 import subprocess
 from collections.abc import Callable
 from dataclasses import dataclass
+from datetime import date, timedelta
 from pathlib import Path
 from random import Random
 
@@ -125,6 +127,47 @@ def other_wish_named(random: Random, lines: Lines) -> Lines:
     kind = random.random()
     words[number:number + (kind < 0.8)] = [random.choice(wishes)] if kind < 0.9 else []
     return [*lines[:place], b" ".join(words) + b"\n", *lines[place + 1:]]
+
+
+def offer_changed(random: Random, case: Case) -> Lines:
+    """In the last pass an offer more or less, to who answers in person, and all that follows from it made consistent:
+    the seats and beds that are left, and the final state."""
+    lines = case.lines.copy()
+    if b"final\n" not in lines:
+        return lines
+    with open(case.folder / "wishes.csv", encoding="utf-8", newline="") as file:
+        wishes = {int(row["wish"]): row for row in csv.DictReader(file)}
+    final = {int(line.split(b",")[0]): place for place, line in enumerate(lines) if b"," in line and line[:1].isdigit()}
+    status = {wish: lines[place].strip().split(b",")[1] for wish, place in final.items()}
+    first = max(place for place, line in enumerate(lines) if word(line) in (b"pass", b"fall", b"bar")) + 1
+    last = next(place for place in range(first, len(lines)) if word(lines[place]) != b"offer")
+    offered = [int(line.split()[1]) for line in lines[first:last]]
+    by_hand = [wish for wish, row in wishes.items() if int(row["preference"]) == 0 and (
+        status[wish] == b"waiting" or status[wish] == b"offered" and wish in offered)]
+    if not by_hand:
+        return lines
+    changed = random.choice(by_hand)
+    by = -1 if status[changed] == b"waiting" else 1
+    for column, name in (("programme", b"left"), ("school", b"free")):
+        place = wishes[changed][column]
+        others = [wish for wish, row in wishes.items() if wish != changed and status[wish] in (b"offered", b"accepted")
+                  and (row["candidate"], row[column]) == (wishes[changed]["candidate"], place)]
+        if place and not others:
+            at = max(at for at, line in enumerate(lines) if line.startswith(b"%s %d " % (name, int(place))))
+            lines[at] = b"%s %d %d\n" % (name, int(place), max(0, int(lines[at].split()[2]) + by))
+    lines[final[changed]] = final_line(case, changed, by)
+    listed = [wish for wish in wishes if (wish in offered) != (wish == changed)]
+    return [*lines[:first], *(b"offer %d\n" % wish for wish in listed), *lines[last:]]
+
+
+def final_line(case: Case, wish: int, by: int) -> bytes:
+    """How a wish that was offered on the last day, or was not, stands in the final state."""
+    status = "offered" if by < 0 else "waiting"
+    if "--start" not in case.words:
+        return f"{wish},{status}\n".encode()
+    days = sum(word(line) == b"day" for line in case.lines)
+    day = date.fromisoformat(case.words[case.words.index("--start") + 1]) + timedelta(days - 1)
+    return f"{wish},{status},{day if by < 0 else ''}\n".encode()
 
 
 MUTATIONS: dict[str, Callable[[Random, Lines], Lines]] = {
