@@ -4,6 +4,7 @@ import hashlib
 import math
 import os
 import shutil
+import signal
 import subprocess
 import sys
 import tempfile
@@ -11,6 +12,7 @@ from dataclasses import dataclass
 from pathlib import Path
 
 from dossier.wording import Words
+from dossier.writing import STOPS
 
 from .harness import TOOLS
 from .runs import watch_into
@@ -92,12 +94,26 @@ def growth(small: Measured, large: Measured, by: float) -> tuple[str, str]:
 
 def maker(module: str, *words: str | Path) -> list[int]:
     """Has another process make a folder, so that this one stays small (what a run takes is never told as less than
-    what this process does), and answers the numbers that it prints. A stop from the keyboard is for this one alone."""
-    made = subprocess.run([sys.executable, "-B", "-m", f"checks.{module}", *map(str, words)], cwd=TOOLS,
-                          stdout=subprocess.PIPE, check=False, start_new_session=True)
-    if made.returncode != 0:
+    what this process does), and answers the numbers that it prints. A stop comes to this one alone, which ends the
+    other."""
+    mask, child = signal.pthread_sigmask(signal.SIG_BLOCK, STOPS), None
+    try:
+        # (a stop waits until it is known what is to be ended)
+        child = subprocess.Popen([sys.executable, "-B", "-m", f"checks.{module}", *map(str, words)], cwd=TOOLS,
+                                 stdout=subprocess.PIPE, start_new_session=True,
+                                 preexec_fn=lambda: signal.pthread_sigmask(signal.SIG_SETMASK, mask))
+        signal.pthread_sigmask(signal.SIG_SETMASK, mask)
+        printed, _ = child.communicate()
+    except BaseException:
+        if child:
+            child.kill()
+            child.wait()
+        raise
+    finally:
+        signal.pthread_sigmask(signal.SIG_SETMASK, mask)
+    if child.returncode != 0:
         sys.exit(f"{words[-1]} could not be made")
-    return [int(number) for number in made.stdout.split()]
+    return [int(number) for number in printed.split()]
 
 
 def named_program(parser: Words, named: str | None) -> str | None:
