@@ -11,7 +11,7 @@ from functools import partial
 from dossier.program import program
 from dossier.wording import Words
 
-from . import answered, auditing, cutting, days, disks, edits, exporting, hostile, installing, killing, lemmas
+from . import answered, auditing, cutting, days, disks, edits, exporting, hostile, installing, killing, lemmas, measuring
 from . import rechecking, rounds, script, sheets, stored, tabled, whys, workbooks
 from .harness import EXAMPLES, Tally, until_told
 
@@ -35,6 +35,8 @@ def topics(program: str) -> dict[str, list[Checks]]:
         "rounds": [partial(rounds.check_small_rounds, program=program), partial(rounds.check_finds, program=program),
                    partial(rounds.check_unknown_modes, program=program),
                    rounds.check_endless, partial(rounds.check_stopped, program=program)],
+        "measure": [partial(measuring.check_tables, program=program), partial(measuring.check_found, program=program),
+                    measuring.check_words, measuring.check_start, measuring.check_shape],
         "audit": [auditing.check_audits],
         "recheck": [partial(rechecking.check_said, program=program),
                     partial(rechecking.check_worked, program=program),

@@ -29,6 +29,7 @@ BAD_WORDS = (
     *(("write_sample.sh", number, "x") for number in BAD_NUMBERS),
     ("write_sample.sh", "5", "x", "many"), ("write_sample.sh", "5", "x", "-1"),
     ("shapes.sh", "round"), ("shapes.sh", "quits", "--runs", "0"), ("shapes.sh", "--beside"),
+    ("measure.sh", "fly"), ("measure.sh", "--runs", "0"), ("measure.sh", "--candidates", "1000"),
     ("check_pages.sh", "README.md"), ("check_pages.sh", "--link"), ("edit_clauses", "--tried"),
     ("edit_clauses", "none"),
 )

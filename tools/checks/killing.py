@@ -116,8 +116,9 @@ def check_sample(tally: Tally) -> None:
 
 def check_checks(tally: Tally) -> None:
     """Told to stop, a check leaves nothing in the temporary folder."""
-    tally.begin("check_pages.sh and check.sh, told to stop")
-    for words in (("check_pages.sh",), ("check.sh", "answered")):
+    tally.begin("check_pages.sh, check.sh, shapes.sh and measure.sh, told to stop")
+    for words in (("check_pages.sh",), ("check.sh", "answered"), ("shapes.sh",),
+                  ("measure.sh", "order", "--candidates", "1000", "200000")):
         for number in (signal.SIGINT, signal.SIGTERM):
             for wait in (0, 1, 3):
                 with scratch() as folder:

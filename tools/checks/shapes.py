@@ -1,24 +1,17 @@
 """Times the program on dossiers of extreme shapes, each at two sizes, and shows how its time and memory grow."""
 
 import argparse
-import hashlib
-import math
-import subprocess
 import sys
-import tempfile
 from dataclasses import dataclass
+from functools import partial
 from pathlib import Path
 
 from dossier.wording import Words
 
-from .harness import TOOLS, scratch, until_told
-from .runs import watch_into
+from .harness import scratch, until_told
+from .timed import DONE, MEGABYTE, Call, Measured, are_well, growth, in_turn, maker, named_program
 
 LONGEST = 60.0
-DONE = 0
-MEGABYTE = 1 << 20
-# Below so many seconds the start of a program is most of a run.
-LEAST = 0.01
 HEAD = "| shape | words | rows | text MB | program | s | MB | s grow | MB grow |"
 LINE = "|---|---|---|---|---|---|---|---|---|"
 
@@ -34,11 +27,9 @@ class Shape:
     chain: tuple[str, ...] = ()
 
     def make(self, size: int, folder: Path) -> int:
-        """Writes a dossier, and answers how many rows it has. Another process makes it, so that this one stays small:
-        what a run takes is never told as less than what this process does."""
-        made = subprocess.run([sys.executable, "-B", "-m", "checks.shaped", self.maker, str(size), str(folder)],
-                              cwd=TOOLS, stdout=subprocess.PIPE, check=True)
-        return int(made.stdout)
+        """Writes a dossier, and answers how many rows it has."""
+        [rows] = maker("shaped", self.maker, str(size), folder)
+        return rows
 
 
 SHAPES = {
@@ -63,56 +54,19 @@ SHAPES = {
 }
 
 
-@dataclass(frozen=True)
-class Measured:
-    """How a run ended: what it took, and the length and the checksum of its text."""
-
-    status: int
-    seconds: float
-    memory: int
-    length: int
-    checksum: str
-
-
-def exponent(small: float, large: float, by: float) -> str:
-    """By which power of the rows something grows."""
-    return f"{math.log(large / small) / math.log(by):.1f}"
-
-
 def lines(name: str, program: str, rows: list[int], found: list[Measured]) -> str:
     """A line for each size; the second one tells the growth."""
     small, large = found
-    by = rows[1] / rows[0]
-    grown = (exponent(max(small.seconds, LEAST), max(large.seconds, LEAST), by),
-             exponent(small.memory, large.memory, by))
     told = []
-    for count, one, grow in zip(rows, found, (("", ""), grown)):
-        ended = "" if one.status == DONE else f" (status {one.status})"
+    for count, one, grow in zip(rows, found, (("", ""), growth(small, large, rows[1] / rows[0]))):
         told.append(f"| {name} | {' '.join(SHAPES[name].words)} | {count} | {one.length / MEGABYTE:.1f} "
-                    f"| {program}{ended} | {one.seconds:.2f} | {one.memory / MEGABYTE:.0f} | {grow[0]} | {grow[1]} |")
+                    f"| {program}{one.ended} | {one.seconds:.2f} | {one.memory / MEGABYTE:.0f} | {grow[0]} | {grow[1]} |")
     return "\n".join(told)
 
 
-def measured(words: tuple[str, ...], folder: Path, by: str | None, longest: float) -> Measured:
-    """Runs a program; its text is never held whole."""
-    checksum, length = hashlib.sha256(), 0
-    with tempfile.TemporaryFile() as output:
-        status, usage = watch_into(output, words, folder, longest, by)
-        output.seek(0)
-        while piece := output.read(MEGABYTE):
-            checksum.update(piece)
-            length += len(piece)
-    return Measured(status, usage.ru_utime + usage.ru_stime, usage.ru_maxrss * 1024, length, checksum.hexdigest())
-
-
-def in_turn(shape: Shape, folder: Path, programs: list[str | None], asked: argparse.Namespace) -> list[Measured]:
-    """The quickest run of each program of some, in turn; of one that does not end well once, that run."""
-    runs: list[list[Measured]] = [[] for _ in programs]
-    for _ in range(asked.runs):
-        for program, found in zip(programs, runs):
-            if not found or found[-1].status == DONE:
-                found.append(measured(shape.words, folder, program, asked.longest))
-    return [min(found, key=lambda run: (run.status == DONE, run.seconds)) for found in runs]
+def quickest(calls: list[Call], runs: int) -> list[Measured]:
+    """The quickest run of each call; of one that does not end well once, that run."""
+    return [min(found, key=lambda run: (run.status == DONE, run.seconds)) for found in in_turn(calls, runs)]
 
 
 def tried(name: str, programs: list[str | None], asked: argparse.Namespace) -> bool:
@@ -123,12 +77,11 @@ def tried(name: str, programs: list[str | None], asked: argparse.Namespace) -> b
             folder = place / str(size)
             rows.append(shape.make(size, folder))
             if shape.chain:
-                with (folder / "chain.txt").open("wb") as chain:
-                    watch_into(chain, shape.chain, folder, asked.longest)
-            found.append(in_turn(shape, folder, programs, asked))
+                Call(shape.chain, folder, asked.longest).write_into(folder / "chain.txt")
+            found.append(quickest([Call(shape.words, folder, asked.longest, by) for by in programs], asked.runs))
     for program, of_program in zip(programs, zip(*found)):
         print(lines(name, Path(program).name if program else "parcours", rows, list(of_program)), flush=True)
-    is_well = all(run.status == DONE and run.checksum == runs[0].checksum for runs in found for run in runs)
+    is_well = all(map(are_well, found))
     if not is_well:
         print(f"FOUND {name}: a run did not end well, or the texts differ", flush=True)
     return is_well
@@ -149,17 +102,21 @@ def arguments() -> Words:
     return words
 
 
+def measure(asked: argparse.Namespace, beside: str | None) -> int:
+    programs = [None, beside] if beside else [None]
+    print(f"{HEAD}\n{LINE}", flush=True)
+    results = [tried(name, programs, asked) for name in asked.shapes or SHAPES]
+    return 0 if all(results) else 1
+
+
 def main(words: list[str]) -> int:
     parser = arguments()
     asked = parser.of(words)
     unknown = [name for name in asked.shapes if name not in SHAPES]
     if unknown or asked.runs < 1 or asked.longest <= 0:
         parser.error(f"no shape {unknown[0]}" if unknown else "--runs and --longest are above 0")
-    programs = [None, asked.beside] if asked.beside else [None]
-    print(f"{HEAD}\n{LINE}", flush=True)
-    results = [tried(name, programs, asked) for name in asked.shapes or SHAPES]
-    return 0 if all(results) else 1
+    return until_told(partial(measure, asked, named_program(parser, asked.beside)))
 
 
 if __name__ == "__main__":
-    sys.exit(until_told(lambda: main(sys.argv[1:])))
+    sys.exit(main(sys.argv[1:]))
