@@ -1,5 +1,5 @@
 -- What the tables of the next morning stand for, and what a run over them is.
-use Rattle.std.specs.Prelude.{◌≡◌, ℕ, List, Option, length, nat_eq}
+use Rattle.std.specs.Prelude.{◌≡◌, ℕ, List, None, Option, length, nat_eq}
 use Rattle.std.specs.List.{IsDistinct}
 use Rattle.admit_core.specs.declared.ranking.CallOrder.{CallOrder}
 use Rattle.admit_core.specs.declared.records.DayRecord.{DayRecord}
@@ -8,7 +8,8 @@ use Rattle.admit_core.specs.declared.tables.Tables.{Tables}
 use Rattle.admit_core.specs.Days.{Days, first_evening}
 use Rattle.admit_core.specs.Lapses.{AreTermsFor}
 use Rattle.admit_core.specs.OwnWishes.{IsOneAccepted}
-use Rattle.admit_core.specs.Relations.{wish_ids}
+use Rattle.admit_core.specs.Ranges.{AreTables}
+use Rattle.admit_core.specs.Relations.{first_fault, wish_ids}
 use Rattle.admit_core.specs.Standing.{dossier_of}
 use Rattle.admit_core.specs.State.{State}
 use Rattle.admit_core.specs.Validity.{IsValid}
@@ -36,6 +37,16 @@ TablesAreValid =
     → IsValid evening.dossier
     → IsOneAccepted evening
     → IsValid (dossier_of (tables_after a t evening))
+
+-- and from tables that a check accepts they are tables that it accepts
+abbrev pub TablesAreAccepted : Type 0
+TablesAreAccepted =
+    (a : ℕ) (t : Tables) (evening : State)
+    → IsEveningOf t evening
+    → AreTables t
+    → first_fault t ≡ None
+    → IsOneAccepted evening
+    → AreTables (tables_after a t evening) × (first_fault (tables_after a t evening) ≡ None)
 
 -- whatever days are run over the tables, they are the rest of the campaign
 abbrev pub RunsAreTheRest : Type 0

@@ -1,6 +1,6 @@
 -- For each law a worked case that meets all its premises, with what it concludes there: the law's
 -- text, with a value for each variable and a product for each arrow.
-use Rattle.std.specs.Prelude.{◌≡◌, ℕ, List, Option, Some}
+use Rattle.std.specs.Prelude.{◌≡◌, ℕ, List, None, Option, Some}
 use Rattle.admit_core.specs.declared.ranking.CallOrder.{CallOrder}
 use Rattle.admit_core.specs.declared.records.DayRecord.{DayRecord}
 use Rattle.admit_core.specs.declared.records.Terms.{Terms}
@@ -8,6 +8,8 @@ use Rattle.admit_core.specs.declared.tables.Tables.{Tables}
 use Rattle.admit_core.specs.Days.{Days, first_evening}
 use Rattle.admit_core.specs.Lapses.{AreTermsFor}
 use Rattle.admit_core.specs.OwnWishes.{IsOneAccepted}
+use Rattle.admit_core.specs.Ranges.{AreTables}
+use Rattle.admit_core.specs.Relations.{first_fault}
 use Rattle.admit_core.specs.Standing.{dossier_of}
 use Rattle.admit_core.specs.State.{State}
 use Rattle.admit_core.specs.Validity.{IsValid}
@@ -36,6 +38,17 @@ TablesAreValidWitness =
     × IsValid evening.dossier
     × IsOneAccepted evening
     × IsValid (dossier_of (tables_after a t evening))
+
+abbrev pub TablesAreAcceptedWitness : Type 0
+TablesAreAcceptedWitness =
+    let a : ℕ = 1 in
+    let t : Tables = small_tables in
+    let evening : State = small_night in
+    IsEveningOf t evening
+    × AreTables t
+    × (first_fault t ≡ None)
+    × IsOneAccepted evening
+    × AreTables (tables_after a t evening) × (first_fault (tables_after a t evening) ≡ None)
 
 -- ---- days 1 and 2 over the tables of the morning after day 1 are days 2 and 3
 abbrev pub RunsAreTheRestWitness : Type 0
