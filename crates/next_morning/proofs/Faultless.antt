@@ -56,7 +56,8 @@ apart_by id rows apart i j d below lt =
     let long = length-map rows id in
     let e : nat_eq (get_or (map id rows) i (id d)) (get_or (map id rows) j (id d)) ≡ false =
     apart_from_distinct nat_eq (map id rows) i j (id d) apart below (omega (arith, lt, long)) in
-    let at_i : get_or (map id rows) i (id d) ≡ id (get_or rows i d) = get_or-map id rows i d (id d) (omega (arith, below, lt)) in
+    let at_i : get_or (map id rows) i (id d) ≡ id (get_or rows i d) =
+    get_or-map id rows i d (id d) (omega (arith, below, lt)) in
     let at_j : get_or (map id rows) j (id d) ≡ id (get_or rows j d) = get_or-map id rows j d (id d) lt in
     nat_eq_sym (id (get_or rows j d)) (id (get_or rows i d)) ∙ (rw (at_i, at_j) at e)
 
@@ -71,8 +72,10 @@ module _ {R : Type 0} (day : R → ℕ) (rows : List R) (rises : IsNonDecreasing
       ap last_row (take_more rows j d (omega (arith, lt))) ∙ last_row-push (take j rows) (get_or rows j d) in
       let long = length-map rows day in
       let rise = rises j (j + 1) (day d) (omega arith) (omega (arith, lt, long)) in
-      let at_i : get_or (map day rows) j (day d) ≡ day (get_or rows j d) = get_or-map day rows j d (day d) (omega (arith, lt)) in
-      let at_j : get_or (map day rows) (j + 1) (day d) ≡ day (get_or rows (j + 1) d) = get_or-map day rows (j + 1) d (day d) lt in
+      let at_i : get_or (map day rows) j (day d) ≡ day (get_or rows j d) =
+      get_or-map day rows j d (day d) (omega (arith, lt)) in
+      let at_j : get_or (map day rows) (j + 1) (day d) ≡ day (get_or rows (j + 1) d) =
+      get_or-map day rows (j + 1) d (day d) lt in
       let le : day (get_or rows j d) ≤ day (get_or rows (j + 1) d) = omega (arith, rise, at_i, at_j) in
       rw (last, not_below (day (get_or rows (j + 1) d)) (day (get_or rows j d)) le) refl
 
@@ -131,7 +134,8 @@ module _ (a : ℕ) (t : Tables) (marks : List Mark) (long : length marks ≡ len
   pub row_at : (k : ℕ) (d : StateRow) → k < length t.wishes
       → get_or rows k d ≡ state_row (get_or t.wishes k no_wish, get_or marks k no_mark)
   row_at k d lt =
-      get_or-map state_row (zip t.wishes marks) k (no_wish, no_mark) d (omega (arith, lt, long, length-zip t.wishes marks))
+      get_or-map state_row (zip t.wishes marks) k (no_wish, no_mark) d
+      (omega (arith, lt, long, length-zip t.wishes marks))
       ∙ ap state_row (get_or-zip t.wishes marks k (no_wish, no_mark) lt (omega (arith, lt, long)))
 
 module _ (a : ℕ) (t : Tables) (marks : List Mark) (long : length marks ≡ length t.wishes) (fine : HasNoFault t) where
@@ -246,7 +250,8 @@ module _ (a : ℕ) (t : Tables) (marks : List Mark) (long : length marks ≡ len
       (subst (IsDistinct nat_eq) (sym (state_ids t.wishes marks long)) (wish_ids_apart t fine))))
       (and_then (all_known (λ (row : StateRow). is_among row.wish (wish_ids n)) (Unknown 1) n.state state_known)
       (and_then (differ_when (λ (row : StateRow). is_accepted row.status)
-      (λ (row r : StateRow). is_accepted r.status && same_candidate (candidate_with t row.wish) (candidate_with t r.wish))
+      (λ (row r : StateRow).
+      is_accepted r.status && same_candidate (candidate_with t row.wish) (candidate_with t r.wish))
       TwoAccepted n.state (one_accepted one))
       no_tests))
 
@@ -256,7 +261,8 @@ module _ (a : ℕ) (t : Tables) (marks : List Mark) (long : length marks ≡ len
       let P : CeilingRow → Type 0 = λ x. is_among x.school (school_ids t) ≡ true in
       subst (λ (known : List ℕ). All (λ (x : CeilingRow). is_among x.school known ≡ true) n.ceilings) (sym ids)
       (All-from_recursion P n.ceilings
-      (kept_all P (λ (x : CeilingRow). nat_lt a x.day) (λ (x : CeilingRow). record x { day = x.day - a }) (λ x e. e) t.ceilings
+      (kept_all P (λ (x : CeilingRow). nat_lt a x.day) (λ (x : CeilingRow). record x { day = x.day - a }) (λ x e. e)
+      t.ceilings
       (recursion_from_All P t.ceilings (ceiling_schools_known t fine))))
 
   same_is_target : (kind : AnswerKind) (target : ℕ) → is_target t kind target ≡ true → is_target n kind target ≡ true
@@ -271,11 +277,13 @@ module _ (a : ℕ) (t : Tables) (marks : List Mark) (long : length marks ≡ len
       let x : AnswerRow = get_or n.answers k d in
       same_is_target x.kind x.target
       (All-from_recursion P n.answers
-      (kept_all P (λ (y : AnswerRow). nat_lt a y.day) (λ (y : AnswerRow). record y { day = y.day - a }) (λ y e. e) t.answers
+      (kept_all P (λ (y : AnswerRow). nat_lt a y.day) (λ (y : AnswerRow). record y { day = y.day - a }) (λ y e. e)
+      t.answers
       (recursion_from_All P t.answers (targets_known t fine))) k d lt)
 
   module _ (valid : IsValid (dossier_of n)) where
-    ceilings_apart : AllPairs (λ (r row : CeilingRow). (nat_eq row.day r.day && nat_eq row.school r.school) ≡ false) n.ceilings
+    ceilings_apart : AllPairs (λ (r row : CeilingRow). (nat_eq row.day r.day && nat_eq row.school r.school) ≡ false)
+        n.ceilings
     ceilings_apart i j d below lt =
         let x : CeilingRow = get_or n.ceilings i d in
         let y : CeilingRow = get_or n.ceilings j d in
@@ -301,9 +309,11 @@ module _ (a : ℕ) (t : Tables) (marks : List Mark) (long : length marks ≡ len
     ceilings_pass =
         and_then (differ (λ (row r : CeilingRow). nat_eq row.day r.day && nat_eq row.school r.school) Repeat n.ceilings
         ceilings_apart)
-        (and_then (all_known (λ (row : CeilingRow). is_among row.school (school_ids n)) (Unknown 2) n.ceilings ceilings_known)
+        (and_then (all_known (λ (row : CeilingRow). is_among row.school (school_ids n)) (Unknown 2) n.ceilings
+        ceilings_known)
         (and_then (rises_pass (λ (row : CeilingRow). row.day) n.ceilings
-        (subst IsNonDecreasing (map-map (λ (c : CeilingChange). c.day) (ceiling_of_row n) n.ceilings) valid.ceilings_by_day))
+        (subst IsNonDecreasing (map-map (λ (c : CeilingChange). c.day) (ceiling_of_row n) n.ceilings)
+        valid.ceilings_by_day))
         no_tests))
 
     answers_pass : PassesAll (answer_tests n) n.answers

@@ -55,7 +55,8 @@ module _ (a : ℕ) (t : Tables) (marks : List Mark) (long : length marks ≡ len
         record {
           size = omega (arith, many, valid.size.ceilings);
           each = λ k d lt.
-              let v = subst (IsValidCeiling (dossier_of n)) (get_or-map (ceiling_of_row n) n.ceilings k d (ceiling_of_row n d) lt)
+              let v = subst (IsValidCeiling (dossier_of n))
+              (get_or-map (ceiling_of_row n) n.ceilings k d (ceiling_of_row n d) lt)
               (valid.ceilings k (ceiling_of_row n d) (omega (arith, many, lt))) in
               record { day = v.day; school = schools k d lt; ceiling = v.ceiling };
         }
@@ -70,7 +71,8 @@ module _ (a : ℕ) (t : Tables) (marks : List Mark) (long : length marks ≡ len
         record {
           size = omega (arith, many, valid.size.answers);
           each = λ k d lt.
-              let v = subst (IsValidAnswer (dossier_of n)) (get_or-map (answer_of_row n) n.answers k d (answer_of_row n d) lt)
+              let v = subst (IsValidAnswer (dossier_of n))
+              (get_or-map (answer_of_row n) n.answers k d (answer_of_row n d) lt)
               (valid.answers k (answer_of_row n d) (omega (arith, many, lt))) in
               record { day = v.day; target = targets k d lt };
         }

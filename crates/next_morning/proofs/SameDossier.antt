@@ -135,7 +135,8 @@ module _ (a : ℕ) (t : Tables) (marks : List Mark) where
       → dossier_of next ≡ cut_at a evening
   same_dossier long apart =
       let wishes : map (wish_of_row next) t.wishes ≡ map (wish_of_row t) t.wishes =
-      ap (λ (ids : List ℕ). map (λ (w : WishRow). record (wish_of_row t w) { school = option_map (place_of ids) w.school })
+      ap (λ (ids : List ℕ).
+      map (λ (w : WishRow). record (wish_of_row t w) { school = option_map (place_of ids) w.school })
       t.wishes) same_school_ids in
       let ceilings = ap (λ (ids : List ℕ). map (placed (place_of ids)) (later_ceilings a t.ceilings)) same_school_ids
       ∙ ceilings_as_cut a (place_of (school_ids t)) t.ceilings in

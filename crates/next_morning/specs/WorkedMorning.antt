@@ -3,6 +3,7 @@ use Rattle.std.specs.Prelude.{◌≡◌, ℕ, false, [], ◌∷◌, None, Option
 use Rattle.admit_core.specs.declared.dossier.AnswerKind.TheVariants.{Quit, Refuse}
 use Rattle.admit_core.specs.declared.state.Status.{Status}
 use Rattle.admit_core.specs.declared.state.Status.TheVariants.{Lapsed, Offered, Refused, Waiting}
+use Rattle.admit_core.specs.declared.tables.RankRow.{RankRow}
 use Rattle.admit_core.specs.declared.tables.StateRow.{StateRow}
 use Rattle.admit_core.specs.declared.tables.Tables.{Tables}
 use Rattle.admit_core.specs.declared.tables.WishRow.{WishRow}
@@ -53,6 +54,10 @@ WorkedMornings =
       answers = [];
     })
 
+abbrev pub ranked : ℕ → RankRow
+ranked candidate =
+    record { group = 1; candidate = candidate; rank = 1; scholar = false; resident = false }
+
 -- the tables of the small dossier
 abbrev pub small_tables : Tables
 small_tables =
@@ -60,7 +65,7 @@ small_tables =
       groups = record { id = 1; scholar_pct = 0; resident_pct = 0 } ∷ [];
       programmes = record { id = 10; group = 1; seats = 1; limit = 0 } ∷ [];
       schools = record { id = 5; beds = 1; ceiling = 9 } ∷ [];
-      rankings = record { group = 1; candidate = 11; rank = 1; scholar = false; resident = false } ∷ [];
+      rankings = ranked 11 ∷ [];
       boarding = record { school = 5; candidate = 11; rank = 1 } ∷ [];
       wishes = wish 1 11 (Some 5) ∷ [];
       state = [];
