@@ -1,0 +1,17 @@
+use Rattle.std.proofs.Common.{map, sym, ap, ◌∙◌, rules}
+use Rattle.std.proofs.lemmas.Iterator.{YieldsList-from_slice, YieldsList-from_zip}
+use Rattle.std.proofs.lemmas.Iterator.Consumers.{YieldsList-end}
+use Rattle.std.proofs.lemmas.Simd.{map-map}
+use Rattle.next_morning.specs.Morning.{state_row}
+use Rattle.next_morning.proofs.rows.state_rows.Goals as goal
+
+pub returns : goal.returns
+returns c =
+    let end = YieldsList-end
+    (YieldsList-from_zip {s = c.into_iter-wish-iterator.result} (YieldsList-from_slice c.args.wishes.now (search rules))
+    (YieldsList-from_slice c.args.marks.now (search rules)))
+    c.loop-wish.yielded c.loop-wish.wish-iterator c.loop-wish.yielded_by
+    c.next.result c.next.new.self c.in-None.is c.next.ensures.steps in
+    c.loop-wish.invariant
+    ∙ sym (map-map state_row (λ p. (p.0.now, p.1.now)) c.loop-wish.yielded)
+    ∙ ap (map state_row) end.0

@@ -1,0 +1,4 @@
+pub mod Laws
+pub mod Morning
+pub mod Witnesses
+pub mod WorkedMorning

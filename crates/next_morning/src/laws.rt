@@ -1,0 +1,23 @@
+//! What the tables of the next morning are, for a campaign that is cut there.
+ghost use Rattle.next_morning.specs.Laws.{RunsAreTheRest, TablesAreAccepted, TablesAreOfTheCut, TablesAreValid};
+ghost use Rattle.next_morning.specs.Witnesses.{RunsAreTheRestWitness, TablesAreAcceptedWitness, TablesAreOfTheCutWitness, TablesAreValidWitness};
+ghost use Rattle.next_morning.specs.WorkedMorning.{WorkedMornings};
+
+/// The tables stand for the dossier of the campaign that is cut in that evening; where each
+/// candidate has one accepted wish at most, it is a valid one, and a check accepts them; and a run
+/// over it is the rest of the campaign.
+pub fn laws_of_next_mornings()
+    ensures cut { TablesAreOfTheCut }
+    ensures valid { TablesAreValid }
+    ensures accepted { TablesAreAccepted }
+    ensures rest { RunsAreTheRest }
+{}
+
+/// For each law a worked case that meets all its premises, and three mornings of a campaign.
+pub fn witnesses_of_next_mornings()
+    ensures cut { TablesAreOfTheCutWitness }
+    ensures valid { TablesAreValidWitness }
+    ensures accepted { TablesAreAcceptedWitness }
+    ensures rest { RunsAreTheRestWitness }
+    ensures worked { WorkedMornings }
+{}

@@ -1,0 +1,11 @@
+//! The tables with which a campaign is begun again on the morning after an evening.
+//!
+//! `let tables = next_morning(alloc, tables, &evening, &ceilings, day)?;`
+#![tactic(auto)]
+
+mod laws;
+mod morning;
+mod rows;
+
+pub use laws::{laws_of_next_mornings, witnesses_of_next_mornings};
+pub use morning::next_morning;

@@ -1,0 +1,84 @@
+//! The rows that are not as they were on the day before.
+ghost use Rattle.std.specs.Prelude.{◌≡◌, IfOk, map, zip};
+ghost use Rattle.next_morning.specs.Morning.{later_answers, later_ceilings, state_row, with_ceiling};
+
+use admit_core::{AnswerRow, CeilingRow, Mark, OutOfMemory, SchoolRow, StateRow, WishRow};
+use std::alloc::Global;
+
+/// The schools, each with its ceiling.
+pub(crate) fn school_rows(
+    alloc: Global,
+    schools: &[SchoolRow],
+    ceilings: &[u32],
+) -> Result<Vec<SchoolRow>, OutOfMemory>
+    ensures { IfOk result (λ rows. rows.items ≡ map with_ceiling
+        (zip schools.now ceilings.now)) }
+{
+    let mut rows = Vec::new(alloc);
+    for (school, ceiling) in schools.iter().zip(ceilings) {
+        rows.push(SchoolRow {
+            ceiling: *ceiling,
+            ..*school
+        })?;
+    }
+    Ok(rows)
+}
+
+/// A row a wish, with its status.
+pub(crate) fn state_rows(
+    alloc: Global,
+    wishes: &[WishRow],
+    marks: &[Mark],
+) -> Result<Vec<StateRow>, OutOfMemory>
+    ensures { IfOk result (λ rows. rows.items ≡ map state_row (zip wishes.now marks.now)) }
+{
+    let mut rows = Vec::new(alloc);
+    for (wish, mark) in wishes.iter().zip(marks) {
+        rows.push(StateRow {
+            wish: wish.id,
+            status: mark.status,
+            since: None,
+        })?;
+    }
+    Ok(rows)
+}
+
+/// The ceilings of the days after a day, which are counted from there.
+pub(crate) fn later_ceilings(
+    alloc: Global,
+    changes: &[CeilingRow],
+    day: u32,
+) -> Result<Vec<CeilingRow>, OutOfMemory>
+    ensures { IfOk result (λ rows. rows.items ≡ later_ceilings day changes.now) }
+{
+    let mut rows = Vec::new(alloc);
+    for change in changes {
+        if change.day > day {
+            rows.push(CeilingRow {
+                day: change.day - day,
+                ..*change
+            })?;
+        }
+    }
+    Ok(rows)
+}
+
+/// The answers of the days after a day, which are counted from there.
+pub(crate) fn later_answers(
+    alloc: Global,
+    answers: &[AnswerRow],
+    day: u32,
+) -> Result<Vec<AnswerRow>, OutOfMemory>
+    ensures { IfOk result (λ rows. rows.items ≡ later_answers day answers.now) }
+{
+    let mut rows = Vec::new(alloc);
+    for answer in answers {
+        if answer.day > day {
+            rows.push(AnswerRow {
+                day: answer.day - day,
+                ..*answer
+            })?;
+        }
+    }
+    Ok(rows)
+}
