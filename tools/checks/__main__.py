@@ -11,8 +11,8 @@ from functools import partial
 from dossier.program import program
 from dossier.wording import Words
 
-from . import answered, auditing, cutting, days, disks, edits, exporting, hostile, installing, killing, lemmas, measuring
-from . import rechecking, rounds, script, sheets, stored, tabled, whys, workbooks
+from . import answered, auditing, cutting, days, disks, edits, exporting, hostile, installing, killing, lemmas
+from . import measuring, rechecking, rounds, script, sheets, stored, tabled, whys, workbooks
 from .harness import EXAMPLES, Tally, until_told
 
 Checks = Callable[[Tally], None]
