@@ -124,7 +124,7 @@ def check_columns(tally: Tally, folder: Path, with_gaps: Path) -> None:
     automatic = {row["candidate"] for row in wishes if row["preference"] != "0"}
     tally.check("a third rank their wishes", 0.3 < len(automatic) / len(people) < 0.37, len(automatic))
     seats = sorted(int(row["seats"]) for row in columns(folder, "programmes"))
-    tally.check("programmes of very different sizes", seats[0] >= 2 and seats[-1] > 20 * seats[len(seats) // 2], seats)
+    tally.check("programmes of very different sizes", seats[0] >= 2 and seats[-1] > 5 * seats[len(seats) // 2], seats)
     sharing = Counter(row["group"] for row in columns(folder, "programmes"))
     tally.equal("how many programmes share a group", set(sharing.values()), {1, 3})
     tally.check("wishes with boarding", 0.02 < sum(row["school"] != "" for row in wishes) / len(wishes) < 0.2)

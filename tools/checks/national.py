@@ -1,7 +1,7 @@
 """Dossiers of national shape: as the nation's, with any number of candidates.
 
-There is a programme for every 40 candidates, of very different sizes: at a million candidates from 2 seats to some
-20,000, and the best known one is wished for by more than 100,000. Three of ten programmes share a group, all three the
+There is a programme for every 40 candidates, of very different sizes: at a million candidates from 2 seats to many
+thousands, and the best known one is wished for by more than 100,000. Three of ten programmes share a group, all three the
 same one; one of four has a boarding school, and some schools have many programmes. A candidate wishes for up to 19
 programmes, and every third one boards too where they can. A third rank their wishes; a tenth hold a seat, others an
 offer; on days 1 to 3 some accept, refuse or quit, and on day 1 some withdraw a wish. The groups rank by what they
@@ -32,9 +32,10 @@ PROGRAMMES_OF_A_SCHOOL = 20
 MOST_CHOICES = 19
 # How much less the next smaller programme is wished for, as a power of its place.
 FALL = 0.85
+FIRST_PLACE = 3
 SEATS_OF_A_CANDIDATE = 0.8
 NO_CEILING = 2_000_000_000
-# The greatest prime below 2,000,000,000. It leaves 2 when divided by 3, so no two cubes are the same beyond it.
+# The greatest prime below 2,000,000,000. It leaves 2 when divided by 3, so by it no two cubes leave the same.
 PRIME = 1_999_999_973
 FIRST_WISH = 500_000_000
 FIRST_PERSON = 1_000_000
@@ -66,7 +67,7 @@ class Nation:
         self.chance = Random(size)
         count = max(LEAST_PROGRAMMES, size // CANDIDATES_OF_A_PROGRAMME)
         self.programmes = range(count)
-        self.weights = mixed([place ** -FALL for place in up_to(count)], 1)
+        self.weights = mixed([(place + FIRST_PLACE) ** -FALL for place in up_to(count)], 1)
         # Of each ten programmes the last three have the group of the eighth.
         self.group_of = [place - max(0, place % 10 - 7) for place in self.programmes]
         schools = max(2, count // PROGRAMMES_OF_A_SCHOOL)
