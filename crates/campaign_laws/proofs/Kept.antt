@@ -28,6 +28,7 @@ use Rattle.admit_core.proofs.Plain.{any-filter, any-map}
 use Rattle.admit_core.proofs.Remaining.{least_passes}
 use Rattle.admit_core.proofs.Statuses.{status_of_auto}
 use Rattle.admit_core.proofs.Tests.{any_implied}
+use Rattle.cut_laws.proofs.Accepted.{accepted_is}
 use Rattle.campaign_laws.specs.Kept.{AnswersThemself, AutomaticAnswersClimb, IsKept, NeverDescends, WhatIsYoursStays}
 use Rattle.campaign_laws.specs.Moments.{moments, openings}
 use Rattle.campaign_laws.proofs.GoneStays.{terms_long}
@@ -206,17 +207,6 @@ what_is_yours_stays terms orders d old days new c fit are themself silent i j e 
     j e below lt)
 
 -- ---- automatic answers climb
-accepted_is : (x : Status) → is_accepted x ≡ true → x ≡ Accepted
-accepted_is Waiting t = absurd (cc)
-accepted_is Offered t = absurd (cc)
-accepted_is Accepted t = refl
-accepted_is Refused t = absurd (cc)
-accepted_is Withdrawn t = absurd (cc)
-accepted_is HasQuit t = absurd (cc)
-accepted_is AutoRefused t = absurd (cc)
-accepted_is AutoWithdrawn t = absurd (cc)
-accepted_is Lapsed t = absurd (cc)
-
 -- a live wish that is the best is accepted
 best_accepted : (x : Status) (is_behind : Bool) → is_live_status x ≡ true → auto_status x true is_behind ≡ Accepted
 best_accepted Waiting is_behind live = absurd (cc)

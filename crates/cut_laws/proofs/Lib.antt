@@ -1,3 +1,4 @@
+pub mod Accepted
 pub mod Cut
 pub mod CutRows
 pub mod Dated

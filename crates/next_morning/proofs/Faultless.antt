@@ -41,6 +41,7 @@ use Rattle.admit_core.specs.Relations.{answer_tests, boarding_tests, candidate_w
 use Rattle.admit_core.specs.Standing.{answer_of_row, ceiling_of_row, dossier_of, place_of, wish_of_row}
 use Rattle.admit_core.specs.State.{State, entries}
 use Rattle.admit_core.specs.Validity.{IsValid}
+use Rattle.cut_laws.proofs.Accepted.{accepted_is}
 use Rattle.cut_laws.proofs.Dated.{no_mark}
 use Rattle.dossier_check.proofs.LastRow.{last_row-push}
 use Rattle.dossier_check.proofs.NoFault.{HasNoFault}
@@ -109,17 +110,6 @@ state_ids [] [] same = refl
 state_ids [] (m ∷ ms) same = absurd (omega arith)
 state_ids (w ∷ ws) [] same = absurd (omega arith)
 state_ids (w ∷ ws) (m ∷ ms) same = ap (λ (l : List ℕ). w.id ∷ l) (state_ids ws ms (omega (arith, same)))
-
-accepts : (s : Status) → is_accepted s ≡ true → s ≡ Accepted
-accepts Waiting e = cc
-accepts Offered e = cc
-accepts Accepted e = refl
-accepts Refused e = cc
-accepts Withdrawn e = cc
-accepts statuses.Quit e = cc
-accepts AutoRefused e = cc
-accepts AutoWithdrawn e = cc
-accepts Lapsed e = cc
 
 module _ (a : ℕ) (t : Tables) (marks : List Mark) (long : length marks ≡ length t.wishes) where
   abbrev rows : List StateRow
@@ -225,7 +215,7 @@ module _ (a : ℕ) (t : Tables) (marks : List Mark) (long : length marks ≡ len
       let left = subst (λ (x : Wish × Mark). AcceptsOne x (get_or (entries evening) j e))
       (entry_at i (omega (arith, below, lt))) (one i j e below within) in
       let both = subst (λ (x : Wish × Mark). AcceptsOne (as_entry i) x) (entry_at j lt) left in
-      both same (accepts _ first) (accepts _ second)
+      both same (accepted_is _ first) (accepted_is _ second)
 
   one_accepted : IsOneAccepted evening
       → AllPairs (λ (r row : StateRow). is_accepted row.status ≡ true
