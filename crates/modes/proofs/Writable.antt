@@ -47,7 +47,8 @@ record AreDates (start : ℤ) (term : ℕ) (day : ℤ) : Type 0 where
   offered : IsCivil (date_on start day)
   deadline : last_date start term day ≤ℤ last_day
 
-stamp_dates : (start : ℤ) (term day : ℕ) → IsStart start → term ≤ 366 → 0 < day → day ≤ 366 → AreDates start term (pos day)
+stamp_dates : (start : ℤ) (term day : ℕ) → IsStart start → term ≤ 366 → 0 < day → day ≤ 366
+    → AreDates start term (pos day)
 stamp_dates start term day is short some within =
     let low = is.after_first in
     let high = is.is_read in
@@ -59,7 +60,8 @@ before_dates start term day short read =
     let high = read.1 in
     record { offered = (omega (arith, ints), omega (arith, ints)); deadline = omega (arith, ints) }
 
-offer_dates : (start : ℤ) (term : ℕ) (before : ℤ) (m : Mark) → IsStart start → term ≤ 366 → IsRead (date_on start before) → IsStamped m → AreDates start term (offer_day before m)
+offer_dates : (start : ℤ) (term : ℕ) (before : ℤ) (m : Mark) → IsStart start → term ≤ 366
+    → IsRead (date_on start before) → IsStamped m → AreDates start term (offer_day before m)
 offer_dates start term before m is short read stamped =
     elim (cases_Bool (nat_lt 0 m.stamp.day)) [
       | inl later ↦ rw later (stamp_dates start term m.stamp.day is short (ltb-true 0 m.stamp.day later) stamped)
@@ -72,7 +74,8 @@ record IsPair (n : ℕ) (start : ℤ) (x : ℕ × (ℤ × Mark)) : Type 0 where
   before : IsRead (date_on start x.1.0)
   stamped : IsStamped x.1.1
 
-pairs : (n k : ℕ) (start : ℤ) (bs : List ℤ) (ms : List Mark) → k + length bs ≤ n → All (λ day. IsRead (date_on start day)) bs → All IsStamped ms
+pairs : (n k : ℕ) (start : ℤ) (bs : List ℤ) (ms : List Mark) → k + length bs ≤ n
+    → All (λ day. IsRead (date_on start day)) bs → All IsStamped ms
     → All (IsPair n start) (enumerate_from k (zip bs ms))
 pairs n k start [] ms within read stamped = All-nil (IsPair n start)
 pairs n k start (b ∷ bs) [] within read stamped = All-nil (IsPair n start)
@@ -80,18 +83,26 @@ pairs n k start (b ∷ bs) (m ∷ ms) within read stamped =
     let here : k < n = omega arith in
     let later : k + 1 + length bs ≤ n = omega arith in
     All-cons (IsPair n start) (k, (b, m)) _
-    (record { place = here; before = All-head (λ day. IsRead (date_on start day)) b bs read; stamped = All-head IsStamped m ms stamped })
-    (pairs n (k + 1) start bs ms later (All-tail (λ day. IsRead (date_on start day)) b bs read) (All-tail IsStamped m ms stamped))
+    (record {
+      place = here;
+      before = All-head (λ day. IsRead (date_on start day)) b bs read;
+      stamped = All-head IsStamped m ms stamped;
+    })
+    (pairs n (k + 1) start bs ms later (All-tail (λ day. IsRead (date_on start day)) b bs read)
+    (All-tail IsStamped m ms stamped))
 
 lapses_dated : (s : State) (dated : DatedTerms) (day : ℕ) → AreDatedFor s.dossier dated → All IsStamped s.marks
     → All (IsLapseOf s.dossier dated.start dated.terms.term) (lapses_of dated.terms day s)
 lapses_dated s dated day is stamped =
     let n = length s.dossier.wishes in
     let each : 0 + length dated.terms.before ≤ n = omega (arith, is.one_each) in
-    let chosen : List (ℕ × (ℤ × Mark)) = filter (λ x. lapses dated.terms.term day x.1.0 x.1.1) (enumerate_from 0 (zip dated.terms.before s.marks)) in
+    let chosen : List (ℕ × (ℤ × Mark)) =
+    filter (λ x. lapses dated.terms.term day x.1.0 x.1.1) (enumerate_from 0 (zip dated.terms.before s.marks)) in
     let all : All (IsPair n dated.start) chosen =
-    All-filter (λ (x : ℕ × (ℤ × Mark)). lapses dated.terms.term day x.1.0 x.1.1) (IsPair n dated.start) _ (pairs n 0 dated.start dated.terms.before s.marks each is.before stamped) in
-    All-map (IsLapseOf s.dossier dated.start dated.terms.term) (λ (x : ℕ × (ℤ × Mark)). record { wish = x.0; offered = offer_day x.1.0 x.1.1 }) chosen
+    All-filter (λ (x : ℕ × (ℤ × Mark)). lapses dated.terms.term day x.1.0 x.1.1) (IsPair n dated.start) _
+    (pairs n 0 dated.start dated.terms.before s.marks each is.before stamped) in
+    All-map (IsLapseOf s.dossier dated.start dated.terms.term)
+    (λ (x : ℕ × (ℤ × Mark)). record { wish = x.0; offered = offer_day x.1.0 x.1.1 }) chosen
     (λ k x lt.
     let p = all k x lt in
     let y = get_or chosen k x in
@@ -99,14 +110,17 @@ lapses_dated s dated day is stamped =
     record { wish = p.place; offered = dates.offered; deadline = dates.deadline })
 
 -- the lapses of a day
-lapses_where : (s : State) (dated : Option DatedTerms) (day : ℕ) (lapsed : List Lapse) → IfSome dated (AreDatedFor s.dossier) → All IsStamped s.marks → lapsed ≡ lapsed_on (terms_in dated) day s
+lapses_where : (s : State) (dated : Option DatedTerms) (day : ℕ) (lapsed : List Lapse)
+    → IfSome dated (AreDatedFor s.dossier) → All IsStamped s.marks → lapsed ≡ lapsed_on (terms_in dated) day s
     → IfSome dated (λ x. All (IsLapseOf s.dossier x.start x.terms.term) lapsed)
 lapses_where s None day lapsed is stamped same = tt
 lapses_where s (Some dated) day lapsed is stamped same =
-    All-same (IsLapseOf s.dossier dated.start dated.terms.term) lapsed (lapses_of dated.terms day s) same (lapses_dated s dated day is stamped)
+    All-same (IsLapseOf s.dossier dated.start dated.terms.term) lapsed (lapses_of dated.terms day s) same
+    (lapses_dated s dated day is stamped)
 
 -- the offers of a state
-pub finals_dated : (s : State) (dated : Option DatedTerms) → IfSome dated (AreDatedFor s.dossier) → All IsStamped s.marks → IfSome dated (λ x. HasDates s x.start x.terms.before)
+pub finals_dated : (s : State) (dated : Option DatedTerms) → IfSome dated (AreDatedFor s.dossier)
+    → All IsStamped s.marks → IfSome dated (λ x. HasDates s x.start x.terms.before)
 finals_dated s None is stamped = tt
 finals_dated s (Some dated) is stamped =
     let low = is.start.after_first in
@@ -116,7 +130,8 @@ finals_dated s (Some dated) is stamped =
       one_before_each = is.one_each;
       offers = λ place lt offered.
           let within : place < length dated.terms.before = omega (arith, is.one_each) in
-          (offer_dates dated.start dated.terms.term (get_or dated.terms.before place (pos 0)) (mark_at s place) is.start is.term (is.before place (pos 0) within) (mark_stamped s place stamped)).offered;
+          (offer_dates dated.start dated.terms.term (get_or dated.terms.before place (pos 0)) (mark_at s place)
+          is.start is.term (is.before place (pos 0) within) (mark_stamped s place stamped)).offered;
     }
 
 -- the passes of a day give places of the dossier
@@ -133,48 +148,67 @@ pub record IsBefore (d : DossierRows) (dated : Option DatedTerms) (evening : Sta
   pub stamped : All IsStamped evening.marks
 
 -- a day that came about can be written, and leaves what is known
-day_written : (plan : Plan) (d : DossierRows) (dated : Option DatedTerms) (k : ℕ) (old : DeskStates) (before : Lent) (day : DayRecord) (new : DeskStates) → plan.terms ≡ terms_in dated
-    → IfSome dated (AreDatedFor d) → k ≤ 366 → IsBefore d dated old.present → IsNext plan k old before day new → CanBeWritten d dated day × IsBefore d dated new.present
+day_written : (plan : Plan) (d : DossierRows) (dated : Option DatedTerms) (k : ℕ) (old : DeskStates) (before : Lent)
+    (day : DayRecord) (new : DeskStates) → plan.terms ≡ terms_in dated
+    → IfSome dated (AreDatedFor d) → k ≤ 366 → IsBefore d dated old.present → IsNext plan k old before day new
+    → CanBeWritten d dated day × IsBefore d dated new.present
 day_written plan d dated k old before day new terms is few known next = (
   record {
-    passes = λ n x lt. falls_of d _ (subst (λ (e : DossierRows). IsPassIn e (get_or day.passes n x)) known.dossier (next.done.follows.places.passes n x lt));
+    passes = λ n x lt.
+        falls_of d _ (subst (λ (e : DossierRows). IsPassIn e (get_or day.passes n x)) known.dossier
+        (next.done.follows.places.passes n x lt));
     lapses =
         subst (λ (e : DossierRows). IfSome dated (λ x. All (IsLapseOf e x.start x.terms.term) day.lapsed)) known.dossier
-        (lapses_where old.present dated day.day day.lapsed (subst (λ (e : DossierRows). IfSome dated (AreDatedFor e)) (sym known.dossier) is) known.stamped
+        (lapses_where old.present dated day.day day.lapsed
+        (subst (λ (e : DossierRows). IfSome dated (AreDatedFor e)) (sym known.dossier) is) known.stamped
         (subst (λ t. day.lapsed ≡ lapsed_on t day.day old.present) terms next.done.rule.is_day.lapsed));
   },
   record { dossier = next.dossier ∙ known.dossier; stamped = next.done.follows.stamps 366 few known.stamped },
 )
 
-days_written : (plan : Plan) (d : DossierRows) (dated : Option DatedTerms) (k : ℕ) (old : DeskStates) (before : Lent) (days : List DayRecord) (new : DeskStates) → plan.terms ≡ terms_in dated
-    → IfSome dated (AreDatedFor d) → k + length days ≤ 367 → IsBefore d dated old.present → Lead plan k old before days new → All (CanBeWritten d dated) days × IsBefore d dated new.present
+days_written : (plan : Plan) (d : DossierRows) (dated : Option DatedTerms) (k : ℕ) (old : DeskStates) (before : Lent)
+    (days : List DayRecord) (new : DeskStates) → plan.terms ≡ terms_in dated
+    → IfSome dated (AreDatedFor d) → k + length days ≤ 367 → IsBefore d dated old.present
+    → Lead plan k old before days new → All (CanBeWritten d dated) days × IsBefore d dated new.present
 days_written plan d dated k old before [] new terms is few known lead =
     (All-nil (CanBeWritten d dated), subst (λ (desk : DeskStates). IsBefore d dated desk.present) lead known)
 days_written plan d dated k old before (day ∷ days) new terms is few known lead =
     let first = day_written plan d dated k old before day lead.0 terms is (omega arith) known lead.1 in
-    let later = days_written plan d dated (k + 1) lead.0 (lent_after plan.who day before) days new terms is (omega arith) first.1 lead.2 in
+    let later =
+    days_written plan d dated (k + 1) lead.0 (lent_after plan.who day before) days new terms is (omega arith)
+    first.1 lead.2 in
     (All-cons (CanBeWritten d dated) day days first.0 later.0, later.1)
 
 pub first_known : (d : DossierRows) (dated : Option DatedTerms) → IsBefore d dated (first_evening d)
-first_known d dated = record { dossier = refl; stamped = All-map IsStamped first_mark d.statuses (λ k x lt. omega arith) }
+first_known d dated =
+    record { dossier = refl; stamped = All-map IsStamped first_mark d.statuses (λ k x lt. omega arith) }
 
-within_year : (terms : Option Terms) (number : ℕ) (days : List DayRecord) (last : DeskStates) (end : Result DeskStates Refusal) → DaysEndAfter terms number days last end → number ≤ 366 → 1 + length days ≤ 367
+within_year : (terms : Option Terms) (number : ℕ) (days : List DayRecord) (last : DeskStates)
+    (end : Result DeskStates Refusal) → DaysEndAfter terms number days last end → number ≤ 366 → 1 + length days ≤ 367
 within_year terms number days last (Ok desk) ends few = omega (arith, ends.0)
 within_year terms number days last (Err refusal) ends few = omega (arith, ends.fewer)
 
-evening_written : (d : DossierRows) (dated : Option DatedTerms) (terms : Option Terms) (number : ℕ) (days : List DayRecord) (last : DeskStates) (end : Result DeskStates Refusal) → DaysEndAfter terms number days last end
+evening_written : (d : DossierRows) (dated : Option DatedTerms) (terms : Option Terms) (number : ℕ)
+    (days : List DayRecord) (last : DeskStates) (end : Result DeskStates Refusal)
+    → DaysEndAfter terms number days last end
     → IfSome dated (AreDatedFor d) → IsBefore d dated last.present → ForOk end (λ desk. CanBeDated dated desk.present)
 evening_written d dated terms number days last (Ok desk) ends is known =
-    let at : CanBeDated dated last.present = finals_dated last.present dated (subst (λ (e : DossierRows). IfSome dated (AreDatedFor e)) (sym known.dossier) is) known.stamped in
+    let at : CanBeDated dated last.present =
+    finals_dated last.present dated (subst (λ (e : DossierRows). IfSome dated (AreDatedFor e)) (sym known.dossier) is)
+    known.stamped in
     λ x same.
     let here : desk ≡ x = cc in
     subst (λ (y : DeskStates). CanBeDated dated y.present) (sym ends.1 ∙ here) at
 evening_written d dated terms number days last (Err refusal) ends is known = λ x same. cc
 
 -- the days that were played, and the evening after them
-pub played_written : (d : DossierRows) (dated : Option DatedTerms) (number : ℕ) (who : PickerChoice) (before : Lent) (played : Played) (after : Lent) → number ≤ 366 → IfSome dated (AreDatedFor d)
-    → IsPlayed d (terms_in dated) number who before played after → All (CanBeWritten d dated) played.days × ForOk played.end (λ desk. CanBeDated dated desk.present)
+pub played_written : (d : DossierRows) (dated : Option DatedTerms) (number : ℕ) (who : PickerChoice) (before : Lent)
+    (played : Played) (after : Lent) → number ≤ 366 → IfSome dated (AreDatedFor d)
+    → IsPlayed d (terms_in dated) number who before played after
+    → All (CanBeWritten d dated) played.days × ForOk played.end (λ desk. CanBeDated dated desk.present)
 played_written d dated number who before played after few is plays =
-    let within : 1 + length played.days ≤ 367 = within_year (terms_in dated) number played.days plays.last played.end plays.ends few in
-    let all = days_written _ d dated 1 _ before played.days plays.last refl is within (first_known d dated) plays.days in
+    let within : 1 + length played.days ≤ 367 =
+    within_year (terms_in dated) number played.days plays.last played.end plays.ends few in
+    let all =
+    days_written _ d dated 1 _ before played.days plays.last refl is within (first_known d dated) plays.days in
     (all.0, evening_written d dated (terms_in dated) number played.days plays.last played.end plays.ends is all.1)

@@ -38,10 +38,15 @@ use Rattle.request.specs.declared.pickers.PickerName.{PickerName}
 use Rattle.request.specs.declared.request.Request.{Request}
 
 pub deadlines_known : (request : Request) → IsRequest request → IfSome (deadlines_of request) IsDeadlines
-deadlines_known request is = elim (cases_Bool (is_some (sample_of request.mode))) [ inl made ↦ rw made tt | inr none ↦ rw none is.deadlines ]
+deadlines_known request is =
+    elim (cases_Bool (is_some (sample_of request.mode))) [ inl made ↦ rw made tt | inr none ↦ rw none is.deadlines ]
 
 pub no_days : (request : Request) → IsTrue (not (runs_days request.mode)) → days_of request ≡ 0
-no_days request none = elim (cases_Bool (runs_days request.mode)) [ inl runs ↦ absurd (false≢true (rw runs at none)) | inr is ↦ rw is refl ]
+no_days request none =
+    elim (cases_Bool (runs_days request.mode)) [
+      | inl runs ↦ absurd (false≢true (rw runs at none))
+      | inr is ↦ rw is refl
+    ]
 
 -- how a run ends, by what the modes see of its job
 pub record Ends (played : Played) (between after : Lent) (exit : Exit) (text : List ℕ) (seen : Seen) : Type 0 where
@@ -50,66 +55,89 @@ pub record Ends (played : Played) (between after : Lent) (exit : Exit) (text : L
   pub lends : IsLent (picker_after seen.request) between after
 
 -- what is played and written is the job's
-pub job_ends : (job : Job) (request : Request) (d : DossierRows) (ids : Ids) (chain : List ℕ) (dates : List (Option Since)) (dated : Option DatedTerms) (before between after : Lent) (played : Played) (exit : Exit) (text : List ℕ)
-    → job.request ≡ request → d ≡ dossier_of job.tables → ids ≡ ids_of job.tables → chain ≡ job.chain → dates ≡ dates_of job.tables → dated ≡ option_map (dated_from dates) (deadlines_of request)
+pub job_ends : (job : Job) (request : Request) (d : DossierRows) (ids : Ids) (chain : List ℕ)
+    (dates : List (Option Since)) (dated : Option DatedTerms) (before between after : Lent) (played : Played)
+    (exit : Exit) (text : List ℕ)
+    → job.request ≡ request → d ≡ dossier_of job.tables → ids ≡ ids_of job.tables → chain ≡ job.chain
+    → dates ≡ dates_of job.tables → dated ≡ option_map (dated_from dates) (deadlines_of request)
     → IsPlayed d (terms_in dated) (days_of request) request.picker before played between
-    → Ends played between after exit text (record { request = request; dossier = d; index = ids; chain = chain; dated = dated }) → IsEnding job before after exit text
-job_ends job request d ids chain dates dated before between after played exit text asked same indexed chained dates_are dated_is plays ends =
+    → Ends played between after exit text
+    (record { request = request; dossier = d; index = ids; chain = chain; dated = dated })
+    → IsEnding job before after exit text
+job_ends job request d ids chain dates dated before between after played exit text asked same indexed chained
+    dates_are dated_is plays ends =
     let dated_job : dated ≡ dated_of job =
     dated_is ∙ ap (λ (ds : List (Option Since)). option_map (dated_from ds) (deadlines_of request)) dates_are
     ∙ ap (λ (q : Request). option_map (dated_from (dates_of job.tables)) (deadlines_of q)) (sym asked) in
     let P : Request → DossierRows → Ids → List ℕ → Option DatedTerms → Type 0 =
-    λ q e i c x. Ends played between after exit text (record { request = q; dossier = e; index = i; chain = c; dated = x }) in
+    λ q e i c x. Ends played between after exit text
+    (record { request = q; dossier = e; index = i; chain = c; dated = x }) in
     let of_job : P job.request (dossier job) (ids_of job.tables) job.chain (dated_of job) =
     subst (λ (q : Request). P q (dossier job) (ids_of job.tables) job.chain (dated_of job)) (sym asked)
     (subst (λ (x : Option DatedTerms). P request (dossier job) (ids_of job.tables) job.chain x) dated_job
     (subst (λ (c : List ℕ). P request (dossier job) (ids_of job.tables) c dated) chained
-    (subst (λ (i : Ids). P request (dossier job) i chain dated) indexed (subst (λ (e : DossierRows). P request e ids chain dated) same ends)))) in
+    (subst (λ (i : Ids). P request (dossier job) i chain dated) indexed
+    (subst (λ (e : DossierRows). P request e ids chain dated) same ends)))) in
     record {
       played = played;
       between = between;
       days =
-          subst (λ (q : Request). IsPlayed (dossier job) (terms_of job) (days_of q) q.picker before played between) (sym asked)
-          (subst (λ (x : Option DatedTerms). IsPlayed (dossier job) (terms_in x) (days_of request) request.picker before played between) dated_job
-          (subst (λ (e : DossierRows). IsPlayed e (terms_in dated) (days_of request) request.picker before played between) same plays));
+          subst (λ (q : Request). IsPlayed (dossier job) (terms_of job) (days_of q) q.picker before played between)
+          (sym asked)
+          (subst (λ (x : Option DatedTerms).
+          IsPlayed (dossier job) (terms_in x) (days_of request) request.picker before played between) dated_job
+          (subst (λ (e : DossierRows).
+          IsPlayed e (terms_in dated) (days_of request) request.picker before played between) same plays));
       tells = of_job.tells;
       lends = of_job.lends;
       ends = of_job.ends;
     }
 
 -- the plain days of a campaign
-lead_days : (plan : Plan) (d : ℕ) (old : DeskStates) (before : Lent) (days : List DayRecord) (new : DeskStates) → Lead plan d old before days new → Days plan.terms plan.orders d old.present days new.present
+lead_days : (plan : Plan) (d : ℕ) (old : DeskStates) (before : Lent) (days : List DayRecord) (new : DeskStates)
+    → Lead plan d old before days new → Days plan.terms plan.orders d old.present days new.present
 lead_days plan d old before [] new same = ap (λ (desk : DeskStates). desk.present) same
-lead_days plan d old before (day ∷ days) new lead =
-    (lead.0.present, lead.1.done.rule.number, lead.1.done.rule.is_day, lead_days plan (d + 1) lead.0 (lent_after plan.who day before) days new lead.2)
+lead_days plan d old before (day ∷ days) new lead = (
+  lead.0.present,
+  lead.1.done.rule.number,
+  lead.1.done.rule.is_day,
+  lead_days plan (d + 1) lead.0 (lent_after plan.who day before) days new lead.2,
+)
 
-end_exit : (mode : Mode) (seen : Seen) (played : Played) (desk : DeskStates) (exit : Exit) (text : List ℕ) → IsEndOf mode seen played desk exit text → IsAfterDays exit
+end_exit : (mode : Mode) (seen : Seen) (played : Played) (desk : DeskStates) (exit : Exit) (text : List ℕ)
+    → IsEndOf mode seen played desk exit text → IsAfterDays exit
 end_exit modes.Order seen played desk exit text ends = is_after exit exits.Done ends.0 tt
 end_exit modes.Replay seen played desk exit text ends = is_after exit exits.Done ends.0 tt
 end_exit modes.Chain seen played desk exit text ends = is_after exit exits.Done ends.0 tt
-end_exit modes.Check seen played desk exit text ends = check_exit seen.dossier seen.chain seen.dated played.orders exit text ends
+end_exit modes.Check seen played desk exit text ends =
+    check_exit seen.dossier seen.chain seen.dated played.orders exit text ends
 end_exit (modes.Explain wish) seen played desk exit text ends = is_after exit exits.Done ends.0 tt
 end_exit modes.Envy seen played desk exit text ends = is_after exit exits.Done ends.0 tt
 end_exit (modes.Beds school) seen played desk exit text ends = is_after exit exits.Done ends.0 tt
 end_exit modes.Market seen played desk exit text ends = is_after exit exits.Done ends.0 tt
 end_exit (modes.Sample number) seen played desk exit text ends = is_after exit exits.Done ends.0 tt
 
-exit_after : (end : Result DeskStates Refusal) (seen : Seen) (played : Played) (exit : Exit) (text : List ℕ) → EndsWith end seen played exit text → IsAfterDays exit
+exit_after : (end : Result DeskStates Refusal) (seen : Seen) (played : Played) (exit : Exit) (text : List ℕ)
+    → EndsWith end seen played exit text → IsAfterDays exit
 exit_after (Ok desk) seen played exit text ends = end_exit seen.request.mode seen played desk exit text ends
 exit_after (Err refusal) seen played exit text ends = is_after exit exits.Refused ends.0 tt
 
 -- a run over a job is done, or an answer does not fit, or a chain proves nothing
-pub ending_exit : (job : Job) (before after : Lent) (exit : Exit) (text : List ℕ) → IsEnding job before after exit text → IsAfterDays exit
-ending_exit job before after exit text ending = exit_after ending.played.end (seen_of job) ending.played exit text ending.ends
+pub ending_exit : (job : Job) (before after : Lent) (exit : Exit) (text : List ℕ)
+    → IsEnding job before after exit text → IsAfterDays exit
+ending_exit job before after exit text ending =
+    exit_after ending.played.end (seen_of job) ending.played exit text ending.ends
 
 -- every mode is done once all its days have led to a desk, and what is handed in proves its days
-done_of : (mode : Mode) (job : Job) (played : Played) (desk : DeskStates) (exit : Exit) (text : List ℕ) → IsEndOf mode (seen_of job) played desk exit text → AreCallOrders (dossier job).groups played.orders
+done_of : (mode : Mode) (job : Job) (played : Played) (desk : DeskStates) (exit : Exit) (text : List ℕ)
+    → IsEndOf mode (seen_of job) played desk exit text → AreCallOrders (dossier job).groups played.orders
     → HandsInProof mode job → exit ≡ exits.Done
 done_of modes.Order job played desk exit text ends called hands = ends.0
 done_of modes.Replay job played desk exit text ends called hands = ends.0
 done_of modes.Chain job played desk exit text ends called hands = ends.0
 done_of modes.Check job played desk exit text ends called hands =
-    let proof = hands played.orders called in check_done (dossier job) (dated_of job) played.orders job.chain proof.0 proof.1 exit text proof.2 proof.3 ends
+    let proof = hands played.orders called in
+    check_done (dossier job) (dated_of job) played.orders job.chain proof.0 proof.1 exit text proof.2 proof.3 ends
 done_of (modes.Explain wish) job played desk exit text ends called hands = ends.0
 done_of modes.Envy job played desk exit text ends called hands = ends.0
 done_of (modes.Beds school) job played desk exit text ends called hands = ends.0
@@ -120,27 +148,39 @@ not_unfit : (unfit : Option (ℕ × Status)) (P : ℕ × Status → Type 0) → 
 not_unfit None P none some = some
 not_unfit (Some x) P none some = absurd (cc)
 
-done_where_fit : (job : Job) (played : Played) (last : DeskStates) (end : Result DeskStates Refusal) (exit : Exit) (text : List ℕ) → AreDays job played.orders played.days last.present
-    → PlayedDays.DaysEndAfter (terms_of job) (days_of job.request) played.days last end → EndsWith end (seen_of job) played exit text → CanBeDone job → exit ≡ exits.Done
-done_where_fit job played last (Ok desk) exit text days after ends can = done_of job.request.mode job played desk exit text ends days.called can.proves
+done_where_fit : (job : Job) (played : Played) (last : DeskStates) (end : Result DeskStates Refusal) (exit : Exit)
+    (text : List ℕ) → AreDays job played.orders played.days last.present
+    → PlayedDays.DaysEndAfter (terms_of job) (days_of job.request) played.days last end
+    → EndsWith end (seen_of job) played exit text → CanBeDone job → exit ≡ exits.Done
+done_where_fit job played last (Ok desk) exit text days after ends can =
+    done_of job.request.mode job played desk exit text ends days.called can.proves
 done_where_fit job played last (Err refusal) exit text days after ends can =
     absurd (not_unfit _ _ (can.fits played.orders played.days last.present days after.fewer) after.unfit)
 
 -- where each answer fits, and a chain proves its days, the run is done
-pub ending_done : (job : Job) (before after : Lent) (exit : Exit) (text : List ℕ) → IsEnding job before after exit text → CanBeDone job → exit ≡ exits.Done
+pub ending_done : (job : Job) (before after : Lent) (exit : Exit) (text : List ℕ)
+    → IsEnding job before after exit text → CanBeDone job → exit ≡ exits.Done
 ending_done job before after exit text ending can =
     done_where_fit job ending.played ending.days.last ending.played.end exit text
-    (record { called = ending.days.called; run = lead_days _ 1 _ before ending.played.days ending.days.last ending.days.days }) ending.days.ends ending.ends can
+    (record {
+      called = ending.days.called;
+      run = lead_days _ 1 _ before ending.played.days ending.days.last ending.days.days;
+    }) ending.days.ends ending.ends can
 
 -- the days of a request, as they were played over its input
-module _ (request : Request) (known : IsRequest request) (input : Input) (dated given : Option DatedTerms) (terms : Option Terms) (number : ℕ) (before between : Lent) (played : Played) (same : dated ≡ given)
-    (is : IfSome given (AreDatedFor input.dossier)) (terms_are : terms ≡ terms_in dated) (number_is : number ≡ days_of request) (plays : IsPlayed input.dossier terms number request.picker before played between) where
+module _ (request : Request) (known : IsRequest request) (input : Input) (dated given : Option DatedTerms)
+    (terms : Option Terms) (number : ℕ) (before between : Lent) (played : Played) (same : dated ≡ given)
+    (is : IfSome given (AreDatedFor input.dossier)) (terms_are : terms ≡ terms_in dated)
+    (number_is : number ≡ days_of request)
+    (plays : IsPlayed input.dossier terms number request.picker before played between) where
   asked_days : IsPlayed input.dossier (terms_in dated) (days_of request) request.picker before played between
   asked_days =
       subst (λ (n : ℕ). IsPlayed input.dossier (terms_in dated) n request.picker before played between) number_is
-      (subst (λ (t : Option Terms). IsPlayed input.dossier t number request.picker before played between) terms_are plays)
+      (subst (λ (t : Option Terms). IsPlayed input.dossier t number request.picker before played between)
+      terms_are plays)
 
-  pub can_end : NamesIn request.mode input.index → input.index ≡ ids_in input.dossier → CanEnd (seen_by request input dated) played
+  pub can_end : NamesIn request.mode input.index → input.index ≡ ids_in input.dossier
+      → CanEnd (seen_by request input dated) played
   can_end named indexed = record {
     request = known;
     dated = subst (λ (x : Option DatedTerms). IfSome x (AreDatedFor input.dossier)) (sym same) is;
@@ -149,17 +189,21 @@ module _ (request : Request) (known : IsRequest request) (input : Input) (dated 
     plays = (before, between, asked_days);
   }
 
-  pub reply_ends : {E : Type 0} (after : Lent) (result : Result Reply E) (job : Job) → given ≡ option_map (dated_from input.dates) (deadlines_of request) → IsJobOf request job → IsInputOf job input
+  pub reply_ends : {E : Type 0} (after : Lent) (result : Result Reply E) (job : Job)
+      → given ≡ option_map (dated_from input.dates) (deadlines_of request) → IsJobOf request job → IsInputOf job input
       → EndsAfter played.end (seen_by request input dated) played between after result
       → IfOk result (λ reply. IsEnding job before after reply.exit reply.text.items)
   reply_ends after (Err e) job given_is is_job is_input ends = tt
   reply_ends after (Ok reply) job given_is is_job is_input ends =
-      job_ends job request input.dossier input.index input.chain input.dates dated before between after played reply.exit reply.text.items is_job.request is_input.dossier is_input.index is_input.chain is_input.dates
+      job_ends job request input.dossier input.index input.chain input.dates dated before between after played
+      reply.exit reply.text.items is_job.request is_input.dossier is_input.index is_input.chain is_input.dates
       (same ∙ given_is) asked_days (record { ends = ends.ends; tells = ends.tells; lends = ends.lends })
 
 -- a run that asks no picker, on its days or after them; told is what the pickers had told before it
-pub untold_idle : (request : Request) (told : PickerName → List ℕ) (between after : Lent) → (days_of request ≡ 0 → (name : PickerName) → between.told name ≡ told name)
+pub untold_idle : (request : Request) (told : PickerName → List ℕ) (between after : Lent)
+    → (days_of request ≡ 0 → (name : PickerName) → between.told name ≡ told name)
     → IsLent (picker_after request) between after → IsIdle request → (name : PickerName) → after.told name ≡ told name
 untold_idle request told between after days lends idle =
-    let ending : Untold between after = subst (λ (name : Option PickerName). OthersUntold name between after) idle.none_after lends.others in
+    let ending : Untold between after =
+    subst (λ (name : Option PickerName). OthersUntold name between after) idle.none_after lends.others in
     λ name. ending name ∙ days (no_days request idle.no_day) name

@@ -40,7 +40,8 @@ pub record TakesAll (words : List (List ℕ)) (before after : OnShelf)
   pub asked : IfOk result (λ x. request_of words ≡ Some x.0)
   pub known : IfOk result (λ x. IsRequest x.0)
   pub input : IfOk result (λ x. IsInputFor x.0 before x.1)
-  pub stop : IfErr result (λ stop. (slots : Slot → List ℕ) → Tells (slots_read (request_of words)) before.left slots
+  pub stop : IfErr result (λ stop. (slots : Slot → List ℕ)
+      → Tells (slots_read (request_of words)) before.left slots
       → Stopped stop (accepted words slots))
   pub slots : TakesAsked (request_of words) before after result
 
@@ -48,7 +49,8 @@ pub record TakesAll (words : List (List ℕ)) (before after : OnShelf)
 -- it and after it
 pub record Replies {E : Type 0} (words : List (List ℕ)) (shelf shelf' : OnShelf)
     (before after : Lent) (result : Result Reply E) : Type 0 where
-  pub outcome : IfOk result (λ reply. (slots : Slot → List ℕ) → Tells (slots_read (request_of words)) shelf.left slots
+  pub outcome : IfOk result (λ reply. (slots : Slot → List ℕ)
+      → Tells (slots_read (request_of words)) shelf.left slots
       → IsTrue (is_answer reply.exit)
       → IsOutcome words slots before after reply.exit reply.text.items)
   pub kinds : IfOk result (λ reply. IsTrue (is_answer reply.exit)

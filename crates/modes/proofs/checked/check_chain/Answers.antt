@@ -1,11 +1,10 @@
-use Rattle.std.proofs.Common.{◌≡◌, ◌∙◌, None, Option, ap, length, subst, sym}
+use Rattle.std.proofs.Common.{◌≡◌, ◌∙◌, None, ap, length, subst, sym}
 use Rattle.std.specs.Option.{option_copied}
 use Rattle.std.proofs.lemmas.Result.{IfOk-weaker}
 use Rattle.admit_core.specs.CallOrder.{AreCallOrders}
 use Rattle.admit_core.specs.Days.{first_evening}
 use Rattle.admit_core.specs.Lapses.{AreTermsFor}
 use Rattle.admit_core.specs.State.{State}
-use Rattle.admit_core.specs.declared.records.Terms.{Terms}
 use Rattle.certificate.specs.Checked.{ids_in}
 use Rattle.certificate.specs.Grounds.{Ground}
 use Rattle.certificate.specs.ProvedDays.{evening_after}
@@ -45,8 +44,8 @@ unproved-requires c =
 
 pub proved_text-requires : goal.proved_text-requires
 proved_text-requires c =
-    evening_dated c.args.input.now.dossier (option_copied c.args.dated) c.in_ok-state.state c.check_days.new.state (c.in_ok-state.ensures ∙ c.requires.first) c.in-Ok.ensures.dossier c.in-Ok.ensures.stamps
-    c.requires.dated
+    evening_dated c.args.input.now.dossier (option_copied c.args.dated) c.in_ok-state.state c.check_days.new.state
+    (c.in_ok-state.ensures ∙ c.requires.first) c.in-Ok.ensures.dossier c.in-Ok.ensures.stamps c.requires.dated
 
 pub returns-in-Ok : goal.returns-in-Ok
 returns-in-Ok c =

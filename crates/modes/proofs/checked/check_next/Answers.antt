@@ -19,14 +19,16 @@ pub returns-clause-found : goal.returns-clause-found
 returns-clause-found c =
     let under = c.deref.ensures.value ∙ c.in_ok-ceilings.ensures.ceilings
     ∙ ap (λ (d : DossierRows). ceilings_of d c.args.day) c.dossier.ensures in
-    chain_tells (option_copied c.args.terms) c.args.grounds.now.orders c.args.day c.args.state.now c.make_morning.new.state
+    chain_tells (option_copied c.args.terms) c.args.grounds.now.orders c.args.day c.args.state.now
+    c.make_morning.new.state
     c.deref.result.now c.args.chain.now
     c.in_ok-make_morning.ensures.fits c.in_ok-make_morning.ensures.morning under c.check_morning.result
     c.check_morning.ensures.found
 
 pub returns-clause-school : goal.returns-clause-school
 returns-clause-school c =
-    subst (λ (d : DossierRows). IfErr c.check_morning.result (KeepsIn (length d.schools))) c.make_morning.ensures.dossier
+    subst (λ (d : DossierRows). IfErr c.check_morning.result (KeepsIn (length d.schools)))
+    c.make_morning.ensures.dossier
     c.check_morning.ensures.school
 
 pub returns-clause-evening : goal.returns-clause-evening
@@ -36,22 +38,27 @@ returns-clause-evening c =
     on_ok_weaker c.check_morning.result
     (leads (option_copied c.args.terms) c.args.grounds.now.orders c.args.day c.args.state.now c.make_morning.new.state
     c.deref.result.now c.args.chain.now
-    c.in_ok-make_morning.ensures.fits c.in_ok-make_morning.ensures.morning under c.check_morning.new.state) c.check_morning.ensures.valid
+    c.in_ok-make_morning.ensures.fits c.in_ok-make_morning.ensures.morning under c.check_morning.new.state)
+    c.check_morning.ensures.valid
 
 pub returns-clause-dossier : goal.returns-clause-dossier
 returns-clause-dossier c =
     let under = c.deref.ensures.value ∙ c.in_ok-ceilings.ensures.ceilings
     ∙ ap (λ (d : DossierRows). ceilings_of d c.args.day) c.dossier.ensures in
     on_ok_weaker c.check_morning.result
-    (keeps_dossier (option_copied c.args.terms) c.args.grounds.now.orders c.args.day c.args.state.now c.make_morning.new.state
+    (keeps_dossier (option_copied c.args.terms) c.args.grounds.now.orders c.args.day c.args.state.now
+    c.make_morning.new.state
     c.deref.result.now c.args.chain.now
-    c.in_ok-make_morning.ensures.fits c.in_ok-make_morning.ensures.morning under c.check_morning.new.state) c.check_morning.ensures.valid
+    c.in_ok-make_morning.ensures.fits c.in_ok-make_morning.ensures.morning under c.check_morning.new.state)
+    c.check_morning.ensures.valid
 
 pub returns-clause-stamps : goal.returns-clause-stamps
 returns-clause-stamps c =
     let under = c.deref.ensures.value ∙ c.in_ok-ceilings.ensures.ceilings
     ∙ ap (λ (d : DossierRows). ceilings_of d c.args.day) c.dossier.ensures in
     on_ok_weaker c.check_morning.result
-    (keeps_stamps (option_copied c.args.terms) c.args.grounds.now.orders c.args.day c.args.state.now c.make_morning.new.state
+    (keeps_stamps (option_copied c.args.terms) c.args.grounds.now.orders c.args.day c.args.state.now
+    c.make_morning.new.state
     c.deref.result.now c.args.chain.now
-    c.in_ok-make_morning.ensures.fits c.in_ok-make_morning.ensures.morning under c.check_morning.new.state) c.check_morning.ensures.valid
+    c.in_ok-make_morning.ensures.fits c.in_ok-make_morning.ensures.morning under c.check_morning.new.state)
+    c.check_morning.ensures.valid
