@@ -1,3 +1,4 @@
 pub mod Checks
 pub mod MarketTexts
+pub mod Outcomes
 pub mod Witnesses
