@@ -6,4 +6,5 @@ pub mod OwnTexts
 pub mod ReadRows
 pub mod ReadTables
 pub mod Requests
+pub mod SizeCases
 pub mod TypeOf
