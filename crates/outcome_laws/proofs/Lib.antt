@@ -1,3 +1,10 @@
 pub mod BestMarkets
 pub mod Cases
+pub mod JobsOf
+pub mod Outcomes
 pub mod OwnTexts
+pub mod ReadRows
+pub mod ReadTables
+pub mod Requests
+pub mod SizeCases
+pub mod TypeOf

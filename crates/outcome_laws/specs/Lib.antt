@@ -1,3 +1,5 @@
 pub mod Checks
 pub mod MarketTexts
+pub mod Outcomes
+pub mod Sizes
 pub mod Witnesses

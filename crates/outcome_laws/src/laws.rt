@@ -1,12 +1,20 @@
 //! The laws of outcomes, and their witnesses.
 ghost use Rattle.outcome_laws.specs.Checks.{OwnTextsAreProved};
 ghost use Rattle.outcome_laws.specs.MarketTexts.{MarketsTellTheBest};
+ghost use Rattle.outcome_laws.specs.Outcomes.{ChainsAreProved, ChecksEndAsReplays};
 ghost use Rattle.outcome_laws.specs.Witnesses.{MarketsTellTheBestWitness, OwnTextsAreProvedWitness};
 
 /// What joins the modes `chain`, `check` and `replay`: a check of the chain of a run's own days is
 /// done, and ends with the final state of a replay of as many days.
 pub fn laws_of_checks()
     ensures proved { OwnTextsAreProved }
+{}
+
+/// The same of whole runs, by their words and the slots' bytes: a check of the text of `chain` over
+/// the same slots is done, and its final state is that of `replay`.
+pub fn laws_of_outcomes()
+    ensures chains { ChainsAreProved }
+    ensures replays { ChecksEndAsReplays }
 {}
 
 /// What the mode `market` tells, beside the rule by which it finds it.
