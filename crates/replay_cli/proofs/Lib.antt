@@ -1,4 +1,4 @@
-mod Played
+pub mod Played
 mod Replying
 mod Taking
 mod Writing

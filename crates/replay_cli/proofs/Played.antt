@@ -94,7 +94,7 @@ job_ends job request d ids chain dates dated before between after played exit te
     }
 
 -- the plain days of a campaign
-lead_days : (plan : Plan) (d : ℕ) (old : DeskStates) (before : Lent) (days : List DayRecord) (new : DeskStates)
+pub lead_days : (plan : Plan) (d : ℕ) (old : DeskStates) (before : Lent) (days : List DayRecord) (new : DeskStates)
     → Lead plan d old before days new → Days plan.terms plan.orders d old.present days new.present
 lead_days plan d old before [] new same = ap (λ (desk : DeskStates). desk.present) same
 lead_days plan d old before (day ∷ days) new lead = (
