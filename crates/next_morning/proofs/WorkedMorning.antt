@@ -1,5 +1,5 @@
 -- The worked mornings, by computation.
-use Rattle.std.proofs.Common.{ℕ, ◌≡◌, ◌≤◌, [], ◌∷◌, All, None, Some, nat_eq, refl, subst, arith}
+use Rattle.std.proofs.Common.{ℕ, ◌≡◌, [], ◌∷◌, None, Some, nat_eq, refl, subst, arith}
 use Rattle.std.specs.List.{IsDistinct}
 use Rattle.std.specs.Option.{ForSome}
 use Rattle.std.proofs.lemmas.List.Elements.{All-from_recursion}
@@ -44,9 +44,6 @@ valid_witness =
 one_row : {R : Type 0} (P : R → Type 0) (r : R) → P r → AreRows P (r ∷ [])
 one_row P r is = record { size = omega arith; each = All-from_recursion P (r ∷ []) (is, tt) }
 
-number : (n : ℕ) → 1 ≤ n → n ≤ 2000000000 → IsNumber n
-number n low high = record { from_one = low; at_most = high }
-
 named : IsNumber 5 → ForSome (Some 5) IsNumber
 named five k is = subst IsNumber (the_same is) five
   where
@@ -55,10 +52,10 @@ named five k is = subst IsNumber (the_same is) five
 
 small_ranges : AreTables small_tables
 small_ranges =
-    let one : IsNumber 1 = number 1 (omega arith) (omega arith) in
-    let five : IsNumber 5 = number 5 (omega arith) (omega arith) in
-    let ten : IsNumber 10 = number 10 (omega arith) (omega arith) in
-    let eleven : IsNumber 11 = number 11 (omega arith) (omega arith) in
+    let one : IsNumber 1 = record { from_one = omega arith; at_most = omega arith } in
+    let five : IsNumber 5 = record { from_one = omega arith; at_most = omega arith } in
+    let ten : IsNumber 10 = record { from_one = omega arith; at_most = omega arith } in
+    let eleven : IsNumber 11 = record { from_one = omega arith; at_most = omega arith } in
     let day : IsDay 1 = record { from_one = omega arith; at_most = omega arith } in
     record {
       groups = one_row IsGroupRow _ (record { id = one; scholar_pct = omega arith; resident_pct = omega arith });
