@@ -1,5 +1,5 @@
 -- The tables of the next morning have no fault.
-use Rattle.std.proofs.Common.{ℕ, ◌+◌, ◌-◌, ◌<◌, ◌≤◌, ◌≡◌, Bool, true, false, ◌&&◌, List, [], ◌∷◌, All, AllPairs, filter, find, get_or, length, map, nat_eq, nat_lt, option_map, Option, Some, None, take, zip, inl, inr, refl, sym, ◌∙◌, ap, subst, arith}
+use Rattle.std.proofs.Common.{ℕ, ◌+◌, ◌-◌, ◌<◌, ◌≤◌, ◌≡◌, Bool, true, false, ◌&&◌, List, [], ◌∷◌, All, AllPairs, filter, find, get_or, length, map, nat_eq, nat_lt, option_map, Some, None, take, zip, inl, inr, refl, sym, ◌∙◌, ap, subst, arith}
 use Rattle.std.specs.Prelude.{slice_get}
 use Rattle.std.specs.List.{AllByRecursion, IsDistinct}
 use Rattle.std.specs.List.Sorted.{IsNonDecreasing}
@@ -21,7 +21,7 @@ use Rattle.admit_core.specs.declared.dossier.AnswerKind.TheVariants.{Accept, Ref
 use Rattle.admit_core.specs.declared.dossier.Answer.{Answer}
 use Rattle.admit_core.specs.declared.dossier.CeilingChange.{CeilingChange}
 use Rattle.admit_core.specs.declared.dossier.Wish.{Wish}
-use Rattle.admit_core.specs.declared.refusal.Reason.TheVariants.{RankTaken, Repeat, TwoAccepted, Unknown}
+use Rattle.admit_core.specs.declared.refusal.Reason.TheVariants.{Repeat, TwoAccepted, Unknown}
 use Rattle.admit_core.specs.declared.slot.Slot.TheVariants as slots
 use Rattle.admit_core.specs.declared.state.Mark.{Mark}
 use Rattle.admit_core.specs.declared.state.Status.{Status}

@@ -1,20 +1,14 @@
 -- The tables of the next morning are in the ranges of their columns.
-use Rattle.std.proofs.Common.{ℕ, ◌-◌, ◌<◌, ◌≤◌, ◌≡◌, List, All, filter, get_or, length, map, nat_lt, zip, sym, ◌∙◌, ap, subst, arith}
+use Rattle.std.proofs.Common.{ℕ, ◌-◌, ◌≡◌, List, length, nat_lt, zip, sym, ◌∙◌, subst, arith}
 use Rattle.std.proofs.lemmas.List.{get_or-map, length-map}
 use Rattle.std.proofs.lemmas.List.Elements.{All-from_recursion, recursion_from_All}
 use Rattle.std.proofs.lemmas.Slice.Zip.{length-zip}
-use Rattle.admit_core.specs.declared.dossier.Answer.{Answer}
-use Rattle.admit_core.specs.declared.dossier.CeilingChange.{CeilingChange}
-use Rattle.admit_core.specs.declared.dossier.School.{School}
 use Rattle.admit_core.specs.declared.state.Mark.{Mark}
 use Rattle.admit_core.specs.declared.tables.AnswerRow.{AnswerRow}
 use Rattle.admit_core.specs.declared.tables.CeilingRow.{CeilingRow}
-use Rattle.admit_core.specs.declared.tables.SchoolRow.{SchoolRow}
-use Rattle.admit_core.specs.declared.tables.StateRow.{StateRow}
 use Rattle.admit_core.specs.declared.tables.Tables.{Tables}
 use Rattle.admit_core.specs.Ranges.{AreRows, AreTables, IsAnswerRow, IsCeilingRow, IsNumber, IsSchoolRow, IsStateRow}
 use Rattle.admit_core.specs.Standing.{answer_of_row, ceiling_of_row, dossier_of, school_of_row}
-use Rattle.admit_core.specs.State.{State}
 use Rattle.admit_core.specs.Validity.{IsValid, IsValidAnswer, IsValidCeiling, IsValidSchool}
 use Rattle.next_morning.specs.Morning.{state_row, tables_after}
 use Rattle.next_morning.proofs.Faultless.{kept_all, no_wish, row_at}
