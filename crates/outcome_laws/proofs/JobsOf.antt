@@ -57,6 +57,13 @@ abbrev pub request_with : Mode → ℕ → PickerChoice → Option Deadlines →
 request_with mode days picker deadlines =
     record { mode = mode; days = days; picker = picker; deadlines = deadlines }
 
+-- files that are accepted make a job
+job_found : (request : Request) (order : List Slot) (slots : Slot → List ℕ) (files : Files)
+    → Accepts order slots files → job_by request (files_in order slots) ≡ Ok (job_with request files)
+job_found request order slots files accepts =
+    ap (job_by request) accepts.read
+    ∙ ap (λ (fault : Option Refusal). job_sound request (faultless files fault)) accepts.none
+
 module _ (days : ℕ) (picker : PickerChoice) (deadlines : Option Deadlines) (slots : Slot → List ℕ) where
   pub chain_files : (job : Job) → job_of (request_with Chain days picker deadlines) slots ≡ Ok job
       → (files : Files) × Accepts nine_slots slots files
@@ -77,9 +84,19 @@ module _ (days : ℕ) (picker : PickerChoice) (deadlines : Option Deadlines) (sl
       ≡ Ok (job_with (request_with Check days picker deadlines) files)
   unfolding job_of files_of
   check_job files accepts =
-      let request : Request = request_with Check days picker deadlines in
-      ap (job_by request) accepts.read
-      ∙ ap (λ (fault : Option Refusal). job_sound request (faultless files fault)) accepts.none
+      job_found (request_with Check days picker deadlines) (nine_slots ++ names.Chain ∷ []) slots files accepts
+
+  pub chain_job : (files : Files) → Accepts nine_slots slots files
+      → job_of (request_with Chain days picker deadlines) slots
+      ≡ Ok (job_with (request_with Chain days picker deadlines) files)
+  unfolding job_of files_of
+  chain_job files accepts = job_found (request_with Chain days picker deadlines) nine_slots slots files accepts
+
+  pub replay_job : (files : Files) → Accepts nine_slots slots files
+      → job_of (request_with Replay days picker deadlines) slots
+      ≡ Ok (job_with (request_with Replay days picker deadlines) files)
+  unfolding job_of files_of
+  replay_job files accepts = job_found (request_with Replay days picker deadlines) nine_slots slots files accepts
 
 -- the dossier of accepted files is valid
 pub valid_files : (order : List Slot) (slots : Slot → List ℕ) (files : Files) → Accepts order slots files

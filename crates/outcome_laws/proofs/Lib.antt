@@ -1,6 +1,7 @@
 pub mod BestMarkets
 pub mod Cases
 pub mod JobsOf
+pub mod OutcomeCases
 pub mod Outcomes
 pub mod OwnTexts
 pub mod ReadRows

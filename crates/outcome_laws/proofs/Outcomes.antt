@@ -58,7 +58,7 @@ unfolding IsOutcome
 ends_as_asked words slots request before after exit text asks outcome =
     subst (λ (q : Option Request). Ends (asked q >>= λ r. job_of r slots) before after exit text) asks outcome
 
-accepted_as : (words : List (List ℕ)) (slots : Slot → List ℕ) (request : Request) (job : Job)
+pub accepted_as : (words : List (List ℕ)) (slots : Slot → List ℕ) (request : Request) (job : Job)
     → request_of words ≡ Some request → job_of request slots ≡ Ok job → accepted words slots ≡ Ok job
 accepted_as words slots request job asks is =
     ap (λ (q : Option Request). asked q >>= λ r. job_of r slots) asks ∙ is
@@ -194,31 +194,31 @@ record IsChained (days : ℕ) (deadlines : Option Deadlines) (slots : Slot → L
   few : days ≤ 366
   chain : Chained (job_of_mode days picker deadlines files Chain) days text
 
-is_chained : (days : ℕ) (deadlines : Option Deadlines) (slots : Slot → List ℕ) (text : List ℕ)
-    → (run : Ran Chain days deadlines slots Done text) → IsChained days deadlines slots run.words run.picker text
-is_chained days deadlines slots text run =
+is_chained : (days : ℕ) (deadlines : Option Deadlines) (words : List (List ℕ)) (slots : Slot → List ℕ) (text : List ℕ)
+    → (run : Ran Chain days deadlines words slots Done text) → IsChained days deadlines slots words run.picker text
+is_chained days deadlines words slots text run =
     let request : Request = request_with Chain days run.picker deadlines in
     let found = done_job (job_of request slots) run.before run.after text
-    (ends_as_asked run.words slots request run.before run.after Done text run.asks run.is_outcome) in
+    (ends_as_asked words slots request run.before run.after Done text run.asks run.is_outcome) in
     let its = chain_files days run.picker deadlines slots found.0 found.1 in
     let ending : IsEnding (job_with request its.0) run.before run.after Done text =
     subst (λ (job : Job). IsEnding job run.before run.after Done text) its.2 found.2 in
     record {
       files = its.0;
       accepts = its.1;
-      is_job = accepted_as run.words slots request (job_with request its.0) run.asks
+      is_job = accepted_as words slots request (job_with request its.0) run.asks
           (found.1 ∙ ap (λ (job : Job). Ok job) its.2);
-      few = days_few run.words request run.asks;
+      few = days_few words request run.asks;
       chain = chained days run.picker deadlines its.0 run.before run.after text ending;
     }
 
 -- the job of a check of its text
-check_ending : (number : ℕ) (deadlines : Option Deadlines) (slots : Slot → List ℕ) (files : Files) (exit : Exit)
-    (text checked : List ℕ) → length text ≤ 1073741824 → Accepts nine_slots slots files
-    → (run : Ran Check number deadlines (with_chain text slots) exit checked)
+check_ending : (number : ℕ) (deadlines : Option Deadlines) (words : List (List ℕ)) (slots : Slot → List ℕ)
+    (files : Files) (exit : Exit) (text checked : List ℕ) → length text ≤ 1073741824 → Accepts nine_slots slots files
+    → (run : Ran Check number deadlines words (with_chain text slots) exit checked)
     → IsEnding (job_of_mode number run.picker deadlines (record { tables = files.tables; chain = text }) Check)
     run.before run.after exit checked
-check_ending number deadlines slots files exit text checked fits accepts run =
+check_ending number deadlines words slots files exit text checked fits accepts run =
     let request : Request = request_with Check number run.picker deadlines in
     let handed : Files = record { tables = files.tables; chain = text } in
     let read = chain_added nine_slots slots (with_chain text slots) files
@@ -226,13 +226,13 @@ check_ending number deadlines slots files exit text checked fits accepts run =
     let is = check_job number run.picker deadlines (with_chain text slots) handed
     (record { read = read; none = accepts.none }) in
     subst (λ (found : Result Job Stop). Ends found run.before run.after exit checked) is
-    (ends_as_asked run.words (with_chain text slots) request run.before run.after exit checked run.asks run.is_outcome)
+    (ends_as_asked words (with_chain text slots) request run.before run.after exit checked run.asks run.is_outcome)
 
 pub chains_are_proved : ChainsAreProved
-chains_are_proved days number deadlines slots exit text checked fits chain check =
-    let run = is_chained days deadlines slots text chain in
+chains_are_proved days number deadlines words check_words slots exit text checked fits chain check =
+    let run = is_chained days deadlines words slots text chain in
     let valid = valid_files nine_slots slots run.files run.accepts in
-    let ending = check_ending number deadlines slots run.files exit text checked fits run.accepts check in
+    let ending = check_ending number deadlines check_words slots run.files exit text checked fits run.accepts check in
     let proved = checks days number chain.picker check.picker deadlines run.files check.before check.after exit
     text checked valid run.few fits run.chain ending in
     (proved.0, job_of_mode days chain.picker deadlines run.files Chain, run.is_job, proved.1)
@@ -263,15 +263,16 @@ alike days who other deadlines files before after replayed text checked ending p
     }
 
 pub checks_end_as_replays : ChecksEndAsReplays
-checks_end_as_replays days number deadlines slots exit replayed text checked fits replay chain check =
-    let run = is_chained days deadlines slots text chain in
+checks_end_as_replays days number deadlines words chain_words check_words slots exit replayed text checked fits replay
+    chain check =
+    let run = is_chained days deadlines chain_words slots text chain in
     let valid = valid_files nine_slots slots run.files run.accepts in
-    let ending = check_ending number deadlines slots run.files exit text checked fits run.accepts check in
+    let ending = check_ending number deadlines check_words slots run.files exit text checked fits run.accepts check in
     let proved = checks days number chain.picker check.picker deadlines run.files check.before check.after exit
     text checked valid run.few fits run.chain ending in
     let request : Request = request_with Replay days replay.picker deadlines in
     let found = done_job (job_of request slots) replay.before replay.after replayed
-    (ends_as_asked replay.words slots request replay.before replay.after Done replayed replay.asks replay.is_outcome) in
+    (ends_as_asked words slots request replay.before replay.after Done replayed replay.asks replay.is_outcome) in
     let its = replay_files days replay.picker deadlines slots found.0 found.1 in
     let same : its.0 ≡ run.files = same_files nine_slots slots its.0 run.files its.1 run.accepts in
     let to_files : found.0 ≡ job_with request run.files = its.2 ∙ ap (λ (files : Files). job_with request files) same in
@@ -279,7 +280,7 @@ checks_end_as_replays days number deadlines slots exit replayed text checked fit
     subst (λ (job : Job). IsEnding job replay.before replay.after Done replayed) to_files found.2 in (
       proved.0,
       job_with request run.files,
-      accepted_as replay.words slots request (job_with request run.files) replay.asks
+      accepted_as words slots request (job_with request run.files) replay.asks
           (found.1 ∙ ap (λ (job : Job). Ok job) to_files),
       alike days chain.picker replay.picker deadlines run.files replay.before replay.after replayed text checked
           replaying proved.1,

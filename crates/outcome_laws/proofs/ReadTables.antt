@@ -1,5 +1,5 @@
 -- The tables of slots that are read are in the ranges of their columns.
-use Rattle.std.proofs.Common.{◌≡◌, ◌∙◌, ℕ, ◌≤◌, List, [], ◌∷◌, ◌++◌, Result, Ok, Err, IfOk, ap, arith, length, refl, subst, sym}
+use Rattle.std.proofs.Common.{◌≡◌, ◌∙◌, ℕ, ◌≤◌, List, [], ◌∷◌, ◌++◌, Result, Ok, Err, IfOk, ap, length, lit≤, refl, subst, sym}
 use Rattle.std.specs.Prelude.{⊤}
 use Rattle.std.specs.Result.{result_map_both}
 use Rattle.std.proofs.lemmas.Bool.{le-ltb}
@@ -21,9 +21,6 @@ use Rattle.outcome_laws.proofs.ReadRows.{answer_in, board_in, ceiling_in, group_
 abbrev pub Files : Type 0
 Files = TypeOf no_files
 
-no_row : {R : Type 0} (IsRow : R → Type 0) → AreRows IsRow []
-no_row IsRow = record { size = omega arith; each = All-nil IsRow }
-
 nine_tables : {t : Tables} → AreRows IsGroupRow t.groups → AreRows IsProgrammeRow t.programmes
     → AreRows IsSchoolRow t.schools
     → AreRows IsRankRow t.rankings → AreRows IsBoardRow t.boarding → AreRows IsWishRow t.wishes
@@ -43,8 +40,17 @@ nine_tables groups programmes schools rankings boarding wishes state ceilings an
 
 no_rows_are : AreTables no_rows
 no_rows_are =
-    nine_tables (no_row IsGroupRow) (no_row IsProgrammeRow) (no_row IsSchoolRow) (no_row IsRankRow) (no_row IsBoardRow)
-    (no_row IsWishRow) (no_row IsStateRow) (no_row IsCeilingRow) (no_row IsAnswerRow)
+    record {
+      groups = record { size = lit≤ tt; each = All-nil IsGroupRow };
+      programmes = record { size = lit≤ tt; each = All-nil IsProgrammeRow };
+      schools = record { size = lit≤ tt; each = All-nil IsSchoolRow };
+      rankings = record { size = lit≤ tt; each = All-nil IsRankRow };
+      boarding = record { size = lit≤ tt; each = All-nil IsBoardRow };
+      wishes = record { size = lit≤ tt; each = All-nil IsWishRow };
+      state = record { size = lit≤ tt; each = All-nil IsStateRow };
+      ceilings = record { size = lit≤ tt; each = All-nil IsCeilingRow };
+      answers = record { size = lit≤ tt; each = All-nil IsAnswerRow };
+    }
 
 made_in : {A : Type 0} (IsRow : A → Type 0) (make : List A → Tables) (r : Result (List A) Refusal)
     → IfOk r (AreRows IsRow)

@@ -20,11 +20,10 @@ use Rattle.request.specs.declared.modes.Mode.TheVariants.{Chain, Check, Replay}
 use Rattle.request.specs.declared.pickers.PickerChoice.{PickerChoice}
 use Rattle.request.specs.declared.request.Deadlines.{Deadlines}
 
--- words that ask for a mode, for so many days and under these deadlines, had this outcome over
--- slots of these bytes, with whatever pickers
-pub record Ran (mode : Mode) (days : ℕ) (deadlines : Option Deadlines) (slots : Slot → List ℕ)
-    (exit : Exit) (text : List ℕ) : Type 0 where
-  pub words : List (List ℕ)
+-- these words, which ask for a mode, for so many days and under these deadlines, had this outcome
+-- over slots of these bytes, with whatever pickers
+pub record Ran (mode : Mode) (days : ℕ) (deadlines : Option Deadlines) (words : List (List ℕ))
+    (slots : Slot → List ℕ) (exit : Exit) (text : List ℕ) : Type 0 where
   pub picker : PickerChoice
   pub before : Lent
   pub after : Lent
@@ -52,12 +51,12 @@ pub record IsProved (job : Job) (number : ℕ) (text checked : List ℕ) : Type 
 -- else its words and its pickers are
 abbrev pub ChainsAreProved : Type 0
 ChainsAreProved =
-    (days number : ℕ) (deadlines : Option Deadlines) (slots : Slot → List ℕ) (exit : Exit)
-    (text checked : List ℕ)
+    (days number : ℕ) (deadlines : Option Deadlines) (words check_words : List (List ℕ))
+    (slots : Slot → List ℕ) (exit : Exit) (text checked : List ℕ)
     → length text ≤ 1073741824
-    → (chain : Ran Chain days deadlines slots Done text)
-    → Ran Check number deadlines (with_chain text slots) exit checked
-    → (exit ≡ Done) × (job : Job) × (accepted chain.words slots ≡ Ok job)
+    → Ran Chain days deadlines words slots Done text
+    → Ran Check number deadlines check_words (with_chain text slots) exit checked
+    → (exit ≡ Done) × (job : Job) × (accepted words slots ≡ Ok job)
     × IsProved job days text checked
 
 -- the text of a replay, and what a check says of as many days, whose evening is that of the replay
@@ -74,11 +73,11 @@ pub record EndAlike (job : Job) (number : ℕ) (replayed checked : List ℕ) : T
 -- picked in it
 abbrev pub ChecksEndAsReplays : Type 0
 ChecksEndAsReplays =
-    (days number : ℕ) (deadlines : Option Deadlines) (slots : Slot → List ℕ) (exit : Exit)
-    (replayed text checked : List ℕ)
+    (days number : ℕ) (deadlines : Option Deadlines) (words chain_words check_words : List (List ℕ))
+    (slots : Slot → List ℕ) (exit : Exit) (replayed text checked : List ℕ)
     → length text ≤ 1073741824
-    → (replay : Ran Replay days deadlines slots Done replayed)
-    → Ran Chain days deadlines slots Done text
-    → Ran Check number deadlines (with_chain text slots) exit checked
-    → (exit ≡ Done) × (job : Job) × (accepted replay.words slots ≡ Ok job)
+    → Ran Replay days deadlines words slots Done replayed
+    → Ran Chain days deadlines chain_words slots Done text
+    → Ran Check number deadlines check_words (with_chain text slots) exit checked
+    → (exit ≡ Done) × (job : Job) × (accepted words slots ≡ Ok job)
     × EndAlike job days replayed checked

@@ -1,6 +1,7 @@
 //! The laws of outcomes, and their witnesses.
 ghost use Rattle.outcome_laws.specs.Checks.{OwnTextsAreProved};
 ghost use Rattle.outcome_laws.specs.MarketTexts.{MarketsTellTheBest};
+ghost use Rattle.outcome_laws.specs.OutcomeWitnesses.{ChainsAreProvedWitness, ChecksEndAsReplaysWitness};
 ghost use Rattle.outcome_laws.specs.Outcomes.{ChainsAreProved, ChecksEndAsReplays};
 ghost use Rattle.outcome_laws.specs.Witnesses.{MarketsTellTheBestWitness, OwnTextsAreProvedWitness};
 
@@ -25,6 +26,12 @@ pub fn laws_of_market_texts()
 /// Of the laws of checks.
 pub fn witnesses_of_checks()
     ensures proved { OwnTextsAreProvedWitness }
+{}
+
+/// Of the laws of outcomes, from the words and the bytes.
+pub fn witnesses_of_outcomes()
+    ensures chains { ChainsAreProvedWitness }
+    ensures replays { ChecksEndAsReplaysWitness }
 {}
 
 /// Of the laws of market texts.

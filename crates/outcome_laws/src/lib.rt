@@ -11,6 +11,6 @@ mod sizes;
 
 pub use laws::{
     laws_of_checks, laws_of_market_texts, laws_of_outcomes, witnesses_of_checks,
-    witnesses_of_market_texts,
+    witnesses_of_market_texts, witnesses_of_outcomes,
 };
 pub use sizes::worked_sizes;
