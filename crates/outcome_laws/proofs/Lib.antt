@@ -6,6 +6,7 @@ pub mod Outcomes
 pub mod OwnTexts
 pub mod ReadRows
 pub mod ReadTables
+pub mod ReplayTexts
 pub mod Requests
 pub mod SizeCases
 pub mod TypeOf

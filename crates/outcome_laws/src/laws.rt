@@ -3,6 +3,7 @@ ghost use Rattle.outcome_laws.specs.Checks.{OwnTextsAreProved};
 ghost use Rattle.outcome_laws.specs.MarketTexts.{MarketsTellTheBest};
 ghost use Rattle.outcome_laws.specs.OutcomeWitnesses.{ChainsAreProvedWitness, ChecksEndAsReplaysWitness};
 ghost use Rattle.outcome_laws.specs.Outcomes.{ChainsAreProved, ChecksEndAsReplays};
+ghost use Rattle.outcome_laws.specs.ReplayTexts.{DatedReplaysAreRunTexts, ReplaysAreRunTexts};
 ghost use Rattle.outcome_laws.specs.Witnesses.{MarketsTellTheBestWitness, OwnTextsAreProvedWitness};
 
 /// What joins the modes `chain`, `check` and `replay`: a check of the chain of a run's own days is
@@ -16,6 +17,13 @@ pub fn laws_of_checks()
 pub fn laws_of_outcomes()
     ensures chains { ChainsAreProved }
     ensures replays { ChecksEndAsReplays }
+{}
+
+/// What `replay` writes is the text of which `report_laws` says that it hides nothing: two runs over
+/// one dossier with the same text have the same orders, days and final statuses.
+pub fn laws_of_replay_texts()
+    ensures plain { ReplaysAreRunTexts }
+    ensures dated { DatedReplaysAreRunTexts }
 {}
 
 /// What the mode `market` tells, beside the rule by which it finds it.

@@ -10,7 +10,7 @@ mod laws;
 mod sizes;
 
 pub use laws::{
-    laws_of_checks, laws_of_market_texts, laws_of_outcomes, witnesses_of_checks,
-    witnesses_of_market_texts, witnesses_of_outcomes,
+    laws_of_checks, laws_of_market_texts, laws_of_outcomes, laws_of_replay_texts,
+    witnesses_of_checks, witnesses_of_market_texts, witnesses_of_outcomes,
 };
 pub use sizes::worked_sizes;
