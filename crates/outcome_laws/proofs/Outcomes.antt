@@ -1,5 +1,5 @@
 -- A check of the text of `chain` is done, and ends as `replay` does.
-use Rattle.std.proofs.Common.{◌≡◌, ◌∙◌, ℕ, ◌+◌, ◌≤◌, List, [], ◌∷◌, Option, Some, Result, Ok, Err, ap, arith, length, refl, subst, sym}
+use Rattle.std.proofs.Common.{◌≡◌, ◌∙◌, ℕ, ◌≤◌, List, Option, Some, Result, Ok, Err, ap, arith, length, refl, subst, sym}
 use Rattle.admit_core.specs.Days.{Days, first_evening}
 use Rattle.admit_core.specs.DossierRows.{DossierRows}
 use Rattle.admit_core.specs.State.{State}
@@ -29,7 +29,8 @@ use Rattle.outcome_laws.proofs.ReadTables.{Files, chain_added}
 use Rattle.outcome_laws.proofs.Requests.{days_few}
 use Rattle.outcome_laws.specs.Outcomes.{ChainsAreProved, ChecksEndAsReplays, EndAlike, IsProved, Ran, with_chain}
 use Rattle.played.specs.Lent.{Lent}
-use Rattle.played.specs.PlayedDays.{DaysEndAfter, Lead, Plan, Played, first_desk, lent_after, plan_of}
+use Rattle.played.specs.PlayedDays.{DaysEndAfter, Played, first_desk, plan_of}
+use Rattle.replay_cli.proofs.Played.{lead_days}
 use Rattle.replay_cli.specs.Outcome.{Ends, IsOutcome}
 use Rattle.request.specs.Modes.{nine_slots}
 use Rattle.request.specs.Request.{request_of}
@@ -69,16 +70,6 @@ done_job (Ok job) before after text ends = (job, refl, ends)
 done_job (Err stop) before after text ends = absurd (not_stopped stop ends.is_exit)
 
 -- ---- the days of an ending
-days_led : (plan : Plan) (d : ℕ) (old : DeskStates) (before : Lent) (days : List DayRecord) (new : DeskStates)
-    → Lead plan d old before days new → Days plan.terms plan.orders d old.present days new.present
-days_led plan d old before [] new same = ap (λ (desk : DeskStates). desk.present) same
-days_led plan d old before (day ∷ days) new lead = (
-  lead.0.present,
-  lead.1.done.rule.number,
-  lead.1.done.rule.is_day,
-  days_led plan (d + 1) lead.0 (lent_after plan.who day before) days new lead.2,
-)
-
 -- days of a job, as many as are asked for, and their evening
 record AreLed (job : Job) (played : Played) (desk : DeskStates) : Type 0 where
   are_days : AreDays job played.orders played.days desk.present
@@ -91,8 +82,8 @@ are_led job before between played desk are end =
     subst (λ (e : Result DeskStates Refusal). DaysEndAfter (terms_of job) (days_of job.request) played.days are.last e)
     end are.ends in
     let led : Days (terms_of job) played.orders 1 (first_evening (dossier job)) played.days are.last.present =
-    days_led (plan_of (terms_of job) job.request.picker played) 1 (first_desk (dossier job)) before played.days are.last
-    are.days in
+    lead_days (plan_of (terms_of job) job.request.picker played) 1 (first_desk (dossier job)) before played.days
+    are.last are.days in
     let to_desk : Days (terms_of job) played.orders 1 (first_evening (dossier job)) played.days desk.present =
     subst (λ (s : DeskStates). Days (terms_of job) played.orders 1 (first_evening (dossier job)) played.days s.present)
     (sym ended.1) led in
