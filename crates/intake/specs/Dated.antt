@@ -1,8 +1,10 @@
 -- The terms of offers, with the date of day 1.
-use Rattle.std.specs.Prelude.{◌≡◌, ◌≤◌, ℤ, pos, ◌+ℤ◌, ◌-ℤ◌, List, Option, All, length, map, option_map, unwrap_or}
+use Rattle.std.specs.Prelude.{◌≡◌, ◌≤◌, ℤ, pos, ◌+ℤ◌, ◌-ℤ◌, List, Option, All, length, map, option_map, unwrap_or, zip, if◌then◌else◌}
 use Rattle.std.specs.Option.{option_and_then}
 use Rattle.admit_core.specs.DossierRows.{DossierRows}
+use Rattle.admit_core.specs.Lapses.{is_offered}
 use Rattle.admit_core.specs.declared.records.Terms.{Terms}
+use Rattle.admit_core.specs.declared.state.Status.{Status}
 use Rattle.admit_core.specs.declared.tables.Since.{Since}
 use Rattle.calendar.specs.Dates.{IsRead, civil}
 use Rattle.request.specs.Request.{IsStart}
@@ -17,17 +19,25 @@ date_number since = civil since.year since.month since.day
 abbrev pub day_before : ℤ → Option ℤ → ℤ
 day_before start date = unwrap_or (option_map (λ number. number -ℤ start +ℤ pos 1) date) (pos 0)
 
--- the day of the date that a wish may have
+-- the day of a date that may be there
 abbrev pub since_day : ℤ → Option Since → ℤ
 since_day start since = day_before start (option_and_then date_number since)
 
--- the terms of the offers of wishes with these dates
-abbrev pub terms_from : List (Option Since) → Deadlines → Terms
-terms_from dates deadlines =
-    record { term = deadlines.term; before = map (since_day deadlines.start) dates }
+-- the day of an offer's date; 0 where there is no offer, or it has no date
+abbrev pub offer_since : ℤ → Status × Option Since → ℤ
+offer_since start (status, since) = if is_offered status then since_day start since else pos 0
 
-abbrev pub dated_from : List (Option Since) → Deadlines → DatedTerms
-dated_from dates deadlines = record { start = deadlines.start; terms = terms_from dates deadlines }
+-- the terms of a dossier's offers, where its wishes have these dates
+abbrev pub terms_from : DossierRows → List (Option Since) → Deadlines → Terms
+terms_from d dates deadlines =
+    record {
+      term = deadlines.term;
+      before = map (offer_since deadlines.start) (zip d.statuses dates);
+    }
+
+abbrev pub dated_from : DossierRows → List (Option Since) → Deadlines → DatedTerms
+dated_from d dates deadlines =
+    record { start = deadlines.start; terms = terms_from d dates deadlines }
 
 abbrev pub terms_in : Option DatedTerms → Option Terms
 terms_in dated = option_map (λ x. x.terms) dated

@@ -1,10 +1,10 @@
 //! The terms of offers, with the date of day 1.
-ghost use Rattle.std.specs.Prelude.{◌≡◌, IfOk, IfSome, map, option_map, pos, replicate};
-ghost use Rattle.intake.specs.Dated.{AreDatedFor, dated_from, since_day, terms_from};
+ghost use Rattle.std.specs.Prelude.{◌≡◌, IfOk, IfSome, length, map, option_map, pos, replicate, zip};
+ghost use Rattle.intake.specs.Dated.{AreDatedFor, dated_from, offer_since, since_day, terms_from};
 ghost use Rattle.request.specs.Request.{IsDeadlines};
 
 use crate::input::Input;
-use admit_core::{OutOfMemory, Sequence, Since, Terms};
+use admit_core::{Dossier, OutOfMemory, Sequence, Since, Status, Terms};
 use calendar::{Civil, civil_of, day_of};
 use dossier_check::Dates;
 use request::Deadlines;
@@ -30,6 +30,33 @@ fn since_day(start: Civil, since: Option<Since>) -> i32
     }
 }
 
+/// The day of an offer's date; 0 where there is no offer, or it has no date.
+fn offer_since(start: Civil, status: Status, since: Option<Since>) -> i32
+    ensures { result ≡ offer_since start (status, since) }
+{
+    match status {
+        Status::Offered => since_day(start, since),
+        _ => 0,
+    }
+}
+
+/// The days of the offers among wishes of these statuses and dates, in their order.
+fn listed_days(
+    alloc: Global,
+    statuses: &[Status],
+    dates: &[Option<Since>],
+    start: Civil,
+) -> Result<Vec<i32>, AllocError>
+    ensures { IfOk result (λ days. days.items ≡ map (offer_since start)
+        (zip statuses.now dates.now)) }
+{
+    let mut days = Vec::new(alloc);
+    for (status, since) in statuses.iter().zip(dates) {
+        days.push(offer_since(start, *status, *since))?;
+    }
+    Ok(days)
+}
+
 /// The days of a number of wishes without a date.
 fn no_days(alloc: Global, wishes: usize) -> Result<Vec<i32>, AllocError>
     ensures { IfOk result (λ days. days.items ≡ replicate wishes (pos 0)) }
@@ -37,26 +64,39 @@ fn no_days(alloc: Global, wishes: usize) -> Result<Vec<i32>, AllocError>
     vec![in alloc; 0; wishes]
 }
 
-/// The days of wishes with these dates, where day 1 has the date `start`.
-fn days_before(alloc: Global, dates: &Dates, start: Civil) -> Result<Vec<i32>, AllocError>
-    ensures { IfOk result (λ days. days.items ≡ map (since_day start) dates.now) }
+/// The days of the offers among wishes of these statuses and dates, where day 1 has the date
+/// `start`.
+fn days_before(
+    alloc: Global,
+    statuses: &[Status],
+    dates: &Dates,
+    start: Civil,
+) -> Result<Vec<i32>, AllocError>
+    requires { length dates.now ≡ length statuses.now }
+    ensures { IfOk result (λ days. days.items ≡ map (offer_since start)
+        (zip statuses.now dates.now)) }
 {
     match dates.as_slice() {
-        Some(dates) => dates
-            .iter()
-            .map(|since| since_day(start, *since))
-            .collect(alloc),
-        None => no_days(alloc, dates.len()),
+        Some(dates) => listed_days(alloc, statuses, dates, start),
+        None => no_days(alloc, statuses.len()),
     }
 }
 
-/// The terms of the offers of wishes with these dates.
-fn terms_from(alloc: Global, dates: &Dates, deadlines: Deadlines) -> Result<Terms, OutOfMemory>
-    ensures { IfOk result (λ terms. terms ≡ terms_from dates.now deadlines) }
+/// The terms of a dossier's offers, where its wishes have these dates.
+fn terms_from(
+    alloc: Global,
+    dossier: &Dossier,
+    dates: &Dates,
+    deadlines: Deadlines,
+) -> Result<Terms, OutOfMemory>
+    requires { length dates.now ≡ length dossier.now.wishes }
+    ensures value { IfOk result (λ terms. terms ≡ terms_from dossier.now dates.now deadlines) }
+    ensures one_each { IfOk result (λ terms. length terms.before ≡ length dossier.now.wishes) }
 {
+    let statuses = dossier.statuses.as_slice();
     Ok(Terms {
         term: deadlines.term,
-        before: Sequence::from_vec(days_before(alloc, dates, deadlines.start)?),
+        before: Sequence::from_vec(days_before(alloc, statuses, dates, deadlines.start)?),
     })
 }
 
@@ -68,14 +108,14 @@ pub fn dated_terms(
 ) -> Result<Option<DatedTerms>, OutOfMemory>
     requires { IfSome deadlines IsDeadlines }
     ensures value { IfOk result (λ dated.
-        dated ≡ option_map (dated_from input.now.dates) deadlines) }
+        dated ≡ option_map (dated_from input.now.dossier input.now.dates) deadlines) }
     ensures dates { IfOk result (λ dated. IfSome dated (AreDatedFor input.now.dossier)) }
 {
     match deadlines {
         None => Ok(None),
         Some(deadlines) => Ok(Some(DatedTerms {
             start: deadlines.start,
-            terms: terms_from(alloc, &input.dates, deadlines)?,
+            terms: terms_from(alloc, &input.dossier, &input.dates, deadlines)?,
         })),
     }
 }

@@ -42,7 +42,8 @@ dossier job = dossier_of job.tables
 
 -- the terms of a job's offers, where these lapse
 abbrev pub dated_of : Job → Option DatedTerms
-dated_of job = option_map (dated_from (dates_of job.tables)) (deadlines_of job.request)
+dated_of job =
+    option_map (dated_from (dossier job) (dates_of job.tables)) (deadlines_of job.request)
 
 abbrev pub terms_of : Job → Option Terms
 terms_of job = terms_in (dated_of job)

@@ -8,11 +8,13 @@ use Rattle.cut_laws.specs.Cut.{StandAlike, cut_at}
 use Rattle.intake.specs.Dated.{terms_from}
 use Rattle.text_laws.specs.ReadBack.{HaveReadDates, since_when}
 
--- the terms that come of the dates of an evening's final lines, where day 1 has this date
-abbrev pub read_terms : State → ℤ → List ℤ → ℤ → ℕ → Terms
-read_terms s start before next_start term =
-    terms_from (map (since_when s start before) (range_with_len 0 (length s.dossier.wishes)))
-    (record { start = next_start; term = term })
+-- the terms that come of the dates of an evening's final lines, where the campaign begins again a
+-- days later
+abbrev pub read_terms : State → ℤ → List ℤ → ℕ → ℕ → Terms
+read_terms s start before a term =
+    terms_from (cut_at a s)
+    (map (since_when s start before) (range_with_len 0 (length s.dossier.wishes)))
+    (record { start = start +ℤ pos a; term = term })
 
 -- where the new day 1 is a days after the old one, the open offers that are read stand as those of
 -- the evening, dated a days earlier
@@ -23,4 +25,4 @@ ReadOffersStandAlike =
     → length before ≡ length s.dossier.wishes
     → HaveReadDates s start before
     → StandAlike a (Some (record { term = term; before = before })) s
-    (Some (read_terms s start before (start +ℤ pos a) term)) (first_evening (cut_at a s))
+    (Some (read_terms s start before a term)) (first_evening (cut_at a s))

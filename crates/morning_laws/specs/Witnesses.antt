@@ -1,6 +1,6 @@
 -- The worked case of the law: its text, with a value for each variable and a product for each
 -- arrow.
-use Rattle.std.specs.Prelude.{◌≡◌, ◌+ℤ◌, ◌∷◌, [], ℕ, ℤ, pos, List, Some, length}
+use Rattle.std.specs.Prelude.{◌≡◌, ◌∷◌, [], ℕ, ℤ, pos, List, Some, length}
 use Rattle.admit_core.specs.Days.{first_evening}
 use Rattle.admit_core.specs.State.{State}
 use Rattle.cut_laws.specs.Cut.{StandAlike, cut_at}
@@ -20,4 +20,4 @@ ReadOffersStandAlikeWitness =
     × (length before ≡ length s.dossier.wishes)
     × HaveReadDates s start before
     × StandAlike a (Some (record { term = term; before = before })) s
-    (Some (read_terms s start before (start +ℤ pos a) term)) (first_evening (cut_at a s))
+    (Some (read_terms s start before a term)) (first_evening (cut_at a s))

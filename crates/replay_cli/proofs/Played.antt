@@ -59,7 +59,7 @@ pub job_ends : (job : Job) (request : Request) (d : DossierRows) (ids : Ids) (ch
     (dates : List (Option Since)) (dated : Option DatedTerms) (before between after : Lent) (played : Played)
     (exit : Exit) (text : List ℕ)
     → job.request ≡ request → d ≡ dossier_of job.tables → ids ≡ ids_of job.tables → chain ≡ job.chain
-    → dates ≡ dates_of job.tables → dated ≡ option_map (dated_from dates) (deadlines_of request)
+    → dates ≡ dates_of job.tables → dated ≡ option_map (dated_from d dates) (deadlines_of request)
     → IsPlayed d (terms_in dated) (days_of request) request.picker before played between
     → Ends played between after exit text
     (record { request = request; dossier = d; index = ids; chain = chain; dated = dated })
@@ -67,8 +67,9 @@ pub job_ends : (job : Job) (request : Request) (d : DossierRows) (ids : Ids) (ch
 job_ends job request d ids chain dates dated before between after played exit text asked same indexed chained
     dates_are dated_is plays ends =
     let dated_job : dated ≡ dated_of job =
-    dated_is ∙ ap (λ (ds : List (Option Since)). option_map (dated_from ds) (deadlines_of request)) dates_are
-    ∙ ap (λ (q : Request). option_map (dated_from (dates_of job.tables)) (deadlines_of q)) (sym asked) in
+    dated_is ∙ ap (λ (e : DossierRows). option_map (dated_from e dates) (deadlines_of request)) same
+    ∙ ap (λ (ds : List (Option Since)). option_map (dated_from (dossier job) ds) (deadlines_of request)) dates_are
+    ∙ ap (λ (q : Request). option_map (dated_from (dossier job) (dates_of job.tables)) (deadlines_of q)) (sym asked) in
     let P : Request → DossierRows → Ids → List ℕ → Option DatedTerms → Type 0 =
     λ q e i c x. Ends played between after exit text
     (record { request = q; dossier = e; index = i; chain = c; dated = x }) in
@@ -190,7 +191,8 @@ module _ (request : Request) (known : IsRequest request) (input : Input) (dated 
   }
 
   pub reply_ends : {E : Type 0} (after : Lent) (result : Result Reply E) (job : Job)
-      → given ≡ option_map (dated_from input.dates) (deadlines_of request) → IsJobOf request job → IsInputOf job input
+      → given ≡ option_map (dated_from input.dossier input.dates) (deadlines_of request)
+      → IsJobOf request job → IsInputOf job input
       → EndsAfter played.end (seen_by request input dated) played between after result
       → IfOk result (λ reply. IsEnding job before after reply.exit reply.text.items)
   reply_ends after (Err e) job given_is is_job is_input ends = tt
