@@ -193,7 +193,9 @@ def first_wrong(case: Case, lines: Lines) -> int | None:
         if word(line) == b"fall" and may_fall:
             continue
         if number == len(right) or line != right[number]:
-            wrong = place
+            # How many days were asked for no report tells: it may end after any.
+            ends_early = line == b"final\n" and number < len(right) and re.match(rb"day ([2-9]|\d\d)", right[number])
+            wrong = place + bool(ends_early)
             break
         may_fall = word(line) == b"pass"
         number += 1
