@@ -1,8 +1,9 @@
 //! The tables with which a campaign is begun again on the morning after an evening.
 //!
-//! `let tables = next_morning(alloc, tables, &evening, &ceilings, day)?;`
+//! `let tables = next_morning(alloc, tables, &evening, &ceilings, day, dated)?;`
 #![tactic(auto)]
 
+mod dates;
 mod laws;
 mod morning;
 mod rows;
