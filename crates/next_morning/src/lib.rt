@@ -8,5 +8,8 @@ mod laws;
 mod morning;
 mod rows;
 
-pub use laws::{laws_of_next_mornings, witnesses_of_next_mornings};
+pub use laws::{
+    laws_of_dated_mornings, laws_of_next_mornings, witnesses_of_dated_mornings,
+    witnesses_of_next_mornings,
+};
 pub use morning::next_morning;
