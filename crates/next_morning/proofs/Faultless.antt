@@ -24,9 +24,6 @@ use Rattle.admit_core.specs.declared.dossier.Wish.{Wish}
 use Rattle.admit_core.specs.declared.refusal.Reason.TheVariants.{Repeat, TwoAccepted, Unknown}
 use Rattle.admit_core.specs.declared.slot.Slot.TheVariants as slots
 use Rattle.admit_core.specs.declared.state.Mark.{Mark}
-use Rattle.admit_core.specs.declared.state.Status.{Status}
-use Rattle.admit_core.specs.declared.state.Status.TheVariants.{Accepted, AutoRefused, AutoWithdrawn, Lapsed, Offered, Refused, Waiting, Withdrawn}
-use Rattle.admit_core.specs.declared.state.Status.TheVariants as statuses
 use Rattle.admit_core.specs.declared.tables.AnswerRow.{AnswerRow}
 use Rattle.admit_core.specs.declared.tables.BoardRow.{BoardRow}
 use Rattle.admit_core.specs.declared.tables.CeilingRow.{CeilingRow}

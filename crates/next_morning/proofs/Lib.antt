@@ -1,7 +1,12 @@
--- Reading order: SameDossier; Faultless and InRange (what a check asks of tables); Mornings (the
--- laws); WorkedMorning (their witnesses).
+-- Reading order: RowsMore; SameDossier; Faultless and InRange (what a check asks of tables); Mornings (the
+-- laws); WorkedMorning (their witnesses); DatedRows, DatedMornings and WorkedDates (the same where
+-- offers have deadlines).
+pub mod DatedMornings
+pub mod DatedRows
 pub mod Faultless
 pub mod InRange
 pub mod Mornings
+pub mod RowsMore
 pub mod SameDossier
+pub mod WorkedDates
 pub mod WorkedMorning

@@ -1,5 +1,5 @@
 -- The tables of the next morning stand for the dossier of the cut.
-use Rattle.std.proofs.Common.{ℕ, ◌+◌, ◌-◌, ◌≡◌, false, List, [], ◌∷◌, filter, find, length, map, nat_eq, nat_lt, option_map, unwrap_or, zip, inl, inr, refl, ◌∙◌, ap, arith}
+use Rattle.std.proofs.Common.{ℕ, ◌+◌, ◌-◌, ◌≡◌, false, List, [], ◌∷◌, filter, find, length, map, nat_eq, nat_lt, option_map, Option, unwrap_or, zip, inl, inr, refl, ◌∙◌, ap, arith}
 use Rattle.std.specs.List.{AllByRecursion, IsDistinct, enumerate_from}
 use Rattle.std.proofs.lemmas.Bool.{cases_Bool}
 use Rattle.std.proofs.lemmas.Map.Keys.{IsDistinct-head, IsDistinct-tail}
@@ -47,19 +47,25 @@ module _ (f : ℕ → School → ℕ) where
   ids_as_before n (row ∷ rows) = ap (λ (l : List ℕ). row.id ∷ l) (ids_as_before (n + 1) rows)
 
 -- ---- statuses
+abbrev pub found : List StateRow → WishRow → Option StateRow
+found rows w = find (λ (s : StateRow). nat_eq w.id s.wish) rows
+
+abbrev pub status_in : Option StateRow → Status
+status_in row = unwrap_or (option_map (λ (s : StateRow). s.status) row) Waiting
+
 abbrev told : List StateRow → WishRow → Status
-told rows w =
-    unwrap_or (option_map (λ (s : StateRow). s.status) (find (λ (s : StateRow). nat_eq w.id s.wish) rows)) Waiting
+told rows w = status_in (found rows w)
 
-told_later : (row : StateRow) (rows : List StateRow) (ws : List WishRow)
+-- a row of another wish decides nothing
+pub told_later : {X : Type 0} (of_row : Option StateRow → X) (row : StateRow) (rows : List StateRow) (ws : List WishRow)
     → AllByRecursion (λ id. nat_eq row.wish id ≡ false) (map (λ (w : WishRow). w.id) ws)
-    → map (told (row ∷ rows)) ws ≡ map (told rows) ws
-told_later row rows [] others = refl
-told_later row rows (w ∷ ws) others =
+    → map (λ w. of_row (found (row ∷ rows) w)) ws ≡ map (λ w. of_row (found rows w)) ws
+told_later of_row row rows [] others = refl
+told_later {X} of_row row rows (w ∷ ws) others =
     let other : nat_eq w.id row.wish ≡ false = nat_eq_sym w.id row.wish ∙ others.0 in
-    rw other (ap (λ (l : List Status). told rows w ∷ l) (told_later row rows ws others.1))
+    rw other (ap (λ (l : List X). of_row (found rows w) ∷ l) (told_later of_row row rows ws others.1))
 
-told_statuses : (ws : List WishRow) (ms : List Mark) → length ms ≡ length ws
+pub told_statuses : (ws : List WishRow) (ms : List Mark) → length ms ≡ length ws
     → IsDistinct nat_eq (map (λ (w : WishRow). w.id) ws)
     → map (told (map state_row (zip ws ms))) ws ≡ map (λ (m : Mark). m.status) ms
 told_statuses [] [] same apart = refl
@@ -68,7 +74,7 @@ told_statuses (w ∷ ws) [] same apart = absurd (omega arith)
 told_statuses (w ∷ ws) (m ∷ ms) same apart =
     rw (nat_eq_self w.id)
     (ap (λ (l : List Status). m.status ∷ l)
-    (told_later (state_row (w, m)) (map state_row (zip ws ms)) ws
+    (told_later status_in (state_row (w, m)) (map state_row (zip ws ms)) ws
     (IsDistinct-head nat_eq w.id (map (λ (v : WishRow). v.id) ws) apart)
     ∙ told_statuses ws ms (omega (arith, same)) (IsDistinct-tail nat_eq w.id (map (λ (v : WishRow). v.id) ws) apart)))
 

@@ -22,7 +22,7 @@ four_apart =
     (IsDistinct-cons nat_eq 3 (4 ∷ []) (refl, tt)
     (IsDistinct-from_apart nat_eq (4 ∷ []) (λ i j d i_lt j_lt. absurd (omega arith)))))
 
-first_evening_is : IsEveningOf campaign_tables first_night
+pub first_evening_is : IsEveningOf campaign_tables first_night
 first_evening_is = record { dossier = refl; marks = refl; ids = four_apart }
 
 small_evening_is : IsEveningOf small_tables small_night

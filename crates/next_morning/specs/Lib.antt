@@ -1,3 +1,5 @@
+pub mod DatedLaws
+pub mod DatedWitnesses
 pub mod Laws
 pub mod Morning
 pub mod Witnesses

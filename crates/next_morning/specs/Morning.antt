@@ -1,5 +1,5 @@
 -- The tables of the morning after an evening.
-use Rattle.std.specs.Prelude.{ℕ, ◌-◌, List, None, filter, map, nat_lt, zip}
+use Rattle.std.specs.Prelude.{ℕ, ◌-◌, List, Option, Some, None, filter, map, nat_lt, zip}
 use Rattle.admit_core.specs.declared.state.Mark.{Mark}
 use Rattle.admit_core.specs.declared.tables.AnswerRow.{AnswerRow}
 use Rattle.admit_core.specs.declared.tables.CeilingRow.{CeilingRow}
@@ -9,6 +9,9 @@ use Rattle.admit_core.specs.declared.tables.Tables.{Tables}
 use Rattle.admit_core.specs.declared.tables.WishRow.{WishRow}
 use Rattle.admit_core.specs.Days.{ceilings_of}
 use Rattle.admit_core.specs.State.{State}
+use Rattle.intake.specs.declared.terms.DatedTerms.{DatedTerms}
+use Rattle.report.specs.FinalText.{HasDates}
+use Rattle.text_laws.specs.ReadBack.{dated_rows}
 
 -- a school with the ceiling of a day
 abbrev pub with_ceiling : SchoolRow × ℕ → SchoolRow
@@ -38,3 +41,18 @@ tables_after a t evening =
       ceilings = later_ceilings a t.ceilings;
       answers = later_answers a t.answers;
     }
+
+-- each date of an evening's open offers can be written
+abbrev pub HaveDates : State → DatedTerms → Type 0
+HaveDates evening dated = HasDates evening dated.start dated.terms.before
+
+-- the rows of the state: where offers have deadlines, those that the final lines are read as, with
+-- the date of each open offer
+abbrev pub told_rows : List WishRow → State → Option DatedTerms → List StateRow
+told_rows wishes evening None = map state_row (zip wishes evening.marks)
+told_rows wishes evening (Some dated) = dated_rows evening dated.start dated.terms.before
+
+-- the same tables, with the dates of open offers where these have deadlines
+abbrev pub morning_tables : ℕ → Tables → State → Option DatedTerms → Tables
+morning_tables a t evening dated =
+    record (tables_after a t evening) { state = told_rows t.wishes evening dated }

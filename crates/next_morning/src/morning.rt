@@ -1,12 +1,13 @@
 //! The tables of the next morning.
-ghost use Rattle.std.specs.Prelude.{◌≡◌, IfOk, OnOk};
+ghost use Rattle.std.specs.Prelude.{◌≡◌, IfOk, IfSome, OnOk, option_copied};
 ghost use Rattle.admit_core.specs.Days.{ceilings_of};
 ghost use Rattle.admit_core.specs.Standing.{dossier_of};
-ghost use Rattle.next_morning.specs.Morning.{tables_after};
+ghost use Rattle.next_morning.specs.Morning.{HaveDates, morning_tables};
 
-use crate::rows::{later_answers, later_ceilings, school_rows, state_rows};
+use crate::rows::{later_answers, later_ceilings, school_rows, told_rows};
 use admit_core::{OutOfMemory, Sequence, Tables};
 use day_state::DayState;
+use intake::DatedTerms;
 use std::alloc::Global;
 
 /// Puts rows in the place of others.
@@ -23,13 +24,16 @@ fn turn(
     evening: &DayState<'_>,
     ceilings: &[u32],
     day: u32,
+    dated: Option<&DatedTerms>,
 ) -> Result<(), OutOfMemory>
-    requires { ceilings.now ≡ ceilings_of evening.now.dossier day }
-    ensures { OnOk result (tables.new ≡ tables_after day tables.old evening.now) }
+    requires ceilings { ceilings.now ≡ ceilings_of evening.now.dossier day }
+    requires dates { IfSome (option_copied dated) (HaveDates evening.now) }
+    ensures { OnOk result (tables.new
+        ≡ morning_tables day tables.old evening.now (option_copied dated.entry)) }
 {
     let schools = school_rows(alloc, tables.schools.as_slice(), ceilings)?;
     put(&mut tables.schools, schools);
-    let state = state_rows(alloc, tables.wishes.as_slice(), evening.marks())?;
+    let state = told_rows(alloc, tables.wishes.as_slice(), evening, dated)?;
     put(&mut tables.state, state);
     let changes = later_ceilings(alloc, tables.ceilings.as_slice(), day)?;
     put(&mut tables.ceilings, changes);
@@ -40,19 +44,24 @@ fn turn(
 
 /// The tables with which a campaign is begun again on the morning after a day: each school comes in
 /// with its ceiling of that day, each wish with its status in the evening, and what is given for
-/// later days is dated as many days earlier. `laws_of_next_mornings` says what a run over them is.
+/// later days is dated as many days earlier. Where offers have deadlines, each open offer has its
+/// date, as the final lines of the day have it. `laws_of_next_mornings` says what a run over them
+/// is.
 pub fn next_morning(
     alloc: Global,
     tables: Tables,
     evening: &DayState<'_>,
     ceilings: &[u32],
     day: u32,
+    dated: Option<&DatedTerms>,
 ) -> Result<Tables, OutOfMemory>
     requires dossier { evening.now.dossier ≡ dossier_of tables }
     requires ceilings { ceilings.now ≡ ceilings_of evening.now.dossier day }
-    ensures tables { IfOk result (λ next. next ≡ tables_after day tables evening.now) }
+    requires dates { IfSome (option_copied dated) (HaveDates evening.now) }
+    ensures tables { IfOk result (λ next. next
+        ≡ morning_tables day tables evening.now (option_copied dated.entry)) }
 {
     let mut tables = tables;
-    turn(alloc, &mut tables, evening, ceilings, day)?;
+    turn(alloc, &mut tables, evening, ceilings, day, dated)?;
     Ok(tables)
 }

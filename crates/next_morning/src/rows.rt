@@ -1,8 +1,11 @@
 //! The rows that are not as they were on the day before.
-ghost use Rattle.std.specs.Prelude.{◌≡◌, IfOk, map, zip};
-ghost use Rattle.next_morning.specs.Morning.{later_answers, later_ceilings, state_row, with_ceiling};
+ghost use Rattle.std.specs.Prelude.{◌≡◌, IfOk, IfSome, map, option_copied, zip};
+ghost use Rattle.next_morning.specs.Morning.{HaveDates, later_answers, later_ceilings, state_row, told_rows, with_ceiling};
 
+use crate::dates::dated_rows;
 use admit_core::{AnswerRow, CeilingRow, Mark, OutOfMemory, SchoolRow, StateRow, WishRow};
+use day_state::DayState;
+use intake::DatedTerms;
 use std::alloc::Global;
 
 /// The schools, each with its ceiling.
@@ -25,7 +28,7 @@ pub(crate) fn school_rows(
 }
 
 /// A row a wish, with its status.
-pub(crate) fn state_rows(
+fn state_rows(
     alloc: Global,
     wishes: &[WishRow],
     marks: &[Mark],
@@ -41,6 +44,23 @@ pub(crate) fn state_rows(
         })?;
     }
     Ok(rows)
+}
+
+/// A row a wish, with its status, and where there are terms the date of its open offer.
+pub(crate) fn told_rows(
+    alloc: Global,
+    wishes: &[WishRow],
+    evening: &DayState<'_>,
+    dated: Option<&DatedTerms>,
+) -> Result<Vec<StateRow>, OutOfMemory>
+    requires { IfSome (option_copied dated) (HaveDates evening.now) }
+    ensures { IfOk result (λ rows. rows.items
+        ≡ told_rows wishes.now evening.now (option_copied dated.entry)) }
+{
+    match dated {
+        None => state_rows(alloc, wishes, evening.marks()),
+        Some(dated) => dated_rows(alloc, evening, dated.start, &dated.terms),
+    }
 }
 
 /// The ceilings of the days after a day, which are counted from there.
