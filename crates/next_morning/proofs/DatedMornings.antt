@@ -113,7 +113,8 @@ module _ (s : State) (start : ℤ) (before : List ℤ) (a term : ℕ) (long : le
         answers = λ day past. let same : day ≡ day - 0 = omega arith in ap (λ n. undated (answers_of c n)) same;
       }) run in
       let rest = cut_days_are_the_rest (Some given) orders a s days there.0 fit long
-      (subst (λ (ds : List DayRecord). Days cut orders 1 (first_evening c) ds there.0) (no_days_earlier days) there.3) in (
+      (subst (λ (ds : List DayRecord). Days cut orders 1 (first_evening c) ds there.0) (no_days_earlier days)
+      there.3) in (
         rest.0,
         rest.1 ∙ sym there.1,
         (

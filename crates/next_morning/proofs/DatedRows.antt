@@ -35,7 +35,8 @@ since_in row = option_and_then (λ (s : StateRow). s.since) row
 
 -- what rows that are made by place tell of each wish
 module _ {X : Type 0} (t : Tables) (of_row : Option StateRow → X) (of_place : ℕ → X) (made : ℕ × Wish → StateRow)
-    (names : (x : ℕ × Wish) → (made x).wish ≡ x.1.id) (tells : (x : ℕ × Wish) → of_row (Some (made x)) ≡ of_place x.0) where
+    (names : (x : ℕ × Wish) → (made x).wish ≡ x.1.id)
+    (tells : (x : ℕ × Wish) → of_row (Some (made x)) ≡ of_place x.0) where
   abbrev rows : ℕ → List WishRow → List StateRow
   rows n ws = map made (enumerate_from n (map (wish_of_row t) ws))
 
@@ -92,21 +93,23 @@ module _ (a : ℕ) (t : Tables) (marks : List Mark) (dated : DatedTerms) (long :
       told_by_place t since_in since row (λ x. refl) (λ x. refl) 0 t.wishes apart
       ∙ ap (λ n. map since (range_with_len 0 n)) (sym (length-map t.wishes (wish_of_row t)))
 
-marks_long : (t : Tables) (evening : State) → IsEveningOf t evening → length evening.marks ≡ length t.wishes
+pub marks_long : (t : Tables) (evening : State) → IsEveningOf t evening → length evening.marks ≡ length t.wishes
 marks_long t evening of =
     of.marks ∙ ap (λ (d : DossierRows). length d.wishes) of.dossier ∙ length-map t.wishes (wish_of_row t)
 
 pub dated_tables_are_of_the_cut : DatedTablesAreOfTheCut
 dated_tables_are_of_the_cut a t evening None of = tables_are_of_the_cut a t evening of
 dated_tables_are_of_the_cut a t evening (Some dated) of =
-    subst (λ (d : DossierRows). dossier_of (morning_tables a t (record { dossier = d; marks = evening.marks }) (Some dated))
+    subst (λ (d : DossierRows).
+    dossier_of (morning_tables a t (record { dossier = d; marks = evening.marks }) (Some dated))
     ≡ dossier_of (tables_after a t (record { dossier = d; marks = evening.marks })))
     (sym of.dossier) (same_dossier_dated a t evening.marks dated (marks_long t evening of) of.ids)
     ∙ tables_are_of_the_cut a t evening of
 
 pub dates_are_of_the_evening : DatesAreOfTheEvening
 dates_are_of_the_evening a t evening dated of =
-    subst (λ (d : DossierRows). dates_of (morning_tables a t (record { dossier = d; marks = evening.marks }) (Some dated))
+    subst (λ (d : DossierRows).
+    dates_of (morning_tables a t (record { dossier = d; marks = evening.marks }) (Some dated))
     ≡ map (since_when (record { dossier = d; marks = evening.marks }) dated.start dated.terms.before)
     (range_with_len 0 (length d.wishes)))
     (sym of.dossier) (dates_are a t evening.marks dated (marks_long t evening of) of.ids)

@@ -48,7 +48,7 @@ use Rattle.next_morning.specs.Morning.{state_row, tables_after}
 use Rattle.next_morning.proofs.SameDossier.{same_school_ids}
 
 -- rows whose ids differ
-apart_by : {R : Type 0} (id : R → ℕ) (rows : List R) → IsDistinct nat_eq (map id rows)
+pub apart_by : {R : Type 0} (id : R → ℕ) (rows : List R) → IsDistinct nat_eq (map id rows)
     → AllPairs (λ r row. nat_eq (id row) (id r) ≡ false) rows
 apart_by id rows apart i j d below lt =
     let long = length-map rows id in
@@ -101,7 +101,7 @@ kept_all P p f moves (x ∷ xs) all =
 pub no_wish : WishRow
 no_wish = record { id = 0; candidate = 0; programme = 0; school = None; preference = 0 }
 
-state_ids : (ws : List WishRow) (ms : List Mark) → length ms ≡ length ws
+pub state_ids : (ws : List WishRow) (ms : List Mark) → length ms ≡ length ws
     → map (λ (s : StateRow). s.wish) (map state_row (zip ws ms)) ≡ map (λ (w : WishRow). w.id) ws
 state_ids [] [] same = refl
 state_ids [] (m ∷ ms) same = absurd (omega arith)
@@ -174,7 +174,7 @@ module _ (a : ℕ) (t : Tables) (marks : List Mark) (long : length marks ≡ len
       (λ j below. wish_ids_differ t fine j k d below lt) (λ there. nat_eq_self (get_or t.wishes k d).id))
       ∙ slice_get-get_or t.wishes k d lt
 
-  state_known : All (λ (row : StateRow). is_among row.wish (wish_ids n) ≡ true) n.state
+  pub state_known : All (λ (row : StateRow). is_among row.wish (wish_ids n) ≡ true) n.state
   state_known k d lt =
       let in_k : k < length t.wishes = omega (arith, lt, as_many a t marks long) in
       let many = length-map t.wishes (λ (w : WishRow). w.id) in
@@ -214,7 +214,7 @@ module _ (a : ℕ) (t : Tables) (marks : List Mark) (long : length marks ≡ len
       let both = subst (λ (x : Wish × Mark). AcceptsOne (as_entry i) x) (entry_at j lt) left in
       both same (accepted_is _ first) (accepted_is _ second)
 
-  one_accepted : IsOneAccepted evening
+  pub one_accepted : IsOneAccepted evening
       → AllPairs (λ (r row : StateRow). is_accepted row.status ≡ true
       → (is_accepted r.status && same_candidate (candidate_with t row.wish) (candidate_with t r.wish)) ≡ false) n.state
   one_accepted one i j d below lt =
@@ -310,15 +310,19 @@ module _ (a : ℕ) (t : Tables) (marks : List Mark) (long : length marks ≡ len
         (subst IsNonDecreasing (map-map (λ (x : Answer). x.day) (answer_of_row n) n.answers) valid.answers_by_day))
         no_tests)
 
-    pub no_fault_then : IsOneAccepted evening → first_fault n ≡ None
-    no_fault_then one =
+    pub no_fault_with : (states : List StateRow) → PassesAll (state_tests n) states
+        → first_fault (record n { state = states }) ≡ None
+    no_fault_with states passes =
         none_or_none (none_in slots.Groups group_tests n.groups fine.groups)
         (none_or_none (none_in slots.Programmes (programme_tests n) n.programmes fine.programmes)
         (none_or_none (none_in slots.Schools school_tests n.schools schools_pass)
         (none_or_none (none_in slots.Rankings (ranking_tests n) n.rankings fine.rankings)
         (none_or_none (none_in slots.Boarding (boarding_tests n) n.boarding boarding_pass)
         (none_or_none (none_in slots.Wishes (wish_tests n) n.wishes wishes_pass)
-        (none_or_none (none_in slots.State (state_tests n) n.state (state_pass one))
+        (none_or_none (none_in slots.State (state_tests n) states passes)
         (none_or_none (none_in slots.Ceilings (ceiling_tests n) n.ceilings ceilings_pass)
         (none_or_none (none_in slots.Answers (answer_tests n) n.answers answers_pass)
         refl))))))))
+
+    pub no_fault_then : IsOneAccepted evening → first_fault n ≡ None
+    no_fault_then one = no_fault_with n.state (state_pass one)

@@ -1,6 +1,7 @@
 -- Reading order: RowsMore; SameDossier; Faultless and InRange (what a check asks of tables); Mornings (the
--- laws); WorkedMorning (their witnesses); DatedRows, DatedMornings and WorkedDates (the same where
--- offers have deadlines).
+-- laws); WorkedMorning (their witnesses); DatedRows, DatedFaultless, DatedMornings and WorkedDates
+-- (the same where offers have deadlines).
+pub mod DatedFaultless
 pub mod DatedMornings
 pub mod DatedRows
 pub mod Faultless

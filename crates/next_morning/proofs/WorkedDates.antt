@@ -12,16 +12,17 @@ use Rattle.admit_core.specs.WorkedRows.{marked}
 use Rattle.admit_core.proofs.Rows.{passes_with}
 use Rattle.calendar.specs.Dates.{date_of, day_number, days_of_months, last_started}
 use Rattle.cut_laws.specs.Cut.{cut_at}
-use Rattle.cut_laws.specs.WorkedCampaign.{call_orders, cut_days, cut_night, first_night, one_day_more}
+use Rattle.cut_laws.specs.WorkedCampaign.{call_orders, cut_days, cut_night, first_night, one_day_more, small_night}
 use Rattle.report.specs.FinalText.{HasDate, HasDates}
 use Rattle.text_laws.specs.ReadBack.{HaveReadDates}
 use Rattle.next_morning.specs.DatedLaws.{next_terms}
-use Rattle.next_morning.specs.DatedWitnesses.{DatedOffersStandAlikeWitness, DatedRunsAreTheRestWitness, DatedTablesAreOfTheCutWitness, DatesAreOfTheEveningWitness, WorkedDatedMornings, from_june}
+use Rattle.next_morning.specs.DatedWitnesses.{DatedOffersStandAlikeWitness, DatedRunsAreTheRestWitness, DatedTablesAreAcceptedWitness, DatedTablesAreOfTheCutWitness, DatesAreOfTheEveningWitness, WorkedDatedMornings, from_june}
 use Rattle.next_morning.specs.Morning.{morning_tables}
-use Rattle.next_morning.specs.WorkedMorning.{campaign_tables}
+use Rattle.next_morning.specs.WorkedMorning.{campaign_tables, small_tables}
+use Rattle.next_morning.proofs.DatedFaultless.{dated_tables_are_accepted}
 use Rattle.next_morning.proofs.DatedMornings.{dated_offers_stand_alike, dated_runs_are_the_rest}
 use Rattle.next_morning.proofs.DatedRows.{dated_tables_are_of_the_cut, dates_are_of_the_evening}
-use Rattle.next_morning.proofs.WorkedMorning.{first_evening_is}
+use Rattle.next_morning.proofs.WorkedMorning.{accepted_witness, first_evening_is}
 
 first_has_dates : HasDates first_night (pos 19876) (pos 0 ∷ pos 0 ∷ pos 0 ∷ pos 0 ∷ [])
 first_has_dates = record {
@@ -116,6 +117,13 @@ dated_cut_witness = (
   first_evening_is,
   dated_tables_are_of_the_cut 1 campaign_tables first_night (Some from_june) first_evening_is,
 )
+
+pub dated_accepted_witness : DatedTablesAreAcceptedWitness
+dated_accepted_witness =
+    let (of, ranges, none, one, kept, faultless) = accepted_witness in
+    let next = dated_tables_are_accepted 1 small_tables small_night
+    (Some (record { start = pos 19876; terms = record { term = 1; before = pos 0 ∷ [] } })) of ranges none one in
+    (of, ranges, none, one, next.0, next.1)
 
 pub dates_witness : DatesAreOfTheEveningWitness
 dates_witness =

@@ -1,6 +1,6 @@
 -- What the tables of the next morning stand for where offers have deadlines, and what a run over
 -- them is.
-use Rattle.std.specs.Prelude.{◌≡◌, ◌+◌, ◌+ℤ◌, ℕ, pos, List, Option, Some, length, map}
+use Rattle.std.specs.Prelude.{◌≡◌, ◌+◌, ◌+ℤ◌, ℕ, pos, List, None, Option, Some, length, map}
 use Rattle.std.specs.List.{range_with_len}
 use Rattle.admit_core.specs.declared.ranking.CallOrder.{CallOrder}
 use Rattle.admit_core.specs.declared.records.DayRecord.{DayRecord}
@@ -8,6 +8,9 @@ use Rattle.admit_core.specs.declared.records.Terms.{Terms}
 use Rattle.admit_core.specs.declared.tables.Tables.{Tables}
 use Rattle.admit_core.specs.Days.{Days, first_evening}
 use Rattle.admit_core.specs.Lapses.{AreTermsFor}
+use Rattle.admit_core.specs.OwnWishes.{IsOneAccepted}
+use Rattle.admit_core.specs.Ranges.{AreTables}
+use Rattle.admit_core.specs.Relations.{first_fault}
 use Rattle.admit_core.specs.Standing.{dossier_of}
 use Rattle.admit_core.specs.State.{State}
 use Rattle.cut_laws.specs.Alike.{HaveEqualStatuses}
@@ -25,6 +28,17 @@ DatedTablesAreOfTheCut =
     (a : ℕ) (t : Tables) (evening : State) (dated : Option DatedTerms)
     → IsEveningOf t evening
     → dossier_of (morning_tables a t evening dated) ≡ cut_at a evening
+
+-- nor about what a check accepts
+abbrev pub DatedTablesAreAccepted : Type 0
+DatedTablesAreAccepted =
+    (a : ℕ) (t : Tables) (evening : State) (dated : Option DatedTerms)
+    → IsEveningOf t evening
+    → AreTables t
+    → first_fault t ≡ None
+    → IsOneAccepted evening
+    → AreTables (morning_tables a t evening dated)
+    × (first_fault (morning_tables a t evening dated) ≡ None)
 
 -- each wish has the date that the final lines give it
 abbrev pub DatesAreOfTheEvening : Type 0

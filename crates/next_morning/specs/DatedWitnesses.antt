@@ -1,6 +1,6 @@
 -- For each law of dated mornings a worked case that meets all its premises, with what it concludes
 -- there: the law's text, with a value for each variable and a product for each arrow.
-use Rattle.std.specs.Prelude.{◌≡◌, ℕ, [], ◌∷◌, List, Option, Some, length, map, pos}
+use Rattle.std.specs.Prelude.{◌≡◌, ℕ, [], ◌∷◌, List, None, Option, Some, length, map, pos}
 use Rattle.std.specs.List.{range_with_len}
 use Rattle.admit_core.specs.declared.ranking.CallOrder.{CallOrder}
 use Rattle.admit_core.specs.declared.records.DayRecord.{DayRecord}
@@ -9,17 +9,20 @@ use Rattle.admit_core.specs.declared.tables.StateRow.{StateRow}
 use Rattle.admit_core.specs.declared.tables.Tables.{Tables}
 use Rattle.admit_core.specs.Days.{Days, first_evening}
 use Rattle.admit_core.specs.Lapses.{AreTermsFor}
+use Rattle.admit_core.specs.OwnWishes.{IsOneAccepted}
+use Rattle.admit_core.specs.Ranges.{AreTables}
+use Rattle.admit_core.specs.Relations.{first_fault}
 use Rattle.admit_core.specs.Standing.{dossier_of}
 use Rattle.admit_core.specs.State.{State}
 use Rattle.cut_laws.specs.Cut.{StandAlike, cut_at}
-use Rattle.cut_laws.specs.WorkedCampaign.{call_orders, cut_days, cut_night, first_night, one_day_more, second_night}
+use Rattle.cut_laws.specs.WorkedCampaign.{call_orders, cut_days, cut_night, first_night, one_day_more, second_night, small_night}
 use Rattle.dossier_check.specs.Dates.{dates_of}
 use Rattle.intake.specs.declared.terms.DatedTerms.{DatedTerms}
 use Rattle.text_laws.specs.ReadBack.{HaveReadDates, since_when}
 use Rattle.next_morning.specs.DatedLaws.{AreTheRestBy, next_terms}
 use Rattle.next_morning.specs.Laws.{IsEveningOf}
 use Rattle.next_morning.specs.Morning.{HaveDates, morning_tables}
-use Rattle.next_morning.specs.WorkedMorning.{campaign_tables, told}
+use Rattle.next_morning.specs.WorkedMorning.{campaign_tables, small_tables, told}
 
 -- day 1 of the worked campaign is 2024-06-02
 abbrev pub from_june : DatedTerms
@@ -51,6 +54,22 @@ DatedTablesAreOfTheCutWitness =
     IsEveningOf t evening
     × (dossier_of (morning_tables a t evening dated) ≡ cut_at a evening)
 
+-- ---- the small dossier in an evening on which its wish is accepted
+abbrev pub DatedTablesAreAcceptedWitness : Type 0
+DatedTablesAreAcceptedWitness =
+    let a : ℕ = 1 in
+    let t : Tables = small_tables in
+    let evening : State = small_night in
+    let dated : Option DatedTerms =
+    Some (record { start = pos 19876; terms = record { term = 1; before = pos 0 ∷ [] } }) in
+    IsEveningOf t evening
+    × AreTables t
+    × (first_fault t ≡ None)
+    × IsOneAccepted evening
+    × AreTables (morning_tables a t evening dated)
+    × (first_fault (morning_tables a t evening dated) ≡ None)
+
+-- ---- the campaign that is cut in the evening of day 1
 abbrev pub DatesAreOfTheEveningWitness : Type 0
 DatesAreOfTheEveningWitness =
     let a : ℕ = 1 in

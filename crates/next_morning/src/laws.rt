@@ -1,6 +1,6 @@
 //! What the tables of the next morning are, for a campaign that is cut there.
-ghost use Rattle.next_morning.specs.DatedLaws.{DatedOffersStandAlike, DatedRunsAreTheRest, DatedTablesAreOfTheCut, DatesAreOfTheEvening};
-ghost use Rattle.next_morning.specs.DatedWitnesses.{DatedOffersStandAlikeWitness, DatedRunsAreTheRestWitness, DatedTablesAreOfTheCutWitness, DatesAreOfTheEveningWitness, WorkedDatedMornings};
+ghost use Rattle.next_morning.specs.DatedLaws.{DatedOffersStandAlike, DatedRunsAreTheRest, DatedTablesAreAccepted, DatedTablesAreOfTheCut, DatesAreOfTheEvening};
+ghost use Rattle.next_morning.specs.DatedWitnesses.{DatedOffersStandAlikeWitness, DatedRunsAreTheRestWitness, DatedTablesAreAcceptedWitness, DatedTablesAreOfTheCutWitness, DatesAreOfTheEveningWitness, WorkedDatedMornings};
 ghost use Rattle.next_morning.specs.Laws.{RunsAreTheRest, TablesAreAccepted, TablesAreOfTheCut, TablesAreValid};
 ghost use Rattle.next_morning.specs.Witnesses.{RunsAreTheRestWitness, TablesAreAcceptedWitness, TablesAreOfTheCutWitness, TablesAreValidWitness};
 ghost use Rattle.next_morning.specs.WorkedMorning.{WorkedMornings};
@@ -24,11 +24,12 @@ pub fn witnesses_of_next_mornings()
     ensures worked { WorkedMornings }
 {}
 
-/// Where offers have deadlines, the tables stand for the same dossier; their dates, read where day 1
-/// is as many days later, are the days of the open offers; and a run over them under the terms that
-/// come of these dates is the rest of the campaign.
+/// Where offers have deadlines, the tables stand for the same dossier, and a check accepts them;
+/// their dates, read where day 1 is as many days later, are the days of the open offers; and a run
+/// over them under the terms that come of these dates is the rest of the campaign.
 pub fn laws_of_dated_mornings()
     ensures cut { DatedTablesAreOfTheCut }
+    ensures accepted { DatedTablesAreAccepted }
     ensures dates { DatesAreOfTheEvening }
     ensures offers { DatedOffersStandAlike }
     ensures rest { DatedRunsAreTheRest }
@@ -37,6 +38,7 @@ pub fn laws_of_dated_mornings()
 /// For each of them a worked case that meets all its premises, and two mornings row by row.
 pub fn witnesses_of_dated_mornings()
     ensures cut { DatedTablesAreOfTheCutWitness }
+    ensures accepted { DatedTablesAreAcceptedWitness }
     ensures dates { DatesAreOfTheEveningWitness }
     ensures offers { DatedOffersStandAlikeWitness }
     ensures rest { DatedRunsAreTheRestWitness }
