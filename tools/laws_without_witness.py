@@ -19,7 +19,7 @@ CALL = re.compile(r"^pub fn (\w+)\(\)\n((?:    .*\n)*)\{\}", re.M)
 CLAUSE = re.compile(r"ensures (\w+) \{ ([^}]*) \}")
 OPENS, CLOSES = "([{", ")]}"
 BINDERS = re.compile(r"\(([^():]+) : .*\)|\{([^{}:]+) : .*\}", re.S)
-WORD = r"(?<![\w'.]){}(?![\w'])"
+COMMENT = re.compile(r'("[^"\n]*")| *--.*')  # what stands between quotes is none
 
 # A statement by cases: the names of its parameters, and each case with the names that it binds.
 Definition = collections.namedtuple("Definition", "file parameters cases fields")
@@ -106,7 +106,7 @@ def definitions(crate):
     found = {}
     for path in sorted(glob.glob(f"{ROOT}/crates/{crate}/specs/**/*.antt", recursive=True)):
         with open(path) as file:
-            text = re.sub(r" *--.*", "", file.read())
+            text = COMMENT.sub(lambda found: found[1] or "", file.read())
         for item in re.split(r"\n(?=(?:abbrev|pub|unfoldable|record|use)\b)", text):
             if head := re.match(r"(?:pub )?record ([\w']+)", item):
                 before, _, fields = item.partition(" where\n")
