@@ -1,6 +1,6 @@
 //! Who is served in each programme while wishes are closed.
-ghost use Rattle.std.specs.Prelude.{◌≡◌, ℕ, ◌+◌, ◌<◌, ◌&&◌, ◌||◌, true, false, not, length, map, slice_set, slice_index_or, count_by, IfOk};
-ghost use Rattle.std.specs.List.{enumerate_from};
+ghost use Rattle.std.specs.Prelude.{◌≡◌, ℕ, ◌+◌, ◌<◌, ◌&&◌, ◌||◌, true, false, not, length, map, filter, slice_set, slice_index_or, count_by, IfOk};
+ghost use Rattle.std.specs.List.{enumerate_from, range_with_len};
 ghost use Rattle.admit_core.specs.Proposals.{is_behind_bar};
 ghost use Rattle.admit_core.specs.State.{entries};
 ghost use Rattle.day_state.specs.Kept.{wish_in};
@@ -18,7 +18,7 @@ ghost use Rattle.linked_demand.specs.Rows.{row_item, IsOpenItem};
 use crate::boarders::Boarder;
 use crate::cursors::Cursors;
 use crate::fresh::note_fresh;
-use crate::fronts::{flag_fronts, flag_sure, no_flags};
+use crate::fronts::{list_fronts, list_sure};
 use crate::line::{is_reached, last_wanting, leaves_seat, next_wanting};
 use crate::lineup::Lineup;
 use crate::marks::Marks;
@@ -256,24 +256,26 @@ impl<'a, 'd> SeatLinks<'a, 'd> {
         self.opens.get(wish)
     }
 
-    /// Whether each wish is proposed, by place, where those that are open wait.
-    pub fn proposed_flags(&self, alloc: Global) -> Result<Vec<bool>, OutOfMemory>
+    /// The places of the wishes that are proposed, ascending, where those that are open wait. Each
+    /// is met in the claims that the seats reach, or needs no seat, or both.
+    pub fn proposed_places(&self, alloc: Global) -> Result<Vec<u32>, OutOfMemory>
         requires { AllOpenWait self.now.state self.now.opens }
-        ensures long { IfOk result (λ v. length v.items ≡ length self.now.state.dossier.wishes) }
-        ensures each { IfOk result (λ v. (k : ℕ) → k < length self.now.state.dossier.wishes
-            → slice_index_or v.items k false ≡ is_proposed_at self.now k) }
+        ensures { IfOk result (λ v. v.items ≡ filter (is_proposed_at self.now)
+            (range_with_len 0 (length self.now.state.dossier.wishes))) }
     {
         let lineup = self.lineup;
-        let mut flags = no_flags(alloc, self.opens.count())?;
-        flag_sure(
+        let mut found = Vec::new(alloc);
+        list_sure(
             self.state,
             &self.opens,
             &lineup.early,
             &lineup.maybe_sure,
-            &mut flags,
-        );
-        flag_fronts(&self.opens, &lineup.claims, &self.reached, &mut flags);
-        Ok(flags)
+            &mut found,
+        )?;
+        list_fronts(&self.opens, &lineup.claims, &self.reached, &mut found)?;
+        found.sort_unstable();
+        found.dedup();
+        Ok(found)
     }
 
     /// Whether a waiting wish is proposed.

@@ -1,8 +1,7 @@
 //! Which wishes are open.
-ghost use Rattle.std.specs.Prelude.{◌≡◌, ◌<◌, ◌&&◌, true, false, not, length, map, slice_index_or, slice_set, IfOk};
+ghost use Rattle.std.specs.Prelude.{◌≡◌, ◌<◌, ◌&&◌, true, false, not, length, replicate, map, slice_index_or, slice_set, IfOk};
 ghost use Rattle.admit_core.specs.State.{is_waiting};
 
-use crate::fronts::no_flags;
 use admit_core::{Mark, OutOfMemory};
 use day_state::DayState;
 use std::alloc::Global;
@@ -41,6 +40,13 @@ fn is_left(mark: Mark, closed: bool) -> bool
     ensures { result ≡ (is_waiting mark && not closed) }
 {
     mark.is_waiting() && !closed
+}
+
+/// So many flags, of which none is set.
+fn no_flags(alloc: Global, count: usize) -> Result<Vec<bool>, OutOfMemory>
+    ensures { IfOk result (λ v. v.items ≡ replicate count false) }
+{
+    Ok(vec![in alloc; false; count]?)
 }
 
 impl<'a, 'd> OpenWishes<'a, 'd> {
