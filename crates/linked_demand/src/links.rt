@@ -32,17 +32,16 @@ use std::alloc::Global;
 use std::marker::Model;
 use std::sync::ledger::Ledger;
 
-/// Whether a boarder's wish stays open: its candidate ranks at most at the bar of the school, or
-/// has a bed there.
-fn stays_open(state: &DayState<'_>, bars: &[u32], boarder: Boarder, open: bool) -> bool
+/// Whether the candidate of a boarder's wish is behind the bar of the school. Who ranks at most at
+/// the bar is not looked at.
+fn is_behind(state: &DayState<'_>, bars: &[u32], boarder: Boarder) -> bool
     requires boarder { IsBoarder state.now.dossier boarder }
     requires bars { length bars.now ≡ length state.now.dossier.schools }
-    ensures { result ≡ («open» && not (is_behind_bar state.now bars.now
+    ensures { result ≡ is_behind_bar state.now bars.now
         (wish_in state.now.dossier.wishes boarder.wish)
-        (wish_in state.now.dossier.wishes boarder.wish).school)) }
+        (wish_in state.now.dossier.wishes boarder.wish).school }
 {
-    open && (boarder.rank <= bars[boarder.school as usize]
-        || state.is_live_in_its_school(boarder.wish))
+    bars[boarder.school as usize] < boarder.rank && !state.is_live_in_its_school(boarder.wish)
 }
 
 /// The open wishes under bars: of those that wait only the wishes with a school are asked for its
@@ -61,9 +60,8 @@ fn open_under<'a, 'd>(
     let _ = state.marks(); // one for each wish
     let mut opens = OpenWishes::all_waiting(alloc, state)?;
     for boarder in boarders {
-        let open = opens.get(boarder.wish);
-        let stays = stays_open(state, bars, *boarder, open);
-        opens.keep_if(boarder.wish, stays);
+        let is_behind = is_behind(state, bars, *boarder);
+        opens.close_if(boarder.wish, is_behind);
     }
     Ok(opens)
 }
