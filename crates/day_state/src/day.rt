@@ -107,6 +107,13 @@ impl<'d> DayState<'d> {
         self.live.marks()
     }
 
+    /// At most one wish of each candidate is accepted. The call does nothing.
+    pub fn accepts_once(&self)
+        ensures { IsOneAccepted self.now }
+    {
+        let _ = &self.live; // learns the invariant
+    }
+
     /// The status of a wish.
     pub fn status(&self, wish: u32) -> Status
         requires { wish < length self.now.dossier.wishes }

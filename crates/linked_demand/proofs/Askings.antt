@@ -12,10 +12,9 @@ use Rattle.admit_core.specs.Lists.{is_among}
 use Rattle.admit_core.specs.Proposals.{is_behind_bar, is_barred, is_open}
 use Rattle.admit_core.specs.State.{State, is_waiting}
 use Rattle.day_state.specs.Kept.{mark_in, waiting_mark, wish_in}
-use Rattle.day_state.proofs.Along.{among-filter}
 use Rattle.proposals.proofs.Front.{among_more}
 use Rattle.linked_demand.specs.Opens.{opens_of}
-use Rattle.linked_demand.specs.Seats.{boards_at, boarders_of}
+use Rattle.linked_demand.specs.Seats.{boards_at}
 use Rattle.linked_demand.proofs.Rounding.{opens_by_place}
 
 -- whether the wish at a place is open, where its bar counts only if it was asked for
@@ -98,7 +97,8 @@ settled s bars w waits (Some h) = refl
 
 -- all that have a school are asked
 pub asked_all : (s : State) (bars places : List ℕ) (flags : List Bool)
-    → length s.marks ≡ length s.dossier.wishes → places ≡ boarders_of s.dossier
+    → length s.marks ≡ length s.dossier.wishes
+    → ((k : ℕ) → k < length s.dossier.wishes → is_among k places ≡ boards_at s.dossier k)
     → AreAsked s bars places flags → flags ≡ opens_of s bars
 asked_all s bars places flags long places_are asked =
     let n = length s.dossier.wishes in
@@ -108,8 +108,7 @@ asked_all s bars places flags long places_are asked =
     let k_lt : k < n = omega (arith, lt, asked.as_long) in
     let w = wish_in s.dossier.wishes k in
     asked.each k k_lt
-    ∙ ap (λ (ks : List ℕ). open_if s bars k (is_among k ks)) places_are
-    ∙ ap (open_if s bars k) (among-filter (boards_at s.dossier) k n k_lt)
+    ∙ ap (open_if s bars k) (places_are k k_lt)
     ∙ settled s bars w (is_waiting (mark_in s.marks k)) w.school
     ∙ sym (get_or-map-range_with_len f 0 n k k false k_lt (zero-add k))) in
     opens_by_place s bars n flags long are refl

@@ -1,18 +1,14 @@
--- The rows that are filled by place and put in order by rank are those of the schools.
-use Rattle.std.proofs.Common.{ℕ, zero, suc, ◌+◌, ◌≤◌, ◌<◌, ◌≡◌, Bool, true, false, not, ◌&&◌, List, [], ◌∷◌, map, length, get_or, inl, inr, refl, sym, ◌∙◌, ap, arith, nat_eq, nat_lt, filter, Option, Some, None, unwrap_or, zip, subst, zero-add, Vec}
+-- The rows that are filled along the boarders by rank are those of the schools.
+use Rattle.std.proofs.Common.{ℕ, zero, suc, ◌≤◌, ◌<◌, ◌≡◌, Bool, true, false, not, ◌&&◌, List, [], ◌∷◌, map, length, get_or, inl, inr, refl, sym, ◌∙◌, ap, arith, nat_eq, nat_lt, filter, Option, Some, None, unwrap_or, zip, subst, Vec}
 use Rattle.std.specs.Prelude.{slice_get, slice_index, All, is_some}
 use Rattle.std.specs.List.{list_any, range_with_len}
-use Rattle.std.specs.List.Sorted.{IsPermutation, IsNonDecreasingBy, IsStableByKey}
-use Rattle.std.specs.Ordering.{nat_cmp}
+use Rattle.std.specs.List.Sorted.{IsNonDecreasingBy}
 use Rattle.std.specs.declared.alloc.Global.{Global}
-use Rattle.std.proofs.Math.ListN.{set}
-use Rattle.std.proofs.lemmas.Bool.{cases_Bool, cases_eq, false≢true, eqb-true, eq-eqb, and_parts, and_from, ltb-false, le-ltb, or_cases, or_left, or_right}
-use Rattle.std.proofs.lemmas.List.{get_or_default, get_or-map, length-map, length-set}
+use Rattle.std.proofs.lemmas.Bool.{cases_Bool, false≢true, eqb-true, eq-eqb, and_parts, and_from, ltb-false, le-ltb, or_cases, or_left, or_right}
+use Rattle.std.proofs.lemmas.List.{get_or_default, get_or-map, length-map}
 use Rattle.std.proofs.lemmas.List.Elements.{All-filter, filter_passes}
-use Rattle.std.proofs.lemmas.List.Folds.{list_any_at}
-use Rattle.std.proofs.lemmas.List.FromFn.{length-range_with_len, get_or-range_with_len}
-use Rattle.std.proofs.lemmas.List.Sorted.{list_any-IsPermutation, All-permutation}
-use Rattle.std.proofs.lemmas.Option.{slice_get_within, slice_get_read, unwrap_or-slice_get}
+use Rattle.std.proofs.lemmas.List.Kept.{IsNonDecreasingBy-filter}
+use Rattle.std.proofs.lemmas.Option.{slice_get_within, unwrap_or-slice_get}
 use Rattle.admit_core.specs.declared.dossier.Wish.{Wish}
 use Rattle.admit_core.specs.declared.state.Mark.{Mark}
 use Rattle.admit_core.specs.declared.ranking.CallOrder.{CallOrder}
@@ -20,15 +16,17 @@ use Rattle.admit_core.specs.Lists.{is_among}
 use Rattle.admit_core.specs.Proposals.{is_behind_bar, is_open}
 use Rattle.admit_core.specs.State.{State, entries, is_waiting, holds_bed, is_school}
 use Rattle.admit_core.proofs.Tests.{Ascends}
-use Rattle.admit_core.proofs.Plain.{filter_same, get_set_here, get_set_other}
+use Rattle.admit_core.proofs.Plain.{filter_same}
 use Rattle.day_state.specs.Kept.{has_bed_there, holds_bed_in, mark_in, wish_in}
-use Rattle.day_state.proofs.Ordering.{stable_own}
+use Rattle.linked_demand.specs.declared.boarders.Boarder.{Boarder}
 use Rattle.linked_demand.specs.declared.rows.RowWish.{RowWish}
-use Rattle.linked_demand.specs.Rows.{WaitsFor, IsRow, AreItems, AreRows, row_item}
-use Rattle.linked_demand.specs.Filled.{wants_bed, is_in_row, row_by_place, AreFilled}
+use Rattle.linked_demand.specs.Rows.{WaitsFor, IsRow, AreItems, AllItems, AreRows, row_item}
+use Rattle.linked_demand.specs.Boarders.{AreBoarders, AreByRank, rank_at, wishes_of}
+use Rattle.linked_demand.specs.Filled.{wants_bed, is_in_row, row_along, AreFilled}
 use Rattle.linked_demand.specs.Seats.{boards_at, boarders_of}
-use Rattle.linked_demand.specs.Keyed.{AreRowsOf}
 use Rattle.linked_demand.specs.Opens.{opens_of}
+use Rattle.linked_demand.proofs.Boarding.{all_by_rank, places_within}
+use Rattle.linked_demand.proofs.ClaimSpans.{turn_two}
 use Rattle.linked_demand.proofs.Closing.{wish_of}
 use Rattle.linked_demand.proofs.Falling.{flag_map}
 use Rattle.linked_demand.proofs.Lining.{filter_twice}
@@ -126,27 +124,21 @@ record IsInRow (s : State) (bars : List ℕ) (h : ℕ) (x : RowWish) : Type 0 wh
   waits : WaitsFor s h x wish mark
   low : x.rank ≤ slice_index bars h
 
-row_each : (s : State) (orders : List CallOrder) (bars : List ℕ) (opens : List Bool) (h : ℕ) → length s.marks ≡ length s.dossier.wishes
-    → opens ≡ opens_of s bars → All (IsInRow s bars h) (row_by_place s orders opens h)
-row_each s orders bars opens h long are k d lt =
+row_each : (s : State) (orders : List CallOrder) (bars : List ℕ) (opens : List Bool) (places : List ℕ) (h : ℕ)
+    → length s.marks ≡ length s.dossier.wishes → opens ≡ opens_of s bars → All (λ k. k < length s.dossier.wishes) places
+    → All (IsInRow s bars h) (row_along s orders opens places h)
+row_each s orders bars opens places h long are within k d lt =
     let ws = s.dossier.wishes in
     let n = length ws in
     let q = is_in_row s opens h in
-    let ys = filter q (range_with_len 0 n) in
+    let ys = filter q places in
     let f = row_item s orders in
     let k_in : k < length ys = omega (arith, lt, length-map ys f) in
     let p = get_or ys k 0 in
-    let below : All (λ j. j < n) ys = All-filter q (λ j. j < n) (range_with_len 0 n)
-    (λ j e j_lt. omega (
-      arith,
-      get_or-range_with_len 0 n j e
-          (omega (arith, j_lt, length-range_with_len 0 n)),
-      j_lt,
-      length-range_with_len 0 n,
-    )) in
+    let below : All (λ j. j < n) ys = All-filter q (λ j. j < n) places within in
     let p_in : p < n = below k 0 k_in in
     let parts = and_parts (wants_bed s opens p) (is_school (wish_in ws p).school h)
-    (filter_passes q (range_with_len 0 n) k 0 k_in) in
+    (filter_passes q places k 0 k_in) in
     let R = λ (b : Bool). (b && not (has_bed_there s p)) ≡ true in
     let in_row = stands_by s bars h (wish_in ws p) (mark_in s.marks p) (wish_in ws p).school
     (subst R (flag_there s bars opens p long are p_in) parts.0) parts.1 in
@@ -192,10 +184,16 @@ item_place x (y ∷ xs) t =
       | inr later ↦ let (k, y, at, rank, wish) = item_place x xs later in (suc k, y, at, rank, wish)
     ]
 
-row_all : (s : State) (orders : List CallOrder) (bars : List ℕ) (opens : List Bool) (h : ℕ) (x : RowWish) (w : Wish) (m : Mark)
-    → length s.marks ≡ length s.dossier.wishes → opens ≡ opens_of s bars → WaitsFor s h x w m
-    → x.rank ≤ slice_index bars h → list_any (is_item x) (row_by_place s orders opens h) ≡ true
-row_all s orders bars opens h x w m long are waits low =
+has_some : (school : Option ℕ) (h : ℕ) → is_school school h ≡ true → is_some school ≡ true
+has_some None h t = absurd (false≢true t)
+has_some (Some g) h t = refl
+
+row_all : (s : State) (orders : List CallOrder) (bars : List ℕ) (opens : List Bool) (places : List ℕ) (h : ℕ)
+    (x : RowWish) (w : Wish) (m : Mark) → length s.marks ≡ length s.dossier.wishes → opens ≡ opens_of s bars
+    → AreByRank s.dossier places
+    → WaitsFor s h x w m
+    → x.rank ≤ slice_index bars h → list_any (is_item x) (row_along s orders opens places h) ≡ true
+row_all s orders bars opens places h x w m long are by_rank waits low =
     let ws = s.dossier.wishes in
     let ms = s.marks in
     let n = length ws in
@@ -213,12 +211,11 @@ row_all s orders bars opens h x w m long are waits low =
     subst R (sym (flag_there s bars opens p long are p_in)) (subst Q (sym mark) (subst P (sym wish) open_now)) in
     let in_row : is_in_row s opens h p ≡ true =
     and_from (wants_bed s opens p) (is_school (wish_in ws p).school h) wants (subst S (sym wish) waits.has) in
-    let at_p : get_or (range_with_len 0 n) p 0 ≡ p = get_or-range_with_len 0 n p 0 p_in ∙ zero-add p in
-    let in_range : is_among p (range_with_len 0 n) ≡ true = list_any_at (nat_eq p) (range_with_len 0 n) p 0
-    (omega (arith, p_in, length-range_with_len 0 n)) (eq-eqb p (get_or (range_with_len 0 n) p 0) (sym at_p)) in
+    let boards : boards_at s.dossier p ≡ true = has_some (wish_in ws p).school h (subst S (sym wish) waits.has) in
+    let in_places : is_among p places ≡ true = all_by_rank s.dossier places by_rank p p_in ∙ boards in
     let rank : (wish_in ws p).board_rank ≡ x.rank = ap (λ (v : Wish). v.board_rank) wish ∙ sym waits.rank in
-    any_item x (row_item s orders) p (filter (is_in_row s opens h) (range_with_len 0 n)) rank refl
-    (among_kept (is_in_row s opens h) p (range_with_len 0 n) in_row in_range)
+    any_item x (row_item s orders) p (filter (is_in_row s opens h) places) rank refl
+    (among_kept (is_in_row s opens h) p places in_row in_places)
 
 -- those items that pass a test, by place
 places_kept : (f : ℕ → RowWish) (q : RowWish → Bool) (ks : List ℕ) → ((k : ℕ) → (f k).wish ≡ k)
@@ -239,42 +236,59 @@ own_items f own ks i e lt =
     let is : get_or (map f ks) i e ≡ f (get_or ks i 0) = get_or-map f ks i 0 e k_in in
     is ∙ ap f (sym (ap (λ (x : RowWish). x.wish) is ∙ own (get_or ks i 0)))
 
-items_sorted : (s : State) (orders : List CallOrder) (opens : List Bool) (h : ℕ) (row : List RowWish)
-    → IsPermutation (row_by_place s orders opens h) row → AreItems s orders row
-items_sorted s orders opens h row moved k x at =
+items_along : (s : State) (orders : List CallOrder) (opens : List Bool) (places : List ℕ) (h : ℕ)
+    → AreItems s orders (row_along s orders opens places h)
+items_along s orders opens places h k x at =
     let f = row_item s orders in
+    let row = row_along s orders opens places h in
     let Q : RowWish → Type 0 = λ x. x ≡ f x.wish in
-    let all : All Q row = All-permutation Q (row_by_place s orders opens h) row moved
-    (own_items f (λ k. refl) (filter (is_in_row s opens h) (range_with_len 0 (length s.dossier.wishes)))) in
     let is : get_or row k x ≡ x = sym (unwrap_or-slice_get row k x) ∙ ap (λ (o : Option RowWish). unwrap_or o x) at in
-    subst Q is (all k x (slice_get_within row k x at))
+    subst Q is (own_items f (λ k. refl) (filter (is_in_row s opens h) places) k x (slice_get_within row k x at))
 
--- a row that is put in order by rank is that of its school
-row_sorted : (s : State) (orders : List CallOrder) (bars : List ℕ) (opens : List Bool) (h : ℕ) (row : List RowWish)
-    → length s.marks ≡ length s.dossier.wishes → opens ≡ opens_of s bars → IsPermutation (row_by_place s orders opens h) row
-    → IsNonDecreasingBy (λ x. x.rank) row → IsStableByKey (λ x. x.rank) nat_cmp (row_by_place s orders opens h) row
-    → IsRow s bars h row
-row_sorted s orders bars opens h row long are moved rises stable =
-    let ws = s.dossier.wishes in
-    let items = row_by_place s orders opens h in
+-- the items of a row rise where the places do
+items_rise : (f : ℕ → RowWish) (rank : ℕ → ℕ) → ((k : ℕ) → (f k).rank ≡ rank k) → (ks : List ℕ)
+    → IsNonDecreasingBy rank ks
+    → IsNonDecreasingBy (λ (x : RowWish). x.rank) (map f ks)
+items_rise f rank same ks rises j k d le lt =
+    let k_in : k < length ks = omega (arith, lt, length-map ks f) in
+    let j_is = ap (λ (x : RowWish). x.rank) (get_or-map f ks j 0 d (omega (arith, le, k_in))) ∙ same (get_or ks j 0) in
+    let k_is = ap (λ (x : RowWish). x.rank) (get_or-map f ks k 0 d k_in) ∙ same (get_or ks k 0) in
+    omega (arith, rises j k 0 le k_in, j_is, k_is)
+
+filter_turned : (t q : ℕ → Bool) (ks : List ℕ) → filter t (filter q ks) ≡ filter q (filter t ks)
+filter_turned t q ks =
+    filter_twice t q ks ∙ filter_same (λ k. q k && t k) (λ k. t k && q k) (λ k. turn_two (q k) (t k)) ks
+    ∙ sym (filter_twice q t ks)
+
+-- a row along the wishes with a school by rank is that of its school
+row_right : (s : State) (orders : List CallOrder) (bars : List ℕ) (opens : List Bool) (places : List ℕ) (h : ℕ)
+    → length s.marks ≡ length s.dossier.wishes → opens ≡ opens_of s bars → All (λ k. k < length s.dossier.wishes) places
+    → AreByRank s.dossier places → IsRow s bars h (row_along s orders opens places h)
+row_right s orders bars opens places h long are within by_rank =
+    let d = s.dossier in
     let q = is_in_row s opens h in
-    let range = range_with_len 0 (length ws) in
+    let row = row_along s orders opens places h in
     let rank_of : RowWish → ℕ = λ x. x.rank in
-    let all : All (IsInRow s bars h) row = All-permutation (IsInRow s bars h) items row moved (row_each s orders bars opens h long are) in
+    let all : All (IsInRow s bars h) row = row_each s orders bars opens places h long are within in
+    let rises = items_rise (row_item s orders) (rank_at d) (λ k. refl) (filter q places)
+    (IsNonDecreasingBy-filter (rank_at d) q places by_rank.rises) in
     let read : (k : ℕ) (x : RowWish) → slice_get row k ≡ Some x → (k < length row) × (get_or row k x ≡ x) =
-    λ k x at. (slice_get_within row k x at, sym (unwrap_or-slice_get row k x) ∙ ap (λ (o : Option RowWish). unwrap_or o x) at) in
+    λ k x at. (
+      slice_get_within row k x at,
+      sym (unwrap_or-slice_get row k x) ∙ ap (λ (o : Option RowWish). unwrap_or o x) at,
+    ) in
     let in_row : (k : ℕ) (x : RowWish) → slice_get row k ≡ Some x
     → IsInRow s bars h x = λ k x at. let P = λ (z : RowWish). IsInRow s bars h z in subst P
     (read k x at).1 (all k x (read k x at).0) in
     let order : InPlaceOrder rank_of (λ x. x.wish) row =
     in_order_from rank_of (λ x. x.wish) row (λ r.
-    let same : map (λ (x : RowWish). x.wish) (filter (λ x. nat_eq x.rank r) row) ≡ filter
-    (λ k. nat_eq (row_item s orders k).rank r) (filter q range) =
-    ap (map (λ (x : RowWish). x.wish)) (stable_own rank_of items row moved stable r)
-    ∙ places_kept (row_item s orders) (λ x. nat_eq x.rank r) (filter q range) (λ k. refl) in
+    let t = λ (k : ℕ). nat_eq (rank_at d k) r in
+    let same : map (λ (x : RowWish). x.wish) (filter (λ x. nat_eq x.rank r) row) ≡ filter q (filter t (boarders_of d)) =
+    places_kept (row_item s orders) (λ x. nat_eq x.rank r) (filter q places) (λ k. refl)
+    ∙ filter_turned t q places ∙ ap (filter q) (by_rank.own r) in
     let P = λ (ks : List ℕ). Ascends ks in
-    subst P (sym same) (ascends-filter (λ k. nat_eq (row_item s orders k).rank r) (filter q range)
-    (ascends-filter q range (ascends-range 0 (length ws))))) in
+    subst P (sym same) (ascends-filter q (filter t (boarders_of d)) (ascends-filter t (boarders_of d)
+    (ascends-filter (boards_at d) (range_with_len 0 (length d.wishes)) (ascends-range 0 (length d.wishes)))))) in
     record {
       rises = λ j k x y le a b.
           let (k_in, k_is) = read k y b in
@@ -283,94 +297,25 @@ row_sorted s orders bars opens h row long are moved rises stable =
       in_order = λ j k x y lt a b same. in_place_order rank_of (λ x. x.wish) row order j k x y lt a b same;
       each = λ k x at. let one = in_row k x at in (one.wish, one.mark, one.waits);
       below = λ k x at. (in_row k x at).low;
-      all = λ x w m waits low. item_place x row
-          (sym (list_any-IsPermutation (is_item x) items row moved) ∙ row_all s orders bars opens h x w m long are waits low);
+      all = λ x w m waits low. item_place x row (row_all s orders bars opens places h x w m long are by_rank waits low);
     }
 
--- the rows below a number are in order by rank, and the others by place
-pub record AreSortedBelow (s : State) (orders : List CallOrder) (bars : List ℕ) (opens : List Bool) (n : ℕ)
-    (rows : List (Vec RowWish Global)) : Type 0 where
-  pub one_each : length rows ≡ length s.dossier.schools
-  pub done : (h : ℕ) (row : Vec RowWish Global) → h < n → slice_get rows h ≡ Some row → IsRow s bars h row.items
-  pub items : (h : ℕ) (row : Vec RowWish Global) → h < n → slice_get rows h ≡ Some row → AreItems s orders row.items
-  pub rest : (h : ℕ) (row : Vec RowWish Global) → n ≤ h → slice_get rows h ≡ Some row → row.items ≡ row_by_place s orders opens h
-
-pub sorted_none : (s : State) (orders : List CallOrder) (bars : List ℕ) (opens : List Bool) (rows : List (Vec RowWish Global))
-    → AreFilled s orders opens rows → AreSortedBelow s orders bars opens 0 rows
-sorted_none s orders bars opens rows filled =
-    record {
-      one_each = filled.one_each;
-      done = λ h row lt at. absurd (omega (arith, lt));
-      items = λ h row lt at. absurd (omega (arith, lt));
-      rest =
-          λ h row le at. filled.each h row at;
-    }
-
-pub sorted_more : (s : State) (orders : List CallOrder) (bars : List ℕ) (opens : List Bool) (n : ℕ) (rows : List (Vec RowWish Global))
-    (before after : Vec RowWish Global) → length s.marks ≡ length s.dossier.wishes → opens ≡ opens_of s bars
-    → AreSortedBelow s orders bars opens n rows → n < length rows → before ≡ get_or rows n before
-    → IsPermutation before.items after.items → IsNonDecreasingBy (λ x. x.rank) after.items
-    → IsStableByKey (λ x. x.rank) nat_cmp before.items after.items
-    → AreSortedBelow s orders bars opens (n + 1) (set rows n after)
-sorted_more s orders bars opens n rows before after long open_are are lt read moved rises stable =
-    let was : before.items ≡ row_by_place s orders opens n = are.rest n before (omega arith)
-    (slice_get_read rows (length rows) n before refl lt read) in
-    let P = λ (xs : List RowWish). IsPermutation xs after.items in
-    let Q = λ (xs : List RowWish). IsStableByKey (λ x. x.rank) nat_cmp xs after.items in
-    let right : IsRow s bars n after.items = row_sorted s orders bars opens n after.items long open_are (subst P was moved) rises
-    (subst Q was stable) in
-    record {
-      one_each = length-set rows n after ∙ are.one_each;
-      done = λ h row h_lt at. elim (cases_eq h n) [
-        | inl here ↦
-            let is : after ≡ row = get_set_here rows n after row (rw here at at) in
-            let R = λ (v : Vec RowWish Global). IsRow s bars h v.items in
-            let S = λ (k : ℕ). IsRow s bars k after.items in
-            subst R is (subst S (sym here) right)
-        | inr other ↦ are.done h row (omega (arith, h_lt, other)) (get_set_other rows n h after row other at)
-      ];
-      items = λ h row h_lt at. elim (cases_eq h n) [
-        | inl here ↦
-            let is : after ≡ row = get_set_here rows n after row (rw here at at) in
-            let R = λ (v : Vec RowWish Global). AreItems s orders v.items in
-            subst R is (items_sorted s orders opens n after.items (subst P was moved))
-        | inr other ↦ are.items h row (omega (arith, h_lt, other)) (get_set_other rows n h after row other at)
-      ];
-      rest = λ h row le at. are.rest h row (omega (arith, le)) (get_set_other rows n h after row (λ e. omega (arith, le, e)) at);
-    }
-
-pub sorted_all : (s : State) (orders : List CallOrder) (bars : List ℕ) (opens : List Bool) (n : ℕ) (rows : List (Vec RowWish Global))
-    → AreSortedBelow s orders bars opens n rows → length rows ≤ n → AreRows s bars rows
-sorted_all s orders bars opens n rows are le = record {
-  one_each = are.one_each;
-  each = λ h row at. are.done h row (omega (arith, le, slice_get_within rows h row at)) at;
+-- the rows that are filled along the boarders are those of the schools
+pub rows_filled : (s : State) (orders : List CallOrder) (bars : List ℕ) (opens : List Bool) (bs : List Boarder)
+    (rows : List (Vec RowWish Global)) → length s.marks ≡ length s.dossier.wishes → opens ≡ opens_of s bars
+    → AreBoarders s.dossier bs → AreFilled s orders opens (wishes_of bs) rows → AreRows s bars rows
+rows_filled s orders bars opens bs rows long are boarders filled = record {
+  one_each = filled.one_each;
+  each = λ h row at.
+      let P = λ (xs : List RowWish). IsRow s bars h xs in
+      subst P (sym (filled.each h row at))
+      (row_right s orders bars opens (wishes_of bs) h long are
+      (places_within s.dossier bs boarders.each) boarders.wishes);
 }
 
-pub items_all : (s : State) (orders : List CallOrder) (bars : List ℕ) (opens : List Bool) (n : ℕ) (rows : List (Vec RowWish Global))
-    → AreSortedBelow s orders bars opens n rows → length rows ≤ n
-    → (h : ℕ) (row : Vec RowWish Global) → slice_get rows h ≡ Some row → AreItems s orders row.items
-items_all s orders bars opens n rows are le h row at =
-    are.items h row (omega (arith, le, slice_get_within rows h row at)) at
-
--- a wish in a row has a school
-row_boards : (wants : Bool) (h : ℕ) (o : Option ℕ) → (is_some o && (wants && is_school o h)) ≡ (wants && is_school o h)
-row_boards true h None = refl
-row_boards false h None = refl
-row_boards wants h (Some school) = refl
-
--- the wishes with a school are in their order all that stand in rows
-pub filled_all : (s : State) (orders : List CallOrder) (opens : List Bool) (rows : List (Vec RowWish Global))
-    → AreRowsOf (row_item s orders) (is_in_row s opens) (length s.dossier.schools) (boarders_of s.dossier) rows
-    → AreFilled s orders opens rows
-filled_all s orders opens rows are =
-    let ws = s.dossier.wishes in
-    let range = range_with_len 0 (length ws) in
-    record {
-      one_each = are.one_each;
-      each = λ h row at.
-          are.each h row at
-          ∙ ap (map (row_item s orders))
-          (filter_twice (is_in_row s opens h) (boards_at s.dossier) range
-          ∙ filter_same (λ k. boards_at s.dossier k && is_in_row s opens h k) (is_in_row s opens h)
-          (λ k. row_boards (wants_bed s opens k) h (wish_in ws k).school) range);
-    }
+pub items_filled : (s : State) (orders : List CallOrder) (opens : List Bool) (places : List ℕ)
+    (rows : List (Vec RowWish Global))
+    → AreFilled s orders opens places rows → AllItems s orders rows
+items_filled s orders opens places rows filled h row at =
+    let P = λ (xs : List RowWish). AreItems s orders xs in
+    subst P (sym (filled.each h row at)) (items_along s orders opens places h)

@@ -1,20 +1,21 @@
--- The flags of the proposed wishes, where it is known how far the seats reach.
-use Rattle.std.proofs.Common.{ℕ, ◌≤◌, ◌<◌, ◌≡◌, Bool, true, false, ◌&&◌, ◌||◌, List, [], map, length, get_or, replicate, inl, inr, refl, sym, ◌∙◌, ap, arith, nat_lt, subst}
+-- The proposed wishes, where it is known how far the seats reach.
+use Rattle.std.proofs.Common.{ℕ, zero, suc, ◌+◌, ◌≤◌, ◌<◌, ◌≡◌, Bool, true, false, ◌&&◌, ◌||◌, List, [], map, length, get_or, inl, inr, refl, sym, ◌∙◌, ap, arith, nat_eq, nat_lt, filter, subst}
 use Rattle.std.specs.Prelude.{slice_index}
-use Rattle.std.specs.List.{range_with_len}
-use Rattle.std.proofs.lemmas.Bool.{cases_Bool, false≢true}
-use Rattle.std.proofs.lemmas.List.{get_or_default, get_or-replicate, length-map, length-replicate}
+use Rattle.std.specs.List.{list_any, range_with_len}
+use Rattle.std.proofs.lemmas.Bool.{cases_Bool, false≢true, ltb-false, ltb-true, ne_eqb}
+use Rattle.std.proofs.lemmas.List.{get_or_default, get_or_past, length-map}
 use Rattle.std.proofs.lemmas.List.FromFn.{get_or-map-range_with_len, length-map-range_with_len}
 use Rattle.std.proofs.lemmas.Simd.{map-map}
 use Rattle.admit_core.specs.declared.dossier.Wish.{Wish}
 use Rattle.admit_core.specs.declared.state.Mark.{Mark}
 use Rattle.admit_core.specs.declared.ranking.CallOrder.{CallOrder}
+use Rattle.admit_core.specs.Lists.{is_among}
 use Rattle.admit_core.specs.State.{State, seats_left}
-use Rattle.proposals.specs.Flags.{SetsAlso}
+use Rattle.day_state.proofs.Along.{among-filter}
 use Rattle.linked_demand.specs.Demand.{is_proposed_at}
-use Rattle.linked_demand.specs.Fronts.{AreFronts, sure_open, reached_open}
+use Rattle.linked_demand.specs.Fronts.{AreFronts, ListsAlso, front_of, listed_open, sure_open, reached_open}
 use Rattle.linked_demand.specs.Line.{is_reached}
-use Rattle.linked_demand.specs.Links.{LinksRow, WaitsAt, claim_of}
+use Rattle.linked_demand.specs.Links.{AllOpenWait, LinksRow, WaitsAt, claim_of}
 use Rattle.linked_demand.specs.Opens.{line_of, seat_row, wants_by}
 use Rattle.linked_demand.specs.Wants.{IsReached, reach_in, seat_rows}
 use Rattle.linked_demand.proofs.Closing.{Closes, programme_within, proposed_at_is, proposed_right, wish_of}
@@ -22,6 +23,22 @@ use Rattle.linked_demand.proofs.Flagging.{row_within}
 use Rattle.linked_demand.proofs.Fronting.{any_reached, closed_at, gathered}
 use Rattle.linked_demand.proofs.Leaving.{reached_is, row_there}
 use Rattle.linked_demand.proofs.Reach.{reach_within}
+
+closed_both : (listed flag sure reached : Bool) → flag ≡ false
+    → ((listed && (flag && sure)) || (reached && flag)) ≡ false
+closed_both true false sure true t = refl
+closed_both true false sure false t = refl
+closed_both false false sure true t = refl
+closed_both false false sure false t = refl
+closed_both listed true sure reached t = absurd (false≢true (sym t))
+
+-- no place past a range is one of it
+none_past : (q : ℕ → Bool) (k a n : ℕ) → a + n ≤ k → is_among k (filter q (range_with_len a n)) ≡ false
+none_past q k a zero le = refl
+none_past q k a (suc n) le =
+    let later = none_past q k (a + 1) n (omega (arith, le)) in
+    let other : nat_eq k a ≡ false = ne_eqb k a (λ e. omega (arith, e, le)) in
+    elim (cases_Bool (q a)) [ inl kept ↦ rw (kept, other) later | inr dropped ↦ rw dropped later ]
 
 closed_flag : (flag sure reached : Bool) → flag ≡ false → ((flag && sure) || (reached && flag)) ≡ false
 closed_flag false sure true t = refl
@@ -81,27 +98,26 @@ module _ {s : State} {orders : List CallOrder} {opens : List Bool} {reached : Li
         row_within s.dossier orders p (length opens) (get_or claims p []) (row_at p here) right.links.opens_each;
   }
 
-  -- the flags that were set of those who need no seat, and then of those who are reached
-  module _ (test : ℕ → Bool) (blank now flags : List Bool) (blank_is : blank ≡ replicate (length opens) false)
-      (first : SetsAlso test blank now) (second : SetsAlso (reached_open opens claims reached (length claims)) now flags) where
-    now_each : length now ≡ length s.dossier.wishes
-    now_each = first.as_long ∙ ap length blank_is ∙ length-replicate (length opens) false ∙ right.links.opens_each
-
-    pub as_many_flags : length flags ≡ length s.dossier.wishes
-    as_many_flags = second.as_long ∙ now_each
-
-    flag_read : (k : ℕ) → k < length s.dossier.wishes → test k ≡ sure_open opens sure k
-        → get_or flags k false ≡ (sure_open opens sure k || reached_open opens claims reached (length s.dossier.programmes) k)
-    flag_read k lt same =
-        let within : k < length blank =
-        omega (arith, lt, right.links.opens_each, ap length blank_is, length-replicate (length opens) false) in
-        let none : get_or blank k false ≡ false =
-        ap (λ (fs : List Bool). get_or fs k false) blank_is
-        ∙ get_or-replicate (length opens) k false false (omega (arith, lt, right.links.opens_each)) in
-        second.each k (omega (arith, lt, now_each))
-        ∙ ap (λ b. b || reached_open opens claims reached (length claims) k)
-        (first.each k within ∙ ap (λ b. b || test k) none ∙ same)
+  -- the list of those who need no seat, and then of those who are reached
+  module _ (listed now found : List ℕ) (first : ListsAlso (listed_open opens sure listed) [] now)
+      (second : ListsAlso (reached_open opens claims reached (length claims)) now found) where
+    found_read : (k : ℕ) → listed_open opens sure listed k ≡ sure_open opens sure k
+        → is_among k found
+        ≡ (sure_open opens sure k || reached_open opens claims reached (length s.dossier.programmes) k)
+    found_read k same =
+        second k
+        ∙ ap (λ b. b || reached_open opens claims reached (length claims) k) (first k ∙ same)
         ∙ ap (λ (n : ℕ). sure_open opens sure k || reached_open opens claims reached n k) many
+
+    -- none of them is past the last wish
+    found_past : (k : ℕ) → length s.dossier.wishes ≤ k → is_among k found ≡ false
+    found_past k past =
+        let closed : get_or opens k false ≡ false =
+        get_or_past opens k false (omega (arith, past, right.links.opens_each)) in
+        second k
+        ∙ ap (λ b. b || reached_open opens claims reached (length claims) k) (first k)
+        ∙ closed_both (is_among k listed) (get_or opens k false) (get_or sure k false)
+        (list_any (λ p. list_any (is_among k) (front_of claims reached p)) (range_with_len 0 (length claims))) closed
 
   -- they say who is proposed
   flag_right : ((k : ℕ) → get_or opens k false ≡ true → (w : Wish) × (m : Mark) × WaitsAt s k w m) → (k : ℕ)
@@ -138,17 +154,29 @@ module _ {s : State} {orders : List CallOrder} {opens : List Bool} {reached : Li
             closed_flag flag needless _ closed ∙ sym (closed_at row k closed)
       ]
 
-  pub flags_right : (row : LinksRow) → record { state = s; orders = orders; opens = opens } ≡ row
-      → ((k : ℕ) → get_or row.opens k false ≡ true → (w : Wish) × (m : Mark) × WaitsAt row.state k w m)
-      → (test : ℕ → Bool)
-      → (((k : ℕ) → get_or opens k false ≡ true → (w : Wish) × (m : Mark) × WaitsAt s k w m)
-      → (k : ℕ) → k < length s.dossier.wishes → test k ≡ sure_open opens sure k)
-      → (blank now flags : List Bool) → blank ≡ replicate (length opens) false → SetsAlso test blank now
-      → SetsAlso (reached_open opens claims reached (length claims)) now flags
-      → (k : ℕ) → k < length row.state.dossier.wishes → get_or flags k false ≡ is_proposed_at row k
-  flags_right row is waits test same blank now flags blank_is first second =
-      let P = λ (r : LinksRow). (k : ℕ) → k < length r.state.dossier.wishes → get_or flags k false ≡ is_proposed_at r k in
-      let Q = λ (r : LinksRow).
-      (k : ℕ) → get_or r.opens k false ≡ true → (w : Wish) × (m : Mark) × WaitsAt r.state k w m in
-      let here = subst Q (sym is) waits in
-      subst P is (λ k lt. flag_read test blank now flags blank_is first second k lt (same here k lt) ∙ flag_right here k lt)
+  pub found_right : (row : LinksRow) → record { state = s; orders = orders; opens = opens } ≡ row
+      → AllOpenWait row.state row.opens → (listed : List ℕ)
+      → (AllOpenWait s opens → (k : ℕ) → k < length s.dossier.wishes
+      → listed_open opens sure listed k ≡ sure_open opens sure k)
+      → (now found : List ℕ) → ListsAlso (listed_open opens sure listed) [] now
+      → ListsAlso (reached_open opens claims reached (length claims)) now found
+      → (k : ℕ) → is_among k found
+      ≡ is_among k (filter (is_proposed_at row) (range_with_len 0 (length row.state.dossier.wishes)))
+  found_right row is waits listed same now found first second =
+      let P = λ (r : LinksRow). (k : ℕ) → is_among k found
+      ≡ is_among k (filter (is_proposed_at r) (range_with_len 0 (length r.state.dossier.wishes))) in
+      let Q = λ (r : LinksRow). AllOpenWait r.state r.opens in
+      let here : AllOpenWait s opens = subst Q (sym is) waits in
+      let own : LinksRow = record { state = s; orders = orders; opens = opens } in
+      let count = length s.dossier.wishes in
+      subst P is
+      (λ k. elim (cases_Bool (nat_lt k count)) [
+        | inl within ↦
+            let lt : k < count = ltb-true k count within in
+            found_read listed now found first second k (same here k lt) ∙ flag_right here k lt
+            ∙ sym (among-filter (is_proposed_at own) k count lt)
+        | inr past ↦
+            let le : count ≤ k = ltb-false k count past in
+            found_past listed now found first second k le
+            ∙ sym (none_past (is_proposed_at own) k 0 count (omega (arith, le)))
+      ])

@@ -3,7 +3,7 @@
 -- The lineup: CalledRows, ClaimSpans, Seating, Lining, Lined.
 -- Open wishes and flags: Opens, LeftOpen, Falling, Closing, Flagging, Waiting, AnyOpen, MaybeSure,
 -- Boarding, Askings.
--- How far seats reach: Reach, Leaving; the proposed wishes: Walking, Fronting, Fronted.
+-- How far seats reach: Reach, Leaving; the proposed wishes: Walking, Fronting, Listing, Fronted.
 -- Rows of the schools: Filling, Items, RowSteps, RowFronts, Demanded, Naming.
 -- A wish is closed: Moving, Ticking, Marking, Staying; the end of a row falls: Cutting, Telling.
 -- A bar falls: OneFall, Asking, Asked, Answered, RoundFalls, TickLaw, Spending.
@@ -34,6 +34,7 @@ pub mod Leaving
 pub mod LeftOpen
 pub mod Lined
 pub mod Lining
+pub mod Listing
 pub mod Lowered
 pub mod Marked
 pub mod Marking

@@ -210,3 +210,16 @@ module _ (links : LinksRow) (ceilings bars free : List ℕ) (rows : List (Vec Ro
         | inl opened ↦ flag_is ∙ proposed_seen k lt opened
         | inr closed ↦ flag_is ∙ closed_at links k closed ∙ closed_seen k lt closed
       ]
+
+  -- so the list of what the links propose is that of the proposed wishes
+  pub listed_seen : (places : List ℕ)
+      → places ≡ filter (is_proposed_at links) (range_with_len 0 (length links.state.dossier.wishes))
+      → places ≡ proposed seen.state seen.orders seen.bars
+  listed_seen places are =
+      let many : length links.state.dossier.wishes ≡ length seen.state.dossier.wishes =
+      ap (λ (r : Round). length r.state.dossier.wishes) is in
+      are
+      ∙ filter_agree (is_proposed_at links) (is_proposed_in seen) 0 (length links.state.dossier.wishes)
+      (λ k ge less. flag_seen k (omega (arith, less, many)) (is_proposed_at links k) refl)
+      ∙ ap (λ (n : ℕ). filter (is_proposed_in seen) (range_with_len 0 n)) many
+      ∙ all_seen

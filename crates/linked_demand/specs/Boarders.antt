@@ -1,5 +1,6 @@
 -- The wishes with a school, each with the school, its rank there and its programme.
-use Rattle.std.specs.Prelude.{◌≡◌, ℕ, ◌<◌, List, length, map, Some, All}
+use Rattle.std.specs.Prelude.{◌≡◌, ◌==◌, ℕ, ◌<◌, List, filter, length, map, Some, All}
+use Rattle.std.specs.List.Sorted.{IsNonDecreasingBy}
 use Rattle.admit_core.specs.DossierRows.{DossierRows}
 use Rattle.day_state.specs.Kept.{wish_in}
 use Rattle.linked_demand.specs.declared.boarders.Boarder.{Boarder}
@@ -16,7 +17,23 @@ pub record IsBoarder (d : DossierRows) (b : Boarder) : Type 0 where
 abbrev pub wishes_of : List Boarder → List ℕ
 wishes_of bs = map (λ b. b.wish) bs
 
--- all wishes with a school, by place
+-- the rank of the wish at a place in its school
+abbrev pub rank_at : DossierRows → ℕ → ℕ
+rank_at d k = (wish_in d.wishes k).board_rank
+
+-- some places of wishes are those of all wishes with a school, in order by rank, and those of one
+-- rank ascend
+pub record AreByRank (d : DossierRows) (places : List ℕ) : Type 0 where
+  pub rises : IsNonDecreasingBy (rank_at d) places
+  pub own : (r : ℕ) → filter (λ k. rank_at d k == r) places
+      ≡ filter (λ k. rank_at d k == r) (boarders_of d)
+
+-- all wishes with a school in this order
 pub record AreBoarders (d : DossierRows) (bs : List Boarder) : Type 0 where
+  pub wishes : AreByRank d (wishes_of bs)
+  pub each : All (IsBoarder d) bs
+
+-- and by place
+pub record AreByPlace (d : DossierRows) (bs : List Boarder) : Type 0 where
   pub wishes : wishes_of bs ≡ boarders_of d
   pub each : All (IsBoarder d) bs

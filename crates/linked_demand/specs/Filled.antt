@@ -1,6 +1,5 @@
--- The rows of the schools, filled place by place.
+-- The rows of the schools, filled boarder by boarder.
 use Rattle.std.specs.Prelude.{ℕ, Bool, false, not, ◌&&◌, List, length, map, filter, slice_index_or, Vec}
-use Rattle.std.specs.List.{range_with_len}
 use Rattle.std.specs.declared.alloc.Global.{Global}
 use Rattle.day_state.specs.Kept.{has_bed_there, wish_in}
 use Rattle.admit_core.specs.declared.ranking.CallOrder.{CallOrder}
@@ -17,14 +16,13 @@ wants_bed s opens k = slice_index_or opens k false && not (has_bed_there s k)
 abbrev pub is_in_row : State → List Bool → ℕ → ℕ → Bool
 is_in_row s opens h k = wants_bed s opens k && is_school (wish_in s.dossier.wishes k).school h
 
--- the row of a school, in order by place
-abbrev pub row_by_place : State → List CallOrder → List Bool → ℕ → List RowWish
-row_by_place s orders opens h =
-    map (row_item s orders)
-    (filter (is_in_row s opens h) (range_with_len 0 (length s.dossier.wishes)))
+-- the row of a school, of wishes at some places
+abbrev pub row_along : State → List CallOrder → List Bool → List ℕ → ℕ → List RowWish
+row_along s orders opens places h =
+    map (row_item s orders) (filter (is_in_row s opens h) places)
 
--- one row for each school, in order by place
-abbrev pub AreFilled : State → List CallOrder → List Bool → List (Vec RowWish Global) → Type 0
-AreFilled s orders opens rows =
-    AreRowsOf (row_item s orders) (is_in_row s opens) (length s.dossier.schools)
-    (range_with_len 0 (length s.dossier.wishes)) rows
+-- one row for each school
+abbrev pub AreFilled : State → List CallOrder → List Bool → List ℕ → List (Vec RowWish Global)
+    → Type 0
+AreFilled s orders opens places rows =
+    AreRowsOf (row_item s orders) (is_in_row s opens) (length s.dossier.schools) places rows

@@ -1,5 +1,5 @@
 -- The open wishes that are proposed, by the claims at the fronts of the lines.
-use Rattle.std.specs.Prelude.{◌≡◌, ℕ, ◌≤◌, ◌<◌, Bool, false, ◌&&◌, List, [], length, take, slice_index, slice_index_or}
+use Rattle.std.specs.Prelude.{◌≡◌, ℕ, ◌≤◌, ◌<◌, Bool, false, ◌&&◌, ◌||◌, List, [], length, take, slice_index, slice_index_or}
 use Rattle.std.specs.List.{list_any, range_with_len}
 use Rattle.admit_core.specs.Lists.{is_among}
 use Rattle.linked_demand.specs.Wants.{AreBelow}
@@ -25,6 +25,10 @@ abbrev pub reached_open : List Bool → List (List (List ℕ)) → List ℕ → 
 reached_open opens lines reached n k =
     list_any (λ p. list_any (is_among k) (front_of lines reached p)) (range_with_len 0 n)
     && slice_index_or opens k false
+
+-- a list has the numbers that it had, and those that pass a test
+abbrev pub ListsAlso : (ℕ → Bool) → List ℕ → List ℕ → Type 0
+ListsAlso test old new = (k : ℕ) → is_among k new ≡ (is_among k old || test k)
 
 -- in each line no more claims are reached than there are, and they are wishes below a number
 pub record AreFronts (n : ℕ) (lines : List (List (List ℕ))) (reached : List ℕ) : Type 0 where

@@ -1,12 +1,12 @@
 //! The wishes with a school, each with what a pass asks of it.
 ghost use Rattle.std.specs.Prelude.{◌≡◌, ◌<◌, length, is_some, IfOk, IfSome};
-ghost use Rattle.linked_demand.specs.Boarders.{AreBoarders, IsBoarder};
+ghost use Rattle.linked_demand.specs.Boarders.{AreBoarders, AreByPlace, IsBoarder};
 ghost use Rattle.linked_demand.specs.Seats.{boards_at};
 
 use crate::wishes::wish_count;
 use admit_core::OutOfMemory;
 use day_state::DayState;
-use proposals::wish_at;
+use proposals::{Ranked, sort_by_rank, wish_at};
 use std::alloc::Global;
 
 /// A wish with a school: its rank there, and its programme.
@@ -16,6 +16,14 @@ pub struct Boarder {
     pub school: u32,
     pub rank: u32,
     pub programme: u32,
+}
+
+impl Ranked for Boarder {
+    ghost rank_of = { λ boarder. boarder.rank };
+
+    fn rank(&self) -> u32 {
+        self.rank
+    }
 }
 
 /// The wish at a place, where it has a school.
@@ -45,8 +53,8 @@ fn boarder_count(state: &DayState<'_>) -> usize {
 }
 
 /// The wishes with a school, by place.
-pub fn boarders_of(alloc: Global, state: &DayState<'_>) -> Result<Vec<Boarder>, OutOfMemory>
-    ensures { IfOk result (λ v. AreBoarders state.now.dossier v.items) }
+fn boarders_by_place(alloc: Global, state: &DayState<'_>) -> Result<Vec<Boarder>, OutOfMemory>
+    ensures { IfOk result (λ v. AreByPlace state.now.dossier v.items) }
 {
     let mut boarders = Vec::with_capacity(alloc, boarder_count(state))?;
     let count = wish_count(state);
@@ -55,5 +63,14 @@ pub fn boarders_of(alloc: Global, state: &DayState<'_>) -> Result<Vec<Boarder>, 
             boarders.push(boarder)?;
         }
     }
+    Ok(boarders)
+}
+
+/// The wishes with a school, in order by their rank there, those of one rank by place.
+pub fn boarders_by_rank(alloc: Global, state: &DayState<'_>) -> Result<Vec<Boarder>, OutOfMemory>
+    ensures { IfOk result (λ v. AreBoarders state.now.dossier v.items) }
+{
+    let mut boarders = boarders_by_place(alloc, state)?;
+    sort_by_rank(&mut boarders)?;
     Ok(boarders)
 }

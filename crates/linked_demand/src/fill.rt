@@ -3,7 +3,6 @@ ghost use Rattle.std.specs.Prelude.{◌≡◌, ◌<◌, length, map, All, IfOk};
 ghost use Rattle.std.specs.List.{range_with_len};
 ghost use Rattle.admit_core.specs.State.{free_beds};
 ghost use Rattle.linked_demand.specs.Boarders.{AreBoarders};
-ghost use Rattle.linked_demand.specs.Filled.{AreFilled};
 ghost use Rattle.linked_demand.specs.Opens.{opens_of};
 ghost use Rattle.linked_demand.specs.Rows.{AllItems, AreRows};
 
@@ -12,54 +11,27 @@ use crate::links::SeatLinks;
 use crate::rows::{RowWish, put_in, rows_with_room};
 use admit_core::OutOfMemory;
 use day_state::{DayState, beds_left};
-use proposals::sort_by_rank;
 use std::alloc::Global;
 
-/// How many boarders of each school are open: room is made by it, so no clause speaks of the
-/// numbers.
+/// How many boarders each school has: room is made by it, so no clause speaks of the numbers.
 fn counts_by_school(
     alloc: Global,
-    links: &SeatLinks<'_, '_>,
     boarders: &[Boarder],
     schools: usize,
 ) -> Result<Vec<u32>, OutOfMemory>
-    requires boarders { All (λ b. b.wish < length links.now.state.dossier.wishes) boarders.now }
-    requires schools { All (λ b. b.school < schools) boarders.now }
+    requires { All (λ b. b.school < schools) boarders.now }
     ensures { IfOk result (λ v. length v.items ≡ schools) }
 {
     let mut counts = vec![in alloc; 0u32; schools]?;
     for boarder in boarders {
-        if links.is_open(boarder.wish) {
-            let school = boarder.school as usize;
-            counts[school] = counts[school].saturating_add(1);
-        }
+        let school = boarder.school as usize;
+        counts[school] = counts[school].saturating_add(1);
     }
     Ok(counts)
 }
 
-/// The rows of the schools, each in order by place.
-fn rows_by_place(
-    alloc: Global,
-    links: &SeatLinks<'_, '_>,
-    boarders: &[Boarder],
-    schools: usize,
-) -> Result<Vec<Vec<RowWish>>, OutOfMemory>
-    requires boarders { AreBoarders links.now.state.dossier boarders.now }
-    requires schools { schools ≡ length links.now.state.dossier.schools }
-    ensures { IfOk result (λ v. AreFilled links.now.state links.now.orders
-        links.now.opens v.items) }
-{
-    let counts = counts_by_school(alloc, links, boarders, schools)?;
-    let mut rows = rows_with_room(alloc, &counts)?;
-    for boarder in boarders {
-        if links.wants_bed(*boarder) {
-            put_in(&mut rows, boarder.school, links.row_wish(*boarder))?;
-        }
-    }
-    Ok(rows)
-}
-
-/// The rows of the schools up to the bars under which the wishes of these links are open.
+/// The rows of the schools up to the bars under which the wishes of these links are open. The
+/// boarders come by rank, and so does each row.
 pub fn rows_of(
     alloc: Global,
     links: &SeatLinks<'_, '_>,
@@ -74,9 +46,12 @@ pub fn rows_of(
 {
     let state = links.state();
     let _ = state.marks(); // one for each wish
-    let mut rows = rows_by_place(alloc, links, boarders, bars.len())?;
-    for school in 0..rows.len() {
-        sort_by_rank(&mut rows[school])?;
+    let counts = counts_by_school(alloc, boarders, bars.len())?;
+    let mut rows = rows_with_room(alloc, &counts)?;
+    for boarder in boarders {
+        if links.wants_bed(*boarder) {
+            put_in(&mut rows, boarder.school, links.row_wish(*boarder))?;
+        }
     }
     Ok(rows)
 }

@@ -9,7 +9,7 @@ ghost use Rattle.linked_demand.specs.Links.{claim_of};
 ghost use Rattle.linked_demand.specs.Opens.{line_of};
 ghost use Rattle.linked_demand.specs.Seats.{PutAt, AreSeated, IsLineup, is_below, is_passed};
 
-use crate::boarders::{Boarder, boarders_of};
+use crate::boarders::{Boarder, boarders_by_rank};
 use crate::calling::called_wishes;
 use crate::claims::Claims;
 use crate::maybe_sure::maybe_sure_of;
@@ -149,7 +149,7 @@ fn claims_of(
 
 /// For each programme those who wish for it, in call order, with their claims; for each wish the
 /// place of its candidate among them, and whether they are called by the programme's limit; the
-/// wishes with a school, and those that may need no seat while they wait.
+/// wishes with a school, by their rank there, and those that may need no seat while they wait.
 pub struct Lineup {
     pub(crate) claims: Vec<Claims>,
     pub(crate) places: Vec<u32>,
@@ -187,7 +187,7 @@ impl Lineup {
         let mut places = vec![in alloc; 0; count]?;
         let mut early = vec![in alloc; false; count]?;
         let claims = claims_of(alloc, state, orders, &mut places, &mut early)?;
-        let boarders = boarders_of(alloc, state)?;
+        let boarders = boarders_by_rank(alloc, state)?;
         let maybe_sure = maybe_sure_of(alloc, state, orders, &claims, &places, &early)?;
         Ok(Lineup {
             claims,

@@ -1,6 +1,6 @@
 //! Who is served in each programme while wishes are closed.
-ghost use Rattle.std.specs.Prelude.{◌≡◌, ℕ, ◌+◌, ◌<◌, ◌&&◌, ◌||◌, true, false, not, length, map, slice_set, slice_index_or, count_by, IfOk};
-ghost use Rattle.std.specs.List.{enumerate_from};
+ghost use Rattle.std.specs.Prelude.{◌≡◌, ℕ, ◌+◌, ◌<◌, ◌&&◌, ◌||◌, true, false, not, length, map, filter, slice_set, slice_index_or, count_by, IfOk};
+ghost use Rattle.std.specs.List.{enumerate_from, range_with_len};
 ghost use Rattle.admit_core.specs.Proposals.{is_behind_bar};
 ghost use Rattle.admit_core.specs.State.{entries};
 ghost use Rattle.day_state.specs.Kept.{wish_in};
@@ -18,7 +18,7 @@ ghost use Rattle.linked_demand.specs.Rows.{row_item, IsOpenItem};
 use crate::boarders::Boarder;
 use crate::cursors::Cursors;
 use crate::fresh::note_fresh;
-use crate::fronts::{flag_fronts, flag_sure, no_flags};
+use crate::fronts::{list_fronts, list_sure};
 use crate::line::{is_reached, last_wanting, leaves_seat, next_wanting};
 use crate::lineup::Lineup;
 use crate::marks::Marks;
@@ -32,17 +32,16 @@ use std::alloc::Global;
 use std::marker::Model;
 use std::sync::ledger::Ledger;
 
-/// Whether a boarder's wish stays open: its candidate ranks at most at the bar of the school, or
-/// has a bed there.
-fn stays_open(state: &DayState<'_>, bars: &[u32], boarder: Boarder, open: bool) -> bool
+/// Whether the candidate of a boarder's wish is behind the bar of the school. Who ranks at most at
+/// the bar is not looked at.
+fn is_behind(state: &DayState<'_>, bars: &[u32], boarder: Boarder) -> bool
     requires boarder { IsBoarder state.now.dossier boarder }
     requires bars { length bars.now ≡ length state.now.dossier.schools }
-    ensures { result ≡ («open» && not (is_behind_bar state.now bars.now
+    ensures { result ≡ is_behind_bar state.now bars.now
         (wish_in state.now.dossier.wishes boarder.wish)
-        (wish_in state.now.dossier.wishes boarder.wish).school)) }
+        (wish_in state.now.dossier.wishes boarder.wish).school }
 {
-    open && (boarder.rank <= bars[boarder.school as usize]
-        || state.is_live_in_its_school(boarder.wish))
+    bars[boarder.school as usize] < boarder.rank && !state.is_live_in_its_school(boarder.wish)
 }
 
 /// The open wishes under bars: of those that wait only the wishes with a school are asked for its
@@ -61,9 +60,8 @@ fn open_under<'a, 'd>(
     let _ = state.marks(); // one for each wish
     let mut opens = OpenWishes::all_waiting(alloc, state)?;
     for boarder in boarders {
-        let open = opens.get(boarder.wish);
-        let stays = stays_open(state, bars, *boarder, open);
-        opens.keep_if(boarder.wish, stays);
+        let is_behind = is_behind(state, bars, *boarder);
+        opens.close_if(boarder.wish, is_behind);
     }
     Ok(opens)
 }
@@ -256,24 +254,26 @@ impl<'a, 'd> SeatLinks<'a, 'd> {
         self.opens.get(wish)
     }
 
-    /// Whether each wish is proposed, by place, where those that are open wait.
-    pub fn proposed_flags(&self, alloc: Global) -> Result<Vec<bool>, OutOfMemory>
+    /// The places of the wishes that are proposed, ascending, where those that are open wait. Each
+    /// is met in the claims that the seats reach, or needs no seat, or both.
+    pub fn proposed_places(&self, alloc: Global) -> Result<Vec<u32>, OutOfMemory>
         requires { AllOpenWait self.now.state self.now.opens }
-        ensures long { IfOk result (λ v. length v.items ≡ length self.now.state.dossier.wishes) }
-        ensures each { IfOk result (λ v. (k : ℕ) → k < length self.now.state.dossier.wishes
-            → slice_index_or v.items k false ≡ is_proposed_at self.now k) }
+        ensures { IfOk result (λ v. v.items ≡ filter (is_proposed_at self.now)
+            (range_with_len 0 (length self.now.state.dossier.wishes))) }
     {
         let lineup = self.lineup;
-        let mut flags = no_flags(alloc, self.opens.count())?;
-        flag_sure(
+        let mut found = Vec::new(alloc);
+        list_sure(
             self.state,
             &self.opens,
             &lineup.early,
             &lineup.maybe_sure,
-            &mut flags,
-        );
-        flag_fronts(&self.opens, &lineup.claims, &self.reached, &mut flags);
-        Ok(flags)
+            &mut found,
+        )?;
+        list_fronts(&self.opens, &lineup.claims, &self.reached, &mut found)?;
+        found.sort_unstable();
+        found.dedup();
+        Ok(found)
     }
 
     /// Whether a waiting wish is proposed.

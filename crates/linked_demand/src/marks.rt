@@ -43,13 +43,16 @@ impl Marks {
         Ok(Marks { flags, places })
     }
 
-    /// So many places, each with a mark.
+    /// So many places, each with a mark. They are marked from the last one on, so that the first
+    /// one's mark is taken away first.
     pub fn all(alloc: Global, count: u32) -> Result<Marks, OutOfMemory>
         ensures { IfOk result (λ m. m ≡ replicate count true) }
     {
         let mut marks = Marks::none(alloc, count)?;
-        for place in 0..count {
-            marks.set(place);
+        let mut left = count;
+        while left > 0 {
+            left -= 1;
+            marks.set(left);
         }
         Ok(marks)
     }

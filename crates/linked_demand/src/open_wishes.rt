@@ -1,8 +1,7 @@
 //! Which wishes are open.
-ghost use Rattle.std.specs.Prelude.{◌≡◌, ◌<◌, ◌&&◌, true, false, not, length, map, slice_index_or, slice_set, IfOk};
+ghost use Rattle.std.specs.Prelude.{◌≡◌, ◌<◌, ◌&&◌, false, not, length, replicate, map, slice_index_or, slice_set, IfOk};
 ghost use Rattle.admit_core.specs.State.{is_waiting};
 
-use crate::fronts::no_flags;
 use admit_core::{Mark, OutOfMemory};
 use day_state::DayState;
 use std::alloc::Global;
@@ -43,6 +42,13 @@ fn is_left(mark: Mark, closed: bool) -> bool
     mark.is_waiting() && !closed
 }
 
+/// So many flags, of which none is set.
+fn no_flags(alloc: Global, count: usize) -> Result<Vec<bool>, OutOfMemory>
+    ensures { IfOk result (λ v. v.items ≡ replicate count false) }
+{
+    Ok(vec![in alloc; false; count]?)
+}
+
 impl<'a, 'd> OpenWishes<'a, 'd> {
     /// All wishes that wait.
     pub fn all_waiting(
@@ -79,13 +85,13 @@ impl<'a, 'd> OpenWishes<'a, 'd> {
         self.closed[place as usize] = true;
     }
 
-    /// Closes a wish where it does not stay open.
-    pub fn keep_if(&mut self, place: u32, stays: bool)
-        requires place { place < length self.old }
-        requires open { stays ≡ true → slice_index_or self.old place false ≡ true }
-        ensures { self.new ≡ slice_set self.old place stays }
+    /// Closes a wish where its candidate is behind the bar of its school.
+    pub fn close_if(&mut self, place: u32, is_behind: bool)
+        requires { place < length self.old }
+        ensures { self.new ≡ slice_set self.old place (slice_index_or self.old place false
+            && not is_behind) }
     {
-        if !stays {
+        if is_behind {
             self.close(place);
         }
     }

@@ -16,8 +16,6 @@ use crate::over::{ask_marked, demands_in, front_of};
 use crate::overfilled::Overfilled;
 use crate::rows::RowWish;
 use crate::schools::{Schools, school_count, schools_of};
-use crate::seats::is_set;
-use crate::wishes::wish_count;
 use admit_core::{CallOrders, OutOfMemory, Steps};
 use bar_fixpoint::Falling;
 use day_state::DayState;
@@ -138,22 +136,14 @@ impl<'a, 'd> LinkedRound<'a, 'd> {
     }
 
     /// The places of the wishes that are proposed at the present bars, ascending. It goes along the
-    /// claims that the seats reach, and twice along the wishes.
+    /// claims that the seats reach, and along the wishes that may need no seat.
     pub fn proposed(&self, alloc: Global) -> Result<Vec<u32>, OutOfMemory>
         ensures places { IfOk result (λ v. v.items ≡ proposed self.now.state self.now.orders
             self.now.bars) }
         ensures offers { IfOk result (λ v. v.items ≡ ⟦<LinkedRound<'a, 'd> as Falling>⟧.offers
             self.now (⟦<LinkedRound<'a, 'd> as Falling>⟧.bars self.now)) }
     {
-        let flags = self.links.proposed_flags(alloc)?;
-        let mut places = Vec::new(alloc);
-        let count = wish_count(self.links.state());
-        for wish in 0..count {
-            if is_set(&flags, wish) {
-                places.push(wish)?;
-            }
-        }
-        Ok(places)
+        self.links.proposed_places(alloc)
     }
 }
 

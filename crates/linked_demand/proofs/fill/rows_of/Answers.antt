@@ -1,43 +1,75 @@
-use Rattle.std.proofs.Common.{◌≤◌, ◌≡◌, length, subst, arith}
+use Rattle.std.proofs.Common.{ℕ, ◌<◌, ◌≡◌, List, length, get_or, nat_eq, sym, ◌∙◌, ap, arith, subst}
+use Rattle.std.proofs.lemmas.List.{length-map, take_all}
 use Rattle.admit_core.specs.State.{State}
-use Rattle.linked_demand.proofs.Filling.{sorted_none, sorted_more, sorted_all, items_all}
+use Rattle.linked_demand.specs.declared.boarders.Boarder.{Boarder}
+use Rattle.linked_demand.specs.Boarders.{IsBoarder, wishes_of}
+use Rattle.linked_demand.specs.Filled.{AreFilled, is_in_row}
+use Rattle.linked_demand.specs.Keyed.{AreEmpty}
+use Rattle.linked_demand.specs.Rows.{row_item}
+use Rattle.linked_demand.proofs.Boarding.{in_own_row, in_no_row, place_of}
+use Rattle.linked_demand.proofs.Filling.{items_filled, rows_filled}
+use Rattle.linked_demand.proofs.Keyed.{rows_none, rows_more, rows_over}
 use Rattle.linked_demand.proofs.fill.rows_of.Goals as goal
+use Rattle.linked_demand.proofs.fill.rows_of.Goals.{then-wants_bed+in_ok-put_in, else-wants_bed}
 
-pub loop-school-init : goal.loop-school-init
-loop-school-init c =
+pub loop-boarder-init : goal.loop-boarder-init
+loop-boarder-init c =
     let links = c.args.links.now in
-    sorted_none links.state links.orders c.args.bars.now links.opens c.in_ok-rows.rows.items c.in_ok-rows.ensures
+    let s = links.state in
+    let P = λ (n : ℕ). AreEmpty n c.in_ok-rows.rows.items in
+    let count = ap length c.deref.ensures.value ∙ c.in_ok-counts.ensures ∙ c.requires.bars in
+    rows_none (row_item s links.orders) (is_in_row s links.opens) (length s.dossier.schools)
+    c.in_ok-rows.rows.items (subst P count c.in_ok-rows.ensures)
 
-pub loop-school-preserved : goal.loop-school-preserved
-loop-school-preserved c =
+pub loop-boarder-preserved : goal.loop-boarder-preserved
+loop-boarder-preserved c =
     let links = c.args.links.now in
-    let P = λ (s : State). length s.marks ≡ length s.dossier.wishes in
-    sorted_more links.state links.orders c.args.bars.now links.opens c.loop-school.school c.loop-school.rows.items
-    c.index_mut.result.now c.sort_by_rank.new.items
-    (subst P c.state-state.ensures (rw c.marks.ensures.marks at c.marks.ensures.one_each))
-    c.requires.opens c.loop-school.invariant
-    (omega (
-      arith,
-      c.loop-school-test.true,
-      c.len-school-end.ensures,
-      c.loop-school.invariant.one_each,
-      c.in_ok-rows.ensures.one_each,
-    )) c.index_mut.ensures.value
-    c.sort_by_rank.ensures.moved c.in_ok-sort_by_rank.ensures.rises c.in_ok-sort_by_rank.ensures.stable
+    let s = links.state in
+    let opens = links.opens in
+    let boarders = c.args.boarders.now in
+    let places = wishes_of boarders in
+    let i = c.loop-boarder.boarder-index in
+    let none : Boarder = record { wish = 0; school = 0; rank = 0; programme = 0 } in
+    let b = get_or boarders i none in
+    let lt : i < length boarders = c.loop-boarder-test.true in
+    let lt_place : i < length places = omega (arith, lt, length-map boarders (λ (x : Boarder). x.wish)) in
+    let right : IsBoarder s.dossier b = c.requires.boarders.each i none lt in
+    let k_is : get_or places i 0 ≡ b.wish = place_of boarders i none lt in
+    let item = row_item s links.orders in
+    let belongs = is_in_row s opens in
+    let n = length s.dossier.schools in
+    let wants = c.wants_bed.result in
+    let rows = c.loop-boarder.rows.items in
+    elim c.if-wants_bed.branch [
+      | then-wants_bed+in_ok-put_in w ↦
+          rw w.rows-is
+          (rows_more item belongs n places i (λ h. nat_eq b.school h) w.row_wish.result rows
+          w.put_in.new.rows.items lt_place
+          (in_own_row s opens b right (get_or places i 0) k_is wants c.wants_bed.ensures w.if-wants_bed.true)
+          (w.row_wish.ensures ∙ ap item (sym k_is))
+          c.loop-boarder.invariant w.in_ok-put_in.ensures)
+      | else-wants_bed w ↦
+          rw w.rows-is
+          (rows_over item belongs n places i rows lt_place
+          (in_no_row s opens b right (get_or places i 0) k_is wants c.wants_bed.ensures w.if-wants_bed.false)
+          c.loop-boarder.invariant)
+    ]
 
 pub returns : goal.returns
 returns c =
     let links = c.args.links.now in
-    let all : length c.loop-school.rows.items ≤ c.loop-school.school = omega (
-      arith,
-      c.loop-school-test.false,
-      c.len-school-end.ensures,
-      c.loop-school.invariant.one_each,
-      c.in_ok-rows.ensures.one_each,
-    ) in
+    let s = links.state in
+    let boarders = c.args.boarders.now in
+    let rows = c.loop-boarder.rows.items in
+    let P = λ (ks : List ℕ). AreFilled s links.orders links.opens ks rows in
+    let filled : AreFilled s links.orders links.opens (wishes_of boarders) rows =
+    subst P (take_all c.loop-boarder.boarder-index (wishes_of boarders)
+    (omega (arith, c.loop-boarder-test.false, length-map boarders (λ (b : Boarder). b.wish))))
+    c.loop-boarder.invariant in
+    let Q = λ (t : State). length t.marks ≡ length t.dossier.wishes in
+    let long = subst Q c.state-state.ensures (rw c.marks.ensures.marks at c.marks.ensures.one_each) in
     record {
-      rows = sorted_all links.state links.orders c.args.bars.now links.opens c.loop-school.school
-          c.loop-school.rows.items c.loop-school.invariant all;
-      items = items_all links.state links.orders c.args.bars.now links.opens c.loop-school.school
-          c.loop-school.rows.items c.loop-school.invariant all;
+      rows = rows_filled s links.orders c.args.bars.now links.opens boarders rows long c.requires.opens
+          c.requires.boarders filled;
+      items = items_filled s links.orders links.opens (wishes_of boarders) rows filled;
     }

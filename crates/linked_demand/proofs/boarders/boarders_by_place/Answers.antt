@@ -7,8 +7,8 @@ use Rattle.linked_demand.specs.declared.boarders.Boarder.{Boarder}
 use Rattle.linked_demand.specs.Boarders.{IsBoarder, wishes_of}
 use Rattle.linked_demand.specs.Seats.{boards_at}
 use Rattle.linked_demand.proofs.Keeping.{range_kept, range_left}
-use Rattle.linked_demand.proofs.boarders.boarders_of.Goals as goal
-use Rattle.linked_demand.proofs.boarders.boarders_of.Goals.{in-Some+in_ok-push, in_default}
+use Rattle.linked_demand.proofs.boarders.boarders_by_place.Goals as goal
+use Rattle.linked_demand.proofs.boarders.boarders_by_place.Goals.{in-Some+in_ok-push, in_default}
 
 pub loop-place-preserved : goal.loop-place-preserved
 loop-place-preserved c =
