@@ -2,13 +2,11 @@ use Rattle.std.proofs.Common.{◌≡◌, ◌∙◌, ◌+◌, true, false, drop, 
 use Rattle.std.proofs.lemmas.List.{drop_all}
 use Rattle.std.proofs.lemmas.Result.{err_from_is_err_and}
 use Rattle.admit_core.specs.DossierRows.{DossierRows}
-use Rattle.std.specs.Prelude.{Option, ℕ}
-use Rattle.admit_core.specs.declared.chain.CheckReason.{CheckReason}
 use Rattle.admit_core.specs.declared.state.Freed.{Freed}
 use Rattle.admit_core.specs.declared.chain.CheckReason.TheVariants.{PassExtra}
 use Rattle.admit_core.specs.Chains.{extra_pass, frees_nothing_by, passes_fault}
 use Rattle.admit_core.specs.Days.{frees_nothing}
-use Rattle.certificate.specs.Checked.{Finds, state_after}
+use Rattle.certificate.specs.Checked.{state_after}
 use Rattle.certificate.proofs.Lowering.{drop_item, pass_goes_on, pass_is_last, pass_stops, state_goes_on}
 use Rattle.certificate.proofs.passes.check_passes.Goals as goal
 
