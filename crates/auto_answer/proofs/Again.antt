@@ -16,19 +16,20 @@ use Rattle.admit_core.proofs.Statuses.{status_of_auto}
 use Rattle.admit_core.proofs.Plain.{any-filter}
 use Rattle.day_state.specs.Kept.{mark_in, wish_in}
 use Rattle.day_state.proofs.Along.{mark_in-with_marks, length-with_marks, same_state, same_marks}
+use Rattle.day_state.proofs.Independence.{Agrees}
 use Rattle.day_state.proofs.OneAccepted.{who}
 use Rattle.auto_answer.proofs.Answering.{all_mark}
 use Rattle.auto_answer.proofs.Freeing.{passing_place, place_passes}
 use Rattle.auto_answer.proofs.OwnMarks.{holds, own_best}
 
-abbrev preference : Wish × Mark → ℕ
+abbrev pub preference : Wish × Mark → ℕ
 preference x = x.0.preference
 
-abbrev ranked : Wish → Bool
+abbrev pub ranked : Wish → Bool
 ranked w = nat_lt zero w.preference
 
 -- the least of those that pass a test is one of them
-least_stands : {X : Type 0} (q : X → Bool) (key : X → ℕ) (ys : List X) (x : X) → least_by key (filter q ys) ≡ Some x
+pub least_stands : {X : Type 0} (q : X → Bool) (key : X → ℕ) (ys : List X) (x : X) → least_by key (filter q ys) ≡ Some x
     → list_any (λ y. q y && (key y == key x)) ys ≡ true
 least_stands {X} q key ys x e =
     let t = λ (z : X). key z == key x in
@@ -122,14 +123,16 @@ module _ (s : State) (stamp : Stamp) (long : length s.marks ≡ length s.dossier
       ∙ ap (λ (x : Option (Wish × Mark)). auto_mark stamp x (wish_in s.dossier.wishes k) (mark_in s.marks k)) best
 
   -- without a best one nothing changes, and there is none afterwards
+  pub none_changed : (c : ℕ) → best_live s c ≡ None → Agrees c s end
+  none_changed c none = record {
+    dossier = refl;
+    long = long;
+    long_too = end_long;
+    same = λ k lt own. sym (mark_by c k None none lt own);
+  }
+
   none_again : (c : ℕ) → best_live s c ≡ None → best_live end c ≡ None
-  none_again c none =
-      sym (own_best c s end (record {
-        dossier = refl;
-        long = long;
-        long_too = end_long;
-        same = λ k lt own. sym (mark_by c k None none lt own);
-      })) ∙ none
+  none_again c none = sym (own_best c s end (none_changed c none)) ∙ none
 
   -- else the best one stays the best
   best_again : (c : ℕ) (b : Wish × Mark) → best_live s c ≡ Some b

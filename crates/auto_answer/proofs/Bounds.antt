@@ -9,7 +9,7 @@ use Rattle.admit_core.specs.declared.dossier.Wish.{Wish}
 use Rattle.admit_core.specs.declared.state.Mark.{Mark}
 use Rattle.admit_core.specs.State.{State, entries, is_live, is_school, has_school, holds_seat, holds_bed}
 use Rattle.admit_core.specs.AutoAnswer.{seats_freed, beds_freed}
-use Rattle.auto_answer.specs.LastWish.{wishers}
+use Rattle.auto_answer.specs.Asked.{wishers}
 
 abbrev one : Bool → ℕ
 one b = cond b 1 0

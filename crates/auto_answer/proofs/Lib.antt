@@ -1,9 +1,9 @@
 -- Reading order. Each file says in its first line what it shows.
 -- One candidate: OwnMarks (only their own marks count), Bounds (how much they free).
--- All candidates, each at their last wish: Once, and then Answering, the loop of auto_all.
+-- All candidates, each once: Once, and then Answering, one answer beside those of all.
 -- Laws: Freeing, LawsOfAnswers, Again (a second answer does nothing).
 -- The candidates of some wishes, where all others have been answered for: NewOffers, the loop of
--- auto_some, which rests on Again.
+-- auto_some, which rests on Again. All who have a live wish: Asking, the loop of auto_all.
 pub mod OwnMarks
 pub mod Once
 pub mod Bounds
@@ -12,3 +12,4 @@ pub mod LawsOfAnswers
 pub mod Freeing
 pub mod Again
 pub mod NewOffers
+pub mod Asking

@@ -17,7 +17,7 @@ use Rattle.admit_core.specs.AutoAnswer.{auto_one, auto_all, seats_freed, beds_fr
 use Rattle.day_state.proofs.Along.{length-with_marks}
 use Rattle.day_state.proofs.Independence.{Agrees, agrees_self}
 use Rattle.day_state.proofs.Places.{candidate_in}
-use Rattle.auto_answer.specs.LastWish.{wishers}
+use Rattle.auto_answer.specs.Asked.{wishers}
 use Rattle.auto_answer.specs.Laws.{SameOwnMarks, AreAnsweredBut}
 use Rattle.auto_answer.proofs.Again.{answered_once}
 use Rattle.auto_answer.proofs.Answering.{all_mark, joined, one_other, one_here, same_freed, seats_of_all, beds_of_all, own_among, same_numbers}
@@ -109,10 +109,10 @@ dossier_stays start now stamp cs all so_far =
       | inr none ↦ sym (so_far.waits 0 none).dossier
     ]
 
-among_more : (c x : ℕ) (cs : List ℕ) → is_among c (cs ++ x ∷ []) ≡ (is_among c cs || (nat_eq c x || false))
+pub among_more : (c x : ℕ) (cs : List ℕ) → is_among c (cs ++ x ∷ []) ≡ (is_among c cs || (nat_eq c x || false))
 among_more c x cs = list_any-append (nat_eq c) cs (x ∷ [])
 
-among_last : (x : ℕ) (cs : List ℕ) → is_among x (cs ++ x ∷ []) ≡ true
+pub among_last : (x : ℕ) (cs : List ℕ) → is_among x (cs ++ x ∷ []) ≡ true
 among_last x cs = among_more x x cs ∙ or_right (is_among x cs) (nat_eq x x || false) (or_left (nat_eq x x) false (eq-eqb x x refl))
 
 among_other : (c x : ℕ) (cs : List ℕ) → (c ≡ x → ⊥) → is_among c (cs ++ x ∷ []) ≡ is_among c cs
@@ -236,7 +236,7 @@ more_candidates d places i p lt here =
     ∙ ap (λ (k : ℕ). first_candidates d places i ++ candidate_of d k ∷ []) here
 
 -- the answer beside a wish, by the candidate that it has in the dossier of the start
-at_start : (start now next : State) (stamp : Stamp) (cs : List ℕ) (p : ℕ) (all own : Freed) → AreAnswered start now stamp cs all
+pub at_start : (start now next : State) (stamp : Stamp) (cs : List ℕ) (p : ℕ) (all own : Freed) → AreAnswered start now stamp cs all
     → next ≡ auto_one now (candidate_of now.dossier p) stamp → own ≡ freed_by now next (candidate_of now.dossier p)
     → let x = candidate_of start.dossier p in
     (next ≡ auto_one now x stamp) × (own ≡ freed_by now (auto_one now x stamp) x)

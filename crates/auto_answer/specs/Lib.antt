@@ -1,2 +1,2 @@
-pub mod LastWish
+pub mod Asked
 pub mod Laws

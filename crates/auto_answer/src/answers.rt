@@ -1,11 +1,7 @@
 //! The automatic answers.
-ghost use Rattle.std.specs.Prelude.{◌≡◌, ◌<◌, ◌+◌, All, length, not, drop, map, slice_get, filter, nat_eq, ◌==◌};
-ghost use Rattle.std.specs.List.{range_with_len};
+ghost use Rattle.std.specs.Prelude.{◌≡◌, ◌<◌, All, length};
 ghost use Rattle.admit_core.specs.AutoAnswer.{auto_one, auto_all, freed_by, freed};
-ghost use Rattle.admit_core.specs.DossierRows.{candidate_of};
-ghost use Rattle.admit_core.specs.Lists.{is_among};
-ghost use Rattle.admit_core.specs.OwnWishes.{own_places};
-ghost use Rattle.auto_answer.specs.LastWish.{wishers};
+ghost use Rattle.auto_answer.specs.Asked.{is_live_ranked};
 ghost use Rattle.auto_answer.specs.Laws.{AreAnsweredBut};
 
 use admit_core::{Freed, Stamp};
@@ -20,6 +16,9 @@ pub fn auto_one(state: &mut DayState<'_>, candidate: u32, stamp: Stamp) -> Freed
 }
 
 /// Answers for all candidates who rank their wishes.
+///
+/// It looks at each wish once, and asks a candidate at most twice: at the first of their live
+/// wishes, and again at the one that they keep. Who has no live wish is not asked.
 pub fn auto_all(state: &mut DayState<'_>, stamp: Stamp) -> Freed
     ensures state { state.new ≡ auto_all state.old stamp }
     ensures freed { result ≡ freed state.old state.new }
@@ -28,7 +27,7 @@ pub fn auto_all(state: &mut DayState<'_>, stamp: Stamp) -> Freed
     let mut all = Freed { seats: 0, beds: 0 };
     let count = state.dossier().wishes.len() as u32;
     for place in 0..count {
-        if is_last_wish(state, place) {
+        if is_live_ranked(state, place) {
             let own = state.answer_beside(place, stamp);
             all = freed_in_all(all, own);
         }
@@ -56,11 +55,11 @@ pub fn auto_some(state: &mut DayState<'_>, places: &[u32], stamp: Stamp) -> Free
     all
 }
 
-/// Whether no later wish is of the same candidate, so that each candidate is answered for once.
-fn is_last_wish(state: &DayState<'_>, place: u32) -> bool
+/// Whether a wish is live, and its candidate ranks their wishes.
+fn is_live_ranked(state: &DayState<'_>, place: u32) -> bool
     requires { place < length state.now.dossier.wishes }
-    ensures { result ≡ not (is_among (candidate_of state.now.dossier place)
-        (drop (place + 1) (wishers state.now.dossier))) }
+    ensures { result ≡ is_live_ranked state.now place }
 {
-    state.own_wishes_beside(place).last().copied() == Some(place)
+    state.status(place).is_live()
+        && state.dossier().wishes.as_slice()[place as usize].preference > 0
 }

@@ -67,21 +67,25 @@ fn only(numbers: &[u32]) -> Option<u32>
     }
 }
 
-/// The fall of some numbers: the school, the bar before and after it, and at least one wish.
-fn fall_at(alloc: Global, row: u64, numbers: &[u32]) -> Result<Option<FallLine>, OutOfMemory>
-    ensures { IfOk result (λ found. found ≡ fall_at row numbers.now) }
+/// The fall of some numbers: the school, the bar before and after it, and at least one wish. The
+/// wishes stay in the list that is handed in.
+fn fall_at(row: u64, numbers: Vec<u32>) -> Option<FallLine>
+    ensures { result ≡ fall_at row numbers.items }
 {
     if numbers.len() < 4 {
-        return Ok(None);
+        return None;
     }
-    let wishes = numbers[3..].to_vec(alloc)?;
-    Ok(Some(FallLine {
+    let mut numbers = numbers;
+    let school = numbers.remove(0);
+    let from = numbers.remove(0);
+    let to = numbers.remove(0);
+    Some(FallLine {
         row,
-        school: numbers[0],
-        from: numbers[1],
-        to: numbers[2],
-        wishes: Sequence::from_vec(wishes),
-    }))
+        school,
+        from,
+        to,
+        wishes: Sequence::from_vec(numbers),
+    })
 }
 
 /// Whether a word is this one.
@@ -91,23 +95,18 @@ fn is_word(word: &[u8], other: &str) -> bool
     word == other.as_bytes()
 }
 
-/// The line of a word and numbers.
-fn line_with(
-    alloc: Global,
-    row: u64,
-    word: &[u8],
-    numbers: &[u32],
-) -> Result<Option<Line>, OutOfMemory>
-    ensures { IfOk result (λ found. found ≡ line_with row word.now numbers.now) }
+/// The line of a word and numbers. It takes no memory.
+fn line_with(row: u64, word: &[u8], numbers: Vec<u32>) -> Option<Line>
+    ensures { result ≡ line_with row word.now numbers.items }
 {
     if is_word(word, "day") {
-        Ok(only(numbers).map(Line::Day))
+        only(&numbers).map(Line::Day)
     } else if is_word(word, "pass") {
-        Ok(only(numbers).map(Line::Pass))
+        only(&numbers).map(Line::Pass)
     } else if is_word(word, "fall") {
-        Ok(fall_at(alloc, row, numbers)?.map(Line::Fall))
+        fall_at(row, numbers).map(Line::Fall)
     } else {
-        Ok(None)
+        None
     }
 }
 
@@ -121,6 +120,6 @@ pub(crate) fn line_of(alloc: Global, row: u64, text: &[u8]) -> Result<Option<Lin
     };
     match numbers_of(alloc, after)? {
         None => Ok(None),
-        Some(numbers) => line_with(alloc, row, word, &numbers),
+        Some(numbers) => Ok(line_with(row, word, numbers)),
     }
 }

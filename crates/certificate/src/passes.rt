@@ -1,5 +1,6 @@
 //! The passes of a day, tested one after another.
-ghost use Rattle.std.specs.Prelude.{◌≡◌, ◌≤◌, ◌<◌, ◌^◌, [], IfOk, OnOk, drop, length};
+ghost use Rattle.std.specs.Prelude.{◌≡◌, ◌≤◌, ◌<◌, ◌^◌, [], IfNone, IfOk, OnOk, drop, length, option_map};
+ghost use Rattle.admit_core.specs.declared.chain.CheckReason.TheVariants.{PassExtra};
 ghost use Rattle.admit_core.specs.Chains.{bars_by, closing_by, day_fault, extra_pass, pass_fault};
 ghost use Rattle.admit_core.specs.Days.{freed_after, frees_nothing};
 ghost use Rattle.certificate.specs.Checked.{Finds, state_after};
@@ -42,16 +43,17 @@ fn frees_nothing(freed: Freed) -> bool
     freed.seats == 0 && freed.beds == 0
 }
 
-/// Tests that no pass follows from a place on.
-fn check_end(passes: &[PassChain], from: usize) -> Result<(), Stop>
+/// The row of the pass at a place, where there is one: none may follow a pass that frees nothing.
+fn extra_row(passes: &[PassChain], from: usize) -> Option<u64>
     requires { from ≤ length passes.now }
-    ensures found { Finds result (extra_pass (drop from passes.now)) }
-    ensures last { OnOk result (drop from passes.now ≡ []) }
+    ensures extra { extra_pass (drop from passes.now)
+        ≡ option_map (λ row. (row, PassExtra)) result }
+    ensures last { IfNone result (drop from passes.now ≡ []) }
 {
     if from == passes.len() {
-        return Ok(());
+        return None;
     }
-    Err(Stop::Rejected(passes[from].row, CheckReason::PassExtra))
+    Some(passes[from].row)
 }
 
 /// Tests the passes of a day, and leaves the state in which the day ends.
@@ -77,7 +79,10 @@ pub(crate) fn check_passes(
         let stamp = Stamp { day, pass: number };
         let freed = check_pass(alloc, state, grounds, ceilings, stamp, pass)?;
         if frees_nothing(freed) {
-            return check_end(passes, place + 1);
+            return match extra_row(passes, place + 1) {
+                None => Ok(()),
+                Some(row) => Err(Stop::Rejected(row, CheckReason::PassExtra)),
+            };
         }
     }
     Err(Stop::Rejected(chain.next_row, CheckReason::PassMissing))

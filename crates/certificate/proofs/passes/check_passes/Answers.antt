@@ -1,13 +1,12 @@
-use Rattle.std.proofs.Common.{◌≡◌, ◌∙◌, ◌+◌, true, false, drop, ap, sym, subst, length, refl}
+use Rattle.std.proofs.Common.{◌≡◌, ◌∙◌, ◌+◌, true, false, drop, ap, sym, length, refl, rules, None, Some}
 use Rattle.std.proofs.lemmas.List.{drop_all}
 use Rattle.std.proofs.lemmas.Result.{err_from_is_err_and}
 use Rattle.admit_core.specs.DossierRows.{DossierRows}
-use Rattle.std.specs.Prelude.{Option, ℕ}
-use Rattle.admit_core.specs.declared.chain.CheckReason.{CheckReason}
 use Rattle.admit_core.specs.declared.state.Freed.{Freed}
-use Rattle.admit_core.specs.Chains.{frees_nothing_by, passes_fault}
+use Rattle.admit_core.specs.declared.chain.CheckReason.TheVariants.{PassExtra}
+use Rattle.admit_core.specs.Chains.{extra_pass, frees_nothing_by, passes_fault}
 use Rattle.admit_core.specs.Days.{frees_nothing}
-use Rattle.certificate.specs.Checked.{Finds, state_after}
+use Rattle.certificate.specs.Checked.{state_after}
 use Rattle.certificate.proofs.Lowering.{drop_item, pass_goes_on, pass_is_last, pass_stops, state_goes_on}
 use Rattle.certificate.proofs.passes.check_passes.Goals as goal
 
@@ -36,8 +35,8 @@ loop-place-preserved c =
       dossier = c.in_ok-freed.ensures.dossier ∙ inv.dossier;
     }
 
-pub returns-then-frees_nothing-clause-found : goal.returns-then-frees_nothing-clause-found
-returns-then-frees_nothing-clause-found c =
+pub returns-in-None-clause-found : goal.returns-in-None-clause-found
+returns-in-None-clause-found c =
     let orders = c.args.grounds.now.orders in
     let ceilings = c.args.ceilings.now in
     let day = c.args.day in
@@ -53,7 +52,28 @@ returns-then-frees_nothing-clause-found c =
     ∙ sym c.frees_nothing.ensures ∙ c.if-frees_nothing.true in
     let last = pass_is_last orders ceilings day end (k + 1) s pass rest _ (c.loop-place.invariant.fault
     ∙ ap (passes_fault orders ceilings day end (k + 1) s) here) c.in_ok-freed.ensures.found frees in
-    subst (λ (fault : Option (ℕ × CheckReason)). Finds c.check_end.result fault) (sym last) c.check_end.ensures.found
+    let none : extra_pass rest ≡ None = search rules in
+    last ∙ none
+
+pub returns-in-Some-clause-found : goal.returns-in-Some-clause-found
+returns-in-Some-clause-found c =
+    let orders = c.args.grounds.now.orders in
+    let ceilings = c.args.ceilings.now in
+    let day = c.args.day in
+    let end = c.args.chain.now.next_row in
+    let s = c.loop-place.state in
+    let k = c.loop-place.place in
+    let passes = c.as_slice-passes.result.now in
+    let pass = c.index-passes-place.result in
+    let rest = drop (k + 1) passes in
+    let here = drop_item passes k pass c.loop-place-test.true c.index-passes-place.is in
+    let frees : frees_nothing_by s orders ceilings (record { day = day; pass = k + 1 }) pass ≡ true =
+    ap (λ (freed : Freed). frees_nothing freed) (sym c.in_ok-freed.ensures.freed)
+    ∙ sym c.frees_nothing.ensures ∙ c.if-frees_nothing.true in
+    let last = pass_is_last orders ceilings day end (k + 1) s pass rest _ (c.loop-place.invariant.fault
+    ∙ ap (passes_fault orders ceilings day end (k + 1) s) here) c.in_ok-freed.ensures.found frees in
+    let extra : extra_pass rest ≡ Some (c.in-Some.row, PassExtra) = search rules in
+    last ∙ extra
 
 pub check_pass-requires-clause-same : goal.check_pass-requires-clause-same
 check_pass-requires-clause-same c = c.requires.same ∙ sym c.loop-place.invariant.dossier
