@@ -1,15 +1,17 @@
 //! The tests of wishes.
-ghost use Rattle.std.specs.Prelude.{◌≡◌, ◌<◌, ◌^◌, ℕ, [], length, nat_eq, IfOk};
+ghost use Rattle.std.specs.Prelude.{◌≡◌, ◌<◌, ◌^◌, ◌&&◌, ℕ, [], length, nat_eq, IfOk, if◌then◌else◌};
 ghost use Rattle.indexmap.specs.IndexMap.{get};
 ghost use Rattle.admit_core.specs.declared.slot.Slot.TheVariants as slots;
 ghost use Rattle.admit_core.specs.Faults.{first_in};
 ghost use Rattle.admit_core.specs.Relations.{wish_tests, programme_ids, school_ids, wish_ids};
 ghost use Rattle.dossier_check.specs.Chained.{past_two};
 ghost use Rattle.dossier_check.specs.Dealt.{SaysWhoIsRanked};
+ghost use Rattle.dossier_check.specs.Hashing.{numbers_of_wishes};
 ghost use Rattle.dossier_check.specs.Outcome.{AnswersFault};
 ghost use Rattle.dossier_check.specs.Pairs.{pair_eq};
 ghost use Rattle.dossier_check.specs.WishTests.{tests_unless};
 ghost use Rattle.dossier_check.specs.Seen.{boarded_pairs, has_preference, AreFirstRows, AreFirstWishes, IsLastCandidate};
+ghost use Rattle.keyed_hash.specs.Keys.{keyed_by};
 
 use crate::apart::{Apart, shown_apart};
 use crate::hashing::hashing_of_wishes;
@@ -264,7 +266,10 @@ fn wish_rooms(
 
 /// The hashing of what wishes are of and of the preferences, which has a key of its own where order
 /// does not show that both are apart.
-fn hashing_by(keyed: Keyed, apart: Apart, rows: &[WishRow]) -> Keyed {
+fn hashing_by(keyed: Keyed, apart: Apart, rows: &[WishRow]) -> Keyed
+    ensures { result ≡ (if apart.wishes && apart.preferences then keyed
+        else keyed_by (numbers_of_wishes rows.now)) }
+{
     if apart.wishes && apart.preferences {
         return keyed;
     }
