@@ -15,12 +15,12 @@ ghost use Rattle.keyed_hash.specs.Keys.{keyed_by};
 
 use crate::apart::{Apart, shown_apart};
 use crate::hashing::hashing_of_wishes;
-use crate::noted::{FirstWish, note_first, row_of};
+use crate::noted::{FirstWish, note_first, placed_row_of};
 use crate::row_ids::RowIds;
 use crate::row_tests::{NamesUnknown, NoTest, Repeats, RepeatsId, RowTest, Shared, Then, Unless};
 use crate::rules::{ItsProgramme, ItsSchool, OwnId, WhatIsWished};
 use crate::scan::{RowChecks, scanned};
-use crate::who_is_ranked::WhoIsRanked;
+use crate::who_is_ranked::{Near, WhoIsRanked};
 use admit_core::{InFault, OutOfMemory, Reason, Slot, Tables, WishRow};
 use indexmap::{IndexMap, IndexSet};
 use keyed_hash::Keyed;
@@ -32,8 +32,7 @@ pub(crate) struct Unranked<'a> {
     pub(crate) tables: &'a Tables,
     pub(crate) programmes: &'a RowIds,
     pub(crate) ranked: WhoIsRanked<'a>,
-    /// Where the next candidate of each group is looked for, by the groups' places.
-    pub(crate) near: Vec<usize>,
+    pub(crate) near: Near,
 }
 
 impl<'a> RowTest<WishRow> for Unranked<'a> {
@@ -47,10 +46,14 @@ impl<'a> RowTest<WishRow> for Unranked<'a> {
 
     fn stands(&mut self, row: &WishRow, _number: u64) -> Result<Option<Reason>, OutOfMemory> {
         let programmes = self.tables.programmes.as_slice();
-        if let Some(programme) = row_of(self.programmes, programmes, row.programme) {
+        if let Some((place, programme)) = placed_row_of(
+            self.programmes,
+            programmes,
+            row.programme,
+        ) {
             if self
                 .ranked
-                .has(programme.group, row.candidate, &mut self.near)
+                .has(programme.group, row.candidate, &mut self.near, place)
             {
                 return Ok(None);
             }
@@ -251,16 +254,20 @@ type RankedTests<'a> = Then<NoBoardingRank<'a>, PreferenceTests>;
 /// The tests of preferences.
 type PreferenceTests = Then<PreferenceMixed, Then<Unless<PreferenceTaken>, NoTest>>;
 
-/// No ids, with room for those of the wishes, and for each group where its next candidate is looked
-/// for.
+/// No ids, with room for those of the wishes, and for each programme and each group where is looked
+/// first.
 fn wish_rooms(
     alloc: Global,
     wishes: usize,
+    programmes: usize,
     groups: usize,
-) -> Result<(RowIds, Vec<usize>), OutOfMemory>
+) -> Result<(RowIds, Near), OutOfMemory>
     ensures { IfOk result (λ rooms. rooms.0.keys ≡ []) }
 {
-    let near = vec![in alloc; 0; groups]?;
+    let near = Near {
+        groups: vec![in alloc; 0; programmes]?,
+        candidates: vec![in alloc; 0; groups]?,
+    };
     Ok((RowIds::with_room(alloc, wishes)?, near))
 }
 
@@ -351,7 +358,12 @@ fn fresh_tests<'a>(
 {
     let rows = tables.wishes.as_slice();
     let by_wish = hashing_by(keyed, apart, rows);
-    let (own_ids, near) = wish_rooms(alloc, rows.len(), ranked.candidates.len())?;
+    let (own_ids, near) = wish_rooms(
+        alloc,
+        rows.len(),
+        tables.programmes.len(),
+        ranked.candidates.len(),
+    )?;
     let ranks = Then {
         first: Unranked {
             tables,
