@@ -44,6 +44,8 @@ impl<'a> RowTest<WishRow> for Unranked<'a> {
     ghost has_seen = { λ c before. (c.programmes.now.keys ≡ programme_ids c.tables.now)
         × SaysWhoIsRanked c.tables.now c.ranked };
 
+    ghost takes_memory = { λ c. ⊥ };
+
     fn stands(&mut self, row: &WishRow, _number: u64) -> Result<Option<Reason>, OutOfMemory> {
         let programmes = self.tables.programmes.as_slice();
         if let Some((place, programme)) = placed_row_of(
@@ -76,6 +78,8 @@ impl<'a> RowTest<WishRow> for NoBoardingRank<'a> {
     ghost test = { λ c. no_boarding_rank c.tables.now };
 
     ghost has_seen = { λ c before. c.boarded.now.keys ≡ boarded_pairs c.tables.now };
+
+    ghost takes_memory = { λ c. ⊥ };
 
     fn stands(&mut self, row: &WishRow, _number: u64) -> Result<Option<Reason>, OutOfMemory> {
         if let Some(school) = row.school {
@@ -166,6 +170,8 @@ impl RowTest<WishRow> for PreferenceMixed {
     ghost has_seen = { λ c before. AreFirstWishes (get nat_eq c.firsts) before
         × IsLastCandidate (get nat_eq c.firsts) c.last };
 
+    ghost takes_memory = { λ c. Unit {0} };
+
     fn stands(&mut self, row: &WishRow, number: u64) -> Result<Option<Reason>, OutOfMemory> {
         let own = FirstWish {
             row: number,
@@ -201,6 +207,8 @@ impl RowTest<WishRow> for PreferenceTaken {
     ghost test = { λ c. preference_taken };
 
     ghost has_seen = { λ c before. AreFirstRows has_preference (get pair_eq c.rows) before };
+
+    ghost takes_memory = { λ c. Unit {0} };
 
     fn stands(&mut self, row: &WishRow, number: u64) -> Result<Option<Reason>, OutOfMemory> {
         if row.preference == 0 {
