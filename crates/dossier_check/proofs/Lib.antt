@@ -1,6 +1,6 @@
 -- Reading order. Each file says in its first line what it shows.
 -- Finding: Firsts, Places, Found, FirstRows, NotedKeys, KeyPlaces; ids that rise: Rising,
--- RisingIds.
+-- RisingIds; keys of hashes: MixedNumbers.
 -- Scans of a slot: Scans, LastRow, AcceptedRows, Outcomes.
 -- Faults shown to be none without a scan: Faultless, WishTests; ranks: DealtRows; wishes: Runs,
 -- InOrder, TwiceWished, TwicePreferred, WhoIsRanked.
@@ -21,6 +21,7 @@ pub mod InOrder
 pub mod KeyPlaces
 pub mod LastRow
 pub mod MadeItems
+pub mod MixedNumbers
 pub mod NoFault
 pub mod NotedKeys
 pub mod OneAccepted

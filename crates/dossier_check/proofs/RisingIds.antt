@@ -1,5 +1,5 @@
 -- Ids that rise: each once, and found by a search.
-use Rattle.std.proofs.Common.{◌≡◌, ℕ, ◌+◌, ◌<◌, ◌≤◌, Bool, true, false, nat_eq, nat_lt, List, [], ◌∷◌, ◌++◌, length, take, get_or, position, Some, Result, Ok, Err, is_some, refl, sym, ap, arith, inl, inr, ◌⊎◌}
+use Rattle.std.proofs.Common.{◌≡◌, ℕ, ◌+◌, ◌<◌, ◌≤◌, Bool, true, false, nat_eq, nat_lt, List, [], ◌∷◌, ◌++◌, length, take, get_or, position, slice_get, Some, Result, Ok, Err, is_some, refl, sym, ap, ◌∙◌, arith, inl, inr, ◌⊎◌}
 use Rattle.std.specs.List.{list_any, position_or_len, IsDistinct}
 use Rattle.std.specs.List.Sorted.{IsBinarySearchResult}
 use Rattle.std.specs.Ordering.{nat_cmp}
@@ -9,7 +9,8 @@ use Rattle.std.proofs.lemmas.List.{get_or_append_left, get_or_at, get_or_default
 use Rattle.std.proofs.lemmas.List.Folds.{list_any_none}
 use Rattle.std.proofs.lemmas.List.Sorted.{searched}
 use Rattle.std.proofs.lemmas.List.Sums.{position_or_len_is}
-use Rattle.std.proofs.lemmas.Map.Keys.{IsDistinct-from_apart}
+use Rattle.std.proofs.lemmas.Map.Keys.{IsDistinct-from_apart, apart_from_distinct}
+use Rattle.std.proofs.lemmas.Option.{get_or_from_slice_get, slice_get_within}
 use Rattle.indexmap.specs.IndexSet.{insert_key}
 use Rattle.dossier_check.specs.RowIds.{Rises}
 use Rattle.dossier_check.proofs.Firsts.{position-none}
@@ -84,3 +85,19 @@ found_by_place ids id = by (list_any (nat_eq id) ids) refl
     by : (b : Bool) → list_any (nat_eq id) ids ≡ b → is_some (position (nat_eq id) ids) ≡ list_any (nat_eq id) ids
     by true e = rw (position-any (nat_eq id) ids e, e) refl
     by false e = rw (position-none (nat_eq id) ids e, e) refl
+
+unlike : (m n : ℕ) → nat_eq m n ≡ false → nat_eq n m ≡ false
+unlike m n apart = grind (arith, nat_tests)
+
+-- an id that is read at a place is found there where each is once
+pub place_once : (ids : List ℕ) (id i there : ℕ) → IsDistinct nat_eq ids → slice_get ids i ≡ Some there → there ≡ id
+    → position (nat_eq id) ids ≡ Some i
+place_once ids id i there once read same =
+    let lt : i < length ids = slice_get_within ids i there read in
+    let here : get_or ids i 0 ≡ id = get_or_from_slice_get ids i there 0 read ∙ same in
+    let at : position_or_len (nat_eq id) ids ≡ i =
+    position_or_len_is (nat_eq id) ids i 0 (omega arith)
+    (λ k before. unlike (get_or ids k 0) id (rw here at (apart_from_distinct nat_eq ids k i 0 once before lt)))
+    (λ within. nat_eq_same id (get_or ids i 0) (sym here)) in
+    let within : nat_lt i (length ids) ≡ true = grind arith in
+    rw (at, within) refl

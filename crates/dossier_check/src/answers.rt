@@ -54,6 +54,8 @@ impl<'a> RowTest<AnswerRow> for TargetUnknown<'a> {
     ghost has_seen = { λ c before. (c.wishes.now.keys ≡ wish_ids c.tables.now)
         × AreFirstWishes (get nat_eq c.candidates.now) c.tables.now.wishes };
 
+    ghost takes_memory = { λ c. ⊥ };
+
     fn stands(&mut self, row: &AnswerRow, _number: u64) -> Result<Option<Reason>, OutOfMemory> {
         if self.knows(row) {
             return Ok(None);

@@ -47,6 +47,8 @@ impl<R, Q: HasDay<R>> RowTest<R> for DayFalls<Q> {
 
     ghost has_seen = { λ c before. IsLastDay Q.day before c.last };
 
+    ghost takes_memory = { λ c. ⊥ };
+
     fn stands(&mut self, row: &R, _number: u64) -> Result<Option<Reason>, OutOfMemory> {
         let day = self.rule.day_of(row);
         if day < self.last {

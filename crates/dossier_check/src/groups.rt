@@ -34,10 +34,10 @@ pub(crate) fn add(
 }
 
 /// Counts a row for its group.
-fn count_row(rooms: &mut [usize], groups: &RowIds, row: &RankRow)
+fn count_row(rooms: &mut [usize], groups: &RowIds, row: &RankRow, near: &mut usize)
     ensures { length rooms.new ≡ length rooms.old }
 {
-    if let Some(place) = groups.get_index_of(row.group) {
+    if let Some(place) = groups.find_near(row.group, near) {
         if let Some(room) = rooms.get_mut(place) {
             *room = room.saturating_add(1);
         }
@@ -49,8 +49,9 @@ fn rooms_of(alloc: Global, rankings: &[RankRow], groups: &RowIds) -> Result<Vec<
     ensures { IfOk result (λ rooms. length rooms.items ≡ length groups.now.keys) }
 {
     let mut rooms = vec![in alloc; 0; groups.len()]?;
+    let mut near = 0;
     for row in rankings {
-        count_row(rooms.as_mut_slice(), groups, row);
+        count_row(rooms.as_mut_slice(), groups, row, &mut near);
     }
     Ok(rooms)
 }
@@ -86,11 +87,13 @@ fn roomy_lists(
     empty_lists(alloc, groups, rooms.as_slice())
 }
 
-/// Adds a candidate to the list of their group.
+/// Adds a candidate to the list of their group. `near` has the place of the group of the row
+/// before: the rows of a group mostly stand together.
 pub(crate) fn lay_row(
     lists: &mut Vec<Vec<Ranked>>,
     groups: &RowIds,
     row: &RankRow,
+    near: &mut usize,
 ) -> Result<(), OutOfMemory>
     requires { length lists.old.items ≡ length groups.now.keys }
     ensures laid { (rows : List RankRow) →
@@ -100,7 +103,7 @@ pub(crate) fn lay_row(
     ensures len { OnOk result (length lists.new.items ≡ length lists.old.items) }
 {
     let _ = groups.len();
-    if let Some(place) = groups.get_index_of(row.group) {
+    if let Some(place) = groups.find_near(row.group, near) {
         add(
             lists,
             place,
@@ -126,8 +129,9 @@ pub(crate) fn ranked_lists(
         map (λ l. l.items) lists.items ≡ map (ranked_in rankings.now) groups.now.keys) }
 {
     let mut lists = roomy_lists(alloc, rankings, groups)?;
+    let mut near = 0;
     for row in rankings {
-        lay_row(&mut lists, groups, row)?;
+        lay_row(&mut lists, groups, row, &mut near)?;
     }
     Ok(lists)
 }

@@ -1,22 +1,29 @@
 //! How the rows' keys are hashed.
+ghost use Rattle.std.specs.Prelude.{◌≡◌, fold, map};
+ghost use Rattle.dossier_check.specs.Hashing.{alone, numbers_of, numbers_of_ranks, numbers_of_wishes};
+ghost use Rattle.keyed_hash.specs.Keys.{keyed_by, mixed_in};
 
 use crate::noted::Key;
 use crate::rules::{
     DayAndSchool, GroupAndCandidate, GroupAndRank, ItsWish, OwnId, SchoolAndCandidate,
-    SchoolAndRank, WhoWishes,
+    SchoolAndPreference, SchoolAndRank, WhoWishes, WhoseProgramme,
 };
 use admit_core::{RankRow, Tables, WishRow};
 use keyed_hash::{KeyMaker, Keyed};
 
 /// Mixes a number of each row in.
-fn mix_ids<R, Q: Key<R, u32>>(key: &mut KeyMaker, rule: &Q, rows: &[R]) {
+fn mix_ids<R, Q: Key<R, u32>>(key: &mut KeyMaker, rule: &Q, rows: &[R])
+    ensures { key.new ≡ fold mixed_in key.old (alone Q.key rows.now) }
+{
     for row in rows {
         key.mix(rule.key_of(row), 0);
     }
 }
 
 /// Mixes two numbers of each row in.
-fn mix_pairs<R, Q: Key<R, (u32, u32)>>(key: &mut KeyMaker, rule: &Q, rows: &[R]) {
+fn mix_pairs<R, Q: Key<R, (u32, u32)>>(key: &mut KeyMaker, rule: &Q, rows: &[R])
+    ensures { key.new ≡ fold mixed_in key.old (map Q.key rows.now) }
+{
     for row in rows {
         let (one, other) = rule.key_of(row);
         key.mix(one, other);
@@ -24,17 +31,19 @@ fn mix_pairs<R, Q: Key<R, (u32, u32)>>(key: &mut KeyMaker, rule: &Q, rows: &[R])
 }
 
 /// Hashing by a key of what wishes are of, and of the preferences.
-pub(crate) fn hashing_of_wishes(rows: &[WishRow]) -> Keyed {
+pub(crate) fn hashing_of_wishes(rows: &[WishRow]) -> Keyed
+    ensures { result ≡ keyed_by (numbers_of_wishes rows.now) }
+{
     let mut key = KeyMaker::new();
-    for row in rows {
-        key.mix(row.candidate, row.programme);
-        key.mix(row.school.unwrap_or(0), row.preference);
-    }
+    mix_pairs(&mut key, &WhoseProgramme, rows);
+    mix_pairs(&mut key, &SchoolAndPreference, rows);
     key.done()
 }
 
 /// Hashing by a key of the rankings.
-pub(crate) fn hashing_of_ranks(rows: &[RankRow]) -> Keyed {
+pub(crate) fn hashing_of_ranks(rows: &[RankRow]) -> Keyed
+    ensures { result ≡ keyed_by (numbers_of_ranks rows.now) }
+{
     let mut key = KeyMaker::new();
     mix_pairs(&mut key, &GroupAndCandidate, rows);
     mix_pairs(&mut key, &GroupAndRank, rows);
@@ -43,7 +52,9 @@ pub(crate) fn hashing_of_ranks(rows: &[RankRow]) -> Keyed {
 
 /// Hashing by a key of all numbers that rows are mostly found by. Rankings and what wishes are of
 /// are put in order, and hashed by keys of their own only where that shows a fault.
-pub(crate) fn hashing_of(tables: &Tables) -> Keyed {
+pub(crate) fn hashing_of(tables: &Tables) -> Keyed
+    ensures { result ≡ keyed_by (numbers_of tables.now) }
+{
     let mut key = KeyMaker::new();
     mix_ids(&mut key, &OwnId, tables.groups.as_slice());
     mix_ids(&mut key, &OwnId, tables.programmes.as_slice());

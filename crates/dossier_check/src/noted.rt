@@ -1,5 +1,5 @@
 //! What is kept of the rows so far: their keys by place, or the first row of each key.
-ghost use Rattle.std.specs.Prelude.{◌≡◌, ℕ, Bool, List, [], ◌∷◌, ◌++◌, map, find, nat_eq, position, Some, None, IfOk, IsSome, if◌then◌else◌};
+ghost use Rattle.std.specs.Prelude.{◌≡◌, ℕ, Bool, List, [], ◌∷◌, ◌++◌, map, find, nat_eq, position, option_map, Some, None, IfOk, IsSome, if◌then◌else◌};
 ghost use Rattle.indexmap.specs.IndexMap.{get};
 ghost use Rattle.admit_core.specs.Faults.{first_row};
 
@@ -66,6 +66,18 @@ pub(crate) fn row_of<R: Copy>(ids: &RowIds, rows: &[R], id: u32) -> Option<R>
         ≡ find (λ r. nat_eq id (own r)) rows.now }
 {
     row_at(rows, ids.get_index_of(id))
+}
+
+/// The place and the row of an id, where the ids are those of the rows by place.
+pub(crate) fn placed_row_of<R: Copy>(ids: &RowIds, rows: &[R], id: u32) -> Option<(usize, R)>
+    ensures { (own : R → ℕ) → ids.now.keys ≡ map own rows.now →
+        option_map (λ found. found.1) result ≡ find (λ r. nat_eq id (own r)) rows.now }
+{
+    let place = ids.get_index_of(id);
+    match row_at(rows, place) {
+        Some(row) => Some((place.unwrap_or(0), row)),
+        None => None,
+    }
 }
 
 /// What is kept of a candidate's first wish: the row's number, and the preference.

@@ -106,8 +106,9 @@ fn candidates_apart(lists: &[Vec<u32>]) -> bool
 fn groups_known(rows: &[RankRow], groups: &RowIds) -> bool
     ensures { result ≡ true → All (HasItsGroup groups.now.keys) rows.now }
 {
+    let mut near = 0;
     for row in rows {
-        if !groups.contains(row.group) {
+        if !groups.contains_near(row.group, &mut near) {
             return false;
         }
     }

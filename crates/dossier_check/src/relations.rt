@@ -6,10 +6,12 @@ ghost use Rattle.admit_core.specs.Standing.{dossier_of, group_of_row, wish_of_ro
 ghost use Rattle.admit_core.specs.Validity.{IsValid};
 ghost use Rattle.dossier_check.specs.Dates.{dates_of};
 ghost use Rattle.dossier_check.specs.Dealt.{AreDealt, HasItsGroup, SaysWhoIsRanked};
+ghost use Rattle.dossier_check.specs.Hashing.{numbers_of};
 ghost use Rattle.dossier_check.specs.Ids.{ids_of};
 ghost use Rattle.dossier_check.specs.Keys.{AreKeysOf};
 ghost use Rattle.dossier_check.specs.Outcome.{AnswersFault, first_in_named, first_in_ranks, first_from_wishes};
 ghost use Rattle.dossier_check.specs.Seen.{boarded_pairs};
+ghost use Rattle.keyed_hash.specs.Keys.{keyed_by};
 
 use crate::answers::check_answers;
 use crate::dates::{Dates, dates_of};
@@ -117,7 +119,8 @@ impl Named {
 
 /// Tests the slots that name no candidates, and answers their ids.
 fn check_named(alloc: Global, keyed: Keyed, tables: &Tables) -> Result<Named, InFault>
-    requires { AreTables tables.now }
+    requires keyed { keyed ≡ keyed_by (numbers_of tables.now) }
+    requires ranges { AreTables tables.now }
     ensures fault { AnswersFault result (first_in_named tables.now) }
     ensures groups { IfOk result (λ named. named.groups.keys ≡ group_ids tables.now) }
     ensures programmes { IfOk result (λ named.
@@ -172,6 +175,7 @@ fn check_both_ranks(
     tables: &Tables,
     named: &Named,
 ) -> Result<Ranks, InFault>
+    requires keyed { keyed ≡ keyed_by (numbers_of tables.now) }
     requires groups { named.now.groups.keys ≡ group_ids tables.now }
     requires schools { named.now.schools.keys ≡ school_ids tables.now }
     requires ranges { AreTables tables.now }

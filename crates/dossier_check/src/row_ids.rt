@@ -1,5 +1,5 @@
 //! The ids of a slot's rows: found by order where they rise, and by hash elsewhere.
-ghost use Rattle.std.specs.Prelude.{◌≡◌, ◌++◌, ◌∷◌, ◌<◌, [], List, nat_eq, position, is_some, length, map, true, false, None, Some, IfOk, IfSome, OnErr};
+ghost use Rattle.std.specs.Prelude.{◌≡◌, ◌++◌, ◌∷◌, ◌<◌, [], List, nat_eq, position, is_some, length, slice_get, map, true, false, None, Some, IfOk, IfSome, OnErr};
 ghost use Rattle.std.specs.List.{IsDistinct, list_any};
 ghost use Rattle.admit_core.specs.Faults.{first_row};
 ghost use Rattle.dossier_check.specs.RowIds.{Rises};
@@ -189,11 +189,53 @@ impl RowIds {
         }
     }
 
+    /// The id at a place.
+    fn id_at(&self, place: usize) -> Option<u32>
+        ensures { result ≡ slice_get self.now.keys place }
+    {
+        match &self.way {
+            Way::Rising(ids) => ids.get(place).copied(),
+            Way::Hashed(ids) => ids.get_index(place).copied(),
+        }
+    }
+
+    /// Whether an id stands at a place.
+    fn has_at(&self, id: u32, place: usize) -> bool
+        ensures { result ≡ true → position (nat_eq id) self.now.keys ≡ Some place }
+    {
+        let _ = self.len();
+        match self.id_at(place) {
+            Some(there) => there == id,
+            None => false,
+        }
+    }
+
+    /// The place of an id. It's looked for first where `near` says, which becomes its place.
+    pub(crate) fn find_near(&self, id: u32, near: &mut usize) -> Option<usize>
+        ensures index { result ≡ position (nat_eq id) self.now.keys }
+        ensures found { is_some result ≡ list_any (nat_eq id) self.now.keys }
+        ensures within { IfSome result (λ place. place < length self.now.keys) }
+    {
+        if self.has_at(id, *near) {
+            return Some(*near);
+        }
+        let place = self.get_index_of(id)?;
+        *near = place;
+        Some(place)
+    }
+
     /// Whether an id is there.
     pub(crate) fn contains(&self, id: u32) -> bool
         ensures { result ≡ list_any (nat_eq id) self.now.keys }
     {
         self.get_index_of(id).is_some()
+    }
+
+    /// Whether an id is there. It's looked for first where `near` says, which becomes its place.
+    pub(crate) fn contains_near(&self, id: u32, near: &mut usize) -> bool
+        ensures { result ≡ list_any (nat_eq id) self.now.keys }
+    {
+        self.find_near(id, near).is_some()
     }
 
     /// The number of ids.

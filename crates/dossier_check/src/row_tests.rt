@@ -1,5 +1,5 @@
 //! Tests of rows, each on its own, and lists of them.
-ghost use Rattle.std.specs.Prelude.{◌≡◌, ℕ, List, [], ◌∷◌, ◌++◌, Option, option_map, length, IfOk, map, true};
+ghost use Rattle.std.specs.Prelude.{◌≡◌, ℕ, List, [], ◌∷◌, ◌++◌, Option, option_map, length, IfOk, OnErr, map, true};
 ghost use Rattle.std.specs.Option.{option_map_or};
 ghost use Rattle.admit_core.specs.declared.refusal.Reason.TheVariants as reasons;
 ghost use Rattle.admit_core.specs.Faults.{Test, row_number, first_reason, repeats, names_unknown};
@@ -21,6 +21,9 @@ pub(crate) trait RowTest<R> {
 
     ghost has_seen: { Self → List R → Type 0 };
 
+    /// That the test takes memory, so that it may lack some.
+    ghost takes_memory: { Self → Type 0 };
+
     /// The reason, where the test stands at the next row.
     fn stands(&mut self, row: &R, number: u64) -> Result<Option<Reason>, OutOfMemory>
         ensures reason { (before : List R) → has_seen self.old before →
@@ -28,7 +31,8 @@ pub(crate) trait RowTest<R> {
         ensures seen { (before : List R) → has_seen self.old before → number
             ≡ row_number (length before) →
             IfOk result (λ reason. reason ≡ None → has_seen self.new (before ++ row.now ∷ [])) }
-        ensures same_test { test self.new ≡ test self.old };
+        ensures same_test { test self.new ≡ test self.old }
+        ensures memory { OnErr result (takes_memory self.old) };
 }
 
 /// No test.
@@ -78,6 +82,8 @@ impl<R, T: RowTest<R>> RowTest<R> for Unless<T> {
     ghost test = { λ c before row. if c.is_known then None else T.test c.test before row };
 
     ghost has_seen = { λ c before. c.is_known ≡ false → T.has_seen c.test before };
+
+    ghost takes_memory = { λ c. T.takes_memory c.test };
 
     fn stands(&mut self, row: &R, number: u64) -> Result<Option<Reason>, OutOfMemory> {
         if self.is_known {
@@ -144,6 +150,8 @@ impl<R, K: Hash + Eq + Copy + Drop, Q: Key<R, K>> RowTest<R> for Repeats<K, Q> {
 
     ghost has_seen = { λ c before. c.keys.keys ≡ map Q.key before };
 
+    ghost takes_memory = { λ c. Unit {0} };
+
     fn stands(&mut self, row: &R, _number: u64) -> Result<Option<Reason>, OutOfMemory> {
         match note(&mut self.keys, &self.rule, row)? {
             Some(first) => Ok(Some(reason_of(self.shared, first))),
@@ -167,6 +175,8 @@ impl<R, Q: Key<R, u32>> RowTest<R> for RepeatsId<Q> {
     ghost test = { λ c. repeats (λ row r. nat_eq (Q.key row) (Q.key r)) };
 
     ghost has_seen = { λ c before. c.ids.keys ≡ map Q.key before };
+
+    ghost takes_memory = { λ c. Unit {0} };
 
     fn stands(&mut self, row: &R, _number: u64) -> Result<Option<Reason>, OutOfMemory> {
         match self.ids.note(self.alloc, self.keyed, &self.rule, row)? {
@@ -197,6 +207,8 @@ impl<'a, R, Q: Names<R>> RowTest<R> for NamesUnknown<'a, Q> {
         (λ row. option_map_or (λ id. is_among id c.ids.now.keys) (Q.named row) true) };
 
     ghost has_seen = { λ c before. Unit {0} };
+
+    ghost takes_memory = { λ c. ⊥ };
 
     fn stands(&mut self, row: &R, _number: u64) -> Result<Option<Reason>, OutOfMemory> {
         if let Some(id) = self.rule.named_by(row) {

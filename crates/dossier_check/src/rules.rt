@@ -1,6 +1,6 @@
 //! What the rows of each slot must not share, and what they name.
 
-ghost use Rattle.std.specs.Prelude.{Some};
+ghost use Rattle.std.specs.Prelude.{Some, unwrap_or};
 
 use crate::noted::Key;
 use crate::row_tests::Names;
@@ -113,6 +113,30 @@ impl Key<WishRow, (u32, u32)> for WhoWishes {
 
     fn key_of(&self, row: &WishRow) -> (u32, u32) {
         (row.id, row.candidate)
+    }
+}
+
+/// The candidate and the programme of a wish.
+#[derive(Drop)]
+pub(crate) struct WhoseProgramme;
+
+impl Key<WishRow, (u32, u32)> for WhoseProgramme {
+    ghost key = { λ r. (r.candidate, r.programme) };
+
+    fn key_of(&self, row: &WishRow) -> (u32, u32) {
+        (row.candidate, row.programme)
+    }
+}
+
+/// The school of a wish, or 0 without one, and its preference.
+#[derive(Drop)]
+pub(crate) struct SchoolAndPreference;
+
+impl Key<WishRow, (u32, u32)> for SchoolAndPreference {
+    ghost key = { λ r. (unwrap_or r.school 0, r.preference) };
+
+    fn key_of(&self, row: &WishRow) -> (u32, u32) {
+        (row.school.unwrap_or(0), row.preference)
     }
 }
 

@@ -1,5 +1,5 @@
 //! Who is ranked in a group.
-ghost use Rattle.std.specs.Prelude.{◌≡◌, is_some, nat_eq, true, IfSome};
+ghost use Rattle.std.specs.Prelude.{◌≡◌, is_some, nat_eq, position, true, IfSome};
 ghost use Rattle.std.specs.List.{list_any};
 ghost use Rattle.std.specs.List.Sorted.{IsNonDecreasing};
 
@@ -63,6 +63,26 @@ fn is_there_by(numbers: &[u32], number: u32, near: &mut [usize], place: usize) -
     }
 }
 
+/// The place of a group, looked for first where it was found for the same programme.
+fn group_near(groups: &RowIds, group: u32, near: &mut [usize], programme: usize) -> Option<usize>
+    ensures index { result ≡ position (nat_eq group) groups.now.keys }
+    ensures found { is_some result ≡ list_any (nat_eq group) groups.now.keys }
+{
+    match near.get_mut(programme) {
+        Some(near) => groups.find_near(group, near),
+        None => groups.get_index_of(group),
+    }
+}
+
+/// Where is looked first. Nothing depends on it but how long a look takes.
+#[derive(Drop)]
+pub(crate) struct Near {
+    /// The place of each programme's group, by the programmes' places.
+    pub(crate) groups: Vec<usize>,
+    /// For each group the place after the candidate found last, by the groups' places.
+    pub(crate) candidates: Vec<usize>,
+}
+
 /// Who is ranked in each group, by the groups' places.
 #[derive(Drop)]
 pub(crate) struct WhoIsRanked<'a> {
@@ -75,18 +95,24 @@ impl<'a> WhoIsRanked<'a> {
     ghost use Rattle.admit_core.specs.Relations.{is_in_group};
     ghost use Rattle.dossier_check.specs.Dealt.{SaysWhoIsRanked};
 
-    /// Whether a candidate is ranked in a group. `near` has for each group the place after the
-    /// candidate found last: they are mostly asked for in their order.
-    pub(crate) fn has(&self, group: u32, candidate: u32, near: &mut [usize]) -> bool
+    /// Whether a candidate is ranked in the group of the programme at a place. Candidates are
+    /// mostly asked for in their order.
+    pub(crate) fn has(&self, group: u32, candidate: u32, near: &mut Near, programme: usize) -> bool
         ensures { (t : Tables) → SaysWhoIsRanked t self.now →
             result ≡ is_in_group t candidate group }
     {
-        let Some(place) = self.groups.get_index_of(group) else {
+        let near_groups = near.groups.as_mut_slice();
+        let Some(place) = group_near(self.groups, group, near_groups, programme) else {
             return false;
         };
         let Some(ids) = self.candidates.get(place) else {
             return false;
         };
-        is_there_by(ids.as_slice(), candidate, near, place)
+        is_there_by(
+            ids.as_slice(),
+            candidate,
+            near.candidates.as_mut_slice(),
+            place,
+        )
     }
 }

@@ -1,24 +1,26 @@
 //! The tests of wishes.
-ghost use Rattle.std.specs.Prelude.{◌≡◌, ◌<◌, ◌^◌, ℕ, [], length, nat_eq, IfOk};
+ghost use Rattle.std.specs.Prelude.{◌≡◌, ◌<◌, ◌^◌, ◌&&◌, ℕ, [], length, nat_eq, IfOk, if◌then◌else◌};
 ghost use Rattle.indexmap.specs.IndexMap.{get};
 ghost use Rattle.admit_core.specs.declared.slot.Slot.TheVariants as slots;
 ghost use Rattle.admit_core.specs.Faults.{first_in};
 ghost use Rattle.admit_core.specs.Relations.{wish_tests, programme_ids, school_ids, wish_ids};
 ghost use Rattle.dossier_check.specs.Chained.{past_two};
 ghost use Rattle.dossier_check.specs.Dealt.{SaysWhoIsRanked};
+ghost use Rattle.dossier_check.specs.Hashing.{numbers_of_wishes};
 ghost use Rattle.dossier_check.specs.Outcome.{AnswersFault};
 ghost use Rattle.dossier_check.specs.Pairs.{pair_eq};
 ghost use Rattle.dossier_check.specs.WishTests.{tests_unless};
 ghost use Rattle.dossier_check.specs.Seen.{boarded_pairs, has_preference, AreFirstRows, AreFirstWishes, IsLastCandidate};
+ghost use Rattle.keyed_hash.specs.Keys.{keyed_by};
 
 use crate::apart::{Apart, shown_apart};
 use crate::hashing::hashing_of_wishes;
-use crate::noted::{FirstWish, note_first, row_of};
+use crate::noted::{FirstWish, note_first, placed_row_of};
 use crate::row_ids::RowIds;
 use crate::row_tests::{NamesUnknown, NoTest, Repeats, RepeatsId, RowTest, Shared, Then, Unless};
 use crate::rules::{ItsProgramme, ItsSchool, OwnId, WhatIsWished};
 use crate::scan::{RowChecks, scanned};
-use crate::who_is_ranked::WhoIsRanked;
+use crate::who_is_ranked::{Near, WhoIsRanked};
 use admit_core::{InFault, OutOfMemory, Reason, Slot, Tables, WishRow};
 use indexmap::{IndexMap, IndexSet};
 use keyed_hash::Keyed;
@@ -30,8 +32,7 @@ pub(crate) struct Unranked<'a> {
     pub(crate) tables: &'a Tables,
     pub(crate) programmes: &'a RowIds,
     pub(crate) ranked: WhoIsRanked<'a>,
-    /// Where the next candidate of each group is looked for, by the groups' places.
-    pub(crate) near: Vec<usize>,
+    pub(crate) near: Near,
 }
 
 impl<'a> RowTest<WishRow> for Unranked<'a> {
@@ -43,12 +44,18 @@ impl<'a> RowTest<WishRow> for Unranked<'a> {
     ghost has_seen = { λ c before. (c.programmes.now.keys ≡ programme_ids c.tables.now)
         × SaysWhoIsRanked c.tables.now c.ranked };
 
+    ghost takes_memory = { λ c. ⊥ };
+
     fn stands(&mut self, row: &WishRow, _number: u64) -> Result<Option<Reason>, OutOfMemory> {
         let programmes = self.tables.programmes.as_slice();
-        if let Some(programme) = row_of(self.programmes, programmes, row.programme) {
+        if let Some((place, programme)) = placed_row_of(
+            self.programmes,
+            programmes,
+            row.programme,
+        ) {
             if self
                 .ranked
-                .has(programme.group, row.candidate, &mut self.near)
+                .has(programme.group, row.candidate, &mut self.near, place)
             {
                 return Ok(None);
             }
@@ -71,6 +78,8 @@ impl<'a> RowTest<WishRow> for NoBoardingRank<'a> {
     ghost test = { λ c. no_boarding_rank c.tables.now };
 
     ghost has_seen = { λ c before. c.boarded.now.keys ≡ boarded_pairs c.tables.now };
+
+    ghost takes_memory = { λ c. ⊥ };
 
     fn stands(&mut self, row: &WishRow, _number: u64) -> Result<Option<Reason>, OutOfMemory> {
         if let Some(school) = row.school {
@@ -161,6 +170,8 @@ impl RowTest<WishRow> for PreferenceMixed {
     ghost has_seen = { λ c before. AreFirstWishes (get nat_eq c.firsts) before
         × IsLastCandidate (get nat_eq c.firsts) c.last };
 
+    ghost takes_memory = { λ c. Unit {0} };
+
     fn stands(&mut self, row: &WishRow, number: u64) -> Result<Option<Reason>, OutOfMemory> {
         let own = FirstWish {
             row: number,
@@ -196,6 +207,8 @@ impl RowTest<WishRow> for PreferenceTaken {
     ghost test = { λ c. preference_taken };
 
     ghost has_seen = { λ c before. AreFirstRows has_preference (get pair_eq c.rows) before };
+
+    ghost takes_memory = { λ c. Unit {0} };
 
     fn stands(&mut self, row: &WishRow, number: u64) -> Result<Option<Reason>, OutOfMemory> {
         if row.preference == 0 {
@@ -249,22 +262,29 @@ type RankedTests<'a> = Then<NoBoardingRank<'a>, PreferenceTests>;
 /// The tests of preferences.
 type PreferenceTests = Then<PreferenceMixed, Then<Unless<PreferenceTaken>, NoTest>>;
 
-/// No ids, with room for those of the wishes, and for each group where its next candidate is looked
-/// for.
+/// No ids, with room for those of the wishes, and for each programme and each group where is looked
+/// first.
 fn wish_rooms(
     alloc: Global,
     wishes: usize,
+    programmes: usize,
     groups: usize,
-) -> Result<(RowIds, Vec<usize>), OutOfMemory>
+) -> Result<(RowIds, Near), OutOfMemory>
     ensures { IfOk result (λ rooms. rooms.0.keys ≡ []) }
 {
-    let near = vec![in alloc; 0; groups]?;
+    let near = Near {
+        groups: vec![in alloc; 0; programmes]?,
+        candidates: vec![in alloc; 0; groups]?,
+    };
     Ok((RowIds::with_room(alloc, wishes)?, near))
 }
 
 /// The hashing of what wishes are of and of the preferences, which has a key of its own where order
 /// does not show that both are apart.
-fn hashing_by(keyed: Keyed, apart: Apart, rows: &[WishRow]) -> Keyed {
+fn hashing_by(keyed: Keyed, apart: Apart, rows: &[WishRow]) -> Keyed
+    ensures { result ≡ (if apart.wishes && apart.preferences then keyed
+        else keyed_by (numbers_of_wishes rows.now)) }
+{
     if apart.wishes && apart.preferences {
         return keyed;
     }
@@ -346,7 +366,12 @@ fn fresh_tests<'a>(
 {
     let rows = tables.wishes.as_slice();
     let by_wish = hashing_by(keyed, apart, rows);
-    let (own_ids, near) = wish_rooms(alloc, rows.len(), ranked.candidates.len())?;
+    let (own_ids, near) = wish_rooms(
+        alloc,
+        rows.len(),
+        tables.programmes.len(),
+        ranked.candidates.len(),
+    )?;
     let ranks = Then {
         first: Unranked {
             tables,

@@ -4,6 +4,9 @@
 //! `let ids = IndexSet::with_hasher(alloc, key_maker.done());`
 #![tactic(auto)]
 
+ghost use Rattle.std.specs.Prelude.{◌≡◌};
+ghost use Rattle.keyed_hash.specs.Keys.{done, fresh, mixed_in};
+
 use std::hash::{BuildHasher, DefaultHasher, FoldHasher, Hasher};
 
 /// Mixes the numbers of rows into a key, one after another.
@@ -14,20 +17,26 @@ pub struct KeyMaker {
 
 impl KeyMaker {
     /// No number is mixed in yet.
-    pub fn new() -> KeyMaker {
+    pub fn new() -> KeyMaker
+        ensures { result ≡ fresh }
+    {
         KeyMaker {
             mixed: DefaultHasher::new(),
         }
     }
 
     /// Mixes two numbers in.
-    pub fn mix(&mut self, one: u32, other: u32) {
+    pub fn mix(&mut self, one: u32, other: u32)
+        ensures { self.new ≡ mixed_in self.old (one, other) }
+    {
         self.mixed
-            .write_u64(u64::from(one) << 32 | u64::from(other));
+            .write_u64((u64::from(one) << 32) + u64::from(other));
     }
 
     /// The hashing by the key of all that was mixed in.
-    pub fn done(&self) -> Keyed {
+    pub fn done(&self) -> Keyed
+        ensures { result ≡ done self.now }
+    {
         let mut begun = FoldHasher::default();
         begun.write_u64(self.mixed.finish());
         Keyed { begun }
