@@ -1,5 +1,5 @@
 //! The engine.
-ghost use Rattle.std.specs.Prelude.{◌≡◌, ℕ, ◌+◌, ◌<◌, ◌≤◌, List, length, [], ◌∷◌, ◌++◌, Contains, IfOk, OnOk, OnErr, IfSome, IfNone, IsTrue, sum};
+ghost use Rattle.std.specs.Prelude.{◌≡◌, ℕ, ◌+◌, ◌<◌, ◌≤◌, List, length, [], ◌∷◌, ◌++◌, Contains, IfOk, IsOk, OnOk, OnErr, IfSome, IfNone, IsTrue, sum};
 ghost use Rattle.admit_core.specs.Falls.{IsAtMost, IsGreatest, IsRunOfFalls, is_overfilled, is_settled, fall_of, fallen, bars_after};
 ghost use Rattle.bar_fixpoint.specs.Runs.{AreAboveAllThatFit, schools_of};
 ghost use Rattle.bar_fixpoint.specs.Chosen.{AreChosen, PickedFall, TellsAtMostOne, EndsEarly, IsPicked, IsRunBy};
@@ -140,6 +140,7 @@ fn pick_any(places: &[u32], picker: &mut dyn Picker) -> Result<Option<u32>, OutO
     ensures none { IfOk result (λ place. IfNone place (places.now ≡ [])) }
     ensures rest { IfOk result (λ place. IfNone place (told picker.new ≡ told picker.old)) }
     ensures err { OnErr result (told picker.new ≡ told picker.old) }
+    ensures always { places.now ≡ [] → IsOk result }
     ensures choice { choice picker.new ≡ choice picker.old }
 {
     if places.is_empty() {

@@ -1,5 +1,5 @@
 //! Pickers of the first place, of the last, and of each in turn.
-ghost use Rattle.std.specs.Prelude.{◌≡◌, ◌<◌, length, [], Contains, IfSome, find, nat_lt};
+ghost use Rattle.std.specs.Prelude.{◌≡◌, ◌<◌, ◌≤◌, ◌++◌, ◌∷◌, length, [], Contains, IfOk, IfSome, OnErr, find, nat_lt, vec_capacity, vec_len};
 ghost use Rattle.bar_fixpoint.specs.Choices.{first_of, last_of, turn_of};
 
 use crate::picker::{Picker, tell};
@@ -30,7 +30,18 @@ impl Picker for FirstPicker {
 
     ghost choice = { λ _ _ places. first_of places };
 
-    fn pick(&mut self, places: &[u32]) -> Result<u32, OutOfMemory> {
+    fn pick(&mut self, places: &[u32]) -> Result<u32, OutOfMemory>
+        requires { 0 < length places.now }
+        ensures member { IfOk result (Contains places.now) }
+        ensures chosen { IfOk result (λ i. i ≡ first_of places.now) }
+        ensures told { IfOk result (λ i. ⟦<FirstPicker as Picker>⟧.told self.new
+            ≡ ⟦<FirstPicker as Picker>⟧.told self.old ++ i ∷ []) }
+        ensures err { OnErr result
+            (⟦<FirstPicker as Picker>⟧.told self.new ≡ ⟦<FirstPicker as Picker>⟧.told self.old) }
+        ensures same { ⟦<FirstPicker as Picker>⟧.choice self.new
+            ≡ ⟦<FirstPicker as Picker>⟧.choice self.old }
+        ensures full { OnErr result (vec_capacity self.old.told ≤ vec_len self.old.told) }
+    {
         tell(&mut self.told, places[0])
     }
 
@@ -62,7 +73,18 @@ impl Picker for LastPicker {
 
     ghost choice = { λ _ _ places. last_of places };
 
-    fn pick(&mut self, places: &[u32]) -> Result<u32, OutOfMemory> {
+    fn pick(&mut self, places: &[u32]) -> Result<u32, OutOfMemory>
+        requires { 0 < length places.now }
+        ensures member { IfOk result (Contains places.now) }
+        ensures chosen { IfOk result (λ i. i ≡ last_of places.now) }
+        ensures told { IfOk result (λ i. ⟦<LastPicker as Picker>⟧.told self.new
+            ≡ ⟦<LastPicker as Picker>⟧.told self.old ++ i ∷ []) }
+        ensures err { OnErr result
+            (⟦<LastPicker as Picker>⟧.told self.new ≡ ⟦<LastPicker as Picker>⟧.told self.old) }
+        ensures same { ⟦<LastPicker as Picker>⟧.choice self.new
+            ≡ ⟦<LastPicker as Picker>⟧.choice self.old }
+        ensures full { OnErr result (vec_capacity self.old.told ≤ vec_len self.old.told) }
+    {
         tell(&mut self.told, places[places.len() - 1])
     }
 
@@ -94,7 +116,19 @@ impl Picker for TurnPicker {
 
     ghost choice = { λ _ told places. turn_of told places };
 
-    fn pick(&mut self, places: &[u32]) -> Result<u32, OutOfMemory> {
+    fn pick(&mut self, places: &[u32]) -> Result<u32, OutOfMemory>
+        requires { 0 < length places.now }
+        ensures member { IfOk result (Contains places.now) }
+        ensures chosen { IfOk result (λ i. i
+            ≡ turn_of (⟦<TurnPicker as Picker>⟧.told self.old) places.now) }
+        ensures told { IfOk result (λ i. ⟦<TurnPicker as Picker>⟧.told self.new
+            ≡ ⟦<TurnPicker as Picker>⟧.told self.old ++ i ∷ []) }
+        ensures err { OnErr result
+            (⟦<TurnPicker as Picker>⟧.told self.new ≡ ⟦<TurnPicker as Picker>⟧.told self.old) }
+        ensures same { ⟦<TurnPicker as Picker>⟧.choice self.new
+            ≡ ⟦<TurnPicker as Picker>⟧.choice self.old }
+        ensures full { OnErr result (vec_capacity self.old.told ≤ vec_len self.old.told) }
+    {
         let place = turn(self.told.as_slice(), places);
         tell(&mut self.told, place)
     }

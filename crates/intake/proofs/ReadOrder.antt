@@ -1,5 +1,5 @@
 -- Reading slots in their order.
-use Rattle.std.proofs.Common.{◌≡◌, ◌≢◌, ◌∙◌, ℕ, ◌+◌, ◌<◌, ◌≤◌, List, [], ◌∷◌, ◌++◌, AllPairs, Contains, Some, Result, Ok, Err, IsErrAnd, arith, ap, drop, inl, inr, length, refl, slice_index_or, subst, sym, take}
+use Rattle.std.proofs.Common.{◌≡◌, ◌≢◌, ◌∙◌, ℕ, ◌+◌, ◌<◌, ◌≤◌, ◌⊎◌, List, [], ◌∷◌, ◌++◌, AllPairs, Contains, Some, Result, Ok, Err, IsErrAnd, arith, ap, drop, inl, inr, length, refl, slice_index_or, subst, sym, take}
 use Rattle.std.proofs.lemmas.Bool.{cases_lt}
 use Rattle.std.proofs.lemmas.List.{get_or_default, take-append-drop, take_all, take_more}
 use Rattle.admit_core.specs.declared.refusal.InFault.{InFault}
@@ -26,6 +26,8 @@ pub record AreReadTo (order : List Slot) (before after : OnShelf) (place : ℕ) 
   pub others : (slot : Slot) → ¬ Contains order slot → after.left slot ≡ before.left slot
   pub others_taken : (slot : Slot) → ¬ Contains order slot → after.taken slot ≡ before.taken slot
   pub none_fell : NoneFell before.faults after.faults
+  pub quiet : (i : ℕ) (slot : Slot) → i < length order → slice_index_or order i slot ≡ slot → after.faults slot ≡ before.faults slot
+  pub others_quiet : (slot : Slot) → ¬ Contains order slot → after.faults slot ≡ before.faults slot
 
 -- the files of two lists of slots, one after the other
 with_slots-append : (files : Files) (xs ys : List Slot) (slots : Slot → List ℕ) → with_slots files (xs ++ ys) slots ≡ (with_slots files xs slots >>= λ more. with_slots more ys slots)
@@ -103,11 +105,29 @@ module _ (order : List Slot) (distinct : AllPairs (λ one other. one ≢ other) 
   fell_none : NoneFell before.faults after.faults
   fell_none s = omega (arith, so_far.none_fell s, touches.counts s)
 
+  others_quiet : (other : Slot) → ¬ Contains order other → after.faults other ≡ before.faults other
+  others_quiet other out = touches.others_faults other (not_among other out) ∙ so_far.others_quiet other out
+
+  quiet_apart : (i : ℕ) (other : Slot) → i ≢ place → i < length order → slice_index_or order i other ≡ other → after.faults other ≡ before.faults other
+  quiet_apart i other apart lt is = touches.others_faults other (is_other i other apart lt is) ∙ so_far.quiet i other lt is
+
+  quiet_here : after.faults slot ≡ mid.faults slot → after.faults slot ≡ before.faults slot
+  quiet_here same = same ∙ so_far.quiet place slot within is_there
+
+  quiet_to : after.faults slot ≡ mid.faults slot → (i : ℕ) (other : Slot) → i < length order → slice_index_or order i other ≡ other → after.faults other ≡ before.faults other
+  quiet_to same i other lt is = elim (cases_lt i place) [
+    | inl first ↦ quiet_apart i other (omega arith) lt is
+    | inr later ↦ elim (cases_lt place i) [
+      | inl past ↦ quiet_apart i other (omega arith) lt is
+      | inr here ↦ subst (λ (s : Slot). after.faults s ≡ before.faults s) (same_there i other (omega arith) is) (quiet_here same)
+    ]
+  ]
+
   -- one more slot
   pub read_one : (bytes : List ℕ) (more : Files) → ((read : List ℕ) → mid.left slot ≡ Some read → sized slot read ≡ Ok bytes) → ((read : List ℕ) → mid.left slot ≡ Some read → after.left slot ≡ Some [])
-      → with_slot files slot bytes ≡ Ok more → AreTables more.tables → AreReadTo order before after (place + 1) more
+      → with_slot files slot bytes ≡ Ok more → AreTables more.tables → after.faults slot ≡ mid.faults slot → AreReadTo order before after (place + 1) more
   unfolding with_slots
-  read_one bytes more has ends holds ranges = record {
+  read_one bytes more has ends holds ranges same = record {
     files_are = λ slots tells. rw (front, with_slots-append no_files (take place order) (slot ∷ []) slots, so_far.files_are slots tells, has (slots slot) (told_there slots tells), holds) refl;
     ranges = ranges;
     ends = λ slots tells i other lt is. elim (cases_lt i place) [
@@ -120,6 +140,8 @@ module _ (order : List Slot) (distinct : AllPairs (λ one other. one ≢ other) 
     others = λ other out. touches.others other (not_among other out) ∙ so_far.others other out;
     others_taken = λ other out. touches.others_taken other (not_among other out) ∙ so_far.others_taken other out;
     none_fell = fell_none;
+    quiet = quiet_to same;
+    others_quiet = others_quiet;
   }
 
   -- the files that stop here or go on
@@ -159,10 +181,34 @@ module _ (order : List Slot) (distinct : AllPairs (λ one other. one ≢ other) 
         shapes = λ slots tells. rw (so_far.files_are slots tells) refl;
       })
 
+  -- its count is as it was, or its fault stops the reading
+  pub told_at : (stop : Stop) → FaultsAt slot mid.faults after.faults stop → (after.faults slot ≡ mid.faults slot) ⊎ (stop ≡ stops.ReadFault slot)
+  told_at stops.BadWords at = absurd at
+  told_at (stops.NoSuch name) at = absurd at
+  told_at (stops.Refused refusal) at = inl at
+  told_at stops.OutOfMemory at = inl at
+  told_at (stops.ReadFault other) at = inr (ap stops.ReadFault at.0)
+
+  told_to : (stop : Stop) → (after.faults slot ≡ mid.faults slot) ⊎ (stop ≡ stops.ReadFault slot) → (i : ℕ) (other : Slot) → i < length order → slice_index_or order i other ≡ other
+      → (after.faults other ≡ before.faults other) ⊎ (stop ≡ stops.ReadFault other)
+  told_to stop (inl same) i other lt is = inl (quiet_to same i other lt is)
+  told_to stop (inr fault) i other lt is = elim (cases_lt i place) [
+    | inl first ↦ inl (quiet_apart i other (omega arith) lt is)
+    | inr later ↦ elim (cases_lt place i) [
+      | inl past ↦ inl (quiet_apart i other (omega arith) lt is)
+      | inr here ↦ inr (fault ∙ ap stops.ReadFault (same_there i other (omega arith) is))
+    ]
+  ]
+
+  stop_is : (s stop : Stop) (other : Slot) → s ≡ stop → (after.faults other ≡ before.faults other) ⊎ (stop ≡ stops.ReadFault other) → (after.faults other ≡ before.faults other) ⊎ (s ≡ stops.ReadFault other)
+  stop_is s stop other from (inl same) = inl same
+  stop_is s stop other from (inr fault) = inr (from ∙ fault)
+
   -- the slots as they stand where the reading stops
-  pub taken_till : {A : Type 0} (r : Result A Stop) (stop : Stop) → IsErrAnd r (λ s. s ≡ stop) → HasCause order before after stop → TakesSlots order before after r
-  taken_till (Ok x) stop from cause = absurd from
-  taken_till (Err s) stop from cause = record {
+  pub taken_till : {A : Type 0} (r : Result A Stop) (stop : Stop) → IsErrAnd r (λ s. s ≡ stop) → HasCause order before after stop
+      → (after.faults slot ≡ mid.faults slot) ⊎ (stop ≡ stops.ReadFault slot) → TakesSlots order before after r
+  taken_till (Ok x) stop from cause told = absurd from
+  taken_till (Err s) stop from cause told = record {
     ends = λ slots tells. tt;
     once = λ other has. elim (cases_lt has.0 (place + 1)) [
       | inl first ↦ once_to has.0 other first has.2
@@ -172,6 +218,8 @@ module _ (order : List Slot) (distinct : AllPairs (λ one other. one ≢ other) 
     others_taken = λ other out. touches.others_taken other (not_among other out) ∙ so_far.others_taken other out;
     counts = fell_none;
     cause = subst (HasCause order before after) (sym from) cause;
+    told = λ other has. stop_is s stop other from (told_to stop told has.0 other has.1 has.2);
+    others_faults = others_quiet;
   }
 
 -- nothing is read at first, and all at the end
@@ -187,6 +235,8 @@ nothing_read order before files is ranges = record {
   others = λ slot out. refl;
   others_taken = λ slot out. refl;
   none_fell = λ slot. omega arith;
+  quiet = λ i slot lt is. refl;
+  others_quiet = λ slot out. refl;
 }
 
 pub all_read : (order : List Slot) (before after : OnShelf) (place : ℕ) (files : Files) → length order ≤ place
@@ -203,6 +253,8 @@ all_taken order before after place files end so_far = record {
   others_taken = so_far.others_taken;
   counts = so_far.none_fell;
   cause = tt;
+  told = λ slot has. inl (so_far.quiet has.0 slot has.1 has.2);
+  others_faults = so_far.others_quiet;
 }
 
 -- what a stop that is handed on gives

@@ -1,5 +1,5 @@
 -- What is taken in for a request.
-use Rattle.std.proofs.Common.{◌≡◌, ℕ, Bool, true, false, List, [], Option, Some, None, Result, Ok, Err, IfErr, IsErrAnd, IsTrue, ap, arith, length, refl, subst}
+use Rattle.std.proofs.Common.{◌≡◌, ◌⊎◌, inl, inr, ℕ, Bool, true, false, List, [], Option, Some, None, Result, Ok, Err, IfErr, IsErrAnd, IsTrue, ap, arith, length, refl, subst}
 use Rattle.std.specs.Prelude.{IfSome, MatchResult, if◌then◌else◌}
 use Rattle.admit_core.specs.Relations.{first_fault}
 use Rattle.admit_core.specs.declared.refusal.Refusal.{Refusal}
@@ -52,6 +52,8 @@ untouched order shelf (Ok x) is kinds = record {
   others_taken = λ slot out. refl;
   counts = λ slot. omega arith;
   cause = tt;
+  told = λ slot has. inl refl;
+  others_faults = λ slot out. refl;
 }
 untouched order shelf (Err stop) is kinds = record {
   ends = λ slots tells. tt;
@@ -60,7 +62,14 @@ untouched order shelf (Err stop) is kinds = record {
   others_taken = λ slot out. refl;
   counts = λ slot. omega arith;
   cause = files_have_cause order shelf shelf stop kinds;
+  told = λ slot has. inl refl;
+  others_faults = λ slot out. refl;
 }
+
+-- nothing that is answered is a fault
+pub quiet_in : {same : Type 0} → same ⊎ ⊥ → same
+quiet_in (inl same) = same
+quiet_in (inr bad) = absurd bad
 
 -- what comes after the slots does not touch them
 taken_still : {A B : Type 0} (order : List Slot) (before after : OnShelf) (x : A) (r : Result B Stop) → (let q : Result A Stop = Ok x in TakesSlots order before after q) → IfErr r IsOfFiles
@@ -72,6 +81,8 @@ taken_still order before after x (Ok y) taken kinds = record {
   others_taken = taken.others_taken;
   counts = taken.counts;
   cause = tt;
+  told = λ slot has. inl (quiet_in (taken.told slot has));
+  others_faults = taken.others_faults;
 }
 taken_still order before after x (Err stop) taken kinds = record {
   ends = λ slots tells. tt;
@@ -80,6 +91,8 @@ taken_still order before after x (Err stop) taken kinds = record {
   others_taken = taken.others_taken;
   counts = taken.counts;
   cause = files_have_cause order before after stop kinds;
+  told = λ slot has. inl (quiet_in (taken.told slot has));
+  others_faults = taken.others_faults;
 }
 
 -- accepted files have no fault, and what is named
@@ -112,6 +125,8 @@ module _ (request : Request) (before after : OnShelf) where
       others_taken = taken.others_taken;
       counts = taken.counts;
       cause = rw from taken.cause;
+      told = rw from taken.told;
+      others_faults = taken.others_faults;
     };
   }
 

@@ -20,6 +20,7 @@ use Rattle.intake.specs.Shelves.{OnShelf, TakesSlots, Tells}
 use Rattle.intake.specs.Stops.{◌>>=◌, Stopped, asked}
 use Rattle.intake.specs.declared.files.Files.{Files}
 use Rattle.intake.specs.declared.input.Input.{Input}
+use Rattle.intake.specs.declared.stop.Missing.{Missing}
 use Rattle.intake.specs.declared.stop.Stop.{Stop}
 use Rattle.intake.specs.declared.stop.Stop.TheVariants as stops
 
@@ -47,6 +48,11 @@ is_there t = has_name (ids_of t)
 abbrev pub having : Option Name → Files → Result Files Stop
 having None files = Ok files
 having (Some name) files = if is_there files.tables name then Ok files else Err (stops.NoSuch name)
+
+-- the same, by whether what is named was found
+abbrev pub by_name : {A : Type 0} → Files → Result A Missing → Result Files Stop
+by_name files (Ok _) = Ok files
+by_name files (Err missing) = Err (stops.NoSuch missing.name)
 
 -- files that are accepted: no relation between their rows fails, and they have what the mode names
 abbrev pub tested : Mode → Files → Result Files Stop

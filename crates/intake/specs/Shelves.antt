@@ -1,5 +1,5 @@
 -- What taking in slots does to a shelf.
-use Rattle.std.specs.Prelude.{◌≡◌, ℕ, ◌+◌, ◌<◌, ◌≤◌, List, [], Contains, length, take, Option, Some, Result, IfErr, IsOk, OnOk, slice_index_or, ⊤}
+use Rattle.std.specs.Prelude.{◌≡◌, ℕ, ◌+◌, ◌<◌, ◌≤◌, ◌⊎◌, List, [], Contains, length, take, Option, Some, Result, Ok, Err, IfErr, IsErrAnd, IsOk, OnOk, slice_index_or, ⊤}
 use Rattle.admit_core.specs.declared.slot.Slot.{Slot}
 use Rattle.slot_io.specs.Bytes.{OthersKept}
 use Rattle.slot_io.specs.Faults.{NoneFell, Rose}
@@ -39,14 +39,20 @@ pub record TouchesOnly (slot : Slot) (before after : OnShelf) : Type 0 where
   pub others : OthersKept slot before.left after.left
   pub others_taken : OthersKept slot before.taken after.taken
   pub counts : NoneFell before.faults after.faults
+  pub others_faults : OthersKept slot before.faults after.faults
 
--- what stops the reading of one slot: a fault of the shelf at it, whose count rose
+-- what stops the reading of one slot: a fault of the shelf at it exactly where its count rose
 abbrev pub FaultsAt : Slot → (Slot → ℕ) → (Slot → ℕ) → Stop → Type 0
 FaultsAt slot before now (stops.ReadFault other) = (other ≡ slot) × Rose (before slot) (now slot)
 FaultsAt slot before now stops.BadWords = ⊥
-FaultsAt slot before now (stops.Refused refusal) = ⊤
+FaultsAt slot before now (stops.Refused refusal) = now slot ≡ before slot
 FaultsAt slot before now (stops.NoSuch name) = ⊥
-FaultsAt slot before now stops.OutOfMemory = ⊤
+FaultsAt slot before now stops.OutOfMemory = now slot ≡ before slot
+
+-- a slot's count of faults rises exactly where the answer is its fault
+abbrev pub FaultsIn : {A : Type 0} → Slot → (Slot → ℕ) → (Slot → ℕ) → Result A Stop → Type 0
+FaultsIn slot before now (Ok _) = now slot ≡ before slot
+FaultsIn slot before now (Err stop) = FaultsAt slot before now stop
 
 -- what stops a run whose words are good: a fault of the shelf has its cause
 abbrev pub HasCause : List Slot → OnShelf → OnShelf → Stop → Type 0
@@ -68,3 +74,9 @@ pub record TakesSlots {A : Type 0} (order : List Slot) (before after : OnShelf)
   pub others_taken : (slot : Slot) → ¬ Contains order slot → after.taken slot ≡ before.taken slot
   pub counts : NoneFell before.faults after.faults
   pub cause : IfErr result (HasCause order before after)
+  -- the count of a slot's faults rises only where the reading stops at its fault
+  pub told : (slot : Slot) → Contains order slot
+      → (after.faults slot ≡ before.faults slot)
+      ⊎ IsErrAnd result (λ stop. stop ≡ stops.ReadFault slot)
+  pub others_faults : (slot : Slot) → ¬ Contains order slot
+      → after.faults slot ≡ before.faults slot

@@ -66,6 +66,23 @@ impl From<AllocError> for Stop {
     }
 }
 
+/// The dossier does not have what a mode names.
+#[derive(Clone, Copy)]
+pub(crate) struct Missing {
+    pub(crate) name: Name,
+}
+
+impl From<Missing> for Stop {
+    ghost use Rattle.std.specs.Prelude.{◌≡◌};
+    ghost use Rattle.intake.specs.declared.stop.Stop.TheVariants as stops;
+
+    ghost from_gives = { λ missing stop. stop ≡ stops.NoSuch missing.name };
+
+    fn from(missing: Missing) -> Stop {
+        Stop::NoSuch(missing.name)
+    }
+}
+
 /// The line that is written; running out of memory has none.
 impl fmt::Display for Stop {
     ghost use Rattle.std.specs.Prelude.{Some};

@@ -8,14 +8,14 @@ ghost use Rattle.request.specs.Modes as Modes;
 ghost use Rattle.request.specs.Modes.{IsMode};
 ghost use Rattle.sample_gen.specs.Samples.{sample_tables};
 ghost use Rattle.intake.specs.Reading as Reading;
-ghost use Rattle.intake.specs.Input.{IsInputFrom, IsOfFiles, TakesIn, having, is_there, tested};
+ghost use Rattle.intake.specs.Input.{IsInputFrom, IsOfFiles, TakesIn, by_name, having, is_there, tested};
 ghost use Rattle.intake.specs.Shelves.{TakesSlots, Tells, on_shelf};
 ghost use Rattle.intake.specs.Stops.{Gives, Stopped};
 ghost use Rattle.intake.specs.declared.files.Files.{Files};
 
 use crate::files::{Files, made, read_slots};
 use crate::input::Input;
-use crate::stop::Stop;
+use crate::stop::{Missing, Stop};
 use dossier_check::{Index, check, school_place, wish_place};
 use request::{Mode, Name, Request, named_by, sample_of, slots_of};
 use slot_io::Shelf;
@@ -49,14 +49,13 @@ fn is_there(index: &Index, name: Name) -> bool
     }
 }
 
-/// Stops where the dossier with this index does not have what a mode names.
-fn find_named(index: &Index, name: Option<Name>) -> Result<(), Stop>
-    ensures value { (files : Files) → index.now ≡ ids_of files.tables
-        → Gives (λ _. files) result (having name files) }
-    ensures kinds { IfErr result IsOfFiles }
+/// Whether the dossier with this index has what a mode names.
+fn find_named(index: &Index, name: Option<Name>) -> Result<(), Missing>
+    ensures { (files : Files) → index.now ≡ ids_of files.tables
+        → having name files ≡ by_name files result }
 {
     match name {
-        Some(name) if !is_there(index, name) => Err(Stop::NoSuch(name)),
+        Some(name) if !is_there(index, name) => Err(Missing { name }),
         _ => Ok(()),
     }
 }

@@ -1,5 +1,5 @@
 -- What the words ask for, taken in.
-use Rattle.std.proofs.Common.{◌≡◌, ◌∙◌, ℕ, ◌≤◌, List, [], ◌∷◌, Option, None, Some, Result, Ok, Err, IsErrAnd, ap, arith, map, refl, subst, sym}
+use Rattle.std.proofs.Common.{◌≡◌, ◌∙◌, ℕ, ◌≤◌, List, [], ◌∷◌, Option, None, Some, Result, Ok, Err, IsErrAnd, ap, arith, inl, map, refl, subst, sym}
 use Rattle.admit_core.specs.Relations.{school_ids}
 use Rattle.admit_core.specs.Standing.{dossier_of, school_of_row, wish_of_row}
 use Rattle.admit_core.specs.declared.dossier.School.{School}
@@ -33,6 +33,8 @@ takes_nothing A order shelf = record {
   others_taken = λ slot none. refl;
   counts = λ slot. omega arith;
   cause = tt;
+  told = λ slot among. inl refl;
+  others_faults = λ slot none. refl;
 }
 
 nothing_asked : (request : Option Request) (shelf : OnShelf) → TakesAsked {A = Request × Input} request shelf shelf (Err stops.OutOfMemory)
@@ -84,6 +86,8 @@ module _ (words : List (List ℕ)) (request : Request) (before after : OnShelf) 
       others_taken = takes.slots.others_taken;
       counts = takes.slots.counts;
       cause = takes.slots.cause;
+      told = takes.slots.told;
+      others_faults = takes.slots.others_faults;
     });
   }
 
@@ -104,6 +108,8 @@ module _ (words : List (List ℕ)) (request : Request) (before after : OnShelf) 
       others_taken = takes.slots.others_taken;
       counts = takes.slots.counts;
       cause = tt;
+      told = takes.slots.told;
+      others_faults = takes.slots.others_faults;
     });
   }
 

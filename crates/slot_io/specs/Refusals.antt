@@ -6,7 +6,7 @@ use Rattle.slot_io.specs.Faults.{raised}
 use Rattle.slot_io.specs.declared.refusal.IoRefusal.{IoRefusal}
 use Rattle.slot_io.specs.declared.refusal.IoRefusal.TheVariants as io
 use Rattle.slot_io.specs.declared.refusal.SlotRefusal.{SlotRefusal}
-use Rattle.slot_io.specs.declared.refusal.SlotRefusal.TheVariants.{ReadFault, OutOfMemory}
+use Rattle.slot_io.specs.declared.refusal.SlotRefusal.TheVariants.{ReadFault, TooLarge, OutOfMemory}
 
 -- what the reader of a slot answers
 abbrev pub slot_refusal_of : IoRefusal → SlotRefusal
@@ -23,6 +23,19 @@ faults_after (Err io.OutOfMemory) count = count
 pub record CountsFaults {T : Type 0} (result : Result T IoRefusal) (slot : Slot)
     (before now : Slot → ℕ) : Type 0 where
   pub here : now slot ≡ faults_after result (before slot)
+  pub others : OthersKept slot before now
+
+-- a slot's count of faults after it was read, which counts one exactly where a fault is told
+abbrev pub faults_told : {T : Type 0} → Result T SlotRefusal → ℕ → ℕ
+faults_told (Ok _) count = count
+faults_told (Err ReadFault) count = raised count
+faults_told (Err TooLarge) count = count
+faults_told (Err OutOfMemory) count = count
+
+-- the slots' counts of faults after one was read: only its own count may change
+pub record TellsFaults {T : Type 0} (result : Result T SlotRefusal) (slot : Slot)
+    (before now : Slot → ℕ) : Type 0 where
+  pub here : now slot ≡ faults_told result (before slot)
   pub others : OthersKept slot before now
 
 -- what a device answers at a read: the number of bytes; any error is a failure

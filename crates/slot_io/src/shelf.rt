@@ -5,7 +5,7 @@ ghost use Rattle.std.specs.Io.KnownBytes.{ReadConsumes};
 ghost use Rattle.admit_core.specs.declared.slot.Slot.{Slot};
 ghost use Rattle.slot_io.specs.Bytes.{CountsTaken, OthersKept, TakesAll, TakesAtMost, TakesMoreThan};
 ghost use Rattle.slot_io.specs.Faults.{Counted, NoneFell, Rose, raised_by};
-ghost use Rattle.slot_io.specs.Refusals.{CountsFaults};
+ghost use Rattle.slot_io.specs.Refusals.{CountsFaults, TellsFaults};
 
 use crate::refusal::{IoRefusal, SlotRefusal};
 use admit_core::Slot;
@@ -67,8 +67,7 @@ pub fn read_slot<S: Shelf>(
     ensures others { OthersKept slot (S.left shelf.old) (S.left shelf.new) }
     ensures others_taken { OthersKept slot (S.taken shelf.old) (S.taken shelf.new) }
     ensures counts { NoneFell (S.faults shelf.old) (S.faults shelf.new) }
-    ensures fault { IsErrOf result SlotRefusal.ReadFault → Rose (S.faults shelf.old slot)
-        (S.faults shelf.new slot) }
+    ensures fault { TellsFaults result slot (S.faults shelf.old) (S.faults shelf.new) }
 {
     let mut buf = [0u8; BUFFER_SIZE];
     let mut bytes = Vec::new(alloc);
