@@ -11,6 +11,7 @@ pub mod Links
 pub mod Listed
 pub mod Marks
 pub mod Opens
+pub mod Rosters
 pub mod Rounds
 pub mod Rows
 pub mod Seats

@@ -24,6 +24,7 @@ mod open_wishes;
 mod over;
 mod overfilled;
 mod rising;
+mod roster;
 mod round;
 mod rows;
 mod schools;
@@ -33,4 +34,5 @@ mod wishing;
 
 pub use law::law_of_changes;
 pub use lineup::Lineup;
+pub use roster::Roster;
 pub use round::LinkedRound;
