@@ -10,8 +10,7 @@ use Rattle.admit_core.specs.Days.{ceilings_of, first_evening, unfit_on}
 use Rattle.admit_core.specs.EveningLaws.{last_bars}
 use Rattle.admit_core.specs.Explanations.{LastPass}
 use Rattle.admit_core.specs.Lapses.{AreTermsFor}
-use Rattle.linked_demand.specs.declared.lineup.Lineup.{Lineup}
-use Rattle.linked_demand.specs.Lineups.{IsLineupOf}
+use Rattle.linked_demand.specs.Rosters.{Setting}
 use Rattle.desk_day.specs.AnswersOn.{IsUnfitOf}
 use Rattle.desk_day.specs.DeskStates.{DeskStates}
 use Rattle.desk_day.specs.LastPasses.{IsLastPass, last_pass}
@@ -58,10 +57,10 @@ pub record IsProgress (p : Progress) : Type 0 where
   pub bars : length p.bars ≡ length p.present.dossier.schools
   pub last : IsTrue p.has_day → IsLastPass (pass_of p) p.present
 
--- the same, with the lineup that its days share
-pub record IsAlong (lineup : Lineup) (p : Progress) : Type 0 where
+-- the same, with the roster that its days share
+pub record IsAlong (roster : Setting) (p : Progress) : Type 0 where
   pub progress : IsProgress p
-  pub lined_up : IsLineupOf p.present.dossier p.orders lineup
+  pub same : roster.dossier ≡ p.present.dossier
 
 -- the schools' own ceilings
 abbrev pub own_ceilings : DossierRows → List ℕ

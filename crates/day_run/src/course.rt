@@ -10,15 +10,14 @@ use admit_core::{CallOrders, DayRecord, Dossier, OutOfMemory, PassEnd, Terms};
 use bar_fixpoint::Picker;
 use day_state::DayState;
 use desk_day::{DayRefusal, Desk, ceilings_on, own_ceilings, run_day_along};
-use linked_demand::Lineup;
+use linked_demand::Roster;
 use std::alloc::Global;
 use std::marker::Model;
 
 /// The days of a campaign, without the picker.
 pub struct Course<'d> {
     desk: Desk<'d>,
-    orders: &'d CallOrders,
-    lineup: Lineup,
+    roster: Roster<'d, 'd>,
     terms: Option<Terms>,
     day: u32,
     has_day: bool,
@@ -31,8 +30,7 @@ impl Drop for Course<'_> {
     fn drop(self) {
         let Course {
             desk: _,
-            orders: _,
-            lineup: _,
+            roster: _,
             terms: _,
             day: _,
             has_day: _,
@@ -47,11 +45,11 @@ impl<'d> Model for Course<'d> {
 
     ghost Value = { Progress };
 
-    ghost view = { λ s. progress s.orders.now.orders s.terms s.day s.has_day s.desk s.bars.items
+    ghost view = { λ s. progress s.roster.orders s.terms s.day s.has_day s.desk s.bars.items
         s.ceilings.items };
 
-    ghost invariant = { λ s. IsAlong s.lineup (progress s.orders.now.orders s.terms s.day
-        s.has_day s.desk s.bars.items s.ceilings.items) };
+    ghost invariant = { λ s. IsAlong s.roster (progress s.roster.orders s.terms s.day s.has_day
+        s.desk s.bars.items s.ceilings.items) };
 }
 
 impl<'d> Course<'d> {
@@ -69,11 +67,10 @@ impl<'d> Course<'d> {
         let bars = own_ceilings(alloc, dossier)?;
         let ceilings = own_ceilings(alloc, dossier)?;
         let desk = Desk::begin(alloc, dossier)?;
-        let lineup = Lineup::build(alloc, desk.now(), orders)?;
+        let roster = Roster::build(alloc, desk.now(), orders)?;
         Ok(Course {
             desk,
-            orders,
-            lineup,
+            roster,
             terms,
             day: 0,
             has_day: false,
@@ -101,8 +98,7 @@ impl<'d> Course<'d> {
         let done = run_day_along(
             alloc,
             &mut self.desk,
-            self.orders,
-            &self.lineup,
+            &self.roster,
             ceilings.as_slice(),
             self.terms.as_ref(),
             day,
@@ -163,7 +159,7 @@ impl<'d> Course<'d> {
     pub fn orders(&self) -> &CallOrders
         ensures { result.now.orders ≡ self.now.orders }
     {
-        self.orders
+        self.roster.orders()
     }
 }
 

@@ -1,4 +1,4 @@
-//! A day along a lineup of its own.
+//! A day along a roster of its own.
 ghost use Rattle.std.specs.Prelude.{◌≡◌, length, None, Some};
 ghost use Rattle.std.specs.Option.{option_copied};
 ghost use Rattle.admit_core.specs.CallOrder.{AreCallOrders};
@@ -9,7 +9,7 @@ ghost use Rattle.desk_day.specs.RunDay.{EndsDay};
 use admit_core::{CallOrders, DayRecord, Terms};
 use bar_fixpoint::Picker;
 use desk_day::{DayRefusal, Desk, run_day_along};
-use linked_demand::Lineup;
+use linked_demand::Roster;
 use std::alloc::Global;
 
 /// Runs a day on the desk's present state: the answers, then passes until the automatic answers
@@ -55,7 +55,7 @@ pub fn run_dated_day(
     run_alone(alloc, desk, orders, ceilings, Some(terms), day, picker)
 }
 
-/// Runs a day, with its lapse where terms are given, along a lineup of its own.
+/// Runs a day, with its lapse where terms are given, along a roster of its own.
 fn run_alone(
     alloc: Global,
     desk: &mut Desk<'_>,
@@ -74,8 +74,8 @@ fn run_alone(
         (record { desk = desk.old; told = told picker.old; choice = choice picker.old })
         (record { desk = desk.new; told = told picker.new; choice = choice picker.new }) result }
 {
-    match Lineup::build(alloc, desk.now(), orders) {
-        Ok(lineup) => run_day_along(alloc, desk, orders, &lineup, ceilings, terms, day, picker),
+    match Roster::build(alloc, desk.now(), orders) {
+        Ok(roster) => run_day_along(alloc, desk, &roster, ceilings, terms, day, picker),
         Err(_) => {
             desk.keep_evening();
             Err(DayRefusal::OutOfMemory)

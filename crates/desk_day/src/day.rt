@@ -1,7 +1,6 @@
 //! A day.
 ghost use Rattle.std.specs.Prelude.{◌≡◌, length, [], IfOk, IfErr, None, true};
 ghost use Rattle.std.specs.Option.{option_copied};
-ghost use Rattle.admit_core.specs.CallOrder.{AreCallOrders};
 ghost use Rattle.admit_core.specs.Ranges.{IsDay as IsDayNumber};
 ghost use Rattle.admit_core.specs.Days.{lapsed_on, morning, unfit_on};
 ghost use Rattle.admit_core.specs.Lapses.{AreTermsFor};
@@ -9,7 +8,6 @@ ghost use Rattle.desk_day.specs.AnswersOn.{IsUnfitOf};
 ghost use Rattle.desk_day.specs.DayPasses.{IsAnswered, IsAnsweredBut};
 ghost use Rattle.desk_day.specs.DayPlaces.{AreWishesOf};
 ghost use Rattle.desk_day.specs.RunDay.{EndsDay, IsDayDone, KeepsOpening, TellsNoneUnfit};
-ghost use Rattle.linked_demand.specs.Lineups.{IsLineupOf};
 
 use crate::answers_on::answer;
 use crate::desk::{Desk, keep_evening};
@@ -19,31 +17,29 @@ use crate::lapses::lapse_offers;
 use crate::passes::make_passes;
 use crate::refusal::DayRefusal;
 use crate::touched::list_touched;
-use admit_core::{CallOrders, DayRecord, Lapse, Terms};
+use admit_core::{DayRecord, Lapse, Terms};
 use bar_fixpoint::Picker;
 use day_state::DayState;
-use linked_demand::Lineup;
+use linked_demand::Roster;
 use std::alloc::Global;
 
-/// Runs a day, with its lapse where terms are given, along a lineup of the dossier, which many days
-/// may share. After a refusal the state is that of the evening before.
+/// Runs a day, with its lapse where terms are given, along a roster of the desk's dossier, which
+/// many days may share. After a refusal the state is that of the evening before.
 pub fn run_day_along(
     alloc: Global,
     desk: &mut Desk<'_>,
-    orders: &CallOrders,
-    lineup: &Lineup,
+    roster: &Roster<'_, '_>,
     ceilings: &[u32],
     terms: Option<&Terms>,
     day: u32,
     picker: &mut dyn Picker,
 ) -> Result<DayRecord, DayRefusal>
-    requires orders { AreCallOrders desk.old.present.dossier.groups orders.now.orders }
-    requires lineup { IsLineupOf desk.old.present.dossier orders.now.orders lineup.now }
+    requires roster { roster.now.dossier ≡ desk.old.present.dossier }
     requires ceilings { length ceilings.now ≡ length desk.old.present.dossier.schools }
     requires before { AreTermsFor desk.old.present.dossier (option_copied terms) }
     requires day { IsDayNumber day }
 
-    ensures { EndsDay (option_copied terms.entry) orders.now.orders ceilings.now day
+    ensures { EndsDay (option_copied terms.entry) roster.now.orders ceilings.now day
         (record { desk = desk.old; told = told picker.old; choice = choice picker.old })
         (record { desk = desk.new; told = told picker.new; choice = choice picker.new }) result }
 {
@@ -53,8 +49,7 @@ pub fn run_day_along(
         alloc,
         &mut desk.opening,
         &mut desk.present,
-        orders,
-        lineup,
+        roster,
         ceilings,
         terms,
         day,
@@ -85,8 +80,7 @@ fn play<'d>(
     alloc: Global,
     opening: &mut DayState<'d>,
     state: &mut DayState<'d>,
-    orders: &CallOrders,
-    lineup: &Lineup,
+    roster: &Roster<'_, '_>,
     ceilings: &[u32],
     terms: Option<&Terms>,
     day: u32,
@@ -96,15 +90,14 @@ fn play<'d>(
     picker: &mut dyn Picker,
 ) -> Result<DayRecord, DayRefusal>
     requires same { opening.old.dossier ≡ state.old.dossier }
-    requires orders { AreCallOrders state.old.dossier.groups orders.now.orders }
-    requires lineup { IsLineupOf state.old.dossier orders.now.orders lineup.now }
+    requires roster { roster.now.dossier ≡ state.old.dossier }
     requires ceilings { length ceilings.now ≡ length state.old.dossier.schools }
     requires before { AreTermsFor state.old.dossier (option_copied terms) }
     requires day { IsDayNumber day }
     requires answered { is_answered ≡ true → IsAnswered state.old }
     requires alike { is_alike ≡ true → opening.old ≡ state.old }
 
-    ensures done { IfOk result (λ done. IsDayDone (option_copied terms.entry) orders.now.orders
+    ensures done { IfOk result (λ done. IsDayDone (option_copied terms.entry) roster.now.orders
         ceilings.now day
         (record {
           desk = record { present = state.old; evening = state.old; opening = opening.old };
@@ -127,13 +120,13 @@ fn play<'d>(
     ensures choice { choice picker.new ≡ choice picker.old }
 {
     let _ = state.dossier().wishes.len(); // learns that the dossier is valid
+    let _ = roster.orders(); // these are the dossier's
     let lapsed = begin_day(alloc, state, terms, day, beside)?;
     let passes = make_passes(
         alloc,
         opening,
         state,
-        orders,
-        lineup,
+        roster,
         ceilings,
         day,
         is_answered,

@@ -1,8 +1,8 @@
-//! One day on a `Desk`, along a lineup that is lent: its lapses and answers, passes until the
+//! One day on a `Desk`, along a roster that is lent: its lapses and answers, passes until the
 //! automatic answers free nothing, and the evening. Day after day is a campaign in `day_run`, and
 //! `played` in the program.
 //!
-//! `let day = run_day_along(alloc, &mut desk, &orders, &lineup, ceilings, None, 1, picker)?;`
+//! `let day = run_day_along(alloc, &mut desk, &roster, ceilings, None, 1, picker)?;`
 #![tactic(auto)]
 
 mod answers_on;

@@ -1,11 +1,9 @@
 //! The passes of a day.
 ghost use Rattle.std.specs.Prelude.{◌≡◌, ◌≤◌, ◌<◌, ◌+◌, ◌++◌, length, not, true, [], IfOk, OnErr, IsTrue};
-ghost use Rattle.admit_core.specs.CallOrder.{AreCallOrders};
 ghost use Rattle.admit_core.specs.AutoAnswer.{auto_all, freed};
 ghost use Rattle.admit_core.specs.Boarding.{boarding};
 ghost use Rattle.admit_core.specs.Days.{IsPassEnd, Passes, closing, frees_nothing};
 ghost use Rattle.bar_fixpoint.specs.Runs.{schools_of};
-ghost use Rattle.linked_demand.specs.Lineups.{IsLineupOf};
 ghost use Rattle.bar_fixpoint.specs.Chosen.{AreChosen};
 ghost use Rattle.auto_answer.specs.Laws.{AreAnsweredBut, SameOthers};
 ghost use Rattle.desk_day.specs.Changes.{answered_changes};
@@ -15,12 +13,12 @@ ghost use Rattle.desk_day.specs.Once.{NamesSame};
 
 use crate::changes::{answered_changes, changes_beside};
 use crate::once::ask_beside;
-use admit_core::{CallOrders, Change, Freed, OutOfMemory, PassEnd, Sequence, Stamp};
+use admit_core::{Change, Freed, OutOfMemory, PassEnd, Sequence, Stamp};
 use auto_answer::{auto_all, auto_some};
 use bar_fixpoint::Picker;
 use day_state::DayState;
-use linked_demand::Lineup;
-use round::pass;
+use linked_demand::Roster;
+use round::pass_along;
 use std::alloc::Global;
 
 /// Makes passes from the present state on, up to the first whose automatic answers free nothing.
@@ -35,8 +33,7 @@ pub(crate) fn make_passes<'d>(
     alloc: Global,
     opening: &mut DayState<'d>,
     state: &mut DayState<'d>,
-    orders: &CallOrders,
-    lineup: &Lineup,
+    roster: &Roster<'_, '_>,
     ceilings: &[u32],
     day: u32,
     is_answered: bool,
@@ -45,23 +42,22 @@ pub(crate) fn make_passes<'d>(
     picker: &mut dyn Picker,
 ) -> Result<Vec<PassEnd>, OutOfMemory>
     requires same { opening.old.dossier ≡ state.old.dossier }
-    requires orders { AreCallOrders state.old.dossier.groups orders.now.orders }
-    requires lineup { IsLineupOf state.old.dossier orders.now.orders lineup.now }
+    requires roster { roster.now.dossier ≡ state.old.dossier }
     requires ceilings { length ceilings.now ≡ length state.old.dossier.schools }
     requires beside { AreWishesOf state.old.dossier beside.old.items }
     requires answered { is_answered ≡ true → IsAnsweredBut beside.old.items state.old }
     requires alike { is_alike ≡ true → beside.old.items ≡ [] → opening.old ≡ state.old }
 
-    ensures passes { IfOk result (λ ends. Passes orders.now.orders ceilings.now day 1 state.old
+    ensures passes { IfOk result (λ ends. Passes roster.now.orders ceilings.now day 1 state.old
         ends.items state.new) }
-    ensures opening { IfOk result (λ ends. opening.new ≡ last_opening orders.now.orders day 1
+    ensures opening { IfOk result (λ ends. opening.new ≡ last_opening roster.now.orders day 1
         state.old ends.items) }
     ensures few { IfOk result (λ ends. length ends.items ≤ length state.old.dossier.wishes + 1) }
     ensures answered { IfOk result (λ _. IsAnswered state.new) }
 
     ensures told { IfOk result (λ ends. told picker.new ≡ told picker.old
         ++ schools_of_passes ends.items) }
-    ensures chosen { IfOk result (λ ends. AreChosenPasses orders.now.orders ceilings.now day 1
+    ensures chosen { IfOk result (λ ends. AreChosenPasses roster.now.orders ceilings.now day 1
         state.old (choice picker.old) (told picker.old) ends.items) }
     ensures early { OnErr result (TellsMore (told picker.old) (told picker.new)) }
     ensures choice { choice picker.new ≡ choice picker.old }
@@ -81,8 +77,7 @@ pub(crate) fn make_passes<'d>(
             alloc,
             opening,
             state,
-            orders,
-            lineup,
+            roster,
             ceilings,
             stamp,
             is_answered,
@@ -161,8 +156,7 @@ fn make_pass(
     alloc: Global,
     opening: &DayState<'_>,
     state: &mut DayState<'_>,
-    orders: &CallOrders,
-    lineup: &Lineup,
+    roster: &Roster<'_, '_>,
     ceilings: &[u32],
     stamp: Stamp,
     is_answered: bool,
@@ -170,15 +164,14 @@ fn make_pass(
     picker: &mut dyn Picker,
 ) -> Result<PassEnd, OutOfMemory>
     requires opening { opening.now ≡ state.old }
-    requires orders { AreCallOrders state.old.dossier.groups orders.now.orders }
-    requires lineup { IsLineupOf state.old.dossier orders.now.orders lineup.now }
+    requires roster { roster.now.dossier ≡ state.old.dossier }
     requires ceilings { length ceilings.now ≡ length state.old.dossier.schools }
     requires beside { AreWishesOf state.old.dossier beside.old.items }
     requires answered { is_answered ≡ true → IsAnsweredBut beside.old.items state.old }
 
-    ensures end { IfOk result (λ end. IsPassEnd state.old orders.now.orders
+    ensures end { IfOk result (λ end. IsPassEnd state.old roster.now.orders
         ceilings.now stamp end) }
-    ensures state { IfOk result (λ end. state.new ≡ closing state.old orders.now.orders
+    ensures state { IfOk result (λ end. state.new ≡ closing state.old roster.now.orders
         end.pass.bars stamp) }
     ensures fewer { IfOk result (λ end. IsTrue (not (frees_nothing end.freed)) → open_wishes
         state.new < open_wishes state.old) }
@@ -190,7 +183,7 @@ fn make_pass(
     ensures told { IfOk result (λ end. told picker.new ≡ told picker.old ++ schools_of
         end.pass.falls) }
     ensures chosen { IfOk result
-        (λ end. AreChosen (boarding state.old orders.now.orders ceilings.now) (choice picker.old)
+        (λ end. AreChosen (boarding state.old roster.now.orders ceilings.now) (choice picker.old)
         (told picker.old) ceilings.now end.pass.falls) }
     ensures early { OnErr result (TellsMore (told picker.old) (told picker.new)) }
     ensures choice { choice picker.new ≡ choice picker.old }
@@ -198,7 +191,7 @@ fn make_pass(
     ensures dossier { state.new.dossier ≡ state.old.dossier }
 {
     let _ = state.marks(); // one for each wish
-    let pass = pass(alloc, state, orders, lineup, ceilings, stamp, picker)?;
+    let pass = pass_along(alloc, state, roster, ceilings, stamp, picker)?;
     ask_beside(beside, state, pass.offers.as_slice(), is_answered)?;
     let freed = answer_after(state, is_answered, beside.as_slice(), stamp);
     let autos = changes_after(alloc, opening, state, is_answered, beside.as_slice())?;

@@ -1,10 +1,12 @@
 -- The days that were played so far.
-use Rattle.std.proofs.Common.{◌≡◌, ◌∙◌, ℕ, ◌+◌, ◌<◌, List, [], ◌∷◌, ◌++◌, Result, Ok, Err, IsErrAnd, IsSomeAnd, ap, append_assoc, arith, length, refl, subst, sym}
+use Rattle.std.proofs.Common.{◌≡◌, ◌∙◌, ℕ, ◌+◌, ◌<◌, List, [], ◌∷◌, ◌++◌, Option, Result, Ok, Err, IsErrAnd, IsSomeAnd, ap, append_assoc, arith, length, refl, subst, sym}
 use Rattle.std.proofs.lemmas.List.{append-nil, length-append}
 use Rattle.admit_core.specs.CallOrder.{AreCallOrders}
 use Rattle.admit_core.specs.Days.{ceilings_of, unfit_on}
 use Rattle.admit_core.specs.DossierRows.{DossierRows}
+use Rattle.admit_core.specs.declared.ranking.CallOrder.{CallOrder}
 use Rattle.admit_core.specs.declared.records.DayRecord.{DayRecord}
+use Rattle.admit_core.specs.declared.records.Terms.{Terms}
 use Rattle.admit_core.specs.declared.refusal.Refusal.{Refusal}
 use Rattle.desk_day.specs.AnswersOn.{unfit_refusal}
 use Rattle.desk_day.specs.DeskStates.{DeskStates}
@@ -217,3 +219,13 @@ module _ (d : DossierRows) (number : ℕ) (plan : Plan) (old new : DeskStates) (
     ends = rw is plays.stops;
     told = plays.told;
   }
+
+-- days that were played along a roster, by the orders that it was made of
+pub by_orders : (one other : List CallOrder) (terms : Option Terms) (who : PickerChoice) (number : ℕ) (old : DeskStates)
+    (before : Lent) (days : List DayRecord) (result : Result (Unit {0}) DayRefusal) (new : DeskStates) (after : Lent)
+    → one ≡ other
+    → PlaysDays (record { orders = one; terms = terms; who = who }) number old before days result new after
+    → PlaysDays (record { orders = other; terms = terms; who = who }) number old before days result new after
+by_orders one other terms who number old before days result new after same plays =
+    subst (λ (orders : List CallOrder).
+    PlaysDays (record { orders = orders; terms = terms; who = who }) number old before days result new after) same plays

@@ -1,18 +1,16 @@
 //! One day of a run.
-ghost use Rattle.std.specs.Prelude.{IsSome, option_copied};
-ghost use Rattle.admit_core.specs.CallOrder.{AreCallOrders};
+ghost use Rattle.std.specs.Prelude.{◌≡◌, IsSome, option_copied};
 ghost use Rattle.admit_core.specs.Lapses.{AreTermsFor};
 ghost use Rattle.admit_core.specs.Ranges.{IsDay as IsDayNumber};
-ghost use Rattle.linked_demand.specs.Lineups.{IsLineupOf};
 ghost use Rattle.played.specs.Lent.{AreThere, choice_in, lent, told_in};
 ghost use Rattle.played.specs.OneDay.{DayEndsWith};
 ghost use Rattle.played.specs.PlayedDays.{EndsNext};
 
 use crate::pickers::Pickers;
-use admit_core::{CallOrders, DayRecord, Terms};
+use admit_core::{DayRecord, Terms};
 use bar_fixpoint::Picker;
 use desk_day::{DayRefusal, Desk, ceilings_on, run_day_along};
-use linked_demand::Lineup;
+use linked_demand::Roster;
 use request::{PickerChoice, PickerName, picker_on};
 use std::alloc::Global;
 
@@ -20,43 +18,39 @@ use std::alloc::Global;
 fn run_with(
     alloc: Global,
     desk: &mut Desk<'_>,
-    orders: &CallOrders,
-    lineup: &Lineup,
+    roster: &Roster<'_, '_>,
     terms: Option<&Terms>,
     day: u32,
     picker: &mut dyn Picker,
 ) -> Result<DayRecord, DayRefusal>
-    requires orders { AreCallOrders desk.old.present.dossier.groups orders.now.orders }
-    requires lineup { IsLineupOf desk.old.present.dossier orders.now.orders lineup.now }
+    requires roster { roster.now.dossier ≡ desk.old.present.dossier }
     requires terms { AreTermsFor desk.old.present.dossier (option_copied terms) }
     requires day { IsDayNumber day }
 
-    ensures { DayEndsWith orders.now.orders (option_copied terms.entry) day
+    ensures { DayEndsWith roster.now.orders (option_copied terms.entry) day
         (record { desk = desk.old; told = told picker.old; choice = choice picker.old })
         (record { desk = desk.new; told = told picker.new; choice = choice picker.new }) result }
 {
     let ceilings = ceilings_on(alloc, desk.now().dossier(), day)?;
-    run_day_along(alloc, desk, orders, lineup, &ceilings, terms, day, picker)
+    run_day_along(alloc, desk, roster, &ceilings, terms, day, picker)
 }
 
 /// Runs a day with the picker of this place, which is there again afterwards.
 fn run_lent(
     alloc: Global,
     desk: &mut Desk<'_>,
-    orders: &CallOrders,
-    lineup: &Lineup,
+    roster: &Roster<'_, '_>,
     terms: Option<&Terms>,
     day: u32,
     place: &mut Option<Box<dyn Picker>>,
 ) -> Result<DayRecord, DayRefusal>
-    requires orders { AreCallOrders desk.old.present.dossier.groups orders.now.orders }
-    requires lineup { IsLineupOf desk.old.present.dossier orders.now.orders lineup.now }
+    requires roster { roster.now.dossier ≡ desk.old.present.dossier }
     requires terms { AreTermsFor desk.old.present.dossier (option_copied terms) }
     requires day { IsDayNumber day }
     requires there { IsSome place.old }
 
     ensures there { IsSome place.new }
-    ensures ends { DayEndsWith orders.now.orders (option_copied terms.entry) day
+    ensures ends { DayEndsWith roster.now.orders (option_copied terms.entry) day
         (record {
           desk = desk.old;
           told = told_in (λ p. told p) place.old;
@@ -71,7 +65,7 @@ fn run_lent(
     let Some(mut picker) = place.take() else {
         unreachable!()
     };
-    let done = run_with(alloc, desk, orders, lineup, terms, day, &mut *picker);
+    let done = run_with(alloc, desk, roster, terms, day, &mut *picker);
     *place = Some(picker);
     done
 }
@@ -80,28 +74,26 @@ fn run_lent(
 pub(crate) fn next_day(
     alloc: Global,
     desk: &mut Desk<'_>,
-    orders: &CallOrders,
-    lineup: &Lineup,
+    roster: &Roster<'_, '_>,
     terms: Option<&Terms>,
     who: PickerChoice,
     day: u32,
     pickers: &mut Pickers,
 ) -> Result<DayRecord, DayRefusal>
-    requires orders { AreCallOrders desk.old.present.dossier.groups orders.now.orders }
-    requires lineup { IsLineupOf desk.old.present.dossier orders.now.orders lineup.now }
+    requires roster { roster.now.dossier ≡ desk.old.present.dossier }
     requires terms { AreTermsFor desk.old.present.dossier (option_copied terms) }
     requires day { IsDayNumber day }
     requires there { AreThere pickers.old }
 
     ensures there { AreThere pickers.new }
     ensures ends { EndsNext
-        (record { orders = orders.now.orders; terms = option_copied terms.entry; who = who }) day
+        (record { orders = roster.now.orders; terms = option_copied terms.entry; who = who }) day
         desk.old (lent (λ p. told p) (λ p. choice p) pickers.old) result
         desk.new (lent (λ p. told p) (λ p. choice p) pickers.new) }
 {
     match picker_on(who, day) {
-        PickerName::First => run_lent(alloc, desk, orders, lineup, terms, day, &mut pickers.first),
-        PickerName::Last => run_lent(alloc, desk, orders, lineup, terms, day, &mut pickers.last),
-        PickerName::Turn => run_lent(alloc, desk, orders, lineup, terms, day, &mut pickers.turn),
+        PickerName::First => run_lent(alloc, desk, roster, terms, day, &mut pickers.first),
+        PickerName::Last => run_lent(alloc, desk, roster, terms, day, &mut pickers.last),
+        PickerName::Turn => run_lent(alloc, desk, roster, terms, day, &mut pickers.turn),
     }
 }

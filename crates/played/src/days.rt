@@ -2,7 +2,6 @@
 ghost use Rattle.std.specs.Prelude.{◌≡◌, ◌≤◌, [], ◌∷◌, ◌++◌, IfOk, OnOk, option_copied};
 ghost use Rattle.admit_core.specs.CallOrder.{AreCallOrders};
 ghost use Rattle.admit_core.specs.Lapses.{AreTermsFor};
-ghost use Rattle.linked_demand.specs.Lineups.{IsLineupOf};
 ghost use Rattle.played.specs.Lent.{AreBack, AreThere, Untold, lent};
 ghost use Rattle.played.specs.PlayedDays.{IsPlayed, PlaysDays, first_desk};
 
@@ -11,7 +10,7 @@ use crate::pickers::Pickers;
 use admit_core::{CallOrders, DayRecord, Dossier, OutOfMemory, Refusal, Terms};
 use call_order::call_orders;
 use desk_day::{DayRefusal, Desk};
-use linked_demand::Lineup;
+use linked_demand::Roster;
 use request::PickerChoice;
 use std::alloc::Global;
 
@@ -33,59 +32,60 @@ fn keep(days: &mut Vec<DayRecord>, day: DayRecord) -> Result<(), OutOfMemory>
     Ok(())
 }
 
+/// How many days are asked for, and with which picker each.
+#[derive(Clone, Copy)]
+struct Wanted {
+    number: u32,
+    who: PickerChoice,
+}
+
 /// Runs so many days, and keeps the records of those that come about.
 fn play_days(
     alloc: Global,
     desk: &mut Desk<'_>,
-    orders: &CallOrders,
-    lineup: &Lineup,
+    roster: &Roster<'_, '_>,
     terms: Option<&Terms>,
-    number: u32,
-    who: PickerChoice,
+    wanted: Wanted,
     pickers: &mut Pickers,
     days: &mut Vec<DayRecord>,
 ) -> Result<(), DayRefusal>
-    requires orders { AreCallOrders desk.old.present.dossier.groups orders.now.orders }
-    requires lineup { IsLineupOf desk.old.present.dossier orders.now.orders lineup.now }
+    requires roster { roster.now.dossier ≡ desk.old.present.dossier }
     requires terms { AreTermsFor desk.old.present.dossier (option_copied terms) }
-    requires number { number ≤ 366 }
+    requires number { wanted.number ≤ 366 }
     requires there { AreThere pickers.old }
     requires none { days.old.items ≡ [] }
 
     ensures there { AreThere pickers.new }
     ensures plays { PlaysDays
-        (record { orders = orders.now.orders; terms = option_copied terms.entry; who = who }) number
+        (record {
+          orders = roster.now.orders;
+          terms = option_copied terms.entry;
+          who = wanted.who;
+        }) wanted.number
         desk.old (lent (λ p. told p) (λ p. choice p) pickers.old) days.new.items result
         desk.new (lent (λ p. told p) (λ p. choice p) pickers.new) }
 {
-    for played in 0..number {
-        let day = next_day(alloc, desk, orders, lineup, terms, who, played + 1, pickers)?;
+    for played in 0..wanted.number {
+        let day = next_day(alloc, desk, roster, terms, wanted.who, played + 1, pickers)?;
         keep(days, day)?;
     }
     Ok(())
 }
 
-/// What the days begin with, and the lineup that they share.
+/// What the days begin with.
 #[derive(Drop)]
 struct Begun<'d> {
     orders: CallOrders,
     desk: Desk<'d>,
-    lineup: Lineup,
 }
 
 fn begin<'d>(alloc: Global, dossier: &'d Dossier) -> Result<Begun<'d>, OutOfMemory>
     ensures orders { IfOk result (λ x. AreCallOrders dossier.now.groups x.orders.orders) }
     ensures desk { IfOk result (λ x. x.desk ≡ first_desk dossier.now) }
-    ensures lineup { IfOk result (λ x. IsLineupOf dossier.now x.orders.orders x.lineup) }
 {
     let orders = call_orders(alloc, dossier.groups.as_slice())?;
     let desk = Desk::begin(alloc, dossier)?;
-    let lineup = Lineup::build(alloc, desk.now(), &orders)?;
-    Ok(Begun {
-        orders,
-        desk,
-        lineup,
-    })
+    Ok(Begun { orders, desk })
 }
 
 /// Runs so many days of a dossier, each with the picker of the day, from the evening that it comes
@@ -112,18 +112,15 @@ pub fn play<'d>(
         (record { orders = p.orders.orders; days = p.days.items; end = p.end })
         (lent (λ p. told p) (λ p. choice p) pickers.new)) }
 {
-    let Begun {
-        orders,
-        mut desk,
-        lineup,
-    } = begin(alloc, dossier)?;
+    let Begun { orders, mut desk } = begin(alloc, dossier)?;
     let mut days = Vec::new(alloc);
-    let end = match play_days(
-        alloc, &mut desk, &orders, &lineup, terms, number, who, pickers, &mut days,
-    ) {
+    let roster = Roster::build(alloc, desk.now(), &orders)?;
+    let wanted = Wanted { number, who };
+    let end = match play_days(alloc, &mut desk, &roster, terms, wanted, pickers, &mut days) {
         Ok(()) => Ok(desk),
         Err(DayRefusal::Unfit(refusal)) => Err(refusal),
         Err(DayRefusal::OutOfMemory) => return Err(OutOfMemory),
     };
+    drop(roster);
     Ok(Played { orders, days, end })
 }

@@ -1,1 +1,2 @@
 pub mod PassLaws
+pub mod Picks

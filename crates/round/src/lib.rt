@@ -1,7 +1,7 @@
 //! A pass: finds the greatest bars (*barres d'internat*) of the boarding schools, and offers the
 //! wishes that are proposed under them.
 //!
-//! `let record = pass(alloc, &mut state, &orders, &lineup, ceilings, stamp, picker)?;`
+//! `let record = pass_along(alloc, &mut state, &roster, ceilings, stamp, picker)?;`
 #![tactic(auto)]
 
 mod bars;
@@ -10,4 +10,4 @@ mod one_pass;
 
 pub use bars::bars_of;
 pub use laws::laws_of_passes;
-pub use one_pass::pass;
+pub use one_pass::{pass, pass_along};

@@ -1,69 +1,75 @@
 //! One pass.
-ghost use Rattle.std.specs.Prelude.{◌≡◌, ◌++◌, ◌<◌, length, IfOk, OnErr};
-ghost use Rattle.admit_core.specs.CallOrder.{AreCallOrders};
+ghost use Rattle.std.specs.Prelude.{◌≡◌, ◌<◌, length, IfOk, OnErr};
 ghost use Rattle.admit_core.specs.Boarding.{boarding};
+ghost use Rattle.admit_core.specs.CallOrder.{AreCallOrders};
 ghost use Rattle.admit_core.specs.Days.{IsPass, offered};
-ghost use Rattle.bar_fixpoint.specs.Runs.{schools_of};
-ghost use Rattle.bar_fixpoint.specs.Chosen.{AreChosen, TellsOfFalls};
-ghost use Rattle.linked_demand.specs.Lineups.{IsLineupOf};
 ghost use Rattle.round.specs.PassLaws.{KeepsPassLaws};
+ghost use Rattle.round.specs.Picks.{PicksFalls};
 
 use crate::bars::bars_of;
 use admit_core::{CallOrders, OutOfMemory, PassRecord, Sequence, Stamp, Steps};
 use bar_fixpoint::{Picker, greatest};
 use day_state::DayState;
-use linked_demand::{Lineup, LinkedRound};
+use linked_demand::Roster;
 use std::alloc::Global;
 use std::marker::Brand;
 use std::sync::ledger::{Blank, Ledger};
 
-/// Finds the greatest bars under the ceilings that overfill no boarding school, and offers exactly
-/// the wishes that are proposed under them.
-///
-/// Which picker is asked decides nothing but the order of the falls.
+/// Makes a pass as `pass_along` does, along a roster of its own.
 pub fn pass(
     alloc: Global,
     state: &mut DayState<'_>,
     orders: &CallOrders,
-    lineup: &Lineup,
     ceilings: &[u32],
     stamp: Stamp,
     picker: &mut dyn Picker,
 ) -> Result<PassRecord, OutOfMemory>
     requires orders { AreCallOrders state.old.dossier.groups orders.now.orders }
-    requires lineup { IsLineupOf state.old.dossier orders.now.orders lineup.now }
     requires ceilings { length ceilings.now ≡ length state.old.dossier.schools }
 
-    ensures pass { IfOk result (λ found. IsPass state.old orders.now.orders ceilings.now found) }
+    ensures pass { IfOk result (IsPass state.old orders.now.orders ceilings.now) }
     ensures state { IfOk result (λ found.
         state.new ≡ offered state.old orders.now.orders found.bars stamp) }
+    ensures picks { PicksFalls (boarding state.old orders.now.orders ceilings.now)
+        (choice picker.old) (choice picker.new) (told picker.old) (told picker.new) result }
+    ensures laws { IfOk result (KeepsPassLaws state.old state.new ceilings.now) }
+    ensures refused { OnErr result (state.new ≡ state.old) }
+{
+    let roster = Roster::build(alloc, state, orders)?;
+    pass_along(alloc, state, &roster, ceilings, stamp, picker)
+}
 
-    ensures told { IfOk result (λ found.
-        told picker.new ≡ told picker.old ++ schools_of found.falls) }
-    ensures chosen { IfOk result (λ found.
-        AreChosen (boarding state.old orders.now.orders ceilings.now) (choice picker.old)
-        (told picker.old) ceilings.now found.falls) }
-    ensures choice { choice picker.new ≡ choice picker.old }
+/// Finds the greatest bars under the ceilings that overfill no boarding school, and offers exactly
+/// the wishes that are proposed under them. The roster is that of the state's dossier.
+///
+/// Which picker is asked decides nothing but the order of the falls.
+pub fn pass_along(
+    alloc: Global,
+    state: &mut DayState<'_>,
+    roster: &Roster<'_, '_>,
+    ceilings: &[u32],
+    stamp: Stamp,
+    picker: &mut dyn Picker,
+) -> Result<PassRecord, OutOfMemory>
+    requires same { roster.now.dossier ≡ state.old.dossier }
+    requires ceilings { length ceilings.now ≡ length state.old.dossier.schools }
+
+    ensures pass { IfOk result (IsPass state.old roster.now.orders ceilings.now) }
+    ensures state { IfOk result (λ found.
+        state.new ≡ offered state.old roster.now.orders found.bars stamp) }
+    ensures picks { PicksFalls (boarding state.old roster.now.orders ceilings.now)
+        (choice picker.old) (choice picker.new) (told picker.old) (told picker.new) result }
 
     // Seats, call limits and beds suffice, bars are lowered for beds alone, and falls are few.
     ensures laws { IfOk result (KeepsPassLaws state.old state.new ceilings.now) }
 
     // Memory ran out: nothing was offered, but the picker may have told of schools by then.
     ensures refused { OnErr result (state.new ≡ state.old) }
-    ensures early { OnErr result (TellsOfFalls (boarding state.old orders.now.orders ceilings.now)
-        (choice picker.old) (told picker.old) (told picker.new)) }
 {
     let dossier = state.dossier();
     let _ = &dossier.wishes; // learns that the dossier is valid
-    let found = find::<Brand>(
-        alloc,
-        Blank::new(1),
-        state,
-        orders,
-        lineup,
-        ceilings,
-        picker,
-    )?;
+    let _ = roster.orders(); // these are the dossier's
+    let found = find::<Brand>(alloc, Blank::new(1), state, roster, ceilings, picker)?;
     state.offer_all(found.offers.as_slice(), stamp);
     Ok(found)
 }
@@ -73,31 +79,22 @@ fn find<L: Ledger>(
     alloc: Global,
     blank: Blank,
     state: &DayState<'_>,
-    orders: &CallOrders,
-    lineup: &Lineup,
+    roster: &Roster<'_, '_>,
     ceilings: &[u32],
     picker: &mut dyn Picker,
 ) -> Result<PassRecord, OutOfMemory>
     requires name { blank.name ≡ L.name }
     requires parts { blank.parts ≡ L.parts }
     requires shared { 0 < L.parts }
-    requires orders { AreCallOrders state.now.dossier.groups orders.now.orders }
-    requires lineup { IsLineupOf state.now.dossier orders.now.orders lineup.now }
+    requires same { roster.now.dossier ≡ state.now.dossier }
     requires ceilings { length ceilings.now ≡ length state.now.dossier.schools }
 
-    ensures pass { IfOk result (λ found. IsPass state.now orders.now.orders ceilings.now found) }
-
-    ensures told { IfOk result (λ found.
-        told picker.new ≡ told picker.old ++ schools_of found.falls) }
-    ensures chosen { IfOk result (λ found.
-        AreChosen (boarding state.now orders.now.orders ceilings.now) (choice picker.old)
-        (told picker.old) ceilings.now found.falls) }
-    ensures early { OnErr result (TellsOfFalls (boarding state.now orders.now.orders ceilings.now)
-        (choice picker.old) (told picker.old) (told picker.new)) }
-    ensures choice { choice picker.new ≡ choice picker.old }
+    ensures pass { IfOk result (IsPass state.now roster.now.orders ceilings.now) }
+    ensures picks { PicksFalls (boarding state.now roster.now.orders ceilings.now)
+        (choice picker.old) (choice picker.new) (told picker.old) (told picker.new) result }
 {
     let mut steps: Steps<L> = Steps::new(blank);
-    let mut round = LinkedRound::build(alloc, state, orders, lineup, ceilings)?;
+    let mut round = roster.begin_round(alloc, state, ceilings)?;
     let falls = greatest(alloc, &mut round, picker, &mut steps)?;
     let bars = bars_of(alloc, &round)?;
     let offers = round.proposed(alloc)?;

@@ -6,7 +6,6 @@ use Rattle.admit_core.specs.Days.{IsDay, Passes}
 use Rattle.admit_core.specs.DossierRows.{DossierRows}
 use Rattle.admit_core.specs.State.{State}
 use Rattle.admit_core.specs.Validity.{IsValid}
-use Rattle.linked_demand.specs.Lineups.{IsLineupOf}
 use Rattle.desk_day.specs.DayPasses.{AreChosenPasses, last_opening}
 use Rattle.desk_day.specs.RunDay.{recorded}
 use Rattle.desk_day.proofs.DayEnds.{done_so, ran_out}
@@ -18,13 +17,8 @@ use Rattle.desk_day.proofs.day.play.Goals as goal
 pub make_passes-requires-clause-same : goal.make_passes-requires-clause-same
 make_passes-requires-clause-same g c = c.requires.same ∙ sym c.begin_day.ensures.dossier
 
-pub make_passes-requires-clause-orders : goal.make_passes-requires-clause-orders
-make_passes-requires-clause-orders g c =
-    subst (λ (d : DossierRows). AreCallOrders d.groups c.args.orders.now.orders) (sym c.begin_day.ensures.dossier) c.requires.orders
-
-pub make_passes-requires-clause-lineup : goal.make_passes-requires-clause-lineup
-make_passes-requires-clause-lineup g c =
-    subst (λ (d : DossierRows). IsLineupOf d c.args.orders.now.orders c.args.lineup.now) (sym c.begin_day.ensures.dossier) c.requires.lineup
+pub make_passes-requires-clause-roster : goal.make_passes-requires-clause-roster
+make_passes-requires-clause-roster g c = c.requires.roster ∙ sym c.begin_day.ensures.dossier
 
 pub make_passes-requires-clause-ceilings : goal.make_passes-requires-clause-ceilings
 make_passes-requires-clause-ceilings g c =
@@ -73,7 +67,7 @@ pub returns-clause-done : goal.returns-clause-done
 returns-clause-done g c =
     let s = c.args.state.now in
     let terms = option_copied c.args.terms in
-    let orders = c.args.orders.now.orders in
+    let orders = c.args.roster.now.orders in
     let ceilings = c.args.ceilings.now in
     let day = c.args.day in
     let evening = c.make_passes.new.state in
@@ -81,6 +75,8 @@ returns-clause-done g c =
     let done = recorded day passes c.in_ok-lapsed.lapsed.items evening in
     let morning = c.in_ok-lapsed.ensures.state in
     let valid : IsValid s.dossier = subst IsValid (c.behind-state.view_is ∙ c.dossier.ensures) c.behind-state.invariant in
+    let called : AreCallOrders s.dossier.groups orders =
+    subst (λ (d : DossierRows). AreCallOrders d.groups orders) c.requires.roster c.orders.ensures.right in
     let first = goal.Picker-dyn g c.args.picker.now in
     let is : IsDay terms orders ceilings s done evening = record {
       lapsed = c.in_ok-lapsed.ensures.lapsed;
@@ -99,7 +95,7 @@ returns-clause-done g c =
             (first.told c.args.picker.now.1) passes) morning c.in_ok-passes.ensures.chosen;
       };
       follows = record {
-        laws = laws_kept terms orders ceilings s done evening valid c.requires.orders c.requires.ceilings is;
+        laws = laws_kept terms orders ceilings s done evening valid called c.requires.ceilings is;
         few = subst (λ (d : DossierRows). length passes ≤ length d.wishes + 1) c.begin_day.ensures.dossier
             c.in_ok-passes.ensures.few;
         places = day_in terms orders ceilings s done evening c.requires.before c.requires.ceilings is;

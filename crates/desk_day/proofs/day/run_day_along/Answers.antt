@@ -25,7 +25,7 @@ invariant_of-desk g c =
     λ is. elim c.if-desk.branch [
       | then-desk w ↦
           let same = w.dossier.ensures ∙ play.same in
-          idle_day terms c.args.orders.now.orders c.args.ceilings.now c.args.day _ day _ long each
+          idle_day terms c.args.roster.now.orders c.args.ceilings.now c.args.day _ day _ long each
           (c.desk.invariant.answered w.if-desk.true) c.in-Ok.ensures.done.rule
           (ap (λ (d : DossierRows). is_idle d day) (sym same) ∙ sym w.is_idle-desk-inside.ensures
           ∙ sym w.desk-is ∙ is)

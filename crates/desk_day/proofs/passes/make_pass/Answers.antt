@@ -14,21 +14,21 @@ use Rattle.desk_day.proofs.passes.make_pass.Goals as goal
 
 pub returns-clause-end : goal.returns-clause-end
 returns-clause-end g c =
-    pass_ended c.args.state.now c.pass.new.state c.answer_after-freed.new.state c.args.opening.now c.args.orders.now.orders
+    pass_ended c.args.state.now c.pass_along.new.state c.answer_after-freed.new.state c.args.opening.now c.args.roster.now.orders
     c.args.ceilings.now c.args.stamp c.in_ok-pass.pass c.from_vec.result c.answer_after-freed.result
     c.in_ok-pass.ensures.pass c.in_ok-pass.ensures.state c.answer_after-freed.ensures.state c.answer_after-freed.ensures.freed
     c.requires.opening (c.from_vec.ensures ∙ c.in_ok-autos.ensures)
 
 pub returns-clause-state : goal.returns-clause-state
 returns-clause-state g c =
-    closed c.args.state.now c.pass.new.state c.answer_after-freed.new.state c.args.orders.now.orders c.in_ok-pass.pass.bars c.args.stamp
+    closed c.args.state.now c.pass_along.new.state c.answer_after-freed.new.state c.args.roster.now.orders c.in_ok-pass.pass.bars c.args.stamp
     c.in_ok-pass.ensures.state c.answer_after-freed.ensures.state
 
 pub returns-clause-fewer : goal.returns-clause-fewer
 returns-clause-fewer g c = λ some.
     let long : length c.args.state.now.marks ≡ length c.args.state.now.dossier.wishes = ap (λ (ms : List Mark). length ms)
     (sym c.marks.ensures.marks) ∙ c.marks.ensures.one_each in
-    fewer_open c.args.state.now c.pass.new.state c.answer_after-freed.new.state c.args.orders.now.orders c.in_ok-pass.pass.bars c.args.stamp
+    fewer_open c.args.state.now c.pass_along.new.state c.answer_after-freed.new.state c.args.roster.now.orders c.in_ok-pass.pass.bars c.args.stamp
     c.answer_after-freed.result long
     c.in_ok-pass.ensures.state c.answer_after-freed.ensures.state c.answer_after-freed.ensures.freed some
 
@@ -36,13 +36,13 @@ pub returns-clause-marks : goal.returns-clause-marks
 returns-clause-marks g c =
     let long : length c.args.state.now.marks ≡ length c.args.state.now.dossier.wishes = ap (λ (ms : List Mark). length ms)
     (sym c.marks.ensures.marks) ∙ c.marks.ensures.one_each in
-    closed_long c.args.state.now c.answer_after-freed.new.state c.args.orders.now.orders c.in_ok-pass.pass.bars c.args.stamp long
-    (closed c.args.state.now c.pass.new.state c.answer_after-freed.new.state c.args.orders.now.orders c.in_ok-pass.pass.bars c.args.stamp
+    closed_long c.args.state.now c.answer_after-freed.new.state c.args.roster.now.orders c.in_ok-pass.pass.bars c.args.stamp long
+    (closed c.args.state.now c.pass_along.new.state c.answer_after-freed.new.state c.args.roster.now.orders c.in_ok-pass.pass.bars c.args.stamp
     c.in_ok-pass.ensures.state c.answer_after-freed.ensures.state)
 
 pub ask_beside-requires-clause-offers : goal.ask_beside-requires-clause-offers
 ask_beside-requires-clause-offers g c =
-    offers_within c.args.state.now c.pass.new.state c.args.orders.now.orders c.in_ok-pass.pass.bars c.as_slice.result.now
+    offers_within c.args.state.now c.pass_along.new.state c.args.roster.now.orders c.in_ok-pass.pass.bars c.as_slice.result.now
     (ap (λ (t : State). t.dossier) c.in_ok-pass.ensures.state) (c.as_slice.ensures ∙ c.in_ok-pass.ensures.pass.offers)
 
 pub ask_beside-requires-clause-places : goal.ask_beside-requires-clause-places
@@ -53,11 +53,11 @@ ask_beside-requires-clause-places g c =
 pub answer_after-freed-requires : goal.answer_after-freed-requires
 answer_after-freed-requires g c =
     let s = c.args.state.now in
-    let orders = c.args.orders.now.orders in
+    let orders = c.args.roster.now.orders in
     let bars = c.in_ok-pass.pass.bars in
     let beside = c.args.beside.now.items in
     let offers = c.as_slice.result.now in
-    let off = c.pass.new.state in
+    let off = c.pass_along.new.state in
     let long : length s.marks ≡ length s.dossier.wishes = ap (λ (ms : List Mark). length ms) (sym c.marks.ensures.marks)
     ∙ c.marks.ensures.one_each in
     let are = c.as_slice.ensures ∙ c.in_ok-pass.ensures.pass.offers in
@@ -74,7 +74,7 @@ answer_after-freed-requires g c =
 pub changes_after-requires : goal.changes_after-requires
 changes_after-requires g c =
     let s = c.args.state.now in
-    let orders = c.args.orders.now.orders in
+    let orders = c.args.roster.now.orders in
     let bars = c.in_ok-pass.pass.bars in
     let stamp = c.args.stamp in
     let beside = c.args.beside.now.items in
@@ -87,24 +87,24 @@ changes_after-requires g c =
     let close = c.answer_after-freed.ensures.state in
     let opens = ap (λ (t : State). t.dossier) c.requires.opening in
     let same = ap (λ (t : State). t.dossier) made ∙ sym opens in
-    let names = names_there c.pass.new.state.dossier opening.dossier (beside ++ offers) _ c.as_slice-3.result.now same
+    let names = names_there c.pass_along.new.state.dossier opening.dossier (beside ++ offers) _ c.as_slice-3.result.now same
     c.as_slice-3.ensures.value c.in_ok-ask_beside.ensures in
     record {
       same = ap (λ (t : State). t.dossier) (close ∙ ap (λ (t : State). auto_all t stamp) made) ∙ sym opens;
       asked = names.within;
       others = λ known. others_stay opening c.answer_after-freed.new.state (beside ++ offers) c.as_slice-3.result.now names
-          (same_but s c.pass.new.state c.answer_after-freed.new.state opening orders bars beside offers (beside ++ offers) stamp long made
+          (same_but s c.pass_along.new.state c.answer_after-freed.new.state opening orders bars beside offers (beside ++ offers) stamp long made
           close c.requires.opening are refl (c.requires.answered known stamp));
     }
 
 pub returns-clause-answered : goal.returns-clause-answered
 returns-clause-answered g c =
     let s = c.args.state.now in
-    let orders = c.args.orders.now.orders in
+    let orders = c.args.roster.now.orders in
     let bars = c.in_ok-pass.pass.bars in
     let long : length s.marks ≡ length s.dossier.wishes = ap (λ (ms : List Mark). length ms) (sym c.marks.ensures.marks)
     ∙ c.marks.ensures.one_each in
-    let end = closed s c.pass.new.state c.answer_after-freed.new.state orders bars c.args.stamp c.in_ok-pass.ensures.state
+    let end = closed s c.pass_along.new.state c.answer_after-freed.new.state orders bars c.args.stamp c.in_ok-pass.ensures.state
     c.answer_after-freed.ensures.state in
     subst IsAnswered (sym end) (closing_answered s orders bars c.args.stamp long)
 
@@ -134,7 +134,7 @@ returns-in_err-ask_beside-clause-chosen g c = IfOk-from_err _ _ c.from_residual-
 
 pub returns-in_err-ask_beside-clause-early : goal.returns-in_err-ask_beside-clause-early
 returns-in_err-ask_beside-clause-early g c =
-    tells_on c.from_residual-in_err-ask_beside.result _ _ _ c.in_ok-pass.ensures.told
+    tells_on c.from_residual-in_err-ask_beside.result _ _ _ c.in_ok-pass.ensures.picks.told
 
 pub returns-in_err-autos-clause-end : goal.returns-in_err-autos-clause-end
 returns-in_err-autos-clause-end g c = IfOk-from_err _ _ c.from_residual-in_err-autos.ensures.0
@@ -162,11 +162,11 @@ returns-in_err-autos-clause-chosen g c = IfOk-from_err _ _ c.from_residual-in_er
 
 pub returns-in_err-autos-clause-early : goal.returns-in_err-autos-clause-early
 returns-in_err-autos-clause-early g c =
-    tells_on c.from_residual-in_err-autos.result _ _ _ c.in_ok-pass.ensures.told
+    tells_on c.from_residual-in_err-autos.result _ _ _ c.in_ok-pass.ensures.picks.told
 
 pub returns-in_err-autos-clause-dossier : goal.returns-in_err-autos-clause-dossier
 returns-in_err-autos-clause-dossier g c =
-    closed_dossier c.args.state.now c.pass.new.state c.answer_after-freed.new.state c.args.orders.now.orders c.in_ok-pass.pass.bars
+    closed_dossier c.args.state.now c.pass_along.new.state c.answer_after-freed.new.state c.args.roster.now.orders c.in_ok-pass.pass.bars
     c.args.stamp c.in_ok-pass.ensures.state c.answer_after-freed.ensures.state
 
 pub returns-in_err-ask_beside-clause-dossier : goal.returns-in_err-ask_beside-clause-dossier
@@ -174,20 +174,20 @@ returns-in_err-ask_beside-clause-dossier g c = ap (λ (t : State). t.dossier) c.
 
 pub returns-clause-dossier : goal.returns-clause-dossier
 returns-clause-dossier g c =
-    closed_dossier c.args.state.now c.pass.new.state c.answer_after-freed.new.state c.args.orders.now.orders c.in_ok-pass.pass.bars
+    closed_dossier c.args.state.now c.pass_along.new.state c.answer_after-freed.new.state c.args.roster.now.orders c.in_ok-pass.pass.bars
     c.args.stamp c.in_ok-pass.ensures.state c.answer_after-freed.ensures.state
 
 pub returns-clause-asked : goal.returns-clause-asked
 returns-clause-asked g c =
     let beside = c.args.beside.now.items in
-    names_of_offers c.pass.new.state.dossier c.args.state.now.dossier beside c.as_slice.result.now _ _
+    names_of_offers c.pass_along.new.state.dossier c.args.state.now.dossier beside c.as_slice.result.now _ _
     (ap (λ (t : State). t.dossier) c.in_ok-pass.ensures.state) c.as_slice.ensures c.in_ok-ask_beside.ensures
 
 pub returns-clause-told : goal.returns-clause-told
-returns-clause-told g c = c.in_ok-pass.ensures.told
+returns-clause-told g c = c.in_ok-pass.ensures.picks.told
 
 pub returns-clause-chosen : goal.returns-clause-chosen
-returns-clause-chosen g c = c.in_ok-pass.ensures.chosen
+returns-clause-chosen g c = c.in_ok-pass.ensures.picks.chosen
 
 pub returns-clause-choice : goal.returns-clause-choice
-returns-clause-choice g c = c.pass.ensures.choice
+returns-clause-choice g c = c.pass_along.ensures.picks.choice

@@ -6,11 +6,9 @@ use Rattle.std.proofs.lemmas.List.{append-nil}
 use Rattle.std.proofs.lemmas.List.Elements.{All-nil}
 use Rattle.admit_core.proofs.Plain.{on_err}
 use Rattle.admit_core.specs.declared.state.Mark.{Mark}
-use Rattle.admit_core.specs.CallOrder.{AreCallOrders}
 use Rattle.admit_core.specs.DossierRows.{DossierRows}
 use Rattle.admit_core.specs.State.{State}
 use Rattle.admit_core.specs.Days.{frees_nothing}
-use Rattle.linked_demand.specs.Lineups.{IsLineupOf}
 use Rattle.desk_day.specs.DayPasses.{offered_along, schools_of_passes, stamp_of}
 use Rattle.desk_day.specs.DayPlaces.{AreWishesOf}
 use Rattle.desk_day.proofs.LaterPasses.{answered_all, answered_along, offers_within, steps_taken}
@@ -27,12 +25,12 @@ passes-init g c =
     ∙ c.marks.ensures.one_each in
     let first = goal.Picker-dyn g c.args.picker.now in
     record {
-      so_far = so_far_none c.args.orders.now.orders c.args.ceilings.now c.args.day s c.new-ends.result.items c.new-ends.ensures.items long
+      so_far = so_far_none c.args.roster.now.orders c.args.ceilings.now c.args.day s c.new-ends.result.items c.new-ends.ensures.items long
           (open_at_most s long);
       opening = c.open_first.ensures;
       beside = c.requires.beside;
       answered = c.requires.answered;
-      chosen = chosen_none c.args.orders.now.orders c.args.ceilings.now c.args.day 1 s (first.choice c.args.picker.now.1)
+      chosen = chosen_none c.args.roster.now.orders c.args.ceilings.now c.args.day 1 s (first.choice c.args.picker.now.1)
           (first.told c.args.picker.now.1) c.new-ends.result.items c.new-ends.ensures.items;
       told = sym (ap (λ l. first.told c.args.picker.now.1 ++ schools_of_passes l) c.new-ends.ensures.items
           ∙ append-nil (first.told c.args.picker.now.1));
@@ -48,7 +46,7 @@ passes-preserved g c =
     let some : IsTrue (not (frees_nothing c.in_ok-end.end.freed)) = not_from_false (frees_nothing c.in_ok-end.end.freed)
     (sym c.frees_nothing.ensures ∙ c.if-frees_nothing.false) in
     record {
-      so_far = so_far_more c.args.orders.now.orders c.args.ceilings.now c.args.day c.passes.number c.args.state.now c.passes.state
+      so_far = so_far_more c.args.roster.now.orders c.args.ceilings.now c.args.day c.passes.number c.args.state.now c.passes.state
           c.make_pass.new.state c.passes.ends.items c.push-in-passes.new.self.items c.in_ok-end.end
           c.passes.invariant.so_far c.in_ok-end.ensures.end some c.in_ok-end.ensures.state (c.in_ok-end.ensures.fewer some)
           c.in_ok-end.ensures.marks c.in_ok-end.ensures.dossier c.in_ok-push-2.ensures.items;
@@ -56,7 +54,7 @@ passes-preserved g c =
       beside = rw c.clear.ensures.items (All-nil (λ (k : ℕ). k < length c.args.state.now.dossier.wishes));
       answered = λ known. answered_all c.make_pass.new.state c.in_ok-end.ensures.answered c.clear.new.self.items;
       chosen =
-          chosen_more c.args.orders.now.orders c.args.ceilings.now c.args.day c.passes.number c.args.state.now _ _ _ _ c.passes.ends.items
+          chosen_more c.args.roster.now.orders c.args.ceilings.now c.args.day c.passes.number c.args.state.now _ _ _ _ c.passes.ends.items
           c.push-in-passes.new.self.items c.passes.state c.in_ok-end.end
           c.passes.invariant.so_far c.passes.invariant.chosen c.passes.invariant.told c.passes.invariant.choice c.in_ok-end.ensures.chosen
           c.in_ok-push-2.ensures.items;
@@ -72,7 +70,7 @@ overflow_add-number g c =
 
 pub returns-then-frees_nothing-clause-passes : goal.returns-then-frees_nothing-clause-passes
 returns-then-frees_nothing-clause-passes g c =
-    (so_far_end c.args.orders.now.orders c.args.ceilings.now c.args.day c.passes.number c.args.state.now c.passes.state
+    (so_far_end c.args.roster.now.orders c.args.ceilings.now c.args.day c.passes.number c.args.state.now c.passes.state
     c.make_pass.new.state c.passes.ends.items c.push.new.self.items c.in_ok-end.end
     c.passes.invariant.so_far c.in_ok-end.ensures.end (sym c.frees_nothing.ensures ∙ c.if-frees_nothing.true) c.in_ok-end.ensures.state
     c.in_ok-push.ensures.items).0
@@ -80,14 +78,14 @@ returns-then-frees_nothing-clause-passes g c =
 pub returns-then-frees_nothing-clause-opening : goal.returns-then-frees_nothing-clause-opening
 returns-then-frees_nothing-clause-opening g c =
     c.passes.invariant.opening
-    ∙ sym (so_far_end c.args.orders.now.orders c.args.ceilings.now c.args.day c.passes.number c.args.state.now c.passes.state
+    ∙ sym (so_far_end c.args.roster.now.orders c.args.ceilings.now c.args.day c.passes.number c.args.state.now c.passes.state
     c.make_pass.new.state c.passes.ends.items c.push.new.self.items c.in_ok-end.end
     c.passes.invariant.so_far c.in_ok-end.ensures.end (sym c.frees_nothing.ensures ∙ c.if-frees_nothing.true) c.in_ok-end.ensures.state
     c.in_ok-push.ensures.items).1
 
 pub returns-then-frees_nothing-clause-few : goal.returns-then-frees_nothing-clause-few
 returns-then-frees_nothing-clause-few g c =
-    (so_far_end c.args.orders.now.orders c.args.ceilings.now c.args.day c.passes.number c.args.state.now c.passes.state
+    (so_far_end c.args.roster.now.orders c.args.ceilings.now c.args.day c.passes.number c.args.state.now c.passes.state
     c.make_pass.new.state c.passes.ends.items c.push.new.self.items c.in_ok-end.end
     c.passes.invariant.so_far c.in_ok-end.ensures.end (sym c.frees_nothing.ensures ∙ c.if-frees_nothing.true) c.in_ok-end.ensures.state
     c.in_ok-push.ensures.items).2
@@ -98,7 +96,7 @@ returns-then-frees_nothing-clause-told g c = told_more _ _ _ c.passes.ends.items
 
 pub returns-then-frees_nothing-clause-chosen : goal.returns-then-frees_nothing-clause-chosen
 returns-then-frees_nothing-clause-chosen g c =
-    chosen_more c.args.orders.now.orders c.args.ceilings.now c.args.day c.passes.number c.args.state.now _ _ _ _ c.passes.ends.items
+    chosen_more c.args.roster.now.orders c.args.ceilings.now c.args.day c.passes.number c.args.state.now _ _ _ _ c.passes.ends.items
     c.push.new.self.items c.passes.state c.in_ok-end.end
     c.passes.invariant.so_far c.passes.invariant.chosen c.passes.invariant.told c.passes.invariant.choice c.in_ok-end.ensures.chosen
     c.in_ok-push.ensures.items
@@ -108,11 +106,6 @@ returns-in_err-end-clause-early g c = on_err _ (tells_from _ _ _ _ c.passes.inva
 
 pub returns-in_err-push-clause-early : goal.returns-in_err-push-clause-early
 returns-in_err-push-clause-early g c = on_err _ (tells_from _ _ _ _ c.passes.invariant.told (_, c.in_ok-end.ensures.told))
-
-pub make_pass-requires-clause-lineup : goal.make_pass-requires-clause-lineup
-make_pass-requires-clause-lineup g c =
-    let P = λ (d : DossierRows). IsLineupOf d c.args.orders.now.orders c.args.lineup.now in
-    subst P (sym c.passes.invariant.so_far.dossier) c.requires.lineup
 
 pub make_pass-requires-clause-beside : goal.make_pass-requires-clause-beside
 make_pass-requires-clause-beside g c =
@@ -125,7 +118,7 @@ make_pass-requires-clause-answered g c = c.passes.invariant.answered
 pub follow-requires : goal.follow-requires
 follow-requires g c =
     let s = c.passes.state in
-    let orders = c.args.orders.now.orders in
+    let orders = c.args.roster.now.orders in
     let bars = c.in_ok-end.end.pass.bars in
     let long = c.passes.invariant.so_far.marked in
     let opening = c.passes.opening in
@@ -257,9 +250,8 @@ open_first-requires-clause-alike g c = λ alike none. c.requires.alike alike (sy
 pub make_pass-requires-clause-opening : goal.make_pass-requires-clause-opening
 make_pass-requires-clause-opening g c = c.passes.invariant.opening
 
-pub make_pass-requires-clause-orders : goal.make_pass-requires-clause-orders
-make_pass-requires-clause-orders g c =
-    subst (λ (d : DossierRows). AreCallOrders d.groups c.args.orders.now.orders) (sym c.passes.invariant.so_far.dossier) c.requires.orders
+pub make_pass-requires-clause-roster : goal.make_pass-requires-clause-roster
+make_pass-requires-clause-roster g c = c.requires.roster ∙ sym c.passes.invariant.so_far.dossier
 
 pub make_pass-requires-clause-ceilings : goal.make_pass-requires-clause-ceilings
 make_pass-requires-clause-ceilings g c =

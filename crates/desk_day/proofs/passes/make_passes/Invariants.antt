@@ -9,11 +9,11 @@ invariant-passes g l =
     let first = goal.Picker-dyn g l.fn.picker.now in
     let now = goal.Picker-dyn g l.picker.now in
     record {
-      so_far : SoFar l.orders.orders l.ceilings l.day l.number l.fn.state l.state l.ends.items;
+      so_far : SoFar l.roster.orders l.ceilings l.day l.number l.fn.state l.state l.ends.items;
       opening : l.opening ≡ l.state;
       beside : AreWishesOf l.fn.state.dossier l.beside.items;
       answered : l.is_answered ≡ true → IsAnsweredBut l.beside.items l.state;
-      chosen : AreChosenPasses l.orders.orders l.ceilings l.day 1 l.fn.state (first.choice l.fn.picker.now.1)
+      chosen : AreChosenPasses l.roster.orders l.ceilings l.day 1 l.fn.state (first.choice l.fn.picker.now.1)
           (first.told l.fn.picker.now.1) l.ends.items;
       told : now.told l.picker.now.1 ≡ first.told l.fn.picker.now.1 ++ schools_of_passes l.ends.items;
       choice : now.choice l.picker.now.1 ≡ first.choice l.fn.picker.now.1;

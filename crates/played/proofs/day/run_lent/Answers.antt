@@ -7,7 +7,7 @@ pub returns-clause-ends : goal.returns-clause-ends
 returns-clause-ends g c =
     rw (← c.in-Some.ensures.value)
     (subst
-    (λ p. DayEndsWith c.args.orders.now.orders (option_copied c.args.terms) c.args.day
+    (λ p. DayEndsWith c.args.roster.now.orders (option_copied c.args.terms) c.args.day
     (record { desk = c.args.desk.now; told = (goal.Picker-dyn g p).told p.1; choice = (goal.Picker-dyn g p).choice p.1 })
     (record {
       desk = c.run_with-done.new.desk;

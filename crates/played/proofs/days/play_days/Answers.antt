@@ -1,24 +1,16 @@
-use Rattle.std.proofs.Common.{arith}
+use Rattle.std.proofs.Common.{◌≡◌, arith}
 use Rattle.std.specs.Option.{option_copied}
-use Rattle.admit_core.specs.CallOrder.{AreCallOrders}
 use Rattle.admit_core.specs.DossierRows.{DossierRows}
 use Rattle.admit_core.specs.Lapses.{AreTermsFor}
-use Rattle.linked_demand.specs.Lineups.{IsLineupOf}
 use Rattle.played.proofs.DaysSoFar.{nothing_played, played_on, plays_all, plays_out, plays_some, still}
 use Rattle.played.proofs.days.play_days.Goals as goal
 
 pub loop-played-init : goal.loop-played-init
 loop-played-init g c = record { so_far = nothing_played _ _ _ _ c.requires.none; there = c.requires.there }
 
-pub next_day-requires-clause-orders : goal.next_day-requires-clause-orders
-next_day-requires-clause-orders g c =
-    still _ _ _ _ _ _ _ c.loop-played.invariant.so_far
-    (λ (d : DossierRows). AreCallOrders d.groups c.args.orders.now.orders) c.requires.orders
-
-pub next_day-requires-clause-lineup : goal.next_day-requires-clause-lineup
-next_day-requires-clause-lineup g c =
-    still _ _ _ _ _ _ _ c.loop-played.invariant.so_far (λ (d : DossierRows).
-    IsLineupOf d c.args.orders.now.orders c.args.lineup.now) c.requires.lineup
+pub next_day-requires-clause-roster : goal.next_day-requires-clause-roster
+next_day-requires-clause-roster g c =
+    still _ _ _ _ _ _ _ c.loop-played.invariant.so_far (λ (d : DossierRows). c.args.roster.now.dossier ≡ d) c.requires.roster
 
 pub next_day-requires-clause-terms : goal.next_day-requires-clause-terms
 next_day-requires-clause-terms g c =
@@ -30,13 +22,13 @@ next_day-requires-clause-there g c = c.loop-played.invariant.there
 
 pub returns-in_err-day-clause-plays : goal.returns-in_err-day-clause-plays
 returns-in_err-day-clause-plays g c =
-    plays_some _ _ _ _ _ _ _ c.loop-played.invariant.so_far c.args.number c.in_err-day.field-0.0 _ _
+    plays_some _ _ _ _ _ _ _ c.loop-played.invariant.so_far c.args.wanted.number c.in_err-day.field-0.0 _ _
     c.from_residual.result c.from_residual.ensures.1 c.loop-played-test.true
     c.in_err-day.ensures.ends
 
 pub returns-in_err-keep-clause-plays : goal.returns-in_err-keep-clause-plays
 returns-in_err-keep-clause-plays g c =
-    plays_out _ _ _ _ _ _ _ c.loop-played.invariant.so_far c.args.number c.in_ok-day.day _ _ _
+    plays_out _ _ _ _ _ _ _ c.loop-played.invariant.so_far c.args.wanted.number c.in_ok-day.day _ _ _
     c.from_residual-in_err-keep.result c.from_residual-in_err-keep.ensures.1
     c.loop-played-test.true c.in_ok-day.ensures.ends
 
@@ -47,4 +39,4 @@ loop-played-preserved g c = record {
 }
 
 pub returns-clause-plays : goal.returns-clause-plays
-returns-clause-plays g c = plays_all _ _ _ _ _ _ _ c.loop-played.invariant.so_far c.args.number (omega arith)
+returns-clause-plays g c = plays_all _ _ _ _ _ _ _ c.loop-played.invariant.so_far c.args.wanted.number (omega arith)

@@ -10,7 +10,7 @@ pub record Invariant (SoFar There : Type 0) : Type 0 where
 abbrev pub invariant-loop-played : goal.invariant-loop-played
 invariant-loop-played g l =
     Invariant
-    (SoFar (record { orders = l.orders.orders; terms = option_copied l.terms; who = l.who }) l.fn.desk
+    (SoFar (record { orders = l.roster.orders; terms = option_copied l.terms; who = l.wanted.who }) l.fn.desk
     (lent (λ p. (goal.Picker-dyn g (p.vtable, p.value)).told p.value)
     (λ p. (goal.Picker-dyn g (p.vtable, p.value)).choice p.value) l.fn.pickers) l.played
     l.days.items l.desk

@@ -44,7 +44,7 @@ invariant_of-self-2 g c =
             desk_ends_so _ _ _ _ _ _ _ _ _ c.self.invariant.progress.orders schools c.in_ok-done.ensures.done
             c.as_slice.ensures.value (c.keep_bars.ensures ∙ ap last_bars c.as_slice-2.ensures);
       };
-      lined_up = rw c.run_day_along.ensures.dossier c.self.invariant.lined_up;
+      same = c.self.invariant.same ∙ sym c.run_day_along.ensures.dossier;
     }
 
 pub returns : goal.returns
