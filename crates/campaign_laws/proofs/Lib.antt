@@ -2,7 +2,7 @@
 -- The ground of all: Walks (a campaign as a walk from moment to moment) and OneMark (what one
 -- step can do to one mark).
 -- Laws of marks: GoneStays, Holding, WaitingPlace, Kept.
--- Laws of turns, seats and beds: PassedOver, Beds, Room.
+-- Laws of turns, seats and beds: PassedOver, Beds, Room, Limits.
 -- Days on which nobody answers: QuietDays.
 -- Automatic days: Matchings, StableEvening, AutomaticDay.
 -- By computation: WorkedCampaign is the campaign; MetHere and CrossedHere have the witnesses,
@@ -13,6 +13,7 @@ pub mod CrossedHere
 pub mod GoneStays
 pub mod Holding
 pub mod Kept
+pub mod Limits
 pub mod Matchings
 pub mod MetHere
 pub mod OneMark

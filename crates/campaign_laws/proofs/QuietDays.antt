@@ -12,6 +12,7 @@ use Rattle.admit_core.specs.declared.dossier.AnswerKind.{AnswerKind}
 use Rattle.admit_core.specs.declared.dossier.AnswerKind.TheVariants.{Accept, Refuse, Withdraw, Quit}
 use Rattle.admit_core.specs.declared.dossier.Wish.{Wish}
 use Rattle.admit_core.specs.declared.ranking.CallOrder.{CallOrder}
+use Rattle.admit_core.specs.declared.records.DayRecord.{DayRecord}
 use Rattle.admit_core.specs.declared.records.PassEnd.{PassEnd}
 use Rattle.admit_core.specs.declared.records.Terms.{Terms}
 use Rattle.admit_core.specs.declared.state.Mark.{Mark}
@@ -21,7 +22,7 @@ use Rattle.admit_core.specs.Answers.{after, after_all, after_kind, candidate_at,
 use Rattle.admit_core.specs.AutoAnswer.{auto_all, auto_mark, beds_freed, best_live, freed, seats_freed}
 use Rattle.admit_core.specs.Boarding.{boarding}
 use Rattle.admit_core.specs.CallOrder.{AreCallOrders}
-use Rattle.admit_core.specs.Days.{Passes, after_lapse, answers_of, ceilings_of, closing, frees_nothing, freed_after, lapsed_on, morning, offered}
+use Rattle.admit_core.specs.Days.{IsDay, Passes, after_lapse, answers_of, ceilings_of, closing, frees_nothing, freed_after, lapsed_on, morning, offered}
 use Rattle.admit_core.specs.DossierRows.{DossierRows, candidates_of}
 use Rattle.admit_core.specs.Falls.{IsGreatest}
 use Rattle.admit_core.specs.Lapses.{AreTermsFor, lapses, offer_day}
@@ -61,9 +62,9 @@ kind_of d Withdraw s target stamp of = of
 kind_of d Quit s target stamp of = of
 
 -- a state of the dossier with a mark for each wish
-record IsOf (d : DossierRows) (s : State) : Type 0 where
-  of : s.dossier ≡ d
-  long : length s.marks ≡ length d.wishes
+pub record IsOf (d : DossierRows) (s : State) : Type 0 where
+  pub of : s.dossier ≡ d
+  pub long : length s.marks ≡ length d.wishes
 
 marked_here : (d : DossierRows) (s : State) → IsOf d s → IsMarked s
 marked_here d s whole = whole.long ∙ ap (λ (x : DossierRows). length x.wishes) (sym whole.of)
@@ -88,6 +89,12 @@ lapse_of_it d (Some t) day s fit whole = record {
       else x.1)
       ∙ omega (arith, length-zip t.before s.marks, fit, whole.long);
 }
+
+morning_of_it : (d : DossierRows) (terms : Option Terms) (day : ℕ) (s : State) → AreTermsFor d terms → IsOf d s
+    → IsOf d (morning terms day s)
+morning_of_it d terms day s fit whole =
+    answers_of_it d (after_lapse terms day s) (record { day = day; pass = 0 }) (answers_of s.dossier day)
+    (lapse_of_it d terms day s fit whole)
 
 by_marks : (d : DossierRows) (s : State) (f : Wish → Mark → Mark) → IsOf d s → IsOf d (with_marks s f)
 by_marks d s f whole = record { of = whole.of; long = length-with_marks f s (marked_here d s whole) ∙ whole.long }
@@ -125,6 +132,18 @@ settled_by d orders ceilings day k s (pass ∷ (next ∷ rest)) evening whole ar
     settled_by d orders ceilings day (k + 1) (closing s orders pass.pass.bars stamp) (next ∷ rest) evening
     (answered_of_it d (offered s orders pass.pass.bars stamp) stamp
     (offered_of_it d s orders pass.pass.bars stamp whole)) are.2
+
+settled_whole : (d : DossierRows) (evening : State) → IsSettled d evening → IsOf d evening
+settled_whole d evening settled =
+    subst (IsOf d) (sym settled.is) (answered_of_it d settled.state settled.stamp settled.whole)
+
+-- so is the evening of a day that begins with one
+pub evening_of_it : (d : DossierRows) (terms : Option Terms) (orders : List CallOrder) (ceilings : List ℕ) (old : State)
+    (day : DayRecord) (evening : State) → AreTermsFor d terms → IsOf d old
+    → IsDay terms orders ceilings old day evening → IsOf d evening
+evening_of_it d terms orders ceilings old day evening fit whole is =
+    settled_whole d evening (settled_by d orders ceilings day.day 1 (morning terms day.day old) day.passes evening
+    (morning_of_it d terms day.day old fit whole) is.passes)
 
 -- ---- where nothing passes a test, nothing changes
 kept_where_none : {X Y : Type 0} (test : X × Mark → Bool) (change : Mark → Mark) (pick : ℕ × (X × Mark) → Y) (n : ℕ)
@@ -210,6 +229,13 @@ module _ (d : DossierRows) (orders : List CallOrder) (ceilings : List ℕ) (s : 
       let none = ap frees_nothing are.0.freed ∙ freed_none pass.pass.bars stamp are.0.pass.greatest in
       absurd (both_ways (frees_nothing pass.freed) (not-true (frees_nothing pass.freed) are.1) none)
 
+-- a morning on which no offer lapses and nobody answers is the evening before
+pub quiet_morning : (d : DossierRows) (terms : Option Terms) (day : ℕ) (s : State) → AreTermsFor d terms → IsOf d s
+    → lapsed_on terms day s ≡ [] → answers_of s.dossier day ≡ [] → morning terms day s ≡ s
+quiet_morning d terms day s fit whole none silent =
+    ap (λ (answers : List Answer). after_all (after_lapse terms day s) (record { day = day; pass = 0 }) answers) silent
+    ∙ no_lapse d terms day s fit whole none
+
 pub quiet_days_change_nothing : QuietDaysChangeNothing
 quiet_days_change_nothing terms orders n old day next evening new valid called fit long first second same_ceilings
     no_lapses no_answers =
@@ -217,14 +243,11 @@ quiet_days_change_nothing terms orders n old day next evening new valid called f
     let here : IsOf d old = record { of = refl; long = long } in
     let is_day = first.2 in
     let dawn = morning terms day.day old in
-    let dawn_whole : IsOf d dawn =
-    answers_of_it d (after_lapse terms day.day old) (record { day = day.day; pass = 0 }) (answers_of d day.day)
-    (lapse_of_it d terms day.day old fit here) in
+    let dawn_whole = morning_of_it d terms day.day old fit here in
     let passes : Passes orders (ceilings_of d n) day.day 1 dawn day.passes evening =
     subst (λ (e : State). Passes orders (ceilings_of d n) day.day 1 dawn day.passes e) first.3 is_day.passes in
     let settled = settled_by d orders (ceilings_of d n) day.day 1 dawn day.passes evening dawn_whole passes in
-    let evening_whole : IsOf d evening = subst (IsOf d) (sym settled.is)
-    (answered_of_it d settled.state settled.stamp settled.whole) in
+    let evening_whole = settled_whole d evening settled in
     let again : (stamp : Stamp) → auto_all evening stamp ≡ evening = λ stamp.
     subst (λ (e : State). auto_all e stamp ≡ e) (sym settled.is)
     (answered_once settled.state settled.stamp (marked_here d settled.state settled.whole) stamp) in
@@ -235,10 +258,7 @@ quiet_days_change_nothing terms orders n old day next evening new valid called f
     let number : next.day ≡ n + 1 = second.1 in
     let lapsed : lapsed_on terms next.day evening ≡ [] = sym second.2.lapsed ∙ no_lapses in
     let silent : answers_of evening.dossier next.day ≡ [] = rw (evening_whole.of, number) no_answers in
-    let morning_same : morning terms next.day evening ≡ evening =
-    ap (λ (answers : List Answer). after_all (after_lapse terms next.day evening)
-    (record { day = next.day; pass = 0 }) answers) silent
-    ∙ no_lapse d terms next.day evening fit evening_whole lapsed in
+    let morning_same = quiet_morning d terms next.day evening fit evening_whole lapsed silent in
     let ceilings : ceilings_of evening.dossier (n + 1) ≡ ceilings_of d n =
     ap (λ (x : DossierRows). ceilings_of x (n + 1)) evening_whole.of ∙ same_ceilings in
     let next_passes : Passes orders (ceilings_of d n) next.day 1 evening next.passes second.0 =

@@ -33,7 +33,7 @@ use Rattle.campaign_laws.proofs.OneMark.{KeptOrLapsed, KeptOrTouched, Marks, Tou
 use Rattle.campaign_laws.proofs.Walks.{HoldsThroughout, Nothing, SameDossier, Steps, plain_steps, same_dossier, throughout}
 
 -- those who pass a test are at most those who pass another, and those who pass the first alone
-parted : (a b : ℕ → Bool) (xs : List ℕ) → length (filter b xs) ≤ length (filter a xs) + length
+pub parted : (a b : ℕ → Bool) (xs : List ℕ) → length (filter b xs) ≤ length (filter a xs) + length
     (filter (λ x. not (a x)) (filter b xs))
 parted a b [] = omega arith
 parted a b (x ∷ xs) =

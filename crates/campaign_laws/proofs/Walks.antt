@@ -14,7 +14,7 @@ use Rattle.admit_core.specs.declared.state.Stamp.{Stamp}
 use Rattle.admit_core.specs.Answers.{after, after_all, after_kind, first_unfit, fits}
 use Rattle.admit_core.specs.AutoAnswer.{auto_all}
 use Rattle.admit_core.specs.Boarding.{boarding}
-use Rattle.admit_core.specs.Days.{Days, IsDay, Passes, after_lapse, answers_of, ceilings_of, closing, morning, offered}
+use Rattle.admit_core.specs.Days.{Days, IsDay, Passes, after_lapse, answers_of, ceilings_of, closing, morning, offered, unfit_on}
 use Rattle.admit_core.specs.DossierRows.{DossierRows}
 use Rattle.admit_core.specs.Falls.{IsGreatest}
 use Rattle.admit_core.specs.Lapses.{lapse}
@@ -110,14 +110,14 @@ morning_of d terms day s of =
     dossier_after_all (after_lapse terms day s) (record { day = day; pass = 0 }) (answers_of s.dossier day)
     ∙ lapsed_of d terms day s of
 
-evening_dossier : (orders : List CallOrder) (day k : ℕ) (s : State) (passes : List PassEnd)
+pub evening_dossier : (orders : List CallOrder) (day k : ℕ) (s : State) (passes : List PassEnd)
     → (evening_after orders day k s passes).dossier ≡ s.dossier
 evening_dossier orders day k s [] = refl
 evening_dossier orders day k s (pass ∷ rest) =
     evening_dossier orders day (k + 1) (closing s orders pass.pass.bars (record { day = day; pass = k })) rest
 
 -- the evening of a day is the one that its passes leave
-evening_is : (orders : List CallOrder) (ceilings : List ℕ) (day k : ℕ) (s : State) (passes : List PassEnd)
+pub evening_is : (orders : List CallOrder) (ceilings : List ℕ) (day k : ℕ) (s : State) (passes : List PassEnd)
     (evening : State)
     → Passes orders ceilings day k s passes evening → evening ≡ evening_after orders day k s passes
 evening_is orders ceilings day k s [] evening are = absurd are
@@ -126,7 +126,7 @@ evening_is orders ceilings day k s (pass ∷ (next ∷ rest)) evening are =
     evening_is orders ceilings day (k + 1) (closing s orders pass.pass.bars (record { day = day; pass = k }))
     (next ∷ rest) evening are.2
 
-all_split : {X : Type 0} (P : X → Type 0) (xs ys : List X) → AllByRecursion P (xs ++ ys)
+pub all_split : {X : Type 0} (P : X → Type 0) (xs ys : List X) → AllByRecursion P (xs ++ ys)
     → AllByRecursion P xs × AllByRecursion P ys
 all_split P [] ys all = (tt, all)
 all_split P (x ∷ xs) ys all = let rest = all_split P xs ys all.1 in ((all.0, rest.0), rest.1)
@@ -190,6 +190,17 @@ module _ (d : DossierRows) (terms : Option Terms) (orders : List CallOrder) (Q :
         | inr unfit ↦ let some = rw unfit at none in absurd (cc)
       ]
 
+  -- from the evening before to the state in which the passes begin
+  pub morning_steps : (old : State) (day : ℕ) → old.dossier ≡ d → unfit_on terms day old ≡ None
+      → AllByRecursion A (answers_of old.dossier day)
+      → Walk R old (after_lapse terms day old ∷ after_each (after_lapse terms day old) (record { day = day; pass = 0 })
+      (answers_of old.dossier day)) (morning terms day old)
+  morning_steps old day of fits may = (
+    lapse_step terms day old refl of,
+    answer_steps 0 (after_lapse terms day old) (record { day = day; pass = 0 }) (answers_of old.dossier day)
+        (lapsed_of d terms day old of) fits may,
+  )
+
   pass_steps : (ceilings : List ℕ) (day k : ℕ) (s : State) (passes : List PassEnd) (evening : State)
       → ceilings ≡ ceilings_of d day → s.dossier ≡ d
       → Passes orders ceilings day k s passes evening → AllByRecursion Q (pass_openings orders day k s passes)
@@ -219,15 +230,13 @@ module _ (d : DossierRows) (terms : Option Terms) (orders : List CallOrder) (Q :
       let are_ceilings : ceilings_of old.dossier number ≡ ceilings_of d day.day = rw (of, is_number) refl in
       let own : AllByRecursion A answers = subst (λ (x : DossierRows). AllByRecursion A (answers_of x day.day))
       (sym of) may in
-      let first = answer_steps 0 lapsed stamp answers (lapsed_of d terms day.day old of) is.fits own in
+      let first = morning_steps old day.day of is.fits own in
       let last = pass_steps (ceilings_of old.dossier number) day.day 1 (morning terms day.day old) day.passes evening
       are_ceilings
-      (morning_of d terms day.day old of) is.passes all in (
-        lapse_step terms day.day old refl of,
-        joined R lapsed (after_each lapsed stamp answers)
-            (after_passes orders day.day 1 (morning terms day.day old) day.passes)
-            (morning terms day.day old) evening first last,
-      )
+      (morning_of d terms day.day old of) is.passes all in
+      joined R old (lapsed ∷ after_each lapsed stamp answers)
+      (after_passes orders day.day 1 (morning terms day.day old) day.passes)
+      (morning terms day.day old) evening first last
 
   pub campaign_steps : (number : ℕ) (old : State) (days : List DayRecord) (new : State) → old.dossier ≡ d
       → Days terms orders number old days new

@@ -5,7 +5,7 @@ ghost use Rattle.campaign_laws.specs.Kept.{AutomaticAnswersClimb, WhatIsYoursSta
 ghost use Rattle.campaign_laws.specs.OneMark.{GoneStaysGone};
 ghost use Rattle.campaign_laws.specs.PassedOver.{NobodyIsEverPassedOver, NobodyIsPassedOverWithoutBoarding};
 ghost use Rattle.campaign_laws.specs.QuietDays.{QuietDaysChangeNothing};
-ghost use Rattle.campaign_laws.specs.Room.{NeverMoreThanBeds, NeverMoreThanSeats};
+ghost use Rattle.campaign_laws.specs.Room.{NeverMoreThanBeds, NeverMoreThanSeats, NeverMoreThanSeatsAndLimit};
 ghost use Rattle.campaign_laws.specs.WaitingPlace.{WaitingPlaceNeverWorsens};
 
 /// What is gone stays gone, and what is live never waits again; and of those who stand before a
@@ -39,10 +39,12 @@ pub fn laws_of_silence()
 {}
 
 /// At no moment more are live in a school than it has beds, or were live at first; nor in a
-/// programme without a call limit than it has seats, or were live at first.
+/// programme without a call limit than it has seats, or were live at first; nor in one with a limit,
+/// of those whom the limit does not call.
 pub fn laws_of_room()
     ensures beds { NeverMoreThanBeds }
     ensures seats { NeverMoreThanSeats }
+    ensures limit { NeverMoreThanSeatsAndLimit }
 {}
 
 /// Where all answer automatically, all wait at first, no wish has a school and no programme a call

@@ -101,7 +101,7 @@ campaigns_are_fixed_here = (
 pub each_is_listed : EachIsListedWitness
 each_is_listed = (refl, refl, refl, refl)
 
-realistic_is_day : IsDay None (realistic_order ∷ []) (10 ∷ []) (first_evening realistic) realistic_day realistic_evening
+pub realistic_is_day : IsDay None (realistic_order ∷ []) (10 ∷ []) (first_evening realistic) realistic_day realistic_evening
 realistic_is_day = record { lapsed = refl; fits = refl; passes = realistic_holds; left = refl; free = refl }
 
 pub days_end_so_here : DaysEndSoWitness
@@ -112,7 +112,7 @@ days_end_so_here = (
   day_ends_so None (realistic_order ∷ []) (10 ∷ []) (first_evening realistic) realistic_day realistic_evening realistic_called refl realistic_is_day,
 )
 
-held_is_day : IsDay None two_candidates (9 ∷ []) held_start held_day held_bed_evening
+pub held_is_day : IsDay None two_candidates (9 ∷ []) held_start held_day held_bed_evening
 held_is_day = record { lapsed = refl; fits = refl; passes = held_passes; left = refl; free = refl }
 
 -- numbers of a list below a bound

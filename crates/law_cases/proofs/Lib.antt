@@ -10,6 +10,7 @@ pub mod BedCases
 pub mod ChainCases
 pub mod DayCases
 pub mod DefinitionCases
+pub mod EveningCases
 pub mod MarketCases
 pub mod OrderCases
 pub mod PassCases

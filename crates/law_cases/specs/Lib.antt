@@ -6,6 +6,7 @@ pub mod CallOrders
 pub mod Dates
 pub mod Days
 pub mod Definitions
+pub mod Evenings
 pub mod Explanations
 pub mod Fairness
 pub mod Markets

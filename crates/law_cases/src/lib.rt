@@ -13,6 +13,7 @@ mod beds;
 mod call_orders;
 mod chains;
 mod definitions;
+mod evenings;
 mod matchings;
 mod passes;
 mod promises;
@@ -26,6 +27,7 @@ pub use beds::witnesses_of_beds;
 pub use call_orders::{witnesses_of_call_orders, witnesses_of_least_orders};
 pub use chains::witnesses_of_written_chains;
 pub use definitions::{worked_definitions, worked_relations};
+pub use evenings::{witness_of_limits, witnesses_of_campaign_bars, witnesses_of_days_and_evenings};
 pub use matchings::{
     witnesses_of_markets, witnesses_of_stable_matchings, worked_market_of_dossier,
 };

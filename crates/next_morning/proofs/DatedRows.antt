@@ -77,7 +77,7 @@ module _ (a : ℕ) (t : Tables) (marks : List Mark) (dated : DatedTerms) (long :
   abbrev row : ℕ × Wish → StateRow
   row x = record { wish = x.1.id; status = status_at s x.0; since = since x.0 }
 
-  dated_statuses : map (λ w. status_in (found (dated_rows s dated.start dated.terms.before) w)) t.wishes
+  pub dated_statuses : map (λ w. status_in (found (dated_rows s dated.start dated.terms.before) w)) t.wishes
       ≡ map (λ (m : Mark). m.status) marks
   dated_statuses =
       told_by_place t status_in (status_at s) row (λ x. refl) (λ x. refl) 0 t.wishes apart

@@ -1,13 +1,15 @@
 -- Reading order: RowsMore; SameDossier; Faultless and InRange (what a check asks of tables); Mornings (the
 -- laws); WorkedMorning (their witnesses); DatedRows, DatedFaultless, DatedMornings and WorkedDates
--- (the same where offers have deadlines).
+-- (the same where offers have deadlines); ReadStates and WorkedReads (what final lines are read as).
 pub mod DatedFaultless
 pub mod DatedMornings
 pub mod DatedRows
 pub mod Faultless
 pub mod InRange
 pub mod Mornings
+pub mod ReadStates
 pub mod RowsMore
 pub mod SameDossier
 pub mod WorkedDates
 pub mod WorkedMorning
+pub mod WorkedReads

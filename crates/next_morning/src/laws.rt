@@ -2,6 +2,8 @@
 ghost use Rattle.next_morning.specs.DatedLaws.{DatedOffersStandAlike, DatedRunsAreTheRest, DatedTablesAreAccepted, DatedTablesAreOfTheCut, DatesAreOfTheEvening};
 ghost use Rattle.next_morning.specs.DatedWitnesses.{DatedOffersStandAlikeWitness, DatedRunsAreTheRestWitness, DatedTablesAreAcceptedWitness, DatedTablesAreOfTheCutWitness, DatesAreOfTheEveningWitness, WorkedDatedMornings};
 ghost use Rattle.next_morning.specs.Laws.{RunsAreTheRest, TablesAreAccepted, TablesAreOfTheCut, TablesAreValid};
+ghost use Rattle.next_morning.specs.ReadLaws.{FinalLinesAreTheState, ReadStatesAreOfTheCut, ReadStatusesAreOfTheEvening};
+ghost use Rattle.next_morning.specs.ReadWitnesses.{FinalLinesAreTheStateWitness, ReadStatesAreOfTheCutWitness, ReadStatusesAreOfTheEveningWitness};
 ghost use Rattle.next_morning.specs.Witnesses.{RunsAreTheRestWitness, TablesAreAcceptedWitness, TablesAreOfTheCutWitness, TablesAreValidWitness};
 ghost use Rattle.next_morning.specs.WorkedMorning.{WorkedMornings};
 
@@ -43,4 +45,20 @@ pub fn witnesses_of_dated_mornings()
     ensures offers { DatedOffersStandAlikeWitness }
     ensures rest { DatedRunsAreTheRestWitness }
     ensures worked { WorkedDatedMornings }
+{}
+
+/// The final lines of an evening's report are read as the state slot of the next morning's tables;
+/// put into the tables of the day's own morning, what is read stands for the statuses of the
+/// evening, and put into those of the next morning for the campaign that is cut there.
+pub fn laws_of_read_states()
+    ensures lines { FinalLinesAreTheState }
+    ensures statuses { ReadStatusesAreOfTheEvening }
+    ensures cut { ReadStatesAreOfTheCut }
+{}
+
+/// For each of them a worked case that meets all its premises.
+pub fn witnesses_of_read_states()
+    ensures lines { FinalLinesAreTheStateWitness }
+    ensures statuses { ReadStatusesAreOfTheEveningWitness }
+    ensures cut { ReadStatesAreOfTheCutWitness }
 {}

@@ -9,7 +9,7 @@ mod morning;
 mod rows;
 
 pub use laws::{
-    laws_of_dated_mornings, laws_of_next_mornings, witnesses_of_dated_mornings,
-    witnesses_of_next_mornings,
+    laws_of_dated_mornings, laws_of_next_mornings, laws_of_read_states,
+    witnesses_of_dated_mornings, witnesses_of_next_mornings, witnesses_of_read_states,
 };
 pub use morning::next_morning;

@@ -6,6 +6,7 @@ use Rattle.admit_core.specs.declared.slot.Slot.{Slot}
 use Rattle.intake.specs.Input.{IsInputOf, IsJobOf, Job, accepted, job_of}
 use Rattle.intake.specs.Shelves.{OnShelf, TakesSlots, Tells}
 use Rattle.intake.specs.Stops.{◌>>=◌, Stopped, asked}
+use Rattle.intake.proofs.TakenIn.{quiet_in}
 use Rattle.intake.specs.declared.input.Input.{Input}
 use Rattle.intake.specs.declared.stop.Stop.{Stop}
 use Rattle.intake.specs.declared.stop.Stop.TheVariants as stops
@@ -26,7 +27,7 @@ use Rattle.request.specs.declared.request.Request.{Request}
 use Rattle.slot_io.specs.Faults.{NoneFell, Rose}
 use Rattle.replay_cli.specs.Answering.{Replies, TakesAll, TakesAsked}
 use Rattle.replay_cli.specs.Outcome.{WantsNoPicker, Ends, IsOutcome, NamesFault, slots_read}
-use Rattle.replay_cli.specs.Run.{KeepsOthers}
+use Rattle.replay_cli.specs.Run.{KeepsOthers, SameFaults}
 use Rattle.replay_cli.proofs.Played.{ending_done, ending_exit}
 
 no_none : (request : Request) → IsNone (Some request) → ⊥
@@ -71,8 +72,8 @@ words_after exit after bad = subst IsAfterDays bad after
 -- what becomes of the shelf
 module _ {A : Type 0} (before after : OnShelf) (r : Result A Stop) where
   others_kept : (request : Option Request) → TakesAsked request before after r → KeepsOthers (slots_read request) before after
-  others_kept None takes = record { left = λ slot none. ap (λ (x : OnShelf). x.left slot) takes.1; taken = λ slot none. ap (λ (x : OnShelf). x.taken slot) takes.1 }
-  others_kept (Some request) takes = record { left = takes.others; taken = takes.others_taken }
+  others_kept None takes = record { left = λ slot none. ap (λ (x : OnShelf). x.left slot) takes.1; taken = λ slot none. ap (λ (x : OnShelf). x.taken slot) takes.1; faults = λ slot none. ap (λ (x : OnShelf). x.faults slot) takes.1 }
+  others_kept (Some request) takes = record { left = takes.others; taken = takes.others_taken; faults = takes.others_faults }
 
   none_fell : (request : Option Request) → TakesAsked request before after r → NoneFell before.faults after.faults
   none_fell None takes = λ slot. omega (arith, ap (λ (x : OnShelf). x.faults slot) takes.1)
@@ -106,6 +107,9 @@ module _ (words : List (List ℕ)) (shelf shelf' : OnShelf) (before after : Lent
   all_read slots tells slot among =
       let P : Option Request → Type 0 = λ q. Contains (slots_read q) slot in read.ends slots (told_of_mode slots tells) slot (subst P takes.asked among)
 
+  read_all : SameFaults (slots_read (request_of words)) shelf shelf'
+  read_all slot among = let P : Option Request → Type 0 = λ q. Contains (slots_read q) slot in quiet_in (read.told slot (subst P takes.asked among))
+
   pub replies_played : {E : Type 0} (result : Result Reply E)
       → ((job : Job) → IsJobOf x.0 job → IsInputOf job x.1 → IfOk result (λ reply. IsEnding job before after reply.exit reply.text.items)) → Replies words shelf shelf' before after result
   replies_played (Ok reply) ends =
@@ -114,6 +118,7 @@ module _ (words : List (List ℕ)) (shelf shelf' : OnShelf) (before after : Lent
       record {
         outcome = λ slots tells answers. outcome_of words slots takes.input.job before after reply.exit reply.text.items (accepted_is slots tells) ending;
         kinds = inl (answers_after reply.exit exit);
+        same_faults = λ answers. read_all;
         untold = λ asks. absurd (asks_after reply.exit exit asks);
         bad_words = λ bad. absurd (words_after reply.exit exit bad);
         only_bad = λ none. absurd (good none);
@@ -129,6 +134,7 @@ module _ (words : List (List ℕ)) (shelf shelf' : OnShelf) (before after : Lent
   replies_played (Err e) ends = record {
     outcome = tt;
     kinds = tt;
+    same_faults = tt;
     untold = tt;
     bad_words = tt;
     only_bad = λ none. tt;
@@ -172,6 +178,22 @@ module _ (words : List (List ℕ)) (shelf shelf' : OnShelf) (before : Lent) wher
   stop_only None (stops.ReadFault slot) exit text takes by none = absurd takes.0
   stop_only None stops.OutOfMemory exit text takes by none = absurd (by.not_memory refl)
 
+  not_fault : (stop : Stop) (slot : Slot) (exit : Exit) (text : List ℕ) → IsStoppedBy stop exit text → IsTrue (is_answer exit) → stop ≡ stops.ReadFault slot → ⊥
+  not_fault stop slot exit text by answers is =
+      let P : Stop → Type 0 = λ s. IsStoppedBy s exit text in
+      let faulted : IsStoppedBy (stops.ReadFault slot) exit text = subst P is by in
+      false≢true (rw faulted.is_exit at answers)
+
+  still_there : (stop : Stop) (slot : Slot) (exit : Exit) (text : List ℕ) → IsStoppedBy stop exit text → IsTrue (is_answer exit)
+      → (shelf'.faults slot ≡ shelf.faults slot) ⊎ (stop ≡ stops.ReadFault slot) → shelf'.faults slot ≡ shelf.faults slot
+  still_there stop slot exit text by answers (inl same) = same
+  still_there stop slot exit text by answers (inr fault) = absurd (not_fault stop slot exit text by answers fault)
+
+  stop_none : (request : Option Request) (stop : Stop) (exit : Exit) (text : List ℕ) → Slots request stop → IsStoppedBy stop exit text → IsTrue (is_answer exit)
+      → SameFaults (slots_read request) shelf shelf'
+  stop_none None stop exit text takes by answers slot among = ap (λ (x : OnShelf). x.faults slot) takes.1
+  stop_none (Some request) stop exit text takes by answers slot among = still_there stop slot exit text by answers (takes.told slot among)
+
   stop_done : (stop : Stop) (exit : Exit) (text : List ℕ) → IsStoppedBy stop exit text → exit ≡ exits.Done → ⊥
   stop_done stops.BadWords exit text by done = cc (by.is_exit, done)
   stop_done (stops.Refused refusal) exit text by done = cc (by.is_exit, done)
@@ -205,6 +227,7 @@ module _ (words : List (List ℕ)) (shelf shelf' : OnShelf) (before : Lent) wher
   replies_stopped stop (Ok reply) takes by = record {
     outcome = λ slots tells answers. stop_answers slots stop reply.exit reply.text.items (takes.stop slots tells) by answers;
     kinds = stop_kind (request_of words) stop reply.exit reply.text.items takes.slots by;
+    same_faults = stop_none (request_of words) stop reply.exit reply.text.items takes.slots by;
     untold = λ asks name. refl;
     bad_words = stop_bad (request_of words) stop reply.exit reply.text.items takes.slots by;
     only_bad = stop_only (request_of words) stop reply.exit reply.text.items takes.slots by;
@@ -219,6 +242,7 @@ module _ (words : List (List ℕ)) (shelf shelf' : OnShelf) (before : Lent) wher
   replies_stopped stop (Err e) takes by = record {
     outcome = tt;
     kinds = tt;
+    same_faults = tt;
     untold = tt;
     bad_words = tt;
     only_bad = λ none. tt;

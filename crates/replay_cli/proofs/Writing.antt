@@ -52,6 +52,7 @@ module _ {E : Type 0} (words : List (List ℕ)) (before after : Around) (counts 
           };
           others = replies.others;
           bad_words = replies.bad_words;
+          same_faults = replies.same_faults;
           words_first = λ none. record { exits = inl (replies.only_bad none); shelf = replies.untouched none };
           read_fault = λ is.
               (reply.text.items, record { names = fault_of reply.exit _ replies.kinds is; untold = replies.untold (rw is refl) }, all);
@@ -73,6 +74,7 @@ module _ {E : Type 0} (words : List (List ℕ)) (before after : Around) (counts 
       };
       others = replies.others;
       bad_words = λ is. absurd (cc);
+      same_faults = λ is. absurd (false≢true is);
       words_first = λ none. record { exits = inr (inl refl); shelf = replies.untouched none };
       read_fault = λ is. absurd (cc);
       write_fault = λ is. rose;
@@ -93,6 +95,7 @@ module _ {E : Type 0} (words : List (List ℕ)) (before after : Around) (counts 
       };
       others = replies.others;
       bad_words = λ is. absurd (cc);
+      same_faults = λ is. absurd (false≢true is);
       words_first = λ none. record { exits = inr (inr refl); shelf = replies.untouched none };
       read_fault = λ is. absurd (cc);
       write_fault = λ is. absurd (cc);
@@ -114,6 +117,7 @@ module _ {E : Type 0} (words : List (List ℕ)) (before after : Around) (counts 
     };
     others = replies.others;
     bad_words = λ is. absurd (cc);
+    same_faults = λ is. absurd (false≢true is);
     words_first = λ none. record { exits = inr (inr refl); shelf = replies.untouched none };
     read_fault = λ is. absurd (cc);
     write_fault = λ is. absurd (cc);

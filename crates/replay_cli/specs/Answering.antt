@@ -18,7 +18,7 @@ use Rattle.request.specs.Request.{IsRequest, request_of}
 use Rattle.request.specs.declared.request.Request.{Request}
 use Rattle.slot_io.specs.Faults.{NoneFell, Rose}
 use Rattle.replay_cli.specs.Outcome.{WantsNoPicker, IsOutcome, NamesFault, slots_read}
-use Rattle.replay_cli.specs.Run.{KeepsOthers}
+use Rattle.replay_cli.specs.Run.{KeepsOthers, SameFaults}
 
 -- what stops the reading of the words
 abbrev pub IsOfWords : Stop → Type 0
@@ -55,6 +55,8 @@ pub record Replies {E : Type 0} (words : List (List ℕ)) (shelf shelf' : OnShel
       → IsOutcome words slots before after reply.exit reply.text.items)
   pub kinds : IfOk result (λ reply. IsTrue (is_answer reply.exit)
       ⊎ ((reply.exit ≡ ReadFault) × NamesFault (request_of words) shelf shelf' reply.text.items))
+  pub same_faults : IfOk result (λ reply. IsTrue (is_answer reply.exit)
+      → SameFaults (slots_read (request_of words)) shelf shelf')
   pub untold : IfOk result (λ reply. IsTrue (ends_unasked reply.exit) → Untold before after)
   pub bad_words : IfOk result (λ reply. reply.exit ≡ BadWords → IsNone (request_of words))
   pub only_bad : IsNone (request_of words) → IfOk result (λ reply. reply.exit ≡ BadWords)

@@ -83,6 +83,12 @@ pub record IsRefusal (before after : Around) (exit : Exit) : Type 0 where
 pub record KeepsOthers (order : List Slot) (before after : OnShelf) : Type 0 where
   pub left : (slot : Slot) → ¬ Contains order slot → after.left slot ≡ before.left slot
   pub taken : (slot : Slot) → ¬ Contains order slot → after.taken slot ≡ before.taken slot
+  pub faults : (slot : Slot) → ¬ Contains order slot → after.faults slot ≡ before.faults slot
+
+-- these slots' counts of faults are as they were
+abbrev pub SameFaults : List Slot → OnShelf → OnShelf → Type 0
+SameFaults order before after =
+    (slot : Slot) → Contains order slot → after.faults slot ≡ before.faults slot
 
 -- no count of faults fell
 pub record NoCountFell (before after : Around) : Type 0 where
@@ -99,6 +105,9 @@ pub record IsRun (words : List (List ℕ)) (before after : Around) (exit : Exit)
   pub bad_words : exit ≡ BadWords → IsNone (request_of words)
   pub words_first : IsNone (request_of words) → IsRefusal before after exit
   pub read_fault : exit ≡ ReadFault → Writes before after (IsFaultLine words before after)
+  -- an answer comes only where no count of these rose: no fault was taken for the end of a slot
+  pub same_faults : IsTrue (is_answer exit)
+      → SameFaults (slots_read (request_of words)) before.shelf after.shelf
   pub write_fault : exit ≡ WriteFault → Rose before.sink.faults after.sink.faults
   -- what becomes of the pickers and of the slots, whether or not the shelf tells their bytes
   pub untold : IsTrue (ends_unasked exit) → Untold before.pickers after.pickers

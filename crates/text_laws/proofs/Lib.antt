@@ -1,3 +1,4 @@
+pub mod ReadRows
 pub mod StateSlots
 pub mod WorkedEvening
 pub mod WrittenRows

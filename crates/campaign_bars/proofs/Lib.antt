@@ -1,0 +1,4 @@
+-- Reading order. Each file says in its first line what it shows.
+pub mod Ahead
+pub mod MoreBeds
+pub mod Overnight

@@ -1,0 +1,512 @@
+-- With more beds in a school whose bar never fell, or as many as were ever held, the days are the same.
+use Rattle.std.proofs.Common.{ℕ, zero, suc, ◌+◌, ◌-◌, ◌≤◌, ◌<◌, ◌≡◌, Bool, true, false, not, ◌&&◌, List, [], ◌∷◌, length, map, take, Option, Some, None, inl, inr, refl, sym, ◌∙◌, ap, subst, arith, nat_lt}
+use Rattle.std.specs.Prelude.{⊤, All, ◌==◌, if◌then◌else◌, slice_index, sum}
+use Rattle.std.specs.List.{AllByRecursion, count_by, enumerate_from, list_all, range_with_len}
+use Rattle.std.proofs.lemmas.Bool.{and_from, and_parts, cases_Bool, cases_eq, cases_lt, eq-eqb, false≢true, false_from_ne_true, lt-ltb, ne_eqb, not-true, not_from_false}
+use Rattle.std.proofs.lemmas.Grind.{get_or-set_at}
+use Rattle.std.proofs.lemmas.List.{get_or_past, length-map}
+use Rattle.std.proofs.lemmas.List.Elements.{recursion_from_All}
+use Rattle.std.proofs.lemmas.List.FromFn.{length-enumerate_from}
+use Rattle.admit_core.specs.declared.dossier.Answer.{Answer}
+use Rattle.admit_core.specs.declared.dossier.AnswerKind.{AnswerKind}
+use Rattle.admit_core.specs.declared.dossier.AnswerKind.TheVariants.{Accept, Quit, Refuse, Withdraw}
+use Rattle.admit_core.specs.declared.dossier.School.{School}
+use Rattle.admit_core.specs.declared.ranking.CallOrder.{CallOrder}
+use Rattle.admit_core.specs.declared.records.DayRecord.{DayRecord}
+use Rattle.admit_core.specs.declared.records.Fall.{Fall}
+use Rattle.admit_core.specs.declared.records.PassEnd.{PassEnd}
+use Rattle.admit_core.specs.declared.records.Terms.{Terms}
+use Rattle.admit_core.specs.declared.state.Stamp.{Stamp}
+use Rattle.admit_core.specs.Answers.{after, after_all, after_kind, first_unfit, fits}
+use Rattle.admit_core.specs.AutoAnswer.{freed, seats_freed}
+use Rattle.admit_core.specs.Boarding.{boarding}
+use Rattle.admit_core.specs.Days.{Days, IsDay, IsPassEnd, Passes, after_lapse, answers_of, ceiling_on, ceilings_of, closing, freed_after, lapsed_on, morning, offered, unfit_on}
+use Rattle.admit_core.specs.DossierRows.{DossierRows, beds_of, candidates_of}
+use Rattle.admit_core.specs.Falls.{AreFalls, FallingSystem, IsAtMost, IsGreatest, IsRunOfFalls, bars_after, fall_of, fallen, is_overfilled}
+use Rattle.admit_core.specs.LeastBeds.{rebuilt, with_beds}
+use Rattle.admit_core.specs.Proposals.{demanded_ranks, is_proposed}
+use Rattle.admit_core.specs.State.{State, bed_holders, free_beds, has_school, holds_bed}
+use Rattle.admit_core.specs.Validity.{IsValid}
+use Rattle.admit_core.proofs.ClosedEvenings.{free_at}
+use Rattle.admit_core.proofs.DemandLaws.{below_bar, boarding_is_lawful}
+use Rattle.admit_core.proofs.FallsLaw.{at_set, falls_under, over_in, over_rank, run_is_greatest}
+use Rattle.admit_core.proofs.FilledSeats.{live_stays, offer_if}
+use Rattle.admit_core.proofs.Holders.{holds_kept}
+use Rattle.admit_core.proofs.Rebuilt.{as_many, with_n}
+use Rattle.round.proofs.BedLaw.{length-new_bed_holders}
+use Rattle.evening_laws.proofs.LastPass.{held_and_new, no_member}
+use Rattle.campaign_laws.specs.Moments.{after_each, after_passes, day_moments, evening_of, moments}
+use Rattle.campaign_laws.proofs.Walks.{all_split, evening_dossier, evening_is, morning_of}
+use Rattle.campaign_bars.specs.HeldBeds.{NoMoreThan}
+use Rattle.campaign_bars.specs.MoreBeds.{HasSameDays, StandsAtCeiling}
+
+-- ---- what a day reads of a dossier but its beds
+after_with : (kind : AnswerKind) (s : State) (target : ℕ) (stamp : Stamp) (h n : ℕ)
+    → after_kind kind (with_beds s h n) target stamp ≡ with_beds (after_kind kind s target stamp) h n
+after_with Accept s target stamp h n = refl
+after_with Refuse s target stamp h n = refl
+after_with Withdraw s target stamp h n = refl
+after_with Quit s target stamp h n = refl
+
+after_all_with : (s : State) (stamp : Stamp) (answers : List Answer) (h n : ℕ)
+    → after_all (with_beds s h n) stamp answers ≡ with_beds (after_all s stamp answers) h n
+after_all_with s stamp [] h n = refl
+after_all_with s stamp (a ∷ rest) h n =
+    ap (λ (t : State). after_all t stamp rest) (after_with a.kind s a.target stamp h n)
+    ∙ after_all_with (after s stamp a) stamp rest h n
+
+unfit_with : (k : ℕ) (s : State) (stamp : Stamp) (answers : List Answer) (h n : ℕ)
+    → first_unfit k s stamp answers ≡ None → first_unfit k (with_beds s h n) stamp answers ≡ None
+unfit_with k s stamp [] h n none = refl
+unfit_with k s stamp (a ∷ rest) h n none =
+    elim (cases_Bool (fits s a)) [
+      | inl fit ↦
+          let later = unfit_with (k + 1) (after s stamp a) stamp rest h n (rw fit at none) in
+          rw fit (ap (λ (t : State). first_unfit (k + 1) t stamp rest) (after_with a.kind s a.target stamp h n) ∙ later)
+      | inr unfit ↦ let some = rw unfit at none in absurd (cc)
+    ]
+
+lapse_with : (terms : Option Terms) (day : ℕ) (s : State) (h n : ℕ)
+    → after_lapse terms day (with_beds s h n) ≡ with_beds (after_lapse terms day s) h n
+lapse_with None day s h n = refl
+lapse_with (Some t) day s h n = refl
+
+lapsed_with : (terms : Option Terms) (day : ℕ) (s : State) (h n : ℕ)
+    → lapsed_on terms day (with_beds s h n) ≡ lapsed_on terms day s
+lapsed_with None day s h n = refl
+lapsed_with (Some t) day s h n = refl
+
+lapse_keeps : (terms : Option Terms) (day : ℕ) (s : State) → answers_of (after_lapse terms day s).dossier day
+    ≡ answers_of s.dossier day
+lapse_keeps None day s = refl
+lapse_keeps (Some t) day s = refl
+
+morning_with : (terms : Option Terms) (day : ℕ) (s : State) (h n : ℕ)
+    → morning terms day (with_beds s h n) ≡ with_beds (morning terms day s) h n
+morning_with terms day s h n =
+    let stamp : Stamp = record { day = day; pass = 0 } in
+    ap (λ (t : State). after_all t stamp (answers_of s.dossier day)) (lapse_with terms day s h n)
+    ∙ after_all_with (after_lapse terms day s) stamp (answers_of s.dossier day) h n
+
+fits_with : (terms : Option Terms) (day : ℕ) (s : State) (h n : ℕ) → unfit_on terms day s ≡ None
+    → unfit_on terms day (with_beds s h n) ≡ None
+fits_with terms day s h n none =
+    let stamp : Stamp = record { day = day; pass = 0 } in
+    ap (λ (t : State). first_unfit 0 t stamp (answers_of s.dossier day)) (lapse_with terms day s h n)
+    ∙ unfit_with 0 (after_lapse terms day s) stamp (answers_of s.dossier day) h n none
+
+ceiling_stays : (d : DossierRows) (day k n : ℕ) (is : Bool) (s : School)
+    → ceiling_on d day k (if is then record s { beds = n } else s) ≡ ceiling_on d day k s
+ceiling_stays d day k n true s = refl
+ceiling_stays d day k n false s = refl
+
+ceilings_from : (d : DossierRows) (day h n k : ℕ) (schools : List School)
+    → map (λ x. ceiling_on d day x.0 x.1) (enumerate_from k (map (with_n h n) (enumerate_from k schools)))
+    ≡ map (λ x. ceiling_on d day x.0 x.1) (enumerate_from k schools)
+ceilings_from d day h n k [] = refl
+ceilings_from d day h n k (s ∷ schools) =
+    rw (ceiling_stays d day k n (k == h) s, ceilings_from d day h n (k + 1) schools) refl
+
+ceilings_with : (d : DossierRows) (day h n : ℕ) → ceilings_of (rebuilt d h n) day ≡ ceilings_of d day
+ceilings_with d day h n = ceilings_from d day h n 0 d.schools
+
+-- the beds of the other schools, and of that one
+beds_elsewhere : (k h n : ℕ) (schools : List School) (i : ℕ) → (k + i ≡ h → ⊥)
+    → slice_index (map (λ (s : School). s.beds) (map (with_n h n) (enumerate_from k schools))) i
+    ≡ slice_index (map (λ (s : School). s.beds) schools) i
+beds_elsewhere k h n [] i other = refl
+beds_elsewhere k h n (s ∷ schools) zero other =
+    let differs : (k == h) ≡ false = ne_eqb k h (λ same. other (omega (arith, same))) in
+    rw differs refl
+beds_elsewhere k h n (s ∷ schools) (suc i) other =
+    beds_elsewhere (k + 1) h n schools i (λ same. other (omega (arith, same)))
+
+beds_there : (k h n : ℕ) (schools : List School) (i : ℕ) → k + i ≡ h → i < length schools
+    → slice_index (map (λ (s : School). s.beds) (map (with_n h n) (enumerate_from k schools))) i ≡ n
+beds_there k h n [] i is lt = absurd (omega arith)
+beds_there k h n (s ∷ schools) zero is lt =
+    let here : (k == h) ≡ true = eq-eqb k h (omega (arith, is)) in
+    rw here refl
+beds_there k h n (s ∷ schools) (suc i) is lt =
+    beds_there (k + 1) h n schools i (omega (arith, is)) (omega (arith, lt))
+
+-- ---- a run of falls that leaves the school's bar at its ceiling
+all_pass : (p q : ℕ → Bool) → ((x : ℕ) → p x ≡ true → q x ≡ true) → (xs : List ℕ) → list_all p xs ≡ true
+    → list_all q xs ≡ true
+all_pass p q implies [] t = refl
+all_pass p q implies (x ∷ xs) t =
+    let parts = and_parts (p x) (list_all p xs) t in
+    and_from (q x) (list_all q xs) (implies x parts.0) (all_pass p q implies xs parts.1)
+
+module _ (s : State) (orders : List CallOrder) (ceilings : List ℕ) (h n : ℕ)
+    (long : length ceilings ≡ length s.dossier.schools) where
+  abbrev now : FallingSystem
+  now = boarding s orders ceilings
+
+  abbrev roomy : FallingSystem
+  roomy = boarding (with_beds s h n) orders ceilings
+
+  -- the free beds, by the school's beds
+  free_by : (i beds : ℕ) → i < length ceilings → beds_of (rebuilt s.dossier h n) i ≡ beds
+      → slice_index roomy.free i ≡ beds - length (bed_holders s i)
+  free_by i beds lt is =
+      free_at (with_beds s h n) orders ceilings i lt ∙ ap (λ (b : ℕ). b - length (bed_holders s i)) is
+
+  same_free : (i : ℕ) → i < length ceilings → (i ≡ h → ⊥) → slice_index roomy.free i ≡ slice_index now.free i
+  same_free i lt other =
+      free_by i (beds_of s.dossier i) lt
+      (beds_elsewhere 0 h n s.dossier.schools i (λ same. other (omega (arith, same))))
+      ∙ sym (free_at s orders ceilings i lt)
+
+  -- those who come under these bars find a bed
+  abbrev HasRoom : List ℕ → Type 0
+  HasRoom bars = length (demanded_ranks s orders bars h) ≤ n - length (bed_holders s h)
+
+  -- then no more schools are overfilled
+  over_now : (bars : List ℕ) (i : ℕ) → HasRoom bars → is_overfilled roomy bars i ≡ true
+      → is_overfilled now bars i ≡ true
+  over_now bars i room over =
+      let found = over_in roomy (boarding_is_lawful (with_beds s h n) orders ceilings) bars i over in
+      elim (cases_eq i h) [
+        | inl same ↦
+            let free = free_by i n found.0
+            (beds_there 0 h n s.dossier.schools i (omega (arith, same)) (omega (arith, found.0, long))) in
+            let live : length (bed_holders s i) ≡ length (bed_holders s h) =
+            ap (λ (g : ℕ). length (bed_holders s g)) same in
+            let come : length (now.ranks bars i) ≡ length (now.ranks bars h) =
+            ap (λ (g : ℕ). length (now.ranks bars g)) same in
+            absurd (omega (arith, found.1, free, live, come, room))
+        | inr other ↦
+            and_from (nat_lt i (length ceilings)) (nat_lt (slice_index now.free i) (length (now.ranks bars i)))
+            (lt-ltb i (length ceilings) found.0)
+            (lt-ltb (slice_index now.free i) (length (now.ranks bars i))
+            (omega (arith, found.1, same_free i found.0 other)))
+      ]
+
+  over_there : (bars : List ℕ) (i : ℕ) → (i ≡ h → ⊥) → is_overfilled now bars i ≡ true
+      → is_overfilled roomy bars i ≡ true
+  over_there bars i other over =
+      let found = over_in now (boarding_is_lawful s orders ceilings) bars i over in
+      and_from (nat_lt i (length ceilings)) (nat_lt (slice_index roomy.free i) (length (now.ranks bars i)))
+      (lt-ltb i (length ceilings) found.0)
+      (lt-ltb (slice_index roomy.free i) (length (now.ranks bars i))
+      (omega (arith, found.1, same_free i found.0 other)))
+
+  same_fall : (bars : List ℕ) (i : ℕ) → i < length ceilings → (i ≡ h → ⊥) → fall_of now bars i ≡ fall_of roomy bars i
+  same_fall bars i lt other =
+      ap (λ (free : ℕ). record {
+        school = i;
+        from = slice_index bars i;
+        to = slice_index (now.ranks bars i) free - 1;
+        wishes = map (now.name bars i) (take (free + 1) (now.ranks bars i));
+      }) (sym (same_free i lt other))
+
+  -- falls only lower the school's bar, and where it stays they are those of the roomier system
+  record Transfers (bars : List ℕ) (falls : List Fall) : Type 0 where
+    below : slice_index (bars_after bars falls) h ≤ slice_index bars h
+    falls_too : slice_index bars h ≤ slice_index (bars_after bars falls) h → AreFalls roomy bars falls
+
+  transfers : (bars : List ℕ) (falls : List Fall) → IsAtMost bars ceilings → AreFalls now bars falls
+      → Transfers bars falls
+  transfers bars [] under are = record { below = omega arith; falls_too = λ stays. tt }
+  transfers bars (f ∷ fs) under are =
+      let lawful = boarding_is_lawful s orders ceilings in
+      let i = f.school in
+      let r = slice_index (now.ranks bars i) (slice_index now.free i) in
+      let found = over_in now lawful bars i are.0 in
+      let rank = over_rank now lawful bars i under are.0 in
+      let i_bar : i < length bars = omega (arith, found.0, under.as_many) in
+      let to : f.to ≡ r - 1 = ap (λ (g : Fall). g.to) are.1 in
+      let step : IsAtMost (fallen bars f) ceilings =
+      subst (λ (g : Fall). IsAtMost (fallen bars g) ceilings) (sym are.1) (falls_under now lawful bars i under are.0) in
+      let rest = transfers (fallen bars f) fs step are.2 in
+      elim (at_set bars i f.to h i_bar) [
+        | inl here ↦
+            let bar : slice_index bars h ≡ slice_index bars i = ap (slice_index bars) here.0 in
+            record {
+              below = omega (arith, rest.below, here.1, to, rank.0, rank.1, bar);
+              falls_too = λ stays. absurd (omega (arith, stays, rest.below, here.1, to, rank.0, rank.1, bar));
+            }
+        | inr there ↦
+            record {
+              below = omega (arith, rest.below, there);
+              falls_too = λ stays.
+                  elim (cases_eq i h) [
+                    | inl same ↦
+                        let down : slice_index (fallen bars f) h ≡ f.to = get_or-set_at bars i h f.to 0 (sym same) i_bar in
+                        let bar : slice_index bars h ≡ slice_index bars i = ap (slice_index bars) (sym same) in
+                        absurd (omega (arith, down, there, to, rank.0, rank.1, bar))
+                    | inr other ↦ (
+                      over_there bars i other are.0,
+                      are.1 ∙ same_fall bars i found.0 other,
+                      rest.falls_too (omega (arith, stays, there)),
+                    )
+                  ];
+            }
+      ]
+
+  run_with : (falls : List Fall) → slice_index (bars_after ceilings falls) h ≡ slice_index ceilings h
+      → HasRoom (bars_after ceilings falls) → IsRunOfFalls now falls → IsRunOfFalls roomy falls
+  run_with falls stands room run =
+      let start : IsAtMost ceilings ceilings = record { as_many = refl; each = λ i. omega arith } in
+      let bars = bars_after ceilings falls in
+      record {
+        are_falls = (transfers ceilings falls start run.are_falls).falls_too (omega (arith, stands));
+        settled = all_pass (λ i. not (is_overfilled now bars i)) (λ i. not (is_overfilled roomy bars i))
+            (λ i none. not_from_false (is_overfilled roomy bars i)
+            (false_from_ne_true (is_overfilled roomy bars i) (λ over.
+            false≢true (sym (not-true (is_overfilled now bars i) none) ∙ over_now bars i room over))))
+            (range_with_len 0 (length ceilings)) run.settled;
+      }
+
+  -- so the pass is the same, and so is what it frees
+  same_freed : (bars : List ℕ) (stamp : Stamp)
+      → freed_after s orders bars stamp ≡ freed_after (with_beds s h n) orders bars stamp
+  same_freed bars stamp =
+      let old = offered s orders bars stamp in
+      let new = closing s orders bars stamp in
+      ap (λ (m : ℕ). record {
+        seats = sum (map (seats_freed old new) (candidates_of s.dossier));
+        beds = sum (map (λ (c : ℕ). count_by (λ i. holds_bed old c i && not (holds_bed new c i))
+            (range_with_len 0 m)) (candidates_of s.dossier));
+      }) (sym (as_many s.dossier.schools h n))
+
+  pass_with : (stamp : Stamp) (end : PassEnd) → slice_index end.pass.bars h ≡ slice_index ceilings h
+      → HasRoom end.pass.bars
+      → IsPassEnd s orders ceilings stamp end → IsPassEnd (with_beds s h n) orders ceilings stamp end
+  pass_with stamp end stands room is =
+      let falls = end.pass.falls in
+      let run = run_with falls (sym (ap (λ (bars : List ℕ). slice_index bars h) is.pass.bars) ∙ stands)
+      (subst HasRoom is.pass.bars room) is.pass.falls in
+      let lawful = boarding_is_lawful (with_beds s h n) orders ceilings in
+      record {
+        pass = record {
+          greatest = subst (IsGreatest roomy) (sym is.pass.bars) (run_is_greatest roomy lawful falls run);
+          falls = run;
+          bars = is.pass.bars;
+          offers = is.pass.offers;
+        };
+        autos = is.autos;
+        freed = is.freed ∙ same_freed end.pass.bars stamp;
+      }
+
+-- ---- why those who come find a bed: there are more of them, or never more live there
+roomy_by_more : (s : State) (orders : List CallOrder) (ceilings bars : List ℕ) (h n : ℕ)
+    → length ceilings ≡ length s.dossier.schools → beds_of s.dossier h ≤ n
+    → IsGreatest (boarding s orders ceilings) bars → slice_index bars h ≡ slice_index ceilings h
+    → length (demanded_ranks s orders bars h) ≤ n - length (bed_holders s h)
+roomy_by_more s orders ceilings bars h n long enough greatest stands =
+    elim (cases_lt h (length ceilings)) [
+      | inl lt ↦ omega (arith, greatest.fits.room h lt, free_at s orders ceilings h lt, enough)
+      | inr past ↦
+          let none : slice_index bars h ≡ 0 = stands ∙ get_or_past ceilings h 0 past in
+          let nobody = no_member (demanded_ranks s orders bars h)
+          (λ r t. let found = below_bar s orders bars h r t in omega (arith, found.0, found.1, none)) in
+          omega (arith, nobody)
+    ]
+
+roomy_by_few : (s : State) (orders : List CallOrder) (bars : List ℕ) (stamp : Stamp) (h n : ℕ) → IsValid s.dossier
+    → NoMoreThan h n (offered s orders bars stamp)
+    → length (demanded_ranks s orders bars h) ≤ n - length (bed_holders s h)
+roomy_by_few s orders bars stamp h n valid few =
+    let new = offered s orders bars stamp in
+    let split = held_and_new (λ c. holds_bed s c h) (λ c. holds_bed new c h)
+    (λ c t. holds_kept (λ u. has_school u h) s (λ w m. offer_if stamp (is_proposed s orders bars w m) m) c
+    (λ v mv live. live_stays stamp (is_proposed s orders bars v mv) mv live) t) (candidates_of s.dossier) in
+    omega (arith, split, few, length-new_bed_holders s orders bars stamp valid h)
+
+-- ---- whole days
+-- in each of these passes those who come find a bed
+abbrev FindBeds : List CallOrder → ℕ → ℕ → ℕ → ℕ → State → List PassEnd → Type 0
+FindBeds orders h n day k s [] = ⊤
+FindBeds orders h n day k s (pass ∷ rest) =
+    (length (demanded_ranks s orders pass.pass.bars h) ≤ n - length (bed_holders s h))
+    × FindBeds orders h n day (k + 1) (closing s orders pass.pass.bars (record { day = day; pass = k })) rest
+
+abbrev StandIn : List ℕ → ℕ → List PassEnd → Type 0
+StandIn ceilings h passes =
+    AllByRecursion (λ (pass : PassEnd). slice_index pass.pass.bars h ≡ slice_index ceilings h) passes
+
+passes_with : (orders : List CallOrder) (ceilings : List ℕ) (day k : ℕ) (s : State) (passes : List PassEnd)
+    (evening : State) (h n : ℕ) → length ceilings ≡ length s.dossier.schools → StandIn ceilings h passes
+    → FindBeds orders h n day k s passes → Passes orders ceilings day k s passes evening
+    → Passes orders ceilings day k (with_beds s h n) passes (with_beds evening h n)
+passes_with orders ceilings day k s [] evening h n long stands find are = absurd are
+passes_with orders ceilings day k s (pass ∷ []) evening h n long stands find are = (
+  pass_with s orders ceilings h n long (record { day = day; pass = k }) pass stands.0 find.0 are.0,
+  are.1,
+  ap (λ (e : State). with_beds e h n) are.2,
+)
+passes_with orders ceilings day k s (pass ∷ (next ∷ rest)) evening h n long stands find are = (
+  pass_with s orders ceilings h n long (record { day = day; pass = k }) pass stands.0 find.0 are.0,
+  are.1,
+  passes_with orders ceilings day (k + 1) (closing s orders pass.pass.bars (record { day = day; pass = k }))
+      (next ∷ rest) evening h n long stands.1 find.1 are.2,
+)
+
+find_by_more : (orders : List CallOrder) (ceilings : List ℕ) (day k : ℕ) (s : State) (passes : List PassEnd)
+    (evening : State) (h n : ℕ) → length ceilings ≡ length s.dossier.schools → beds_of s.dossier h ≤ n
+    → StandIn ceilings h passes → Passes orders ceilings day k s passes evening
+    → FindBeds orders h n day k s passes
+find_by_more orders ceilings day k s [] evening h n long enough stands are = tt
+find_by_more orders ceilings day k s (pass ∷ []) evening h n long enough stands are =
+    (roomy_by_more s orders ceilings pass.pass.bars h n long enough are.0.pass.greatest stands.0, tt)
+find_by_more orders ceilings day k s (pass ∷ (next ∷ rest)) evening h n long enough stands are = (
+  roomy_by_more s orders ceilings pass.pass.bars h n long enough are.0.pass.greatest stands.0,
+  find_by_more orders ceilings day (k + 1) (closing s orders pass.pass.bars (record { day = day; pass = k }))
+      (next ∷ rest) evening h n long enough stands.1 are.2,
+)
+
+find_by_few : (orders : List CallOrder) (day k : ℕ) (s : State) (passes : List PassEnd) (h n : ℕ) → IsValid s.dossier
+    → AllByRecursion (NoMoreThan h n) (after_passes orders day k s passes) → FindBeds orders h n day k s passes
+find_by_few orders day k s [] h n valid few = tt
+find_by_few orders day k s (pass ∷ passes) h n valid few =
+    let stamp : Stamp = record { day = day; pass = k } in (
+      roomy_by_few s orders pass.pass.bars stamp h n valid few.0,
+      find_by_few orders day (k + 1) (closing s orders pass.pass.bars stamp) passes h n valid few.1.1,
+    )
+
+-- the record of a day in which the school has n beds
+abbrev with_free : State → ℕ → ℕ → DayRecord → DayRecord
+with_free evening h n day =
+    record day {
+      free = map (free_beds (with_beds evening h n)) (range_with_len 0 (length (rebuilt evening.dossier h n).schools));
+    }
+
+-- a day on which those who come find a bed
+record IsRoomyDay (terms : Option Terms) (orders : List CallOrder) (number h n : ℕ) (old : State)
+    (day : DayRecord) : Type 0 where
+  stand : StandIn (ceilings_of old.dossier number) h day.passes
+  find : FindBeds orders h n day.day 1 (morning terms day.day old) day.passes
+
+schools_at : (terms : Option Terms) (old : State) (day number : ℕ)
+    → length (ceilings_of old.dossier number) ≡ length (morning terms day old).dossier.schools
+schools_at terms old day number =
+    length-map (enumerate_from 0 old.dossier.schools) (λ (x : ℕ × School). ceiling_on old.dossier number x.0 x.1)
+    ∙ length-enumerate_from 0 old.dossier.schools
+    ∙ ap (λ (x : DossierRows). length x.schools) (sym (morning_of old.dossier terms day old refl))
+
+day_with : (terms : Option Terms) (orders : List CallOrder) (number : ℕ) (old : State) (day : DayRecord)
+    (evening : State) (h n : ℕ) → IsRoomyDay terms orders number h n old day
+    → IsDay terms orders (ceilings_of old.dossier number) old day evening
+    → IsDay terms orders (ceilings_of (rebuilt old.dossier h n) number) (with_beds old h n)
+    (with_free evening h n day) (with_beds evening h n)
+day_with terms orders number old day evening h n roomy is =
+    let d = old.dossier in
+    let ceilings = ceilings_of d number in
+    let dawn = morning terms day.day old in
+    let passes = passes_with orders ceilings day.day 1 dawn day.passes evening h n
+    (schools_at terms old day.day number) roomy.stand roomy.find is.passes in
+    record {
+      lapsed = is.lapsed ∙ sym (lapsed_with terms day.day old h n);
+      fits = fits_with terms day.day old h n is.fits;
+      passes = subst (λ (s : State). Passes orders (ceilings_of (rebuilt d h n) number) day.day 1 s day.passes
+          (with_beds evening h n)) (sym (morning_with terms day.day old h n))
+          (subst (λ (cs : List ℕ). Passes orders cs day.day 1 (with_beds dawn h n) day.passes (with_beds evening h n))
+          (sym (ceilings_with d number h n)) passes);
+      left = is.left;
+      free = refl;
+    }
+
+-- a campaign of such days
+abbrev AreRoomy : Option Terms → List CallOrder → ℕ → ℕ → ℕ → State → List DayRecord → Type 0
+AreRoomy terms orders number h n old [] = ⊤
+AreRoomy terms orders number h n old (day ∷ days) =
+    IsRoomyDay terms orders number h n old day
+    × AreRoomy terms orders (number + 1) h n (evening_of terms orders old day) days
+
+days_with : (terms : Option Terms) (orders : List CallOrder) (number : ℕ) (old : State)
+    (days : List DayRecord) (new : State) (h n : ℕ) → Days terms orders number old days new
+    → AreRoomy terms orders number h n old days → HasSameDays terms orders number old days new h n
+days_with terms orders number old [] new h n are roomy =
+    record { others = []; same = tt; are_days = ap (λ (s : State). with_beds s h n) are }
+days_with terms orders number old (day ∷ days) new h n are roomy =
+    let (evening, is_number, is_day, rest) = are in
+    let left : evening ≡ evening_of terms orders old day =
+    evening_is orders (ceilings_of old.dossier number) day.day 1 (morning terms day.day old) day.passes evening
+    is_day.passes in
+    let first = day_with terms orders number old day evening h n roomy.0 is_day in
+    let later = days_with terms orders (number + 1) evening days new h n rest
+    (subst (λ (s : State). AreRoomy terms orders (number + 1) h n s days) (sym left) roomy.1) in
+    record {
+      others = with_free evening h n day ∷ later.others;
+      same = (refl, later.same);
+      are_days = (with_beds evening h n, is_number, first, later.are_days);
+    }
+
+-- ---- more beds, and as many as were ever held
+stand_on : (d x : DossierRows) (number h : ℕ) (day : DayRecord) → x ≡ d → day.day ≡ number → StandsAtCeiling d h day
+    → StandIn (ceilings_of x number) h day.passes
+stand_on d x number h day of is_number stands =
+    rw (of, ← is_number) (recursion_from_All
+    (λ (pass : PassEnd). slice_index pass.pass.bars h ≡ slice_index (ceilings_of d day.day) h) day.passes stands)
+
+evening_of_it : (d : DossierRows) (terms : Option Terms) (orders : List CallOrder) (old : State) (day : DayRecord)
+    → old.dossier ≡ d → (evening_of terms orders old day).dossier ≡ d
+evening_of_it d terms orders old day of =
+    evening_dossier orders day.day 1 (morning terms day.day old) day.passes ∙ morning_of d terms day.day old of
+
+roomy_with_more : (terms : Option Terms) (orders : List CallOrder) (d : DossierRows) (number : ℕ) (old : State)
+    (days : List DayRecord) (new : State) (h n : ℕ) → old.dossier ≡ d → Days terms orders number old days new
+    → AllByRecursion (StandsAtCeiling d h) days → beds_of d h ≤ n → AreRoomy terms orders number h n old days
+roomy_with_more terms orders d number old [] new h n of are stands enough = tt
+roomy_with_more terms orders d number old (day ∷ days) new h n of are stands enough =
+    let (evening, is_number, is_day, rest) = are in
+    let ceilings = ceilings_of old.dossier number in
+    let dawn = morning terms day.day old in
+    let left = evening_is orders ceilings day.day 1 dawn day.passes evening is_day.passes in
+    let stand = stand_on d old.dossier number h day of is_number stands.0 in
+    let few : beds_of dawn.dossier h ≤ n = rw (morning_of d terms day.day old of) enough in (
+      record {
+        stand = stand;
+        find = find_by_more orders ceilings day.day 1 dawn day.passes evening h n
+            (schools_at terms old day.day number) few stand is_day.passes;
+      },
+      roomy_with_more terms orders d (number + 1) (evening_of terms orders old day) days new h n
+          (evening_of_it d terms orders old day of)
+          (subst (λ (s : State). Days terms orders (number + 1) s days new) left rest) stands.1 enough,
+    )
+
+roomy_with_few : (terms : Option Terms) (orders : List CallOrder) (d : DossierRows) (number : ℕ) (old : State)
+    (days : List DayRecord) (new : State) (h n : ℕ) → IsValid d → old.dossier ≡ d
+    → Days terms orders number old days new → AllByRecursion (StandsAtCeiling d h) days
+    → AllByRecursion (NoMoreThan h n) (moments terms orders old days) → AreRoomy terms orders number h n old days
+roomy_with_few terms orders d number old [] new h n valid of are stands few = tt
+roomy_with_few terms orders d number old (day ∷ days) new h n valid of are stands few =
+    let (evening, is_number, is_day, rest) = are in
+    let dawn = morning terms day.day old in
+    let stamp : Stamp = record { day = day.day; pass = 0 } in
+    let lapsed = after_lapse terms day.day old in
+    let left = evening_is orders (ceilings_of old.dossier number) day.day 1 dawn day.passes evening is_day.passes in
+    let whole = all_split (NoMoreThan h n) (day_moments terms orders old day)
+    (moments terms orders (evening_of terms orders old day) days) few in
+    let parts = all_split (NoMoreThan h n) (after_each lapsed stamp (answers_of old.dossier day.day))
+    (after_passes orders day.day 1 dawn day.passes) whole.0.1 in (
+      record {
+        stand = stand_on d old.dossier number h day of is_number stands.0;
+        find = find_by_few orders day.day 1 dawn day.passes h n
+            (subst IsValid (sym (morning_of d terms day.day old of)) valid) parts.1;
+      },
+      roomy_with_few terms orders d (number + 1) (evening_of terms orders old day) days new h n valid
+          (evening_of_it d terms orders old day of)
+          (subst (λ (s : State). Days terms orders (number + 1) s days new) left rest) stands.1 whole.1,
+    )
+
+pub more_beds_change_nothing : (terms : Option Terms) (orders : List CallOrder) (d : ℕ) (old : State)
+    (days : List DayRecord) (new : State) (h n : ℕ) → Days terms orders d old days new
+    → All (StandsAtCeiling old.dossier h) days → beds_of old.dossier h ≤ n
+    → HasSameDays terms orders d old days new h n
+more_beds_change_nothing terms orders d old days new h n are stands enough =
+    days_with terms orders d old days new h n are
+    (roomy_with_more terms orders old.dossier d old days new h n refl are
+    (recursion_from_All (StandsAtCeiling old.dossier h) days stands) enough)
+
+pub beds_ever_held_would_do : (terms : Option Terms) (orders : List CallOrder) (d : ℕ) (old : State)
+    (days : List DayRecord) (new : State) (h n : ℕ) → IsValid old.dossier → Days terms orders d old days new
+    → All (StandsAtCeiling old.dossier h) days → All (NoMoreThan h n) (moments terms orders old days)
+    → HasSameDays terms orders d old days new h n
+beds_ever_held_would_do terms orders d old days new h n valid are stands few =
+    days_with terms orders d old days new h n are
+    (roomy_with_few terms orders old.dossier d old days new h n valid refl are
+    (recursion_from_All (StandsAtCeiling old.dossier h) days stands)
+    (recursion_from_All (NoMoreThan h n) (moments terms orders old days) few))

@@ -1,0 +1,4 @@
+pub mod Ahead
+pub mod HeldBeds
+pub mod MoreBeds
+pub mod Overnight

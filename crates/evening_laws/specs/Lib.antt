@@ -1,0 +1,3 @@
+pub mod FewPasses
+pub mod Idle
+pub mod LastBars

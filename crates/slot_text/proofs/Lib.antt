@@ -1,0 +1,4 @@
+pub mod Dates
+pub mod ReadBack
+pub mod Tables
+pub mod WorkedTexts

@@ -1,0 +1,3 @@
+pub mod ReadBack
+pub mod Texts
+pub mod Witnesses
