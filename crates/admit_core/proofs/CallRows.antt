@@ -1,5 +1,6 @@
 -- The row of each call, and the rows that stand in a ranking.
-use Rattle.std.proofs.Common.{ℕ, zero, suc, ◌≤◌, ◌<◌, ◌≡◌, Bool, true, false, not, List, [], ◌∷◌, ◌++◌, map, length, take, inl, inr, refl, sym, ◌∙◌, ap, arith, filter, Some, nat_eq, get_or}
+use Rattle.std.proofs.Common.{ℕ, zero, suc, ◌≤◌, ◌<◌, ◌≡◌, Bool, true, false, not, List, [], ◌∷◌, ◌++◌, map, length}
+use Rattle.std.proofs.Common.{take, inl, inr, refl, sym, ◌∙◌, ap, arith, filter, Some, nat_eq, get_or}
 use Rattle.std.specs.Prelude.{◌⊎◌, slice_get, zip, Contains}
 use Rattle.std.specs.List.{find, IsDistinct, AllByRecursion}
 use Rattle.std.proofs.lemmas.Bool.{cases_Bool, false≢true, eqb-false, eq-eqb, not_from_false, or_left, or_right}
@@ -29,7 +30,8 @@ in_at x (y ∷ ys) (suc k) lt e = inr (in_at x ys k (omega arith) e)
 pub in_list : {X : Type 0} (x : X) (xs : List X) → Contains xs x → IsIn x xs
 in_list x xs has = in_at x xs has.0 has.1 has.2
 
-pub in_filter : {X : Type 0} (test : X → Bool) (x : X) (xs : List X) → IsIn x xs → test x ≡ true → IsIn x (filter test xs)
+pub in_filter : {X : Type 0} (test : X → Bool) (x : X) (xs : List X) → IsIn x xs → test x ≡ true
+    → IsIn x (filter test xs)
 in_filter test x [] has t = has
 in_filter test x (y ∷ ys) has t =
     elim has [
@@ -70,11 +72,13 @@ all_in P x (y ∷ ys) all has =
       | inr later ↦ all_in P x ys all.1 later
     ]
 
-all_keys_in : {X : Type 0} (key : X → ℕ) (P : ℕ → Type 0) (x : X) (xs : List X) → AllByRecursion P (map key xs) → IsIn x xs → P (key x)
+all_keys_in : {X : Type 0} (key : X → ℕ) (P : ℕ → Type 0) (x : X) (xs : List X) → AllByRecursion P (map key xs)
+    → IsIn x xs → P (key x)
 all_keys_in {X = X} key P x xs all has = all_in (λ (y : X). P (key y)) x xs (all_by_key key P xs all) has
 
 -- where keys differ, a key has one row
-pub same_row : {X : Type 0} (key : X → ℕ) (x y : X) (xs : List X) → IsDistinct nat_eq (map key xs) → IsIn x xs → IsIn y xs → key x ≡ key y → x ≡ y
+pub same_row : {X : Type 0} (key : X → ℕ) (x y : X) (xs : List X) → IsDistinct nat_eq (map key xs) → IsIn x xs
+    → IsIn y xs → key x ≡ key y → x ≡ y
 same_row key x y [] apart has hasy e = absurd has
 same_row key x y (z ∷ zs) apart has hasy e =
     let head = IsDistinct-head nat_eq (key z) (map key zs) apart in
@@ -96,7 +100,8 @@ same_row key x y (z ∷ zs) apart has hasy e =
     ]
 
 -- a row is found by its key
-pub find_own : {X : Type 0} (key : X → ℕ) (x : X) (xs : List X) → IsDistinct nat_eq (map key xs) → IsIn x xs → find (λ y. nat_eq (key y) (key x)) xs ≡ Some x
+pub find_own : {X : Type 0} (key : X → ℕ) (x : X) (xs : List X) → IsDistinct nat_eq (map key xs) → IsIn x xs
+    → find (λ y. nat_eq (key y) (key x)) xs ≡ Some x
 find_own key x [] apart has = absurd has
 find_own key x (z ∷ zs) apart has =
     elim has [
@@ -107,7 +112,8 @@ find_own key x (z ∷ zs) apart has =
     ]
 
 -- where keys rise, the first who passes has the least key of those who pass
-pub least_found : {X : Type 0} (key : X → ℕ) (test : X → Bool) (r s : X) (xs : List X) → RisesBy key xs → find test xs ≡ Some r → IsIn s xs → test s ≡ true
+pub least_found : {X : Type 0} (key : X → ℕ) (test : X → Bool) (r s : X) (xs : List X) → RisesBy key xs
+    → find test xs ≡ Some r → IsIn s xs → test s ≡ true
     → (r ≡ s) ⊎ (key r < key s)
 least_found key test r s [] rises e has t = absurd has
 least_found key test r s (x ∷ xs) rises e has t =
@@ -132,7 +138,8 @@ at_place P (x ∷ xs) zero c all e = let same : x ≡ c = (cc) in rw (← same) 
 at_place P (x ∷ xs) (suc j) c all e = at_place P xs j c all.1 e
 
 -- where ids differ, who stands at a place is not among those before it
-pub not_among_front : (xs : List ℕ) (i j c : ℕ) → IsDistinct nat_eq xs → slice_get xs j ≡ Some c → i ≤ j → is_among c (take i xs) ≡ false
+pub not_among_front : (xs : List ℕ) (i j c : ℕ) → IsDistinct nat_eq xs → slice_get xs j ≡ Some c → i ≤ j
+    → is_among c (take i xs) ≡ false
 not_among_front xs zero j c apart e le = refl
 not_among_front [] (suc i) j c apart e le = absurd (cc)
 not_among_front (x ∷ xs) (suc i) zero c apart e le = absurd (omega arith)
@@ -146,14 +153,16 @@ among_front (x ∷ xs) zero c e = let same : x ≡ c = (cc) in or_left (nat_eq c
 among_front (x ∷ xs) (suc i) c e = or_right (nat_eq c x) (is_among c (take (suc i) xs)) (among_front xs i c e)
 
 -- a row whose id stands at or behind a place remains before it
-pub in_remaining : (g : RankGroup) (list : List ℕ) (i j : ℕ) (s : Ranked) → IsDistinct nat_eq list → IsIn s g.list → slice_get list j ≡ Some s.candidate → i ≤ j
+pub in_remaining : (g : RankGroup) (list : List ℕ) (i j : ℕ) (s : Ranked) → IsDistinct nat_eq list → IsIn s g.list
+    → slice_get list j ≡ Some s.candidate → i ≤ j
     → IsIn s (remaining g (take i list))
 in_remaining g list i j s apart has e le =
     in_filter (λ (r : Ranked). not (is_among r.candidate (take i list))) s g.list has
     (not_from_false (is_among s.candidate (take i list)) (not_among_front list i j s.candidate apart e le))
 
 -- ---- the call at each place
-bound_at : {A B : Type 0} (xs : List A) (ys : List B) (k : ℕ) (x : A) (y : B) → slice_get (zip xs ys) k ≡ Some (x, y) → slice_get ys k ≡ Some y
+bound_at : {A B : Type 0} (xs : List A) (ys : List B) (k : ℕ) (x : A) (y : B) → slice_get (zip xs ys) k ≡ Some (x, y)
+    → slice_get ys k ≡ Some y
 bound_at [] ys k x y e = absurd (cc)
 bound_at (a ∷ xs) [] k x y e = absurd (cc)
 bound_at {A = A} {B = B} (a ∷ xs) (b ∷ ys) zero x y e =

@@ -12,10 +12,18 @@ use Rattle.admit_core.proofs.DemandLaws.{boarding_is_lawful}
 use Rattle.admit_core.specs.Days.{first_evening}
 use Rattle.admit_core.specs.WorkedRows.{greatest_bar, greatest_bar_orders}
 use Rattle.admit_core.specs.WorkedDays.{edges, edge_orders}
-use Rattle.admit_core.specs.WorkedChains.{ValidChain, ChainFaults, TwoPasses, AnyName, Envies, SeatIsVacant, LastOfTwo, NoneBlocks, BedsNeeded}
+use Rattle.admit_core.specs.WorkedChains.{ValidChain, ChainFaults, TwoPasses, AnyName, Envies, SeatIsVacant, LastOfTwo}
+use Rattle.admit_core.specs.WorkedChains.{NoneBlocks, BedsNeeded}
 
 pub valid_chain_holds : ValidChain
-valid_chain_holds = (refl, (record { lines = (record { over = refl; names = refl; tells = refl }, tt); settled = refl }, refl, refl))
+valid_chain_holds = (
+  refl,
+  (
+    record { lines = (record { over = refl; names = refl; tells = refl }, tt); settled = refl },
+    refl,
+    refl,
+  ),
+)
 
 pub chain_faults_hold : ChainFaults
 chain_faults_hold = (refl, refl, refl, refl, refl, refl, refl, refl, refl, refl, refl, refl)
@@ -39,11 +47,16 @@ pub none_blocks_holds : NoneBlocks
 none_blocks_holds = (refl, refl, refl, refl, refl, refl)
 
 -- n beds are enough where a run of falls keeps the bar at its ceiling
-enough_by : (s : State) (orders : List CallOrder) (ceilings : List ℕ) (h n : ℕ) (falls : List Fall) → IsRunOfFalls (boarding (with_beds s h n) orders ceilings) falls
+enough_by : (s : State) (orders : List CallOrder) (ceilings : List ℕ) (h n : ℕ) (falls : List Fall)
+    → IsRunOfFalls (boarding (with_beds s h n) orders ceilings) falls
     → slice_index (bars_after ceilings falls) h ≡ slice_index ceilings h → AreEnough s orders ceilings h n
 enough_by s orders ceilings h n falls run kept =
-    let t = with_beds s h n in
-    (bars_after ceilings falls, run_is_greatest (boarding t orders ceilings) (boarding_is_lawful t orders ceilings) falls run, kept)
+    let t = with_beds s h n in (
+      bars_after ceilings falls,
+      run_is_greatest (boarding t orders ceilings)
+          (boarding_is_lawful t orders ceilings) falls run,
+      kept,
+    )
 
 -- bars whose first is b begin with b
 first_bar : (bars : List ℕ) (b : ℕ) → 0 < length bars → slice_index bars 0 ≡ b → (rest : List ℕ) × (bars ≡ b ∷ rest)
@@ -66,10 +79,20 @@ one_needed k (bars, greatest, kept) =
 
 pub beds_needed_hold : BedsNeeded
 beds_needed_hold = (
-  record { enough = enough_by greatest_bar greatest_bar_orders (10 ∷ []) 0 2 [] (record { are_falls = tt; settled = refl }) refl; least = two_needed },
-  record { enough = enough_by (first_evening edges) edge_orders (4 ∷ 0 ∷ 2000000000 ∷ []) 0 1 [] (record { are_falls = tt; settled = refl }) refl; least = one_needed },
   record {
-    enough = enough_by (first_evening edges) edge_orders (4 ∷ 0 ∷ 2000000000 ∷ []) 1 0 (record { school = 0; from = 4; to = 1; wishes = 0 ∷ [] } ∷ []) (record { are_falls = (refl, refl, tt); settled = refl }) refl;
+    enough = enough_by greatest_bar greatest_bar_orders (10 ∷ []) 0 2 []
+        (record { are_falls = tt; settled = refl }) refl;
+    least = two_needed;
+  },
+  record {
+    enough = enough_by (first_evening edges) edge_orders (4 ∷ 0 ∷ 2000000000 ∷ []) 0 1 []
+        (record { are_falls = tt; settled = refl }) refl;
+    least = one_needed;
+  },
+  record {
+    enough = enough_by (first_evening edges) edge_orders (4 ∷ 0 ∷ 2000000000 ∷ []) 1 0
+        (record { school = 0; from = 4; to = 1; wishes = 0 ∷ [] } ∷ [])
+        (record { are_falls = (refl, refl, tt); settled = refl }) refl;
     least = λ k enough. omega arith;
   },
 )

@@ -12,10 +12,15 @@ use Rattle.admit_core.specs.Boarding.{boarding}
 use Rattle.admit_core.specs.Days.{IsPassEnd, changes, offered, closing, freed_after}
 use Rattle.admit_core.proofs.Rows.{passes_with}
 use Rattle.admit_core.specs.WorkedRows.{two_orders}
-use Rattle.admit_core.specs.WorkedDays.{VacantSeat, BedIsHeld, CeilingsChange, EdgesOfBars, FreedSeat, FreedBed, LimitUnderBar, AnswersFit, AcceptsOne, AcceptedStays, BetterOffer, LiveTwice, HoldersStandAside, Quits, Deadline, FirstDayExplained, SecondDayExplained, BarsExplained, two_candidates, edges, edge_orders, edge_marks, in_order, evening_one, quits}
+use Rattle.admit_core.specs.WorkedDays.{VacantSeat, BedIsHeld, CeilingsChange, EdgesOfBars, FreedSeat, FreedBed}
+use Rattle.admit_core.specs.WorkedDays.{LimitUnderBar, AnswersFit, AcceptsOne, AcceptedStays, BetterOffer, LiveTwice}
+use Rattle.admit_core.specs.WorkedDays.{HoldersStandAside, Quits, Deadline, FirstDayExplained, SecondDayExplained}
+use Rattle.admit_core.specs.WorkedDays.{BarsExplained, two_candidates, edges, edge_orders, edge_marks, in_order}
+use Rattle.admit_core.specs.WorkedDays.{evening_one, quits}
 
 -- a pass with its automatic answers, by its run of falls
-pass_end : (s : State) (orders : List CallOrder) (ceilings : List ℕ) (stamp : Stamp) (end : PassEnd) → IsRunOfFalls (boarding s orders ceilings) end.pass.falls
+pass_end : (s : State) (orders : List CallOrder) (ceilings : List ℕ) (stamp : Stamp) (end : PassEnd)
+    → IsRunOfFalls (boarding s orders ceilings) end.pass.falls
     → end.pass.bars ≡ bars_after ceilings end.pass.falls → end.pass.offers ≡ proposed s orders end.pass.bars
     → end.autos ≡ changes (offered s orders end.pass.bars stamp) (closing s orders end.pass.bars stamp)
     → end.freed ≡ freed_after s orders end.pass.bars stamp → IsPassEnd s orders ceilings stamp end
@@ -29,7 +34,18 @@ pub vacant_seat_holds : VacantSeat
 vacant_seat_holds = (
   _,
   refl,
-  record { lapsed = refl; fits = refl; passes = (pass_end _ two_candidates [] _ _ (record { are_falls = tt; settled = refl }) refl refl refl refl, refl, refl); left = refl; free = refl },
+  record {
+    lapsed = refl;
+    fits = refl;
+    passes = (
+      pass_end _ two_candidates [] _ _
+          (record { are_falls = tt; settled = refl }) refl refl refl refl,
+      refl,
+      refl,
+    );
+    left = refl;
+    free = refl;
+  },
   refl,
 )
 
@@ -37,7 +53,18 @@ pub bed_is_held_holds : BedIsHeld
 bed_is_held_holds = (
   _,
   refl,
-  record { lapsed = refl; fits = refl; passes = (pass_end _ two_candidates (9 ∷ []) _ _ (record { are_falls = (refl, refl, tt); settled = refl }) refl refl refl refl, refl, refl); left = refl; free = refl },
+  record {
+    lapsed = refl;
+    fits = refl;
+    passes = (
+      pass_end _ two_candidates (9 ∷ []) _ _
+          (record { are_falls = (refl, refl, tt); settled = refl }) refl refl refl refl,
+      refl,
+      refl,
+    );
+    left = refl;
+    free = refl;
+  },
   refl,
 )
 
@@ -52,11 +79,33 @@ edges_of_bars_hold = (
   (
     record { dossier = edges; marks = edge_marks },
     refl,
-    record { lapsed = refl; fits = refl; passes = (pass_end _ edge_orders (4 ∷ 0 ∷ 2000000000 ∷ []) _ _ (record { are_falls = (refl, refl, tt); settled = refl }) refl refl refl refl, refl, refl); left = refl; free = refl },
+    record {
+      lapsed = refl;
+      fits = refl;
+      passes = (
+        pass_end _ edge_orders (4 ∷ 0 ∷ 2000000000 ∷ []) _ _
+            (record { are_falls = (refl, refl, tt); settled = refl }) refl refl refl refl,
+        refl,
+        refl,
+      );
+      left = refl;
+      free = refl;
+    },
     (
       _,
       refl,
-      record { lapsed = refl; fits = refl; passes = (pass_end _ edge_orders (4 ∷ 1 ∷ 2000000000 ∷ []) _ _ (record { are_falls = (refl, refl, tt); settled = refl }) refl refl refl refl, refl, refl); left = refl; free = refl },
+      record {
+        lapsed = refl;
+        fits = refl;
+        passes = (
+          pass_end _ edge_orders (4 ∷ 1 ∷ 2000000000 ∷ []) _ _
+              (record { are_falls = (refl, refl, tt); settled = refl }) refl refl refl refl,
+          refl,
+          refl,
+        );
+        left = refl;
+        free = refl;
+      },
       refl,
     ),
   ),
@@ -103,7 +152,18 @@ pub limit_under_bar_holds : LimitUnderBar
 limit_under_bar_holds = (
   _,
   refl,
-  record { lapsed = refl; fits = refl; passes = (pass_end _ two_candidates (9 ∷ []) _ _ (record { are_falls = (refl, refl, tt); settled = refl }) refl refl refl refl, refl, refl); left = refl; free = refl },
+  record {
+    lapsed = refl;
+    fits = refl;
+    passes = (
+      pass_end _ two_candidates (9 ∷ []) _ _
+          (record { are_falls = (refl, refl, tt); settled = refl }) refl refl refl refl,
+      refl,
+      refl,
+    );
+    left = refl;
+    free = refl;
+  },
   refl,
 )
 
@@ -129,11 +189,33 @@ pub quits_hold : Quits
 quits_hold = (
   evening_one (quits 11 ∷ []),
   refl,
-  record { lapsed = refl; fits = refl; passes = (pass_end _ two_candidates [] _ _ (record { are_falls = tt; settled = refl }) refl refl refl refl, refl, refl); left = refl; free = refl },
+  record {
+    lapsed = refl;
+    fits = refl;
+    passes = (
+      pass_end _ two_candidates [] _ _
+          (record { are_falls = tt; settled = refl }) refl refl refl refl,
+      refl,
+      refl,
+    );
+    left = refl;
+    free = refl;
+  },
   (
     _,
     refl,
-    record { lapsed = refl; fits = refl; passes = (pass_end _ two_candidates [] _ _ (record { are_falls = tt; settled = refl }) refl refl refl refl, refl, refl); left = refl; free = refl },
+    record {
+      lapsed = refl;
+      fits = refl;
+      passes = (
+        pass_end _ two_candidates [] _ _
+            (record { are_falls = tt; settled = refl }) refl refl refl refl,
+        refl,
+        refl,
+      );
+      left = refl;
+      free = refl;
+    },
     refl,
   ),
 )
@@ -143,15 +225,48 @@ deadline_holds = (
   (
     evening_one [],
     refl,
-    record { lapsed = refl; fits = refl; passes = (pass_end _ two_candidates [] _ _ (record { are_falls = tt; settled = refl }) refl refl refl refl, refl, refl); left = refl; free = refl },
+    record {
+      lapsed = refl;
+      fits = refl;
+      passes = (
+        pass_end _ two_candidates [] _ _
+            (record { are_falls = tt; settled = refl }) refl refl refl refl,
+        refl,
+        refl,
+      );
+      left = refl;
+      free = refl;
+    },
     (
       evening_one [],
       refl,
-      record { lapsed = refl; fits = refl; passes = (pass_end _ two_candidates [] _ _ (record { are_falls = tt; settled = refl }) refl refl refl refl, refl, refl); left = refl; free = refl },
+      record {
+        lapsed = refl;
+        fits = refl;
+        passes = (
+          pass_end _ two_candidates [] _ _
+              (record { are_falls = tt; settled = refl }) refl refl refl refl,
+          refl,
+          refl,
+        );
+        left = refl;
+        free = refl;
+      },
       (
         _,
         refl,
-        record { lapsed = refl; fits = refl; passes = (pass_end _ two_candidates [] _ _ (record { are_falls = tt; settled = refl }) refl refl refl refl, refl, refl); left = refl; free = refl },
+        record {
+          lapsed = refl;
+          fits = refl;
+          passes = (
+            pass_end _ two_candidates [] _ _
+                (record { are_falls = tt; settled = refl }) refl refl refl refl,
+            refl,
+            refl,
+          );
+          left = refl;
+          free = refl;
+        },
         refl,
       ),
     ),

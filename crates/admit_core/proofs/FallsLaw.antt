@@ -1,9 +1,11 @@
 -- Every run of falls of a lawful system ends at its greatest bars.
-use Rattle.std.proofs.Common.{ℕ, zero-add, suc, ◌-◌, ◌≤◌, ◌<◌, ◌≡◌, ◌⊎◌, ap, true, not, List, [], ◌∷◌, length, take, inl, inr, refl, sym, subst, arith, nat_eq, nat_lt, get_or, set}
+use Rattle.std.proofs.Common.{ℕ, zero-add, suc, ◌-◌, ◌≤◌, ◌<◌, ◌≡◌, ◌⊎◌, ap, true, not, List, [], ◌∷◌, length, take}
+use Rattle.std.proofs.Common.{inl, inr, refl, sym, subst, arith, nat_eq, nat_lt, get_or, set}
 use Rattle.std.specs.Prelude.{slice_index}
 use Rattle.std.specs.List.{IsDistinct, range_with_len}
 use Rattle.std.specs.List.Sorted.{IsStrictlyIncreasing}
-use Rattle.std.proofs.lemmas.Bool.{and_cases, not-true, ltb-false, and_parts, cases_lt, cases_eq, ne_eqb, ltb-true, eqb-true, eq-eqb}
+use Rattle.std.proofs.lemmas.Bool.{and_cases, not-true, ltb-false, and_parts, cases_lt, cases_eq, ne_eqb, ltb-true}
+use Rattle.std.proofs.lemmas.Bool.{eqb-true, eq-eqb}
 use Rattle.std.proofs.lemmas.Cmp.{nat_eq_equiv}
 use Rattle.std.proofs.lemmas.List.{length-take-le, get_or-take, get_or_default, get_or-set_other, length-set}
 use Rattle.std.proofs.lemmas.List.FromFn.{length-range_with_len, get_or-range_with_len}
@@ -16,7 +18,8 @@ use Rattle.std.proofs.lemmas.Map.Made.{length-le_from_is_member}
 use Rattle.std.proofs.lemmas.Map.Keys.{IsDistinct-from_apart, below_from_sorted, sorted_from_strictly_increasing}
 use Rattle.admit_core.specs.declared.records.Fall.{Fall}
 use Rattle.admit_core.specs.Lists.{is_among}
-use Rattle.admit_core.specs.Falls.{FallingSystem, IsAtMost, IsLawful, Fits, IsGreatest, is_overfilled, is_settled, fall_of, fallen, bars_after, AreFalls, IsRunOfFalls}
+use Rattle.admit_core.specs.Falls.{FallingSystem, IsAtMost, IsLawful, Fits, IsGreatest, is_overfilled, is_settled}
+use Rattle.admit_core.specs.Falls.{fall_of, fallen, bars_after, AreFalls, IsRunOfFalls}
 
 -- the ranks up to place n are at most the one there, and are among all
 among_front : (xs : List ℕ) → IsStrictlyIncreasing xs → (n q : ℕ) → n < length xs → is_among q (take (suc n) xs) ≡ true
@@ -48,7 +51,8 @@ front_distinct xs rising n lt =
     let i_in : i < suc n = omega arith in
     rw (get_or-take (suc n) xs i d i_in, get_or-take (suc n) xs j d j_in)
     (ne_eqb (get_or xs i d) (get_or xs j d)
-    (λ e. let below = below_from_sorted xs i j d (sorted_from_strictly_increasing xs rising) i_lt (omega (arith, whole)) in omega (arith, below, e))))
+    (λ e. let below = below_from_sorted xs i j d (sorted_from_strictly_increasing xs rising) i_lt
+    (omega (arith, whole)) in omega (arith, below, e))))
 
 -- a list with each of the first n + 1 rising numbers has more than n
 more_than : (xs ys : List ℕ) → IsStrictlyIncreasing xs → (n : ℕ) → n < length xs
@@ -59,7 +63,8 @@ more_than xs ys rising n lt f =
     omega (arith, fewer, length-take-le (suc n) xs lt)
 
 -- a write reaches its place alone
-pub at_set : (xs : List ℕ) (i v j : ℕ) → i < length xs → ((j ≡ i) × (slice_index (set xs i v) j ≡ v)) ⊎ (slice_index (set xs i v) j ≡ slice_index xs j)
+pub at_set : (xs : List ℕ) (i v j : ℕ) → i < length xs
+    → ((j ≡ i) × (slice_index (set xs i v) j ≡ v)) ⊎ (slice_index (set xs i v) j ≡ slice_index xs j)
 at_set xs i v j lt =
     elim (cases_eq j i) [
       | inl same ↦ inl (same, get_or-set_at xs i j v 0 same lt)
@@ -68,14 +73,17 @@ at_set xs i v j lt =
 
 module _ (sys : FallingSystem) (lawful : IsLawful sys) where
   -- an overfilled place, and its first rank that has no bed
-  pub over_in : (bars : List ℕ) (i : ℕ) → is_overfilled sys bars i ≡ true → (i < length sys.ceilings) × (slice_index sys.free i < length (sys.ranks bars i))
+  pub over_in : (bars : List ℕ) (i : ℕ) → is_overfilled sys bars i ≡ true
+      → (i < length sys.ceilings) × (slice_index sys.free i < length (sys.ranks bars i))
   over_in bars i over =
-      let tests = and_parts (nat_lt i (length sys.ceilings)) (nat_lt (slice_index sys.free i) (length (sys.ranks bars i))) over in
+      let tests = and_parts (nat_lt i (length sys.ceilings))
+      (nat_lt (slice_index sys.free i) (length (sys.ranks bars i))) over in
       (ltb-true i (length sys.ceilings) tests.0, ltb-true (slice_index sys.free i) (length (sys.ranks bars i)) tests.1)
 
   -- the first rank that has no bed is from 1 to the bar
   pub over_rank : (bars : List ℕ) (i : ℕ) → IsAtMost bars sys.ceilings → is_overfilled sys bars i ≡ true
-      → (1 ≤ slice_index (sys.ranks bars i) (slice_index sys.free i)) × (slice_index (sys.ranks bars i) (slice_index sys.free i) ≤ slice_index bars i)
+      → (1 ≤ slice_index (sys.ranks bars i) (slice_index sys.free i))
+      × (slice_index (sys.ranks bars i) (slice_index sys.free i) ≤ slice_index bars i)
   over_rank bars i under over =
       let ranks = sys.ranks bars i in
       let free = slice_index sys.free i in
@@ -105,7 +113,8 @@ module _ (sys : FallingSystem) (lawful : IsLawful sys) where
       }
 
   -- bars that fit stay at most the bars after a fall
-  pub stays_under : (others : List ℕ) → Fits sys others → (bars : List ℕ) (i : ℕ) → IsAtMost bars sys.ceilings → IsAtMost others bars
+  pub stays_under : (others : List ℕ) → Fits sys others → (bars : List ℕ) (i : ℕ) → IsAtMost bars sys.ceilings
+      → IsAtMost others bars
       → is_overfilled sys bars i ≡ true → IsAtMost others (fallen bars (fall_of sys bars i))
   stays_under others fits bars i under at_most over =
       let free = slice_index sys.free i in
@@ -120,7 +129,8 @@ module _ (sys : FallingSystem) (lawful : IsLawful sys) where
         | inr le ↦
             let too_many = more_than ranks (sys.ranks others i) (lawful.ascending bars i under i_bar) free in_range.1
             (λ q q_le among. list_any-from_Contains nat_eq_equiv q (sys.ranks others i)
-            (lawful.stay_demanded others bars i q at_most under i_other (Contains-from_any eqb-true q ranks among) (omega arith))) in
+            (lawful.stay_demanded others bars i q at_most under i_other (Contains-from_any eqb-true q ranks among)
+            (omega arith))) in
             absurd (omega (arith, too_many, fits.room i in_range.0))
       ] in
       record {
@@ -132,13 +142,15 @@ module _ (sys : FallingSystem) (lawful : IsLawful sys) where
             ];
       }
 
-  pub all_under : (bars : List ℕ) (falls : List Fall) → IsAtMost bars sys.ceilings → AreFalls sys bars falls → IsAtMost (bars_after bars falls) sys.ceilings
+  pub all_under : (bars : List ℕ) (falls : List Fall) → IsAtMost bars sys.ceilings → AreFalls sys bars falls
+      → IsAtMost (bars_after bars falls) sys.ceilings
   all_under bars [] under are = under
   all_under bars (f ∷ fs) under are =
       let step = falls_under bars f.school under are.0 in
       all_under (fallen bars f) fs (subst (λ (g : Fall). IsAtMost (fallen bars g) sys.ceilings) (sym are.1) step) are.2
 
-  pub all_above : (others : List ℕ) → Fits sys others → (bars : List ℕ) (falls : List Fall) → IsAtMost bars sys.ceilings → IsAtMost others bars
+  pub all_above : (others : List ℕ) → Fits sys others → (bars : List ℕ) (falls : List Fall) → IsAtMost bars sys.ceilings
+      → IsAtMost others bars
       → AreFalls sys bars falls → IsAtMost others (bars_after bars falls)
   all_above others fits bars [] under at_most are = at_most
   all_above others fits bars (f ∷ fs) under at_most are =
@@ -150,12 +162,16 @@ module _ (sys : FallingSystem) (lawful : IsLawful sys) where
       are.2
 
   -- where no place is overfilled there is room
-  pub room_from : (bars : List ℕ) → is_settled sys bars ≡ true → (i : ℕ) → i < length sys.ceilings → length (sys.ranks bars i) ≤ slice_index sys.free i
+  pub room_from : (bars : List ℕ) → is_settled sys bars ≡ true → (i : ℕ) → i < length sys.ceilings
+      → length (sys.ranks bars i) ≤ slice_index sys.free i
   room_from bars settled i lt =
       let n = length sys.ceilings in
-      let passes = AllPass-from_list_all (λ k. not (is_overfilled sys bars k)) (range_with_len 0 n) settled i 0 (rw length-range_with_len lt) in
-      let not_over : not (is_overfilled sys bars i) ≡ true = rw (get_or-range_with_len 0 n i 0 lt, zero-add i) at passes in
-      elim (and_cases (nat_lt i n) (nat_lt (slice_index sys.free i) (length (sys.ranks bars i))) (not-true (is_overfilled sys bars i) not_over)) [
+      let passes = AllPass-from_list_all (λ k. not (is_overfilled sys bars k)) (range_with_len 0 n) settled i 0
+      (rw length-range_with_len lt) in
+      let not_over : not (is_overfilled sys bars i) ≡ true =
+      rw (get_or-range_with_len 0 n i 0 lt, zero-add i) at passes in
+      elim (and_cases (nat_lt i n) (nat_lt (slice_index sys.free i) (length (sys.ranks bars i)))
+      (not-true (is_overfilled sys bars i) not_over)) [
         | inl outside ↦ absurd (omega (arith, ltb-false i n outside))
         | inr within ↦ ltb-false (slice_index sys.free i) (length (sys.ranks bars i)) within
       ]
@@ -164,6 +180,9 @@ module _ (sys : FallingSystem) (lawful : IsLawful sys) where
   run_is_greatest falls run =
       let start : IsAtMost sys.ceilings sys.ceilings = record { as_many = refl; each = λ i. omega arith } in
       record {
-        fits = record { under_ceilings = all_under sys.ceilings falls start run.are_falls; room = room_from (bars_after sys.ceilings falls) run.settled };
+        fits = record {
+          under_ceilings = all_under sys.ceilings falls start run.are_falls;
+          room = room_from (bars_after sys.ceilings falls) run.settled;
+        };
         greatest = λ others fits. all_above others fits sys.ceilings falls start fits.under_ceilings run.are_falls;
       }

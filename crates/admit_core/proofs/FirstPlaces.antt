@@ -1,5 +1,6 @@
 -- Where a number stands first in a list, and which stands last.
-use Rattle.std.proofs.Common.{◌≡◌, ℕ, ◌<◌, suc, true, false, List, [], ◌∷◌, Some, length, get_or, position, refl, arith, nat_eq}
+use Rattle.std.proofs.Common.{◌≡◌, ℕ, ◌<◌, suc, true, false, List, [], ◌∷◌, Some, length, get_or, position, refl, arith}
+use Rattle.std.proofs.Common.{nat_eq}
 use Prim.Native.Nat.{zero}
 use Rattle.std.specs.List.{AllByRecursion, list_any}
 use Rattle.std.proofs.lemmas.Bool.Decides.{nat_tests}
@@ -22,7 +23,8 @@ at_from g (k ∷ ks) (suc i) lt at before =
 pub is_at : (g : ℕ) (ks : List ℕ) (i : ℕ) → position (nat_eq g) ks ≡ Some i → IsAt g ks i
 is_at g ks i e = let p = position-Some (nat_eq g) ks i 0 e in at_from g ks i p.0 p.1 p.2
 
-pub none_after : (g k : ℕ) (ks : List ℕ) → nat_eq g k ≡ true → AllByRecursion (λ y. nat_eq k y ≡ false) ks → list_any (nat_eq g) ks ≡ false
+pub none_after : (g k : ℕ) (ks : List ℕ) → nat_eq g k ≡ true → AllByRecursion (λ y. nat_eq k y ≡ false) ks
+    → list_any (nat_eq g) ks ≡ false
 none_after g k [] e h = refl
 none_after g k (y ∷ ys) e (here, rest) =
     let f : nat_eq g y ≡ false = grind (arith, nat_tests) in rw f (none_after g k ys e rest)

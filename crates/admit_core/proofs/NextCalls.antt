@@ -1,5 +1,6 @@
 -- The next call of a ranking: who it is, and who remains after it.
-use Rattle.std.proofs.Common.{ℕ, ◌≡◌, Bool, true, false, not, ◌&&◌, ◌||◌, List, [], ◌∷◌, ◌++◌, map, inl, inr, refl, sym, ◌∙◌, ap, filter, Option, Some, None, nat_eq}
+use Rattle.std.proofs.Common.{ℕ, ◌≡◌, Bool, true, false, not, ◌&&◌, ◌||◌, List, [], ◌∷◌, ◌++◌, map, inl, inr, refl, sym}
+use Rattle.std.proofs.Common.{◌∙◌, ap, filter, Option, Some, None, nat_eq}
 use Rattle.std.specs.Prelude.{option_map}
 use Rattle.std.specs.List.{find, list_any}
 use Rattle.std.specs.List.Sorted.{IsStrictlyIncreasing}
@@ -8,7 +9,8 @@ use Rattle.admit_core.specs.declared.ranking.Ranked.{Ranked}
 use Rattle.admit_core.specs.declared.ranking.RankGroup.{RankGroup}
 use Rattle.admit_core.specs.declared.ranking.Bound.{Bound}
 use Rattle.admit_core.specs.Lists.{is_among}
-use Rattle.admit_core.specs.CallOrder.{remaining, scholar_rate_binds, resident_rate_binds, bound_of, bound_after, may_be_called, next_after}
+use Rattle.admit_core.specs.CallOrder.{remaining, scholar_rate_binds, resident_rate_binds, bound_of, bound_after}
+use Rattle.admit_core.specs.CallOrder.{may_be_called, next_after}
 use Rattle.admit_core.proofs.LeastFirst.{next_is_first}
 use Rattle.admit_core.proofs.Remaining.{among_push}
 use Rattle.admit_core.proofs.Plain.{mapped_none}
@@ -32,7 +34,8 @@ find_passes test (x ∷ xs) y e =
     ]
 
 -- what is found is one of the list
-pub find_any : {X : Type 0} (test q : X → Bool) (xs : List X) (y : X) → find test xs ≡ Some y → q y ≡ true → list_any q xs ≡ true
+pub find_any : {X : Type 0} (test q : X → Bool) (xs : List X) (y : X) → find test xs ≡ Some y → q y ≡ true
+    → list_any q xs ≡ true
 find_any test q [] y e t = absurd (cc)
 find_any test q (x ∷ xs) y e t =
     elim (cases_Bool (test x)) [
@@ -45,21 +48,29 @@ find_all [] e = refl
 find_all (x ∷ xs) e = absurd (cc)
 
 -- under each bound someone may be called while anyone remains
-nobody : (rs : List Ranked) (s t both : Bool) → (s ≡ true → list_any (λ r. r.scholar) rs ≡ true) → (t ≡ true → list_any (λ r. r.resident) rs ≡ true)
+nobody : (rs : List Ranked) (s t both : Bool) → (s ≡ true → list_any (λ r. r.scholar) rs ≡ true)
+    → (t ≡ true → list_any (λ r. r.resident) rs ≡ true)
     → list_any (λ r. r.scholar && r.resident) rs ≡ both → find (may_be_called (bound_of s t both)) rs ≡ None → rs ≡ []
 nobody rs false false both scholars residents is e = find_all rs e
-nobody rs true false both scholars residents is e = absurd (false≢true (sym (find_none (λ r. r.scholar) rs e) ∙ scholars refl))
-nobody rs false true both scholars residents is e = absurd (false≢true (sym (find_none (λ r. r.resident) rs e) ∙ residents refl))
-nobody rs true true true scholars residents is e = absurd (false≢true (sym (find_none (λ r. r.scholar && r.resident) rs e) ∙ is))
-nobody rs true true false scholars residents is e = absurd (false≢true (sym (find_none (λ r. r.scholar) rs e) ∙ scholars refl))
+nobody rs true false both scholars residents is e =
+    absurd (false≢true (sym (find_none (λ r. r.scholar) rs e) ∙ scholars refl))
+nobody rs false true both scholars residents is e =
+    absurd (false≢true (sym (find_none (λ r. r.resident) rs e) ∙ residents refl))
+nobody rs true true true scholars residents is e =
+    absurd (false≢true (sym (find_none (λ r. r.scholar && r.resident) rs e) ∙ is))
+nobody rs true true false scholars residents is e =
+    absurd (false≢true (sym (find_none (λ r. r.scholar) rs e) ∙ scholars refl))
 
 -- where there is no next one, nobody remains
-pub next_none : (g : RankGroup) (before : List ℕ) → IsStrictlyIncreasing (map (λ (r : Ranked). r.rank) g.list) → next_after g before ≡ None → remaining g before ≡ []
+pub next_none : (g : RankGroup) (before : List ℕ) → IsStrictlyIncreasing (map (λ (r : Ranked). r.rank) g.list)
+    → next_after g before ≡ None → remaining g before ≡ []
 next_none g before rising e =
     let rs = remaining g before in
     let found = find (may_be_called (bound_after g before)) rs in
-    let none = mapped_none (λ (r : Ranked). (r.candidate, bound_after g before)) found (sym (next_is_first g before rising) ∙ e) in
-    nobody rs (scholar_rate_binds g before) (resident_rate_binds g before) (list_any (λ (r : Ranked). r.scholar && r.resident) rs)
+    let none = mapped_none (λ (r : Ranked). (r.candidate, bound_after g before)) found
+    (sym (next_is_first g before rising) ∙ e) in
+    nobody rs (scholar_rate_binds g before) (resident_rate_binds g before)
+    (list_any (λ (r : Ranked). r.scholar && r.resident) rs)
     (λ binds. (and_parts _ _ binds).0) (λ binds. (and_parts _ _ binds).0) refl none
 
 -- the next one, by the ranking's row
@@ -72,15 +83,18 @@ abbrev call_of : Bound → Ranked → ℕ × Bound
 call_of bound r = (r.candidate, bound)
 
 -- what a mapped option holds comes of what the option holds
-pub mapped_some : {X Y : Type 0} (f : X → Y) (o : Option X) (y : Y) → option_map f o ≡ Some y → (x : X) × (o ≡ Some x) × (f x ≡ y)
+pub mapped_some : {X Y : Type 0} (f : X → Y) (o : Option X) (y : Y) → option_map f o ≡ Some y
+    → (x : X) × (o ≡ Some x) × (f x ≡ y)
 mapped_some f None y e = absurd (cc)
 mapped_some f (Some x) y e = (x, refl, (cc))
 
-pub next_some : (g : RankGroup) (before : List ℕ) (c : ℕ) (b : Bound) → IsStrictlyIncreasing (map (λ (r : Ranked). r.rank) g.list) → next_after g before ≡ Some (c, b)
+pub next_some : (g : RankGroup) (before : List ℕ) (c : ℕ) (b : Bound)
+    → IsStrictlyIncreasing (map (λ (r : Ranked). r.rank) g.list) → next_after g before ≡ Some (c, b)
     → (r : Ranked) × IsCalled g before c b r
 next_some g before c b rising e =
     let bound = bound_after g before in
-    let (r, found, is) = mapped_some (call_of bound) (find (may_be_called bound) (remaining g before)) (c, b) (sym (next_is_first g before rising) ∙ e) in
+    let (r, found, is) = mapped_some (call_of bound) (find (may_be_called bound) (remaining g before)) (c, b)
+    (sym (next_is_first g before rising) ∙ e) in
     let under = ap (λ (x : ℕ × Bound). x.1) is in (
       r,
       record {
@@ -90,7 +104,8 @@ next_some g before c b rising e =
       },
     )
 
-filter_twice : {X : Type 0} (p q both : X → Bool) → ((x : X) → both x ≡ (p x && q x)) → (xs : List X) → filter both xs ≡ filter q (filter p xs)
+filter_twice : {X : Type 0} (p q both : X → Bool) → ((x : X) → both x ≡ (p x && q x)) → (xs : List X)
+    → filter both xs ≡ filter q (filter p xs)
 filter_twice p q both h [] = refl
 filter_twice p q both h (x ∷ xs) =
     let later = filter_twice p q both h xs in
@@ -108,9 +123,11 @@ not_either true b = refl
 not_either false b = refl
 
 -- each call takes those with its id from those who remain
-pub remaining_push : (g : RankGroup) (before : List ℕ) (c : ℕ) → remaining g (before ++ c ∷ []) ≡ filter (λ r. not (nat_eq r.candidate c)) (remaining g before)
+pub remaining_push : (g : RankGroup) (before : List ℕ) (c : ℕ)
+    → remaining g (before ++ c ∷ []) ≡ filter (λ r. not (nat_eq r.candidate c)) (remaining g before)
 remaining_push g before c =
-    filter_twice (λ r. not (is_among r.candidate before)) (λ r. not (nat_eq r.candidate c)) (λ r. not (is_among r.candidate (before ++ c ∷ [])))
+    filter_twice (λ r. not (is_among r.candidate before)) (λ r. not (nat_eq r.candidate c))
+    (λ r. not (is_among r.candidate (before ++ c ∷ [])))
     (λ r. rw among_push (not_either (is_among r.candidate before) (nat_eq r.candidate c)))
     g.list
 

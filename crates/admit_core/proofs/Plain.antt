@@ -1,5 +1,7 @@
 -- Plain facts of truth values, options and lists, which the proofs of several crates cite.
-use Rattle.std.proofs.Common.{ℕ, zero, suc, ◌≡◌, ◌≢◌, ◌+◌, Bool, true, false, cond, ◌&&◌, ◌||◌, ◌⊎◌, not, List, [], ◌∷◌, ◌++◌, All, Option, None, Some, Result, Ok, Err, count_by, filter, length, map, option_map, unwrap_or, inl, inr, refl, sym, ◌∙◌, ap, arith, nat_eq}
+use Rattle.std.proofs.Common.{ℕ, zero, suc, ◌≡◌, ◌≢◌, ◌+◌, Bool, true, false, cond, ◌&&◌, ◌||◌, ◌⊎◌, not, List, [], ◌∷◌}
+use Rattle.std.proofs.Common.{◌++◌, All, Option, None, Some, Result, Ok, Err, count_by, filter, length, map, option_map}
+use Rattle.std.proofs.Common.{unwrap_or, inl, inr, refl, sym, ◌∙◌, ap, arith, nat_eq}
 use Rattle.std.specs.Prelude.{OnErr, slice_get}
 use Rattle.std.specs.List.{AllByRecursion, find, list_any}
 use Rattle.std.specs.Option.{option_or}
@@ -98,7 +100,8 @@ pub on_err : {T E P : Type 0} (r : Result T E) → P → OnErr r P
 on_err (Ok x) p = tt
 on_err (Err e) p = p
 
-pub any-map : {X Y : Type 0} (p : Y → Bool) (f : X → Y) (xs : List X) → list_any p (map f xs) ≡ list_any (λ x. p (f x)) xs
+pub any-map : {X Y : Type 0} (p : Y → Bool) (f : X → Y) (xs : List X)
+    → list_any p (map f xs) ≡ list_any (λ x. p (f x)) xs
 any-map p f [] = refl
 any-map p f (x ∷ xs) = ap (λ b. p (f x) || b) (any-map p f xs)
 
@@ -141,7 +144,12 @@ find_same p q same [] = refl
 find_same p q same (x ∷ xs) = rw (same x, find_same p q same xs) refl
 
 pub count_same : {X : Type 0} (p q : X → Bool) → ((x : X) → p x ≡ q x) → (xs : List X) → count_by p xs ≡ count_by q xs
-count_same p q same xs = omega (arith, count_implied p q (λ x t. sym (same x) ∙ t) xs, count_implied q p (λ x t. same x ∙ t) xs)
+count_same p q same xs = omega (
+  arith,
+  count_implied p q (λ x t. sym (same x) ∙ t) xs,
+  count_implied q p
+      (λ x t. same x ∙ t) xs,
+)
 
 pub map_same : {X Y : Type 0} (f g : X → Y) → ((x : X) → f x ≡ g x) → (xs : List X) → map f xs ≡ map g xs
 map_same f g same [] = refl
@@ -153,14 +161,16 @@ get_set_here [] i x y at = absurd (omega (arith, slice_get_within {A = _} [] i y
 get_set_here (z ∷ xs) zero x y at = ap (λ o. unwrap_or o x) at
 get_set_here (z ∷ xs) (suc i) x y at = get_set_here xs i x y at
 
-pub get_set_other : {X : Type 0} (xs : List X) (i j : ℕ) (x y : X) → j ≢ i → slice_get (set xs i x) j ≡ Some y → slice_get xs j ≡ Some y
+pub get_set_other : {X : Type 0} (xs : List X) (i j : ℕ) (x y : X) → j ≢ i → slice_get (set xs i x) j ≡ Some y
+    → slice_get xs j ≡ Some y
 get_set_other [] i j x y ne at = at
 get_set_other (z ∷ xs) zero zero x y ne at = absurd (ne refl)
 get_set_other (z ∷ xs) zero (suc j) x y ne at = at
 get_set_other (z ∷ xs) (suc i) zero x y ne at = at
 get_set_other (z ∷ xs) (suc i) (suc j) x y ne at = get_set_other xs i j x y (λ e. ne (ap suc e)) at
 
-pub get_push : {X : Type 0} (xs : List X) (x y : X) (h : ℕ) → slice_get (xs ++ x ∷ []) h ≡ Some y → (slice_get xs h ≡ Some y) ⊎ (x ≡ y)
+pub get_push : {X : Type 0} (xs : List X) (x y : X) (h : ℕ) → slice_get (xs ++ x ∷ []) h ≡ Some y
+    → (slice_get xs h ≡ Some y) ⊎ (x ≡ y)
 get_push [] x y zero at = inr (ap (λ o. unwrap_or o x) at)
 get_push [] x y (suc h) at = absurd (omega (arith, slice_get_within (x ∷ []) (suc h) y at))
 get_push (z ∷ xs) x y zero at = inl at

@@ -1,5 +1,6 @@
 -- A dossier in which one school has another number of beds is valid as well.
-use Rattle.std.proofs.Common.{ℕ, ◌+◌, ◌≤◌, ◌<◌, ◌≡◌, ◌==◌, Bool, true, false, List, ◌∷◌, [], map, length, get_or, set, Option, ap, refl, suc, sym, zero, ◌∙◌, subst, arith, if◌then◌else◌}
+use Rattle.std.proofs.Common.{ℕ, ◌+◌, ◌≤◌, ◌<◌, ◌≡◌, ◌==◌, Bool, true, false, List, ◌∷◌, [], map, length, get_or, set}
+use Rattle.std.proofs.Common.{Option, ap, refl, suc, sym, zero, ◌∙◌, subst, arith, if◌then◌else◌}
 use Rattle.std.specs.Prelude.{nat_eq}
 use Rattle.std.specs.List.{All, IsDistinct, enumerate_from}
 use Rattle.std.specs.Option.{ForSome}
@@ -35,7 +36,8 @@ put_from h k zero n (s ∷ schools) d at lt =
     rw (here, past h (k + 1) n schools (omega (arith, at))) refl
 put_from h k (suc i) n (s ∷ schools) d at lt =
     let other : (k == h) ≡ false = ne_eqb k h (λ same. omega (arith, same, at)) in
-    rw other (ap (λ (l : List School). s ∷ l) (put_from h (k + 1) i n schools d (omega (arith, at)) (omega (arith, lt))))
+    rw other (ap (λ (l : List School). s ∷ l)
+    (put_from h (k + 1) i n schools d (omega (arith, at)) (omega (arith, lt))))
 
 -- the one school is put
 pub put_beds : (schools : List School) (h n : ℕ) (d : School) → h < length schools
@@ -52,12 +54,14 @@ ids_from : (k : ℕ) (schools : List School) (h n : ℕ)
 ids_from k [] h n = refl
 ids_from k (s ∷ schools) h n = rw (id_stays (k == h) n s, ids_from (k + 1) schools h n) refl
 
-valid_with : (is : Bool) (n : ℕ) (s : School) → n ≤ 2000000000 → IsValidSchool s → IsValidSchool (if is then record s { beds = n } else s)
+valid_with : (is : Bool) (n : ℕ) (s : School) → n ≤ 2000000000 → IsValidSchool s
+    → IsValidSchool (if is then record s { beds = n } else s)
 valid_with true n s small valid = record { id = valid.id; beds = small; ceiling = valid.ceiling }
 valid_with false n s small valid = valid
 
 -- where the bound on the schools is the same, what names a school still does
-school_there : (school : Option ℕ) (old new : ℕ) → new ≡ old → ForSome school (λ h. h < old) → ForSome school (λ h. h < new)
+school_there : (school : Option ℕ) (old new : ℕ) → new ≡ old → ForSome school (λ h. h < old)
+    → ForSome school (λ h. h < new)
 school_there school old new e there = λ x is. subst (λ n. x < n) (sym e) (there x is)
 
 all_valid : (k : ℕ) (schools : List School) (h n : ℕ) → n ≤ 2000000000 → All IsValidSchool schools
@@ -91,12 +95,14 @@ rebuilt_is_valid d h n small valid =
         wishes = ids.wishes;
       };
       groups = valid.groups;
-      programmes = λ k p lt. let v = valid.programmes k p lt in record { id = v.id; group = v.group; seats = v.seats; limit = v.limit };
+      programmes = λ k p lt. let v = valid.programmes k p lt in
+          record { id = v.id; group = v.group; seats = v.seats; limit = v.limit };
       schools = all_valid 0 d.schools h n small valid.schools;
       wishes = λ k w lt. let v = valid.wishes k w lt in record {
         id = v.id;
         programme = v.programme;
-        school = school_there (get_or d.wishes k w).school (length d.schools) (length (schools_with d.schools h n)) many v.school;
+        school = school_there (get_or d.wishes k w).school (length d.schools)
+            (length (schools_with d.schools h n)) many v.school;
         ranked = v.ranked;
         board_rank = v.board_rank;
         preference = v.preference;
@@ -104,7 +110,8 @@ rebuilt_is_valid d h n small valid =
       wishes_apart = valid.wishes_apart;
       one_status_each = valid.one_status_each;
       one_accepted = valid.one_accepted;
-      ceilings = λ k c lt. let v = valid.ceilings k c lt in record { day = v.day; school = rw many v.school; ceiling = v.ceiling };
+      ceilings = λ k c lt. let v = valid.ceilings k c lt in
+          record { day = v.day; school = rw many v.school; ceiling = v.ceiling };
       ceilings_by_day = valid.ceilings_by_day;
       ceilings_apart = valid.ceilings_apart;
       answers = λ k a lt. let v = valid.answers k a lt in record { day = v.day; target = v.target };

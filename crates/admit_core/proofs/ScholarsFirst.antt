@@ -14,7 +14,8 @@ use Rattle.admit_core.specs.CallOrderLaws.{OfCallOrders, CallsResidentScholarsFi
 use Rattle.admit_core.specs.Validity.{IsRanking}
 use Rattle.admit_core.proofs.LeastFirst.{rises_by_key, rises_filter}
 use Rattle.admit_core.proofs.OrderPermutes.{distinct-order}
-use Rattle.admit_core.proofs.CallRows.{IsIn, in_list, same_row, least_found, not_among_front, among_front, in_remaining, IsCallAt, call_row}
+use Rattle.admit_core.proofs.CallRows.{IsIn, in_list, same_row, least_found, not_among_front, among_front, in_remaining}
+use Rattle.admit_core.proofs.CallRows.{IsCallAt, call_row}
 
 -- a resident scholar may be called under each bound
 may_always : (b : Bound) (s : Ranked) → (s.scholar && s.resident) ≡ true → may_be_called b s ≡ true
@@ -25,7 +26,8 @@ may_always Both s e = e
 may_always Alone s e = (and_parts s.scholar s.resident e).0
 
 -- who is called has the least rank of those who remain and may be called
-pub called_is_least : (g : RankGroup) (order : CallOrder) (k : ℕ) (r s : Ranked) (b : Bound) → IsRanking g → IsCallAt g order k r b
+pub called_is_least : (g : RankGroup) (order : CallOrder) (k : ℕ) (r s : Ranked) (b : Bound) → IsRanking g
+    → IsCallAt g order k r b
     → IsIn s (remaining g (take k order.list)) → may_be_called b s ≡ true → r.candidate ≢ s.candidate → r.rank < s.rank
 called_is_least g order k r s b ranking call has may differ =
     let rank = λ (x : Ranked). x.rank in
@@ -46,6 +48,7 @@ scholars_come_first g order ranking calls r s i j has_r has_s at_i at_j lt both 
     let same : q ≡ r = same_row key q r g.list ranking.candidates call.ranked (in_list r g.list has_r) same_id in
     let remains = in_remaining g order.list i j s apart row at_j (omega arith) in
     let differ : q.candidate ≢ s.candidate = λ e.
-    both_ways (is_among s.candidate (take (suc i) order.list)) (not_among_front order.list (suc i) j s.candidate apart at_j (omega arith))
+    both_ways (is_among s.candidate (take (suc i) order.list))
+    (not_among_front order.list (suc i) j s.candidate apart at_j (omega arith))
     (among_front order.list i s.candidate (call.who ∙ ap Some e)) in
     rw (← same) (called_is_least g order i q s b ranking call remains (may_always b s both) differ)

@@ -5,7 +5,8 @@ use Rattle.std.specs.List.Sorted.{IsNonDecreasing, IsStrictlyIncreasing}
 use Rattle.std.proofs.lemmas.List.Elements.{All-cons, All-nil}
 use Rattle.std.proofs.lemmas.Map.Keys.{IsDistinct-from_apart}
 use Rattle.admit_core.specs.Ranges.{IsNumber}
-use Rattle.admit_core.specs.Validity.{IsValidRanked, IsValidGroup, IsValidProgramme, IsValidSchool, IsValidWish, IsApart, NotBothAccepted, IsValidCeiling, NotSameDay, IsValidAnswer}
+use Rattle.admit_core.specs.Validity.{IsValidRanked, IsValidGroup, IsValidProgramme, IsValidSchool, IsValidWish}
+use Rattle.admit_core.specs.Validity.{IsApart, NotBothAccepted, IsValidCeiling, NotSameDay, IsValidAnswer}
 use Rattle.admit_core.specs.WorkedRows.{SmallDossier, small_dossier, programme, school, boarder}
 
 one : {X : Type 0} (P : X → Type 0) (x : X) → P x → All P (x ∷ [])
@@ -30,16 +31,37 @@ pub small_dossier_holds : SmallDossier
 small_dossier_holds =
     let d = small_dossier in
     record {
-      size = record { groups = lit≤ tt; ranked = lit≤ tt; programmes = lit≤ tt; schools = lit≤ tt; wishes = lit≤ tt; ceilings = lit≤ tt; answers = lit≤ tt };
-      ids = record { groups = one_distinct 1; programmes = one_distinct 10; schools = one_distinct 5; wishes = one_distinct 1 };
+      size = record {
+        groups = lit≤ tt;
+        ranked = lit≤ tt;
+        programmes = lit≤ tt;
+        schools = lit≤ tt;
+        wishes = lit≤ tt;
+        ceilings = lit≤ tt;
+        answers = lit≤ tt;
+      };
+      ids = record {
+        groups = one_distinct 1;
+        programmes = one_distinct 10;
+        schools = one_distinct 5;
+        wishes = one_distinct 1;
+      };
       groups = one IsValidGroup _ (record {
         id = number 1 (lit≤ tt) (lit≤ tt);
-        ranking = record { scholar_pct = lit≤ tt; resident_pct = lit≤ tt; ranks = one_rising 1; candidates = one_distinct 11 };
+        ranking = record {
+          scholar_pct = lit≤ tt;
+          resident_pct = lit≤ tt;
+          ranks = one_rising 1;
+          candidates = one_distinct 11;
+        };
         size = lit≤ tt;
-        list = one IsValidRanked _ (record { candidate = number 11 (lit≤ tt) (lit≤ tt); rank = number 1 (lit≤ tt) (lit≤ tt) });
+        list = one IsValidRanked _
+            (record { candidate = number 11 (lit≤ tt) (lit≤ tt); rank = number 1 (lit≤ tt) (lit≤ tt) });
       });
-      programmes = one (IsValidProgramme d) (programme 10 0 1) (record { id = number 10 (lit≤ tt) (lit≤ tt); group = lit< tt; seats = lit≤ tt; limit = lit≤ tt });
-      schools = one IsValidSchool (school 5 1 9) (record { id = number 5 (lit≤ tt) (lit≤ tt); beds = lit≤ tt; ceiling = lit≤ tt });
+      programmes = one (IsValidProgramme d) (programme 10 0 1)
+          (record { id = number 10 (lit≤ tt) (lit≤ tt); group = lit< tt; seats = lit≤ tt; limit = lit≤ tt });
+      schools = one IsValidSchool (school 5 1 9)
+          (record { id = number 5 (lit≤ tt) (lit≤ tt); beds = lit≤ tt; ceiling = lit≤ tt });
       wishes = one (IsValidWish d) (boarder 1 11 0 0 1 0) (record {
         id = number 1 (lit≤ tt) (lit≤ tt);
         programme = lit< tt;
@@ -51,9 +73,11 @@ small_dossier_holds =
       wishes_apart = no_pairs IsApart _;
       one_status_each = refl;
       one_accepted = no_pairs NotBothAccepted _;
-      ceilings = one (IsValidCeiling d) _ (record { day = record { from_one = lit≤ tt; at_most = lit≤ tt }; school = lit< tt; ceiling = lit≤ tt });
+      ceilings = one (IsValidCeiling d) _
+          (record { day = record { from_one = lit≤ tt; at_most = lit≤ tt }; school = lit< tt; ceiling = lit≤ tt });
       ceilings_by_day = one_level 1;
       ceilings_apart = no_pairs NotSameDay _;
-      answers = one (IsValidAnswer d) _ (record { day = record { from_one = lit≤ tt; at_most = lit≤ tt }; target = refl });
+      answers = one (IsValidAnswer d) _
+          (record { day = record { from_one = lit≤ tt; at_most = lit≤ tt }; target = refl });
       answers_by_day = one_level 1;
     }

@@ -6,14 +6,16 @@ use Rattle.admit_core.specs.declared.dossier.Wish.{Wish}
 use Rattle.admit_core.specs.declared.state.Mark.{Mark}
 use Rattle.admit_core.specs.declared.state.Stamp.{Stamp}
 use Rattle.admit_core.specs.declared.state.Status.{Status}
-use Rattle.admit_core.specs.declared.state.Status.TheVariants.{Waiting, Offered, Accepted, Refused, Withdrawn, Quit, AutoRefused, AutoWithdrawn, Lapsed}
+use Rattle.admit_core.specs.declared.state.Status.TheVariants.{Waiting, Offered, Accepted, Refused, Withdrawn, Quit}
+use Rattle.admit_core.specs.declared.state.Status.TheVariants.{AutoRefused, AutoWithdrawn, Lapsed}
 use Rattle.admit_core.specs.State.{is_live_status, is_waiting_status, status_number, changed_to}
 use Rattle.admit_core.specs.AutoAnswer.{auto_mark, auto_status}
 
 -- statuses with one number are one
 numbered : ℕ → Status
 numbered n =
-    cond (nat_eq n 0) Waiting (cond (nat_eq n 1) Offered (cond (nat_eq n 2) Accepted (cond (nat_eq n 3) Refused (cond (nat_eq n 4) Withdrawn
+    cond (nat_eq n 0) Waiting
+    (cond (nat_eq n 1) Offered (cond (nat_eq n 2) Accepted (cond (nat_eq n 3) Refused (cond (nat_eq n 4) Withdrawn
     (cond (nat_eq n 5) Quit (cond (nat_eq n 6) AutoRefused (cond (nat_eq n 7) AutoWithdrawn Lapsed)))))))
 
 numbered-number : (x : Status) → numbered (status_number x) ≡ x
@@ -32,12 +34,14 @@ numbered-number Lapsed = refl
 pub changed_status : (x : Status) (stamp : Stamp) (m : Mark) → (changed_to x stamp m).status ≡ x
 changed_status x stamp m =
     elim (cases_Bool (status_number m.status == status_number x)) [
-      | inl same ↦ rw same (sym (numbered-number m.status) ∙ ap numbered (eqb-true (status_number m.status) (status_number x) same) ∙ numbered-number x)
+      | inl same ↦ rw same (sym (numbered-number m.status) ∙ ap numbered
+          (eqb-true (status_number m.status) (status_number x) same) ∙ numbered-number x)
       | inr other ↦ rw other refl
     ]
 
 -- automatic answers make no wish live, and none wait
-pub live_before_answer : (x : Status) (is_best is_behind : Bool) → is_live_status (auto_status x is_best is_behind) ≡ true → is_live_status x ≡ true
+pub live_before_answer : (x : Status) (is_best is_behind : Bool)
+    → is_live_status (auto_status x is_best is_behind) ≡ true → is_live_status x ≡ true
 live_before_answer Waiting is_best true live = absurd (cc)
 live_before_answer Waiting is_best false live = absurd (cc)
 live_before_answer Offered true is_behind live = refl
@@ -51,7 +55,8 @@ live_before_answer AutoRefused is_best is_behind live = absurd (cc)
 live_before_answer AutoWithdrawn is_best is_behind live = absurd (cc)
 live_before_answer Lapsed is_best is_behind live = absurd (cc)
 
-pub waiting_before_answer : (x : Status) (is_best is_behind : Bool) → is_waiting_status (auto_status x is_best is_behind) ≡ true → is_waiting_status x ≡ true
+pub waiting_before_answer : (x : Status) (is_best is_behind : Bool)
+    → is_waiting_status (auto_status x is_best is_behind) ≡ true → is_waiting_status x ≡ true
 waiting_before_answer Waiting is_best true waits = refl
 waiting_before_answer Waiting is_best false waits = refl
 waiting_before_answer Offered true is_behind waits = absurd (cc)
@@ -66,7 +71,8 @@ waiting_before_answer AutoWithdrawn is_best is_behind waits = absurd (cc)
 waiting_before_answer Lapsed is_best is_behind waits = absurd (cc)
 
 -- what is accepted after an automatic answer is the best
-pub accepted_is_best : (x : Status) (is_best is_behind : Bool) → auto_status x is_best is_behind ≡ Accepted → is_best ≡ true
+pub accepted_is_best : (x : Status) (is_best is_behind : Bool) → auto_status x is_best is_behind ≡ Accepted
+    → is_best ≡ true
 accepted_is_best Waiting is_best true accepted = absurd (cc)
 accepted_is_best Waiting is_best false accepted = absurd (cc)
 accepted_is_best Offered true is_behind accepted = refl
@@ -81,7 +87,8 @@ accepted_is_best AutoWithdrawn is_best is_behind accepted = absurd (cc)
 accepted_is_best Lapsed is_best is_behind accepted = absurd (cc)
 
 -- a live wish that is live no longer was given up
-pub given_up_by_answer : (x : Status) (is_best is_behind : Bool) → is_live_status x ≡ true → is_live_status (auto_status x is_best is_behind) ≡ false
+pub given_up_by_answer : (x : Status) (is_best is_behind : Bool) → is_live_status x ≡ true
+    → is_live_status (auto_status x is_best is_behind) ≡ false
     → auto_status x is_best is_behind ≡ AutoRefused
 given_up_by_answer Waiting is_best is_behind live gone = absurd (cc)
 given_up_by_answer Offered true is_behind live gone = absurd (cc)
@@ -97,9 +104,11 @@ given_up_by_answer Lapsed is_best is_behind live gone = absurd (cc)
 
 -- the status that an automatic answer leads to
 pub status_of_auto : (stamp : Stamp) (best : Wish × Mark) (w : Wish) (m : Mark)
-    → (auto_mark stamp (Some best) w m).status ≡ auto_status m.status (w.preference == best.0.preference) (nat_lt best.0.preference w.preference)
+    → (auto_mark stamp (Some best) w m).status
+    ≡ auto_status m.status (w.preference == best.0.preference) (nat_lt best.0.preference w.preference)
 status_of_auto stamp best w m =
-    changed_status (auto_status m.status (w.preference == best.0.preference) (nat_lt best.0.preference w.preference)) stamp m
+    changed_status (auto_status m.status (w.preference == best.0.preference) (nat_lt best.0.preference w.preference))
+    stamp m
 
 pub waiting_is : (x : Status) → is_waiting_status x ≡ true → x ≡ Waiting
 waiting_is Waiting t = refl

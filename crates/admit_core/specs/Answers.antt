@@ -1,5 +1,6 @@
 -- What candidates' answers do.
-use Rattle.std.specs.Prelude.{filter, ℕ, ◌+◌, Bool, true, ◌&&◌, ◌||◌, List, [], ◌∷◌, Option, Some, None, unwrap_or, ◌==◌, slice_get, if◌then◌else◌}
+use Rattle.std.specs.Prelude.{filter, ℕ, ◌+◌, Bool, true, ◌&&◌, ◌||◌, List, [], ◌∷◌, Option, Some, None, unwrap_or}
+use Rattle.std.specs.Prelude.{◌==◌, slice_get, if◌then◌else◌}
 use Rattle.admit_core.specs.declared.dossier.Answer.{Answer}
 use Rattle.admit_core.specs.declared.dossier.AnswerKind.{AnswerKind}
 use Rattle.admit_core.specs.declared.dossier.AnswerKind.TheVariants.{Accept, Refuse, Withdraw, Quit}
@@ -8,7 +9,8 @@ use Rattle.admit_core.specs.declared.state.Status.TheVariants.{Waiting, Accepted
 use Rattle.admit_core.specs.declared.state.Stamp.{Stamp}
 use Rattle.admit_core.specs.declared.state.Mark.{Mark}
 use Rattle.admit_core.specs.DossierRows.{candidate_of}
-use Rattle.admit_core.specs.State.{State, with_marks, with_mark_at, is_live, is_waiting, is_live_status, is_waiting_status, changed_to}
+use Rattle.admit_core.specs.State.{State, with_marks, with_mark_at, is_live, is_waiting, is_live_status}
+use Rattle.admit_core.specs.State.{is_waiting_status, changed_to}
 
 -- the mark, the status and the candidate of the wish at a place
 abbrev pub mark_at : State → ℕ → Mark

@@ -1,5 +1,6 @@
 -- Laws of call orders.
-use Rattle.std.specs.Prelude.{◌≡◌, ◌≢◌, ℕ, ◌*◌, ◌≤◌, ◌<◌, Bool, true, ◌&&◌, List, map, length, take, slice_get, Some, nat_eq, count_by, Contains}
+use Rattle.std.specs.Prelude.{◌≡◌, ◌≢◌, ℕ, ◌*◌, ◌≤◌, ◌<◌, Bool, true, ◌&&◌, List, map, length, take, slice_get, Some}
+use Rattle.std.specs.Prelude.{nat_eq, count_by, Contains}
 use Rattle.std.specs.List.{list_any, IsDistinct}
 use Rattle.std.specs.List.Sorted.{IsPermutation}
 use Rattle.admit_core.specs.declared.ranking.Ranked.{Ranked}

@@ -5,7 +5,8 @@ use Rattle.admit_core.specs.declared.chain.ChainReason.{ChainReason}
 use Rattle.admit_core.specs.declared.chain.ChainReason.TheVariants.{NotLine, WrongNumber, NoEnd, AfterEnd}
 use Rattle.admit_core.specs.declared.chain.ChainFault.{ChainFault}
 use Rattle.admit_core.specs.declared.chain.CheckReason.{CheckReason}
-use Rattle.admit_core.specs.declared.chain.CheckReason.TheVariants.{NotOver, WrongWishes, WrongBar, StillOver, PassMissing, PassExtra}
+use Rattle.admit_core.specs.declared.chain.CheckReason.TheVariants.{NotOver, WrongWishes, WrongBar, StillOver}
+use Rattle.admit_core.specs.declared.chain.CheckReason.TheVariants.{PassMissing, PassExtra}
 
 abbrev pub chain_reason_number : ChainReason → ℕ
 chain_reason_number NotLine = 1

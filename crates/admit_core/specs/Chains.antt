@@ -1,13 +1,15 @@
 -- Which chains are valid: the falls of a day, written down so that a reader can test them without
 -- making them.
-use Rattle.std.specs.Prelude.{ℕ, ◌+◌, Bool, not, ◌&&◌, List, [], ◌∷◌, map, length, Option, Some, None, option_map, find, zip, nat_eq, ◌==◌, slice_set, if◌then◌else◌, IsTrue, ⊤}
+use Rattle.std.specs.Prelude.{ℕ, ◌+◌, Bool, not, ◌&&◌, List, [], ◌∷◌, map, length, Option, Some, None, option_map, find}
+use Rattle.std.specs.Prelude.{zip, nat_eq, ◌==◌, slice_set, if◌then◌else◌, IsTrue, ⊤}
 use Rattle.std.specs.List.{list_any, list_all, range_with_len}
 use Rattle.std.specs.Option.{option_or}
 use Rattle.admit_core.specs.declared.chain.FallLine.{FallLine}
 use Rattle.admit_core.specs.declared.chain.PassChain.{PassChain}
 use Rattle.admit_core.specs.declared.chain.DayChain.{DayChain}
 use Rattle.admit_core.specs.declared.chain.CheckReason.{CheckReason}
-use Rattle.admit_core.specs.declared.chain.CheckReason.TheVariants.{NotOver, WrongWishes, WrongBar, StillOver, PassMissing, PassExtra}
+use Rattle.admit_core.specs.declared.chain.CheckReason.TheVariants.{NotOver, WrongWishes, WrongBar, StillOver}
+use Rattle.admit_core.specs.declared.chain.CheckReason.TheVariants.{PassMissing, PassExtra}
 use Rattle.admit_core.specs.declared.ranking.CallOrder.{CallOrder}
 use Rattle.admit_core.specs.declared.records.Fall.{Fall}
 use Rattle.admit_core.specs.declared.state.Stamp.{Stamp}

@@ -1,5 +1,6 @@
 -- Bars that fall until no place is overfilled.
-use Rattle.std.specs.Prelude.{◌≡◌, ℕ, ◌+◌, ◌-◌, ◌≤◌, ◌<◌, Bool, not, ◌&&◌, List, [], ◌∷◌, map, length, take, nat_lt, slice_index, slice_set, Contains, IsTrue, ⊤}
+use Rattle.std.specs.Prelude.{◌≡◌, ℕ, ◌+◌, ◌-◌, ◌≤◌, ◌<◌, Bool, not, ◌&&◌, List, [], ◌∷◌, map, length, take, nat_lt}
+use Rattle.std.specs.Prelude.{slice_index, slice_set, Contains, IsTrue, ⊤}
 use Rattle.std.specs.List.{list_all, range_with_len}
 use Rattle.std.specs.List.Sorted.{IsStrictlyIncreasing}
 use Rattle.admit_core.specs.declared.records.Fall.{Fall}

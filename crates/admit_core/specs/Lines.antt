@@ -2,13 +2,19 @@
 use Rattle.std.specs.Prelude.{ℕ, List, [], ◌++◌, codes}
 use Rattle.std.specs.Fmt.{decimal}
 use Rattle.admit_core.specs.declared.slot.Slot.{Slot}
-use Rattle.admit_core.specs.declared.slot.Slot.TheVariants.{Groups, Programmes, Schools, Rankings, Boarding, Wishes, State, Ceilings, Answers, Chain}
+use Rattle.admit_core.specs.declared.slot.Slot.TheVariants.{Groups, Programmes, Schools, Rankings, Boarding, Wishes}
+use Rattle.admit_core.specs.declared.slot.Slot.TheVariants.{State, Ceilings, Answers, Chain}
 use Rattle.admit_core.specs.declared.state.Status.{Status}
-use Rattle.admit_core.specs.declared.state.Status.TheVariants.{Waiting, Offered, Accepted, Refused, Withdrawn, Quit, AutoRefused, AutoWithdrawn, Lapsed}
+use Rattle.admit_core.specs.declared.state.Status.TheVariants.{Waiting, Offered, Accepted, Refused, Withdrawn, Quit}
+use Rattle.admit_core.specs.declared.state.Status.TheVariants.{AutoRefused, AutoWithdrawn, Lapsed}
 use Rattle.admit_core.specs.declared.ranking.Bound.{Bound}
 use Rattle.admit_core.specs.declared.ranking.Bound.TheVariants as bound
 use Rattle.admit_core.specs.declared.refusal.Reason.{Reason}
-use Rattle.admit_core.specs.declared.refusal.Reason.TheVariants.{Header, FieldCount, NotNumber, OutOfRange, NotFlag, NotWord, TooManyRows, TooLarge, Repeat, Unknown, RankTaken, Unranked, NoBoardingRank, PreferenceMixed, PreferenceTaken, TwoAccepted, DayFalls, UnfitAnswer, NotDate}
+use Rattle.admit_core.specs.declared.refusal.Reason.TheVariants.{Header, FieldCount, NotNumber, OutOfRange, NotFlag}
+use Rattle.admit_core.specs.declared.refusal.Reason.TheVariants.{NotWord, TooManyRows, TooLarge, Repeat, Unknown}
+use Rattle.admit_core.specs.declared.refusal.Reason.TheVariants.{RankTaken, Unranked, NoBoardingRank, PreferenceMixed}
+use Rattle.admit_core.specs.declared.refusal.Reason.TheVariants.{PreferenceTaken, TwoAccepted, DayFalls, UnfitAnswer}
+use Rattle.admit_core.specs.declared.refusal.Reason.TheVariants.{NotDate}
 use Rattle.admit_core.specs.declared.refusal.Refusal.{Refusal}
 use Rattle.admit_core.specs.declared.lines.Kept.{Kept}
 use Rattle.admit_core.specs.declared.lines.Kept.TheVariants.{Nothing, Number, Found}

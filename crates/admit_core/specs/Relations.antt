@@ -1,9 +1,11 @@
 -- The first fault of tables: what each row is compared with, by slot.
-use Rattle.std.specs.Prelude.{ℕ, Bool, true, false, not, ◌&&◌, ◌||◌, List, [], ◌∷◌, Option, Some, None, map, option_map, nat_eq, nat_lt, find, if◌then◌else◌}
+use Rattle.std.specs.Prelude.{ℕ, Bool, true, false, not, ◌&&◌, ◌||◌, List, [], ◌∷◌, Option, Some, None, map, option_map}
+use Rattle.std.specs.Prelude.{nat_eq, nat_lt, find, if◌then◌else◌}
 use Rattle.std.specs.List.{list_any, enumerate_from}
 use Rattle.std.specs.Option.{option_map_or}
 use Rattle.admit_core.specs.declared.slot.Slot.TheVariants as slots
-use Rattle.admit_core.specs.declared.refusal.Reason.TheVariants.{Unranked, NoBoardingRank, PreferenceMixed, PreferenceTaken, TwoAccepted, DayFalls}
+use Rattle.admit_core.specs.declared.refusal.Reason.TheVariants.{Unranked, NoBoardingRank, PreferenceMixed}
+use Rattle.admit_core.specs.declared.refusal.Reason.TheVariants.{PreferenceTaken, TwoAccepted, DayFalls}
 use Rattle.admit_core.specs.declared.refusal.Refusal.{Refusal}
 use Rattle.admit_core.specs.declared.state.Status.{Status}
 use Rattle.admit_core.specs.declared.state.Status.TheVariants.{Accepted}

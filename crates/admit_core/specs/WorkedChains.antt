@@ -4,7 +4,8 @@ use Rattle.admit_core.specs.declared.chain.FallLine.{FallLine}
 use Rattle.admit_core.specs.declared.chain.PassChain.{PassChain}
 use Rattle.admit_core.specs.declared.chain.DayChain.{DayChain}
 use Rattle.admit_core.specs.declared.chain.CheckReason.{CheckReason}
-use Rattle.admit_core.specs.declared.chain.CheckReason.TheVariants.{NotOver, WrongWishes, WrongBar, StillOver, PassMissing, PassExtra}
+use Rattle.admit_core.specs.declared.chain.CheckReason.TheVariants.{NotOver, WrongWishes, WrongBar, StillOver}
+use Rattle.admit_core.specs.declared.chain.CheckReason.TheVariants.{PassMissing, PassExtra}
 use Rattle.admit_core.specs.declared.state.Status.{Status}
 use Rattle.admit_core.specs.declared.state.Status.TheVariants.{Waiting, Offered, Accepted, Refused, AutoRefused}
 use Rattle.admit_core.specs.declared.ranking.Bound.TheVariants.{Free}
@@ -13,7 +14,9 @@ use Rattle.admit_core.specs.State.{State, seats_left}
 use Rattle.admit_core.specs.Chains.{IsDayChain, day_fault}
 use Rattle.admit_core.specs.Blocking.{blocking, last_envied}
 use Rattle.admit_core.specs.LeastBeds.{IsLeastBeds}
-use Rattle.admit_core.specs.WorkedRows.{programme, school, wish, boarder, rows, state, order, marked, greatest_bar, greatest_bar_orders, greatest_bar_evening, one_bed_orders, two_offers, two_orders}
+use Rattle.admit_core.specs.WorkedRows.{programme, school, wish, boarder, rows, state, order, marked, greatest_bar}
+use Rattle.admit_core.specs.WorkedRows.{greatest_bar_orders, greatest_bar_evening, one_bed_orders, two_offers}
+use Rattle.admit_core.specs.WorkedRows.{two_orders}
 use Rattle.admit_core.specs.WorkedDays.{two_candidates, edges, edge_orders}
 use Rattle.admit_core.specs.Days.{first_evening}
 
@@ -68,7 +71,8 @@ TwoPasses =
 -- of a candidate's proposed wishes with the school any one may be named
 abbrev pub no_bed : State
 no_bed =
-    state (rows (programme 10 0 1 ∷ programme 20 0 1 ∷ []) (school 5 0 3 ∷ []) (boarder 1 31 0 0 1 0 ∷ boarder 2 31 1 0 1 0 ∷ []) (Waiting ∷ Waiting ∷ []))
+    state (rows (programme 10 0 1 ∷ programme 20 0 1 ∷ []) (school 5 0 3 ∷ [])
+    (boarder 1 31 0 0 1 0 ∷ boarder 2 31 1 0 1 0 ∷ []) (Waiting ∷ Waiting ∷ []))
 
 abbrev pub AnyName : Type 0
 AnyName =
@@ -77,17 +81,21 @@ AnyName =
 
 -- a wish blocks by envy, and by a vacant seat
 abbrev pub one_seat_ranked : Status → Status → State
-one_seat_ranked first second = state (rows (programme 10 0 1 ∷ []) [] (wish 1 11 0 1 ∷ wish 2 12 0 0 ∷ []) (first ∷ second ∷ []))
+one_seat_ranked first second = state (rows (programme 10 0 1 ∷ []) [] (wish 1 11 0 1 ∷ wish 2 12 0 0 ∷ [])
+    (first ∷ second ∷ []))
 
 abbrev pub Envies : Type 0
 Envies =
     let s = one_seat_ranked Waiting Accepted in
-    (blocking s two_candidates ≡ 0 ∷ []) × (seats_left s 0 ≡ 0) × (last_envied s two_candidates (wish 1 11 0 1) ≡ Some 12)
+    (blocking s two_candidates ≡ 0 ∷ []) × (seats_left s 0 ≡ 0)
+    × (last_envied s two_candidates (wish 1 11 0 1) ≡ Some 12)
 
--- of three, the one who waits envies the other two, the last of them last where they come first, and nobody where they come last
+-- of three, the one who waits envies the other two, the last of them last where they come first, and nobody where they
+-- come last
 abbrev pub two_hold : List ℕ → State
 two_hold waiting =
-    state (rows (programme 10 0 2 ∷ []) [] (map (λ c. wish c c 0 1) (11 ∷ 12 ∷ 13 ∷ [])) (map (λ c. if is_among c waiting then Waiting else Accepted) (11 ∷ 12 ∷ 13 ∷ [])))
+    state (rows (programme 10 0 2 ∷ []) [] (map (λ c. wish c c 0 1) (11 ∷ 12 ∷ 13 ∷ []))
+    (map (λ c. if is_among c waiting then Waiting else Accepted) (11 ∷ 12 ∷ 13 ∷ [])))
 
 abbrev pub LastOfTwo : Type 0
 LastOfTwo =
@@ -106,20 +114,25 @@ SeatIsVacant =
 -- the second holds the seat, and the first waits with a wish of this preference and school
 abbrev pub first_unlike : ℕ → Option ℕ → State
 first_unlike preference school_place =
-    state (rows (programme 10 0 1 ∷ []) (school 5 9 9 ∷ []) (record (boarder 1 11 0 0 1 preference) { school = school_place } ∷ wish 2 12 0 0 ∷ []) (Waiting ∷ Accepted ∷ []))
+    state (rows (programme 10 0 1 ∷ []) (school 5 9 9 ∷ [])
+    (record (boarder 1 11 0 0 1 preference) { school = school_place } ∷ wish 2 12 0 0 ∷ [])
+    (Waiting ∷ Accepted ∷ []))
 
--- a wish that its candidate refused, and one that is live, block nothing; nor does one behind a live wish that they prefer, one that is
+-- a wish that its candidate refused, and one that is live, block nothing; nor does one behind a live wish that they
+-- prefer, one that is
 -- not ranked, or one with a school
 abbrev pub NoneBlocks : Type 0
 NoneBlocks =
     (blocking (one_seat_ranked Refused Accepted) two_candidates ≡ [])
     × (blocking (one_seat_ranked Accepted Waiting) two_candidates ≡ [])
-    × (blocking (record two_offers { marks = marked AutoRefused 1 1 ∷ marked Accepted 1 1 ∷ marked Offered 1 2 ∷ [] }) two_orders ≡ [])
+    × (blocking (record two_offers { marks = marked AutoRefused 1 1 ∷ marked Accepted 1 1 ∷ marked Offered 1 2 ∷ [] })
+    two_orders ≡ [])
     × (blocking (first_unlike 0 None) two_candidates ≡ [])
     × (blocking (first_unlike 1 (Some 0)) two_candidates ≡ [])
     × (blocking (first_unlike 1 None) two_candidates ≡ 0 ∷ [])
 
--- two beds are the least that keep the bar at its ceiling where one bed is demanded by two; a school without beds needs one; and one whose
+-- two beds are the least that keep the bar at its ceiling where one bed is demanded by two; a school without beds needs
+-- one; and one whose
 -- ceiling bars all who want it needs none
 abbrev pub BedsNeeded : Type 0
 BedsNeeded =

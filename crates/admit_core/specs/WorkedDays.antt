@@ -5,7 +5,8 @@ use Rattle.admit_core.specs.declared.ranking.Bound.TheVariants.{Free}
 use Rattle.admit_core.specs.declared.dossier.Answer.{Answer}
 use Rattle.admit_core.specs.declared.dossier.AnswerKind.TheVariants.{Accept, Refuse, Withdraw, Quit}
 use Rattle.admit_core.specs.declared.state.Status.{Status}
-use Rattle.admit_core.specs.declared.state.Status.TheVariants.{Waiting, Offered, Accepted, Refused, Withdrawn, Quit as HasQuit, AutoRefused, Lapsed}
+use Rattle.admit_core.specs.declared.state.Status.TheVariants.{Waiting, Offered, Accepted, Refused, Withdrawn}
+use Rattle.admit_core.specs.declared.state.Status.TheVariants.{Quit as HasQuit, AutoRefused, Lapsed}
 use Rattle.admit_core.specs.declared.state.Mark.{Mark}
 use Rattle.admit_core.specs.declared.state.Change.{Change}
 use Rattle.admit_core.specs.declared.records.Fall.{Fall}
@@ -23,21 +24,30 @@ use Rattle.admit_core.specs.AutoAnswer.{auto_all}
 use Rattle.admit_core.specs.Answers.{after_all}
 use Rattle.admit_core.specs.Days.{Days, first_evening, ceilings_of, morning, unfit_on, closing}
 use Rattle.admit_core.specs.Explanations.{explained}
-use Rattle.admit_core.specs.WorkedRows.{programme, limited, school, wish, boarder, rows, state, order, marked, two_offers, two_orders, realistic, realistic_order, first_marks, last_marks}
+use Rattle.admit_core.specs.WorkedRows.{programme, limited, school, wish, boarder, rows, state, order, marked}
+use Rattle.admit_core.specs.WorkedRows.{two_offers, two_orders, realistic, realistic_order, first_marks, last_marks}
 
 abbrev pub fall : ℕ → ℕ → ℕ → List ℕ → Fall
 fall h from to wishes = record { school = h; from = from; to = to; wishes = wishes }
 
 -- a pass whose automatic answers change nothing, and one whose do
 abbrev pub quiet : List ℕ → List Fall → List ℕ → PassEnd
-quiet bars falls offers = record { pass = record { bars = bars; falls = falls; offers = offers }; autos = []; freed = record { seats = 0; beds = 0 } }
+quiet bars falls offers = record {
+  pass = record { bars = bars; falls = falls; offers = offers };
+  autos = [];
+  freed = record { seats = 0; beds = 0 };
+}
 
 abbrev pub change : ℕ → Status → Change
 change place status = record { wish = place; status = status }
 
 abbrev pub freeing : List ℕ → List Fall → List ℕ → List Change → ℕ → ℕ → PassEnd
 freeing bars falls offers autos seats beds =
-    record { pass = record { bars = bars; falls = falls; offers = offers }; autos = autos; freed = record { seats = seats; beds = beds } }
+    record {
+      pass = record { bars = bars; falls = falls; offers = offers };
+      autos = autos;
+      freed = record { seats = seats; beds = beds };
+    }
 
 abbrev pub day : ℕ → List PassEnd → List ℕ → List ℕ → DayRecord
 day d passes left free = record { day = d; passes = passes; left = left; free = free; lapsed = [] }
@@ -57,7 +67,8 @@ abbrev pub two_candidates : List CallOrder
 two_candidates = in_order (11 ∷ 12 ∷ []) ∷ []
 
 abbrev pub VacantSeat : Type 0
-VacantSeat = Leave vacant two_candidates (day 1 (quiet [] [] (0 ∷ 1 ∷ []) ∷ []) (1 ∷ []) [] ∷ []) (marked Offered 1 1 ∷ marked Offered 1 1 ∷ [])
+VacantSeat = Leave vacant two_candidates (day 1 (quiet [] [] (0 ∷ 1 ∷ []) ∷ []) (1 ∷ []) [] ∷ [])
+    (marked Offered 1 1 ∷ marked Offered 1 1 ∷ [])
 
 -- a seat stays vacant because the one who waits for it is behind the bar: the school's one bed is held
 abbrev pub bed_is_held : DossierRows
@@ -68,9 +79,11 @@ bed_is_held =
 
 abbrev pub BedIsHeld : Type 0
 BedIsHeld =
-    Leave bed_is_held two_candidates (day 1 (quiet (1 ∷ []) (fall 0 9 1 (1 ∷ []) ∷ []) [] ∷ []) (1 ∷ 0 ∷ []) (0 ∷ []) ∷ []) (marked Accepted 0 0 ∷ marked Waiting 0 0 ∷ [])
+    Leave bed_is_held two_candidates (day 1 (quiet (1 ∷ []) (fall 0 9 1 (1 ∷ []) ∷ []) [] ∷ []) (1 ∷ 0 ∷ []) (0 ∷ [])
+    ∷ []) (marked Accepted 0 0 ∷ marked Waiting 0 0 ∷ [])
 
--- edges of bars: a school without beds, one whose ceiling is 0 and rises to 1 on day 2, and one with the greatest ceiling
+-- edges of bars: a school without beds, one whose ceiling is 0 and rises to 1 on day 2, and one with the greatest
+-- ceiling
 abbrev pub edges : DossierRows
 edges =
     let d = rows (programme 10 0 3 ∷ []) (school 5 0 4 ∷ school 6 3 0 ∷ school 7 3 2000000000 ∷ [])
@@ -93,13 +106,15 @@ edge_marks = marked Waiting 0 0 ∷ marked Waiting 0 0 ∷ marked Offered 1 1 �
 -- the same school's ceiling changes twice, and another's in between: the latest change of each counts
 abbrev pub changing : DossierRows
 changing =
-    let change : ℕ → ℕ → ℕ → CeilingChange = λ day school ceiling. record { day = day; school = school; ceiling = ceiling } in
+    let change : ℕ → ℕ → ℕ → CeilingChange =
+    λ day school ceiling. record { day = day; school = school; ceiling = ceiling } in
     record edges { ceilings = change 2 1 1 ∷ change 3 0 7 ∷ change 4 1 5 ∷ [] }
 
 abbrev pub CeilingsChange : Type 0
 CeilingsChange =
     map (ceilings_of changing) (1 ∷ 2 ∷ 3 ∷ 4 ∷ 5 ∷ [])
-    ≡ (4 ∷ 0 ∷ 2000000000 ∷ []) ∷ (4 ∷ 1 ∷ 2000000000 ∷ []) ∷ (7 ∷ 1 ∷ 2000000000 ∷ []) ∷ (7 ∷ 5 ∷ 2000000000 ∷ []) ∷ (7 ∷ 5 ∷ 2000000000 ∷ []) ∷ []
+    ≡ (4 ∷ 0 ∷ 2000000000 ∷ []) ∷ (4 ∷ 1 ∷ 2000000000 ∷ []) ∷ (7 ∷ 1 ∷ 2000000000 ∷ []) ∷ (7 ∷ 5 ∷ 2000000000 ∷ [])
+    ∷ (7 ∷ 5 ∷ 2000000000 ∷ []) ∷ []
 
 abbrev pub EdgesOfBars : Type 0
 EdgesOfBars =
@@ -112,10 +127,12 @@ EdgesOfBars =
 abbrev pub FreedSeat : Type 0
 FreedSeat =
     Leave two_offers.dossier two_orders
-    (day 1 (freeing [] [] (0 ∷ 1 ∷ []) (change 0 AutoRefused ∷ change 1 Accepted ∷ []) 1 0 ∷ quiet [] [] (2 ∷ []) ∷ []) (0 ∷ 0 ∷ []) [] ∷ [])
+    (day 1 (freeing [] [] (0 ∷ 1 ∷ []) (change 0 AutoRefused ∷ change 1 Accepted ∷ []) 1 0 ∷ quiet [] [] (2 ∷ []) ∷ [])
+    (0 ∷ 0 ∷ []) [] ∷ [])
     (marked AutoRefused 1 1 ∷ marked Accepted 1 1 ∷ marked Offered 1 2 ∷ [])
 
--- a bed alone is freed: the bars start again at the ceilings in the second pass, and the one who was barred gets the offer
+-- a bed alone is freed: the bars start again at the ceilings in the second pass, and the one who was barred gets the
+-- offer
 abbrev pub one_seat_two_wishes : DossierRows
 one_seat_two_wishes =
     rows (programme 10 0 1 ∷ programme 20 0 1 ∷ []) (school 5 1 5 ∷ [])
@@ -125,21 +142,25 @@ one_seat_two_wishes =
 abbrev pub FreedBed : Type 0
 FreedBed =
     Leave one_seat_two_wishes (in_order (91 ∷ 92 ∷ []) ∷ [])
-    (day 1 (freeing (1 ∷ []) (fall 0 5 1 (0 ∷ 2 ∷ []) ∷ []) (0 ∷ 1 ∷ []) (change 0 AutoRefused ∷ change 1 Accepted ∷ []) 0 1 ∷ quiet (5 ∷ []) [] (2 ∷ []) ∷ [])
+    (day 1 (freeing (1 ∷ []) (fall 0 5 1 (0 ∷ 2 ∷ []) ∷ []) (0 ∷ 1 ∷ [])
+    (change 0 AutoRefused ∷ change 1 Accepted ∷ []) 0 1 ∷ quiet (5 ∷ []) [] (2 ∷ []) ∷ [])
     (0 ∷ 0 ∷ []) (0 ∷ []) ∷ [])
     (marked AutoRefused 1 1 ∷ marked Accepted 1 1 ∷ marked Offered 1 2 ∷ [])
 
 -- a call limit does not lift a bar
 abbrev pub limit_and_bar : DossierRows
-limit_and_bar = rows (limited 10 0 1 2 ∷ []) (school 5 0 9 ∷ []) (boarder 1 11 0 0 1 0 ∷ wish 2 12 0 0 ∷ []) (Waiting ∷ Waiting ∷ [])
+limit_and_bar = rows (limited 10 0 1 2 ∷ []) (school 5 0 9 ∷ []) (boarder 1 11 0 0 1 0 ∷ wish 2 12 0 0 ∷ [])
+    (Waiting ∷ Waiting ∷ [])
 
 abbrev pub LimitUnderBar : Type 0
 LimitUnderBar =
-    Leave limit_and_bar two_candidates (day 1 (quiet (0 ∷ []) (fall 0 9 0 (0 ∷ []) ∷ []) (1 ∷ []) ∷ []) (0 ∷ []) (0 ∷ []) ∷ []) (marked Waiting 0 0 ∷ marked Offered 1 1 ∷ [])
+    Leave limit_and_bar two_candidates (day 1 (quiet (0 ∷ []) (fall 0 9 0 (0 ∷ []) ∷ []) (1 ∷ []) ∷ []) (0 ∷ [])
+    (0 ∷ []) ∷ []) (marked Waiting 0 0 ∷ marked Offered 1 1 ∷ [])
 
 -- one seat for two candidates, and the answers of day 2
 abbrev pub one_seat : List Answer → DossierRows
-one_seat answers = record (rows (programme 10 0 1 ∷ []) [] (wish 1 11 0 0 ∷ wish 2 12 0 0 ∷ []) (Waiting ∷ Waiting ∷ [])) { answers = answers }
+one_seat answers = record (rows (programme 10 0 1 ∷ []) [] (wish 1 11 0 0 ∷ wish 2 12 0 0 ∷ [])
+    (Waiting ∷ Waiting ∷ [])) { answers = answers }
 
 abbrev pub evening_one : List Answer → State
 evening_one answers = record { dossier = one_seat answers; marks = marked Offered 1 1 ∷ marked Waiting 0 0 ∷ [] }
@@ -156,7 +177,8 @@ withdraws place = record { day = 2; kind = Withdraw; target = place }
 abbrev pub quits : ℕ → Answer
 quits c = record { day = 2; kind = Quit; target = c }
 
--- a second accept fits and changes no stamp; a refusal fits once; a live wish is not withdrawn, and a waiting one neither accepted nor refused
+-- a second accept fits and changes no stamp; a refusal fits once; a live wish is not withdrawn, and a waiting one
+-- neither accepted nor refused
 abbrev pub AnswersFit : Type 0
 AnswersFit =
     (unfit_on None 2 (evening_one (accepts 0 ∷ accepts 0 ∷ refuses 1 ∷ [])) ≡ Some (2, Waiting))
@@ -164,13 +186,15 @@ AnswersFit =
     × (unfit_on None 2 (evening_one (withdraws 1 ∷ withdraws 0 ∷ [])) ≡ Some (1, Offered))
     × (unfit_on None 2 (evening_one (quits 11 ∷ quits 11 ∷ accepts 0 ∷ [])) ≡ Some (2, HasQuit))
     × (unfit_on None 3 (evening_one (refuses 1 ∷ [])) ≡ None)
-    × ((morning None 2 (evening_one (accepts 0 ∷ accepts 0 ∷ withdraws 1 ∷ []))).marks ≡ marked Accepted 2 0 ∷ marked Withdrawn 2 0 ∷ [])
+    × ((morning None 2 (evening_one (accepts 0 ∷ accepts 0 ∷ withdraws 1 ∷ []))).marks
+    ≡ marked Accepted 2 0 ∷ marked Withdrawn 2 0 ∷ [])
 
 -- accepting one of two offers refuses the other, and the waiting wishes stay
 abbrev pub three_wishes : State
 three_wishes =
     record {
-      dossier = rows (programme 10 0 1 ∷ programme 20 0 1 ∷ programme 30 0 1 ∷ []) [] (wish 1 11 0 0 ∷ wish 2 11 1 0 ∷ wish 3 11 2 0 ∷ wish 4 12 0 0 ∷ []) [];
+      dossier = rows (programme 10 0 1 ∷ programme 20 0 1 ∷ programme 30 0 1 ∷ []) []
+          (wish 1 11 0 0 ∷ wish 2 11 1 0 ∷ wish 3 11 2 0 ∷ wish 4 12 0 0 ∷ []) [];
       marks = marked Offered 1 1 ∷ marked Accepted 1 0 ∷ marked Waiting 0 0 ∷ marked Offered 1 1 ∷ [];
     }
 
@@ -185,21 +209,28 @@ AcceptedStays =
     (after_all three_wishes (record { day = 2; pass = 0 }) (accepts 1 ∷ [])).marks
     ≡ marked Refused 2 0 ∷ marked Accepted 1 0 ∷ marked Waiting 0 0 ∷ marked Offered 1 1 ∷ []
 
--- what is answered for a candidate who has accepted: nothing while they have no better offer, and that one once they have it
+-- what is answered for a candidate who has accepted: nothing while they have no better offer, and that one once they
+-- have it
 abbrev pub ranks_two : List Mark → State
-ranks_two marks = record { dossier = rows (programme 10 0 1 ∷ programme 20 0 1 ∷ []) [] (wish 1 81 0 2 ∷ wish 2 81 1 1 ∷ []) []; marks = marks }
+ranks_two marks = record {
+  dossier = rows (programme 10 0 1 ∷ programme 20 0 1 ∷ []) []
+      (wish 1 81 0 2 ∷ wish 2 81 1 1 ∷ []) [];
+  marks = marks;
+}
 
 abbrev pub BetterOffer : Type 0
 BetterOffer =
     let kept = marked Accepted 1 1 ∷ marked Waiting 0 0 ∷ [] in
     let better = marked Accepted 1 1 ∷ marked Offered 2 1 ∷ [] in
     ((auto_all (ranks_two kept) (record { day = 2; pass = 1 })).marks ≡ kept)
-    × ((auto_all (ranks_two better) (record { day = 2; pass = 1 })).marks ≡ marked AutoRefused 2 1 ∷ marked Accepted 2 1 ∷ [])
+    × ((auto_all (ranks_two better) (record { day = 2; pass = 1 })).marks
+    ≡ marked AutoRefused 2 1 ∷ marked Accepted 2 1 ∷ [])
 
 -- who is live in a programme or a school takes one seat or bed there, by however many wishes
 abbrev pub live_twice : State
 live_twice =
-    state (rows (programme 10 0 2 ∷ programme 20 0 1 ∷ []) (school 5 2 9 ∷ []) (boarder 1 71 0 0 1 0 ∷ wish 2 71 0 0 ∷ boarder 3 71 1 0 1 0 ∷ [])
+    state (rows (programme 10 0 2 ∷ programme 20 0 1 ∷ []) (school 5 2 9 ∷ [])
+    (boarder 1 71 0 0 1 0 ∷ wish 2 71 0 0 ∷ boarder 3 71 1 0 1 0 ∷ [])
     (Offered ∷ Accepted ∷ Offered ∷ []))
 
 abbrev pub LiveTwice : Type 0
@@ -235,18 +266,26 @@ abbrev pub lapsing_days : List DayRecord
 lapsing_days =
     day 1 (quiet [] [] (0 ∷ []) ∷ []) (0 ∷ []) []
     ∷ day 2 (quiet [] [] [] ∷ []) (0 ∷ []) []
-    ∷ record { day = 3; passes = quiet [] [] (1 ∷ []) ∷ []; left = 0 ∷ []; free = []; lapsed = record { wish = 0; offered = pos 1 } ∷ [] }
+    ∷ record {
+      day = 3;
+      passes = quiet [] [] (1 ∷ []) ∷ [];
+      left = 0 ∷ [];
+      free = [];
+      lapsed = record { wish = 0; offered = pos 1 } ∷ [];
+    }
     ∷ []
 
 abbrev pub Deadline : Type 0
 Deadline =
-    Days (Some one_day_each) two_candidates 1 (first_evening (one_seat [])) lapsing_days (record { dossier = one_seat []; marks = marked Lapsed 3 0 ∷ marked Offered 3 1 ∷ [] })
+    Days (Some one_day_each) two_candidates 1 (first_evening (one_seat [])) lapsing_days
+    (record { dossier = one_seat []; marks = marked Lapsed 3 0 ∷ marked Offered 3 1 ∷ [] })
     × (unfit_on (Some one_day_each) 3 (evening_one (late ∷ [])) ≡ Some (0, Lapsed))
     × (unfit_on (Some one_day_each) 2 (evening_one (accepts 0 ∷ [])) ≡ None)
 
 -- what is said of all wishes in an evening
 abbrev pub explained_after : State → List CallOrder → List ℕ → List ℕ → List Mark → List Explanation
-explained_after opening orders ceilings bars marks = explained (record { opening = opening; orders = orders; ceilings = ceilings; bars = bars }) marks
+explained_after opening orders ceilings bars marks =
+    explained (record { opening = opening; orders = orders; ceilings = ceilings; bars = bars }) marks
 
 abbrev pub realistic_at : List Mark → State
 realistic_at marks = record { dossier = realistic; marks = marks }
@@ -287,5 +326,6 @@ abbrev pub BarsExplained : Type 0
 BarsExplained =
     (explained_after (first_evening edges) edge_orders (4 ∷ 0 ∷ 2000000000 ∷ []) (1 ∷ 0 ∷ 2000000000 ∷ []) edge_marks
     ≡ Barred 0 2 1 (Full 0) ∷ Barred 1 1 0 Ceiling ∷ Live Offered (record { day = 1; pass = 1 }) ∷ [])
-    × (explained_after (first_evening bed_is_held) two_candidates (9 ∷ []) (1 ∷ []) (marked Accepted 0 0 ∷ marked Waiting 0 0 ∷ [])
+    × (explained_after (first_evening bed_is_held) two_candidates (9 ∷ []) (1 ∷ [])
+    (marked Accepted 0 0 ∷ marked Waiting 0 0 ∷ [])
     ≡ Live Accepted (record { day = 0; pass = 0 }) ∷ Barred 0 2 1 (Full 1) ∷ [])

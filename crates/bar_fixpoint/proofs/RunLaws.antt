@@ -7,14 +7,16 @@ use Rattle.bar_fixpoint.specs.Chosen.{TellsOfFalls}
 use Rattle.bar_fixpoint.specs.Runs.{schools_of}
 
 -- bars that are at most each other are the same
-pub unique_greatest : (sys : FallingSystem) (one other : List ℕ) → IsGreatest sys one → IsGreatest sys other → one ≡ other
+pub unique_greatest : (sys : FallingSystem) (one other : List ℕ) → IsGreatest sys one → IsGreatest sys other
+    → one ≡ other
 unique_greatest sys one other is_one is_other =
     let up = is_other.greatest one is_one.fits in
     let down = is_one.greatest other is_other.fits in
     ext_get_or 0 one other up.as_many (λ i lt. omega (arith, up.each i, down.each i))
 
 -- falls of overfilled places are those that their schools make
-picked : (sys : FallingSystem) (bars : List ℕ) (falls : List Fall) → AreFalls sys bars falls → falls_by sys bars (schools_of falls) ≡ falls
+picked : (sys : FallingSystem) (bars : List ℕ) (falls : List Fall) → AreFalls sys bars falls
+    → falls_by sys bars (schools_of falls) ≡ falls
 picked sys bars [] are = refl
 picked sys bars (f ∷ fs) are =
     let g : Fall = fall_of sys bars f.school in

@@ -1,9 +1,11 @@
 -- What the loop over falls keeps.
-use Rattle.std.proofs.Common.{◌≡◌, ℕ, ◌+◌, ◌<◌, ◌≤◌, List, [], ◌∷◌, ◌++◌, length, true, refl, sym, ap, ◌∙◌, subst, arith, append_assoc}
+use Rattle.std.proofs.Common.{◌≡◌, ℕ, ◌+◌, ◌<◌, ◌≤◌, List, [], ◌∷◌, ◌++◌, length, true, refl, sym, ap, ◌∙◌, subst}
+use Rattle.std.proofs.Common.{arith, append_assoc}
 use Rattle.std.specs.Prelude.{sum}
 use Rattle.std.proofs.lemmas.List.{length_push, append-nil}
 use Rattle.admit_core.specs.declared.records.Fall.{Fall}
-use Rattle.admit_core.specs.Falls.{FallingSystem, IsAtMost, IsLawful, IsGreatest, is_overfilled, is_settled, fall_of, fallen, bars_after, AreFalls, IsRunOfFalls}
+use Rattle.admit_core.specs.Falls.{FallingSystem, IsAtMost, IsLawful, IsGreatest, is_overfilled, is_settled, fall_of}
+use Rattle.admit_core.specs.Falls.{fallen, bars_after, AreFalls, IsRunOfFalls}
 use Rattle.admit_core.proofs.FallsLaw.{all_under, all_above, run_is_greatest}
 use Rattle.bar_fixpoint.specs.Overfilled.{all_overfilled}
 use Rattle.bar_fixpoint.specs.Runs.{AreAboveAllThatFit, schools_of}
@@ -11,29 +13,36 @@ use Rattle.bar_fixpoint.specs.Chosen.{AreChosen, PickedFall, TellsAtMostOne, End
 use Rattle.bar_fixpoint.proofs.OneFall.{sum_falls}
 
 -- the falls so far led from the ceilings to the bars
-pub record SoFar (sys : FallingSystem) (choice : List ℕ → List ℕ → ℕ) (told : List ℕ) (falls : List Fall) (bars told_now : List ℕ) : Type 0 where
+pub record SoFar (sys : FallingSystem) (choice : List ℕ → List ℕ → ℕ) (told : List ℕ) (falls : List Fall)
+    (bars told_now : List ℕ) : Type 0 where
   pub are_falls : AreFalls sys sys.ceilings falls
   pub bars_fell : bars ≡ bars_after sys.ceilings falls
   pub told_of : told_now ≡ told ++ schools_of falls
   pub chosen : AreChosen sys choice told sys.ceilings falls
   pub few : length falls + sum bars ≤ sum sys.ceilings
 
-AreFalls-push : (sys : FallingSystem) (bars : List ℕ) (fs : List Fall) (f : Fall) → AreFalls sys bars fs → is_overfilled sys (bars_after bars fs) f.school ≡ true
+AreFalls-push : (sys : FallingSystem) (bars : List ℕ) (fs : List Fall) (f : Fall) → AreFalls sys bars fs
+    → is_overfilled sys (bars_after bars fs) f.school ≡ true
     → f ≡ fall_of sys (bars_after bars fs) f.school → AreFalls sys bars (fs ++ f ∷ [])
 AreFalls-push sys bars [] f are over is = (over, is, tt)
 AreFalls-push sys bars (e ∷ fs) f are over is = (are.0, are.1, AreFalls-push sys (fallen bars e) fs f are.2 over is)
 
-bars_after-push : (bars : List ℕ) (fs : List Fall) (f : Fall) → bars_after bars (fs ++ f ∷ []) ≡ fallen (bars_after bars fs) f
+bars_after-push : (bars : List ℕ) (fs : List Fall) (f : Fall)
+    → bars_after bars (fs ++ f ∷ []) ≡ fallen (bars_after bars fs) f
 bars_after-push bars [] f = refl
 bars_after-push bars (e ∷ fs) f = bars_after-push (fallen bars e) fs f
 
-AreChosen-push : (sys : FallingSystem) (choice : List ℕ → List ℕ → ℕ) (told bars : List ℕ) (fs : List Fall) (f : Fall) → AreChosen sys choice told bars fs
-    → f.school ≡ choice (told ++ schools_of fs) (all_overfilled sys (bars_after bars fs)) → AreChosen sys choice told bars (fs ++ f ∷ [])
-AreChosen-push sys choice told bars [] f chosen is = (is ∙ ap (λ x. choice x (all_overfilled sys bars)) (append-nil told), tt)
+AreChosen-push : (sys : FallingSystem) (choice : List ℕ → List ℕ → ℕ) (told bars : List ℕ) (fs : List Fall) (f : Fall)
+    → AreChosen sys choice told bars fs
+    → f.school ≡ choice (told ++ schools_of fs) (all_overfilled sys (bars_after bars fs))
+    → AreChosen sys choice told bars (fs ++ f ∷ [])
+AreChosen-push sys choice told bars [] f chosen is =
+    (is ∙ ap (λ x. choice x (all_overfilled sys bars)) (append-nil told), tt)
 AreChosen-push sys choice told bars (e ∷ fs) f chosen is = (
   chosen.0,
   AreChosen-push sys choice (told ++ e.school ∷ []) (fallen bars e) fs f chosen.1
-      (is ∙ ap (λ x. choice x (all_overfilled sys (bars_after (fallen bars e) fs))) (sym (append_assoc told (e.school ∷ []) (schools_of fs)))),
+      (is ∙ ap (λ x. choice x (all_overfilled sys (bars_after (fallen bars e) fs)))
+      (sym (append_assoc told (e.school ∷ []) (schools_of fs)))),
 )
 
 schools-push : (fs : List Fall) (f : Fall) → schools_of (fs ++ f ∷ []) ≡ schools_of fs ++ f.school ∷ []
@@ -48,32 +57,46 @@ module _ (sys : FallingSystem) (lawful : IsLawful sys) (choice : List ℕ → Li
   pub none_so_far : (bars : List ℕ) → bars ≡ sys.ceilings → SoFar sys choice told [] bars told
   none_so_far bars at_ceilings =
       let same : sum bars ≡ sum sys.ceilings = ap sum at_ceilings in
-      record { are_falls = tt; bars_fell = at_ceilings; told_of = sym (append-nil told); chosen = tt; few = omega arith }
+      record {
+        are_falls = tt;
+        bars_fell = at_ceilings;
+        told_of = sym (append-nil told);
+        chosen = tt;
+        few = omega arith;
+      }
 
-  pub under_so_far : (falls : List Fall) (bars told_now : List ℕ) → SoFar sys choice told falls bars told_now → IsAtMost bars sys.ceilings
+  pub under_so_far : (falls : List Fall) (bars told_now : List ℕ) → SoFar sys choice told falls bars told_now
+      → IsAtMost bars sys.ceilings
   under_so_far falls bars told_now so_far =
       let P : List ℕ → Type 0 = λ x. IsAtMost x sys.ceilings in
-      subst P (sym so_far.bars_fell) (all_under sys lawful sys.ceilings falls (IsAtMost-refl sys.ceilings) so_far.are_falls)
+      subst P (sym so_far.bars_fell) (all_under sys lawful sys.ceilings falls
+      (IsAtMost-refl sys.ceilings) so_far.are_falls)
 
-  pub above_so_far : (falls : List Fall) (bars told_now : List ℕ) → SoFar sys choice told falls bars told_now → AreAboveAllThatFit sys bars
+  pub above_so_far : (falls : List Fall) (bars told_now : List ℕ) → SoFar sys choice told falls bars told_now
+      → AreAboveAllThatFit sys bars
   above_so_far falls bars told_now so_far others fits =
       let P : List ℕ → Type 0 = λ x. IsAtMost others x in
       subst P (sym so_far.bars_fell)
-      (all_above sys lawful others fits sys.ceilings falls (IsAtMost-refl sys.ceilings) fits.under_ceilings so_far.are_falls)
+      (all_above sys lawful others fits sys.ceilings falls
+      (IsAtMost-refl sys.ceilings) fits.under_ceilings so_far.are_falls)
 
   -- one fall more
-  pub one_more : (falls : List Fall) (bars told_now : List ℕ) (f : Fall) (told_after after : List ℕ) → SoFar sys choice told falls bars told_now
-      → PickedFall sys choice told_now bars f told_after after → SoFar sys choice told (falls ++ f ∷ []) after told_after
+  pub one_more : (falls : List Fall) (bars told_now : List ℕ) (f : Fall) (told_after after : List ℕ)
+      → SoFar sys choice told falls bars told_now
+      → PickedFall sys choice told_now bars f told_after after
+      → SoFar sys choice told (falls ++ f ∷ []) after told_after
   one_more falls bars told_now f told_after after so_far fell =
       let P : List ℕ → Type 0 = λ x. is_overfilled sys x f.school ≡ true in
-      let less : sum after < sum bars = sum_falls sys lawful choice told_now bars f told_after after (under_so_far falls bars told_now so_far) fell in
+      let less : sum after < sum bars = sum_falls sys lawful choice told_now bars f told_after after
+      (under_so_far falls bars told_now so_far) fell in
       record {
         are_falls =
             AreFalls-push sys sys.ceilings falls f so_far.are_falls (subst P so_far.bars_fell fell.overfilled)
             (fell.is_fall ∙ ap (λ x. fall_of sys x f.school) so_far.bars_fell);
         bars_fell = fell.bars_fell ∙ ap (λ x. fallen x f) so_far.bars_fell ∙ sym (bars_after-push sys.ceilings falls f);
         told_of =
-            fell.told_of ∙ ap (λ x. x ++ f.school ∷ []) so_far.told_of ∙ append_assoc told (schools_of falls) (f.school ∷ [])
+            fell.told_of ∙ ap (λ x. x ++ f.school ∷ []) so_far.told_of
+            ∙ append_assoc told (schools_of falls) (f.school ∷ [])
             ∙ ap (λ x. told ++ x) (sym (schools-push falls f));
         chosen =
             AreChosen-push sys choice told sys.ceilings falls f so_far.chosen
@@ -83,17 +106,21 @@ module _ (sys : FallingSystem) (lawful : IsLawful sys) (choice : List ℕ → Li
       }
 
   -- where no place is overfilled any more
-  pub run_so_far : (falls : List Fall) (bars told_now : List ℕ) → SoFar sys choice told falls bars told_now → is_settled sys bars ≡ true → IsRunOfFalls sys falls
+  pub run_so_far : (falls : List Fall) (bars told_now : List ℕ) → SoFar sys choice told falls bars told_now
+      → is_settled sys bars ≡ true → IsRunOfFalls sys falls
   run_so_far falls bars told_now so_far settled =
       let P : List ℕ → Type 0 = λ x. is_settled sys x ≡ true in
       record { are_falls = so_far.are_falls; settled = subst P so_far.bars_fell settled }
 
-  pub greatest_so_far : (falls : List Fall) (bars told_now : List ℕ) → SoFar sys choice told falls bars told_now → is_settled sys bars ≡ true → IsGreatest sys bars
+  pub greatest_so_far : (falls : List Fall) (bars told_now : List ℕ) → SoFar sys choice told falls bars told_now
+      → is_settled sys bars ≡ true → IsGreatest sys bars
   greatest_so_far falls bars told_now so_far settled =
-      subst (IsGreatest sys) (sym so_far.bars_fell) (run_is_greatest sys lawful falls (run_so_far falls bars told_now so_far settled))
+      subst (IsGreatest sys) (sym so_far.bars_fell)
+      (run_is_greatest sys lawful falls (run_so_far falls bars told_now so_far settled))
 
   -- where running out of memory ends the falls
-  pub early_so_far : (falls : List Fall) (bars told_now told_after : List ℕ) → SoFar sys choice told falls bars told_now → TellsAtMostOne sys choice bars told_now told_after
+  pub early_so_far : (falls : List Fall) (bars told_now told_after : List ℕ) → SoFar sys choice told falls bars told_now
+      → TellsAtMostOne sys choice bars told_now told_after
       → EndsEarly sys choice told told_after bars
   early_so_far falls bars told_now told_after so_far tells =
       let P : List ℕ → Type 0 = λ x. TellsAtMostOne sys choice bars x told_after in
@@ -106,45 +133,58 @@ module _ (sys : FallingSystem) (lawful : IsLawful sys) (choice : List ℕ → Li
       }
 
 -- the same, of the system and the choice by their present names
-module _ (sys : FallingSystem) (lawful : IsLawful sys) (choice : List ℕ → List ℕ → ℕ) (told : List ℕ) (sys_now : FallingSystem) (same : sys_now ≡ sys) where
-  pub under_now : (falls : List Fall) (bars told_now : List ℕ) → SoFar sys choice told falls bars told_now → IsAtMost bars sys_now.ceilings
+module _ (sys : FallingSystem) (lawful : IsLawful sys) (choice : List ℕ → List ℕ → ℕ) (told : List ℕ)
+    (sys_now : FallingSystem) (same : sys_now ≡ sys) where
+  pub under_now : (falls : List Fall) (bars told_now : List ℕ) → SoFar sys choice told falls bars told_now
+      → IsAtMost bars sys_now.ceilings
   under_now falls bars told_now so_far =
       let P : FallingSystem → Type 0 = λ s. IsAtMost bars s.ceilings in
       subst P (sym same) (under_so_far sys lawful choice told falls bars told_now so_far)
 
-  pub above_now : (falls : List Fall) (bars told_now after : List ℕ) → SoFar sys choice told falls bars told_now → after ≡ bars → AreAboveAllThatFit sys after
+  pub above_now : (falls : List Fall) (bars told_now after : List ℕ) → SoFar sys choice told falls bars told_now
+      → after ≡ bars → AreAboveAllThatFit sys after
   above_now falls bars told_now after so_far stayed =
       subst (AreAboveAllThatFit sys) (sym stayed) (above_so_far sys lawful choice told falls bars told_now so_far)
 
-  pub greatest_now : (falls : List Fall) (bars told_now after : List ℕ) → SoFar sys choice told falls bars told_now → after ≡ bars → is_settled sys_now bars ≡ true
+  pub greatest_now : (falls : List Fall) (bars told_now after : List ℕ) → SoFar sys choice told falls bars told_now
+      → after ≡ bars → is_settled sys_now bars ≡ true
       → IsGreatest sys after
   greatest_now falls bars told_now after so_far stayed settled =
       let P : FallingSystem → Type 0 = λ s. is_settled s bars ≡ true in
-      subst (IsGreatest sys) (sym stayed) (greatest_so_far sys lawful choice told falls bars told_now so_far (subst P same settled))
+      subst (IsGreatest sys) (sym stayed) (greatest_so_far sys lawful choice told falls bars told_now so_far
+      (subst P same settled))
 
-  falls_now : (choice_now : List ℕ → List ℕ → ℕ) (bars told_now : List ℕ) (f : Fall) (told_after after : List ℕ) → choice_now ≡ choice
-      → PickedFall sys_now choice_now told_now bars f told_after after → PickedFall sys choice told_now bars f told_after after
+  falls_now : (choice_now : List ℕ → List ℕ → ℕ) (bars told_now : List ℕ) (f : Fall) (told_after after : List ℕ)
+      → choice_now ≡ choice
+      → PickedFall sys_now choice_now told_now bars f told_after after
+      → PickedFall sys choice told_now bars f told_after after
   falls_now choice_now bars told_now f told_after after same_choice fell =
       let P : FallingSystem → Type 0 = λ s. PickedFall s choice_now told_now bars f told_after after in
       let Q : (List ℕ → List ℕ → ℕ) → Type 0 = λ c. PickedFall sys c told_now bars f told_after after in
       subst Q same_choice (subst P same fell)
 
-  pub more_now : (choice_now : List ℕ → List ℕ → ℕ) (falls longer : List Fall) (bars told_now : List ℕ) (f : Fall) (told_after after : List ℕ) → choice_now ≡ choice
-      → SoFar sys choice told falls bars told_now → longer ≡ falls ++ f ∷ [] → PickedFall sys_now choice_now told_now bars f told_after after
+  pub more_now : (choice_now : List ℕ → List ℕ → ℕ) (falls longer : List Fall) (bars told_now : List ℕ) (f : Fall)
+      (told_after after : List ℕ) → choice_now ≡ choice
+      → SoFar sys choice told falls bars told_now → longer ≡ falls ++ f ∷ []
+      → PickedFall sys_now choice_now told_now bars f told_after after
       → SoFar sys choice told longer after told_after
   more_now choice_now falls longer bars told_now f told_after after same_choice so_far pushed fell =
       let P : List Fall → Type 0 = λ fs. SoFar sys choice told fs after told_after in
       let fell_here = falls_now choice_now bars told_now f told_after after same_choice fell in
       subst P (sym pushed) (one_more sys lawful choice told falls bars told_now f told_after after so_far fell_here)
 
-  pub smaller_now : (choice_now : List ℕ → List ℕ → ℕ) (falls : List Fall) (bars told_now : List ℕ) (f : Fall) (told_after after : List ℕ) → choice_now ≡ choice
-      → SoFar sys choice told falls bars told_now → PickedFall sys_now choice_now told_now bars f told_after after → sum after < sum bars
+  pub smaller_now : (choice_now : List ℕ → List ℕ → ℕ) (falls : List Fall) (bars told_now : List ℕ) (f : Fall)
+      (told_after after : List ℕ) → choice_now ≡ choice
+      → SoFar sys choice told falls bars told_now → PickedFall sys_now choice_now told_now bars f told_after after
+      → sum after < sum bars
   smaller_now choice_now falls bars told_now f told_after after same_choice so_far fell =
       let fell_here = falls_now choice_now bars told_now f told_after after same_choice fell in
-      sum_falls sys lawful choice told_now bars f told_after after (under_so_far sys lawful choice told falls bars told_now so_far) fell_here
+      sum_falls sys lawful choice told_now bars f told_after after
+      (under_so_far sys lawful choice told falls bars told_now so_far) fell_here
 
   -- falls that nobody keeps
-  pub run_now : (falls : List Fall) (bars told_now after told_after : List ℕ) → SoFar sys choice told falls bars told_now → after ≡ bars → told_after ≡ told_now
+  pub run_now : (falls : List Fall) (bars told_now after told_after : List ℕ)
+      → SoFar sys choice told falls bars told_now → after ≡ bars → told_after ≡ told_now
       → is_settled sys_now bars ≡ true
       → IsRunBy sys choice told told_after after
   run_now falls bars told_now after told_after so_far stayed untold settled =

@@ -1,7 +1,8 @@
 -- What holds of every lawful system of falling bars, in whatever order its bars fall.
 use Rattle.std.specs.Prelude.{◌≡◌, ℕ, List, map}
 use Rattle.admit_core.specs.declared.records.Fall.{Fall}
-use Rattle.admit_core.specs.Falls.{FallingSystem, IsAtMost, IsLawful, Fits, IsGreatest, bars_after, AreFalls, IsRunOfFalls, falls_by, Leads}
+use Rattle.admit_core.specs.Falls.{FallingSystem, IsAtMost, IsLawful, Fits, IsGreatest, bars_after, AreFalls}
+use Rattle.admit_core.specs.Falls.{IsRunOfFalls, falls_by, Leads}
 
 -- the places whose bars fell, in their order
 abbrev pub schools_of : List Fall → List ℕ

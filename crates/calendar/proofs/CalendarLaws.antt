@@ -21,18 +21,34 @@ days_of_years-year (suc k) =
     let next : suc k + 10001 ≡ suc (k + 10001) = omega arith in
     let after : suc k + 1 ≡ k + 2 = omega arith in
     let shift = leap_day-shift (pos (k + 1)) (k + 10001) (ap pos (omega arith)) in
-    rw (next, after) (omega (arith, days_of_years-year k, days_of_years-suc (k + 10001), days_before_year-next k, shift))
+    rw (next, after) (omega (
+      arith,
+      days_of_years-year k,
+      days_of_years-suc
+          (k + 10001),
+      days_before_year-next k,
+      shift,
+    ))
 
 pub months_counted-same : (year months : ℕ) → months_counted (pos year) months ≡ days_of_months year months
 unfolding days_of_months months_counted
 months_counted-same year zero = refl
 months_counted-same year (suc months) = rw (months_counted-same year months) refl
 
-counted : (k m d : ℕ) → day_count (pos (k + 1)) m d ≡ days_of_years (k + 10001) + (months_counted (pos (k + 1)) (m - 1) + d - 1)
+counted : (k m d : ℕ) → day_count (pos (k + 1)) m d ≡ days_of_years (k + 10001)
+    + (months_counted (pos (k + 1)) (m - 1) + d - 1)
 unfolding day_count
 counted k m d = ap (λ n. days_of_years n + (months_counted (pos (k + 1)) (m - 1) + d - 1)) (omega arith)
 
 pub days_from_civil-day_number : (k m d : ℕ) → 1 ≤ d → days_from_civil (pos (k + 1)) m d ≡ day_number (k + 1) m d
 unfolding day_number
 days_from_civil-day_number k m d first =
-    omega (arith, signed_arith, counted k m d, days_from_civil-day_count (pos (k + 1)) m d, days_of_years-year k, months_counted-same (k + 1) (m - 1))
+    omega (
+      arith,
+      signed_arith,
+      counted k m d,
+      days_from_civil-day_count
+          (pos (k + 1)) m d,
+      days_of_years-year k,
+      months_counted-same (k + 1) (m - 1),
+    )

@@ -1,5 +1,6 @@
 -- The dates of `jiff` with a year from 1900 to 2310.
-use Rattle.std.proofs.Common.{◌≡◌, ℕ, ◌+◌, ◌-◌, ◌≤◌, Some, None, true, false, Bool, cond, refl, ap, sym, ◌∙◌, arith, ℤ, pos, neg_ℤ, ◌≤ℤ◌, unsigned_abs, nat_le}
+use Rattle.std.proofs.Common.{◌≡◌, ℕ, ◌+◌, ◌-◌, ◌≤◌, Some, None, true, false, Bool, cond, refl, ap, sym, ◌∙◌, arith, ℤ}
+use Rattle.std.proofs.Common.{pos, neg_ℤ, ◌≤ℤ◌, unsigned_abs, nat_le}
 use Rattle.std.proofs.lemmas.Bool.Decides.{nat_tests}
 use Rattle.std.proofs.lemmas.Int.{by_lt_z, ints}
 use Rattle.std.proofs.Common.{◌&&◌}
@@ -36,12 +37,30 @@ last_date = (omega (arith, signed_arith), omega arith, omega arith)
 
 pub year-from : (y : ℤ) (m d : ℕ) → IsCivilDate y m d → neg_ℤ (pos 25567) ≤ℤ days_from_civil y m d → pos 1900 ≤ℤ y
 year-from y m d h low = by_lt_z y (pos 1900)
-    (λ lt. absurd (omega (arith, signed_arith, first_day, low, day_count-lt_year y m d (pos 1900) 1 1 h (omega arith) lt, days_from_civil-day_count y m d, days_from_civil-day_count (pos 1900) 1 1)))
+    (λ lt. absurd (omega (
+      arith,
+      signed_arith,
+      first_day,
+      low,
+      day_count-lt_year y m d (pos 1900) 1 1 h
+          (omega arith) lt,
+      days_from_civil-day_count y m d,
+      days_from_civil-day_count (pos 1900) 1 1,
+    )))
     (λ ge. ge)
 
 pub year-to : (y : ℤ) (m d : ℕ) → IsCivilDate y m d → days_from_civil y m d ≤ℤ pos 124546 → y ≤ℤ pos 2310
 year-to y m d h high = by_lt_z (pos 2310) y
-    (λ lt. absurd (omega (arith, signed_arith, last_day, high, day_count-lt_year (pos 2310) 12 31 y m d last_date h.2.0 lt, days_from_civil-day_count y m d, days_from_civil-day_count (pos 2310) 12 31)))
+    (λ lt. absurd (omega (
+      arith,
+      signed_arith,
+      last_day,
+      high,
+      day_count-lt_year
+          (pos 2310) 12 31 y m d last_date h.2.0 lt,
+      days_from_civil-day_count y m d,
+      days_from_civil-day_count (pos 2310) 12 31,
+    )))
     (λ ge. ge)
 
 late : (z : ℤ) → pos 1900 ≤ℤ z → (z ≡ pos (unsigned_abs z)) × (1900 ≤ unsigned_abs z)
@@ -49,7 +68,8 @@ late (pos n) h = (refl, omega (arith, signed_arith))
 late (negsuc n) h = absurd (omega (arith, signed_arith))
 
 -- the parts of a date by its number
-pub date-parts : (d : Date) (number : ℤ) → epoch_day d ≡ number → IsCivil number → (d.year ≡ pos (unsigned_abs d.year)) × IsDateOf number (unsigned_abs d.year) d.month d.day
+pub date-parts : (d : Date) (number : ℤ) → epoch_day d ≡ number → IsCivil number
+    → (d.year ≡ pos (unsigned_abs d.year)) × IsDateOf number (unsigned_abs d.year) d.month d.day
 date-parts d number e range =
     let low = year-from d.year d.month d.day (of_date d) (rw e range.0) in
     let high = year-to d.year d.month d.day (of_date d) (rw e range.1) in
@@ -74,7 +94,8 @@ epoch d h =
     rw (h.0, m, k) known_days.0
 
 -- a span of so many days
-pub days_only : (n from : ℤ) (s : Span) → IsCivil n → from ≡ to_z w32 (of_z w32 n) → IsOnly Day (to_z w64 (of_z w64 from)) s → IsOnly Day n s
+pub days_only : (n from : ℤ) (s : Span) → IsCivil n → from ≡ to_z w32 (of_z w32 n)
+    → IsOnly Day (to_z w64 (of_z w64 from)) s → IsOnly Day n s
 days_only n from s range e only =
     let fits : FitsSigned w32 n = omega (arith, signed_arith) in
     let wide : FitsSigned w64 n = omega (arith, signed_arith) in
@@ -91,27 +112,37 @@ cast_small z n e h = let fits : FitsSigned w8 (pos n) = omega (arith, signed_ari
 short : (year month : ℕ) → days_in_month year month ≤ 31
 short year month = grind arith
 
-pub read-parts : (d : Date) (number year month day : ℤ) → epoch_day d ≡ number → IsCivil number → year ≡ d.year → month ≡ pos d.month → day ≡ pos d.day
-    → IsDateOf number (unsigned_abs (to_z w16 (of_z w16 year))) (unsigned_abs (to_z w8 (of_z w8 month))) (unsigned_abs (to_z w8 (of_z w8 day)))
+pub read-parts : (d : Date) (number year month day : ℤ) → epoch_day d ≡ number → IsCivil number → year ≡ d.year
+    → month ≡ pos d.month → day ≡ pos d.day
+    → IsDateOf number (unsigned_abs (to_z w16 (of_z w16 year))) (unsigned_abs (to_z w8 (of_z w8 month)))
+    (unsigned_abs (to_z w8 (of_z w8 day)))
 read-parts d number year month day e range y m k =
     let (same, parts) = date-parts d number e range in
     let brief = short (unsigned_abs d.year) d.month in
-    rw (cast_year year (unsigned_abs d.year) (y ∙ same) parts.year_in.1, cast_small month d.month m (omega (arith, parts.month_in)), cast_small day d.day k (omega (arith, parts.day_in, brief))) parts
+    rw (
+      cast_year year (unsigned_abs d.year) (y ∙ same) parts.year_in.1,
+      cast_small month d.month m
+          (omega (arith, parts.month_in)),
+      cast_small day d.day k (omega (arith, parts.day_in, brief)),
+    ) parts
 
-pub year-casts : (d : Date) (number year : ℤ) → epoch_day d ≡ number → IsCivil number → year ≡ d.year → (n : ℕ) × (n ≤ 2310) × (to_z w16 (of_z w16 year) ≡ pos n)
+pub year-casts : (d : Date) (number year : ℤ) → epoch_day d ≡ number → IsCivil number → year ≡ d.year
+    → (n : ℕ) × (n ≤ 2310) × (to_z w16 (of_z w16 year) ≡ pos n)
 year-casts d number year e range y =
     let (same, parts) = date-parts d number e range in
     (unsigned_abs d.year, parts.year_in.1, cast_year year (unsigned_abs d.year) (y ∙ same) parts.year_in.1)
 
 -- unsigned numbers that a date is made of
-pub i8_of : {E : Type 0} (made : Result ℤ E) (n : ℕ) (z : ℤ) → OkIff made (FitsSigned w8 (pos n)) (pos n) → Some z ≡ result_ok made → to_z w8 (of_z w8 z) ≡ pos n
+pub i8_of : {E : Type 0} (made : Result ℤ E) (n : ℕ) (z : ℤ) → OkIff made (FitsSigned w8 (pos n)) (pos n)
+    → Some z ≡ result_ok made → to_z w8 (of_z w8 z) ≡ pos n
 i8_of (Ok x) n z h e = let same : z ≡ pos n = cc in rw same (to_z-of_z h.0)
 i8_of (Err x) n z h e = cc
 
 pub i16_of : (n : ℕ) → n ≤ 2299 → to_z w16 n ≡ pos n
 i16_of n h = omega (arith, ints)
 
-pub made-parts : (d : Date) (year month day : ℕ) → 1900 ≤ year → year ≤ 2299 → IsYmd (pos year) (pos month) (pos day) d → IsDateOf (epoch_day d) year month day
+pub made-parts : (d : Date) (year month day : ℕ) → 1900 ≤ year → year ≤ 2299 → IsYmd (pos year) (pos month) (pos day) d
+    → IsDateOf (epoch_day d) year month day
 made-parts d year month day y₁ y₂ h =
     let m : d.month ≡ month = cc (h.1) in
     let k : d.day ≡ day = cc (h.2) in
@@ -125,24 +156,34 @@ made-parts d year month day y₁ y₂ h =
     }
 
 -- what is kept of a date that was made
-pub made-range : (d : Date) (year month day : ℕ) (days : ℤ) → days ≡ epoch_day d → 1900 ≤ year → year ≤ 2299 → IsYmd (pos year) (pos month) (pos day) d
-    → IsCivil (to_z w32 (of_z w32 days)) × (civil year month day ≡ Some (to_z w32 (of_z w32 days))) × IsRead (to_z w32 (of_z w32 days))
+pub made-range : (d : Date) (year month day : ℕ) (days : ℤ) → days ≡ epoch_day d → 1900 ≤ year → year ≤ 2299
+    → IsYmd (pos year) (pos month) (pos day) d
+    → IsCivil (to_z w32 (of_z w32 days)) × (civil year month day ≡ Some (to_z w32 (of_z w32 days)))
+    × IsRead (to_z w32 (of_z w32 days))
 made-range d year month day days e y₁ y₂ h =
     let made = made-parts d year month day y₁ y₂ h in
-    let (in_range, read) = rw made.number_is at (number-range year month day y₁ y₂ made.month_in.0 made.month_in.1 made.day_in.0 made.day_in.1) in
+    let (in_range, read) = rw made.number_is at (number-range year month day y₁ y₂ made.month_in.0 made.month_in.1
+    made.day_in.0 made.day_in.1) in
     let fits : FitsSigned w32 (epoch_day d) = omega (arith, signed_arith) in
     rw (e, to_z-of_z fits) (in_range, civil-parts made read, read)
 
 date_bounds : (year month day : ℕ) → (nat_le 1900 year && nat_le year 2299 && is_date year month day) ≡ true
     → (1 ≤ month) × (month ≤ 12) × (1 ≤ day) × (day ≤ days_in_month year month)
-date_bounds year month day h = (grind (arith, nat_tests), grind (arith, nat_tests), grind (arith, nat_tests), grind (arith, nat_tests))
+date_bounds year month day h = (
+  grind (arith, nat_tests),
+  grind (arith, nat_tests),
+  grind (arith, nat_tests),
+  grind
+      (arith, nat_tests),
+)
 
 unmade : (b : Bool) (x : ℤ) → ¬ (b ≡ true) → cond b (Some x) None ≡ None
 unmade true x h = absurd (h refl)
 unmade false x h = refl
 
 -- where the calendar of `jiff` has no such date
-pub civil-none : (year month day : ℕ) → 1900 ≤ year → year ≤ 2299 → ¬ (IsDate (pos year) (pos month) (pos day)) → civil year month day ≡ None
+pub civil-none : (year month day : ℕ) → 1900 ≤ year → year ≤ 2299 → ¬ (IsDate (pos year) (pos month) (pos day))
+    → civil year month day ≡ None
 civil-none year month day y₁ y₂ h = unmade _ (day_number year month day) (λ t.
     let bounds = date_bounds year month day t in
     h (omega (arith, signed_arith), omega (arith, signed_arith, bounds), omega (arith, signed_arith, bounds)))

@@ -1,5 +1,6 @@
 -- The first of a list that passes a test, and the list without it.
-use Rattle.std.proofs.Common.{ℕ, zero, suc, ◌+◌, ◌≡◌, Bool, List, [], ◌∷◌, length, drop, map, inl, inr, refl, ap, arith, Some, None, nat_cmp, zero-add}
+use Rattle.std.proofs.Common.{ℕ, zero, suc, ◌+◌, ◌≡◌, Bool, List, [], ◌∷◌, length, drop, map, inl, inr, refl, ap, arith}
+use Rattle.std.proofs.Common.{Some, None, nat_cmp, zero-add}
 use Rattle.std.specs.Prelude.{find, slice_get}
 use Rattle.std.specs.List.{position_or_len, AllByRecursion}
 use Rattle.std.specs.List.Sorted.{IsStrictlyIncreasing, IsStrictlySortedBy}
@@ -11,7 +12,8 @@ use Rattle.std.proofs.lemmas.Map.Keys.{IsStrictlyIncreasing-from_sorted, sorted_
 use Rattle.call_order.specs.Kinds.{without_first}
 
 -- the first from the first place on stands there
-pub find-drop-position : {X : Type 0} (test : X → Bool) (xs : List X) → find test (drop (position_or_len test xs) xs) ≡ slice_get xs (position_or_len test xs)
+pub find-drop-position : {X : Type 0} (test : X → Bool) (xs : List X)
+    → find test (drop (position_or_len test xs) xs) ≡ slice_get xs (position_or_len test xs)
 find-drop-position test [] = refl
 find-drop-position test (x ∷ xs) =
     elim (cases_Bool (test x)) [
@@ -43,7 +45,8 @@ without_first-none test (x ∷ xs) e =
       | inr fails ↦ rw fails (ap (λ ys. x ∷ ys) (without_first-none test xs (rw fails at e)))
     ]
 
-pub length-without_first : {X : Type 0} (test : X → Bool) (xs : List X) (x : X) → find test xs ≡ Some x → length (without_first test xs) + 1 ≡ length xs
+pub length-without_first : {X : Type 0} (test : X → Bool) (xs : List X) (x : X) → find test xs ≡ Some x
+    → length (without_first test xs) + 1 ≡ length xs
 length-without_first test [] x e = absurd (cc)
 length-without_first test (y ∷ ys) x e =
     elim (cases_Bool (test y)) [
@@ -51,7 +54,8 @@ length-without_first test (y ∷ ys) x e =
       | inr fails ↦ rw fails (omega (arith, length-without_first test ys x (rw fails at e)))
     ]
 
-all_without : {X : Type 0} (P : ℕ → Type 0) (key : X → ℕ) (test : X → Bool) (xs : List X) → AllByRecursion P (map key xs) → AllByRecursion P (map key (without_first test xs))
+all_without : {X : Type 0} (P : ℕ → Type 0) (key : X → ℕ) (test : X → Bool) (xs : List X)
+    → AllByRecursion P (map key xs) → AllByRecursion P (map key (without_first test xs))
 all_without P key test [] all = tt
 all_without P key test (x ∷ xs) all =
     elim (cases_Bool (test x)) [
@@ -59,7 +63,8 @@ all_without P key test (x ∷ xs) all =
       | inr fails ↦ rw fails (all.0, all_without P key test xs all.1)
     ]
 
-sorted_without : {X : Type 0} (key : X → ℕ) (test : X → Bool) (xs : List X) → IsStrictlySortedBy nat_cmp (map key xs) → IsStrictlySortedBy nat_cmp (map key (without_first test xs))
+sorted_without : {X : Type 0} (key : X → ℕ) (test : X → Bool) (xs : List X) → IsStrictlySortedBy nat_cmp (map key xs)
+    → IsStrictlySortedBy nat_cmp (map key (without_first test xs))
 unfolding IsStrictlySortedBy
 sorted_without key test [] sorted = tt
 sorted_without key test (x ∷ xs) sorted =
@@ -69,6 +74,7 @@ sorted_without key test (x ∷ xs) sorted =
     ]
 
 -- without the first that passes a list still rises
-pub rises_without_first : {X : Type 0} (key : X → ℕ) (test : X → Bool) (xs : List X) → IsStrictlyIncreasing (map key xs) → IsStrictlyIncreasing (map key (without_first test xs))
+pub rises_without_first : {X : Type 0} (key : X → ℕ) (test : X → Bool) (xs : List X) → IsStrictlyIncreasing (map key xs)
+    → IsStrictlyIncreasing (map key (without_first test xs))
 rises_without_first key test xs rises =
     IsStrictlyIncreasing-from_sorted _ (sorted_without key test xs (sorted_from_strictly_increasing _ rises))

@@ -1,5 +1,6 @@
 -- A call order in the making by the queues: what holds of the calls so far.
-use Rattle.std.proofs.Common.{ℕ, ◌+◌, ◌≤◌, ◌<◌, ◌≡◌, false, not, List, [], ◌∷◌, ◌++◌, map, length, refl, sym, ◌∙◌, ap, arith, filter, Some, None, nat_eq, count_by}
+use Rattle.std.proofs.Common.{ℕ, ◌+◌, ◌≤◌, ◌<◌, ◌≡◌, false, not, List, [], ◌∷◌, ◌++◌, map, length, refl, sym, ◌∙◌, ap}
+use Rattle.std.proofs.Common.{arith, filter, Some, None, nat_eq, count_by}
 use Rattle.std.specs.Prelude.{option_map, find}
 use Rattle.std.specs.List.{IsDistinct}
 use Rattle.std.specs.List.Sorted.{IsStrictlyIncreasing}
@@ -37,10 +38,15 @@ rates_of g = record { scholar_pct = g.scholar_pct; resident_pct = g.resident_pct
 
 abbrev tally_of : RankGroup → List ℕ → Tally
 tally_of g list =
-    record { calls = length list; scholars = count_by (λ r. r.scholar) (called g list); residents = count_by (λ r. r.resident) (called g list) }
+    record {
+      calls = length list;
+      scholars = count_by (λ r. r.scholar) (called g list);
+      residents = count_by (λ r. r.resident) (called g list);
+    }
 
 -- the calls so far are right, the tally counts them, and exactly the others remain
-pub record QueuedSoFar (g : RankGroup) (list : List ℕ) (trace : List Bound) (counts : Tally) (rs : List Ranked) : Type 0 where
+pub record QueuedSoFar (g : RankGroup) (list : List ℕ) (trace : List Bound) (counts : Tally) (rs : List Ranked) :
+    Type 0 where
   pub calls : CallsSoFar g list trace
   pub remaining : rs ≡ remaining g list
   pub count : length list + length rs ≡ length g.list
@@ -53,7 +59,8 @@ nothing (x ∷ xs) = nothing xs
 none_called : (g : RankGroup) → called g [] ≡ []
 none_called g = nothing g.list
 
-pub queued_none : (g : RankGroup) (rs : List Ranked) → rs ≡ g.list → QueuedSoFar g [] [] (record { calls = 0; scholars = 0; residents = 0 }) rs
+pub queued_none : (g : RankGroup) (rs : List Ranked) → rs ≡ g.list
+    → QueuedSoFar g [] [] (record { calls = 0; scholars = 0; residents = 0 }) rs
 queued_none g rs e =
     record {
       calls = calls_none g;
@@ -66,21 +73,27 @@ abbrev with_bound : Bound → Ranked → Ranked × Bound
 with_bound bound r = (r, bound)
 
 -- what is called by the tally and by those who remain is the next one of the rule
-call_is : (g : RankGroup) (list : List ℕ) (trace : List Bound) (tally : Tally) (rs : List Ranked) → QueuedSoFar g list trace tally rs
-    → call_by (rates_of g) tally rs ≡ option_map (with_bound (bound_after g list)) (find (may_be_called (bound_after g list)) (remaining g list))
+call_is : (g : RankGroup) (list : List ℕ) (trace : List Bound) (tally : Tally) (rs : List Ranked)
+    → QueuedSoFar g list trace tally rs
+    → call_by (rates_of g) tally rs ≡ option_map (with_bound (bound_after g list))
+    (find (may_be_called (bound_after g list)) (remaining g list))
 call_is g list trace tally rs so_far = rw (so_far.tally, so_far.remaining) refl
 
--- a call by the heads: it is the next one of the rule, it is the head of its kind, and what holds so far still holds after it
-pub record QueuedCall (g : RankGroup) (list : List ℕ) (trace : List Bound) (tally : Tally) (rs : List Ranked) (r : Ranked) (b : Bound) : Type 0 where
+-- a call by the heads: it is the next one of the rule, it is the head of its kind, and what holds so far still holds
+-- after it
+pub record QueuedCall (g : RankGroup) (list : List ℕ) (trace : List Bound) (tally : Tally) (rs : List Ranked)
+    (r : Ranked) (b : Bound) : Type 0 where
   pub head : head_of (kind_of r) rs ≡ Some r
   pub fewer : length (without_head (kind_of r) rs) < length rs
   pub room : length list < length g.list
   pub calls : tally.calls ≡ length list
   pub scholars : tally.scholars ≤ tally.calls
   pub residents : tally.residents ≤ tally.calls
-  pub still : QueuedSoFar g (list ++ r.candidate ∷ []) (trace ++ b ∷ []) (more_called tally r) (without_head (kind_of r) rs)
+  pub still : QueuedSoFar g (list ++ r.candidate ∷ []) (trace ++ b ∷ []) (more_called tally r)
+      (without_head (kind_of r) rs)
 
-tally_push : (g : RankGroup) (list : List ℕ) (r : Ranked) (b : Bound) → IsRanking g → find (may_be_called b) (remaining g list) ≡ Some r
+tally_push : (g : RankGroup) (list : List ℕ) (r : Ranked) (b : Bound) → IsRanking g
+    → find (may_be_called b) (remaining g list) ≡ Some r
     → more_called (tally_of g list) r ≡ tally_of g (list ++ r.candidate ∷ [])
 tally_push g list r b ranking found =
     rw (
@@ -89,22 +102,27 @@ tally_push g list r b ranking found =
       count_called_push (λ (x : Ranked). x.resident) (may_be_called b) g list r ranking.candidates found,
     ) refl
 
-pub queued_push : {g : RankGroup} {list : List ℕ} {trace : List Bound} {tally : Tally} {rs : List Ranked} {r : Ranked} {b : Bound} → QueuedSoFar g list trace tally rs
+pub queued_push : {g : RankGroup} {list : List ℕ} {trace : List Bound} {tally : Tally} {rs : List Ranked} {r : Ranked}
+    {b : Bound} → QueuedSoFar g list trace tally rs
     → IsRanking g → call_by (rates_of g) tally rs ≡ Some (r, b) → QueuedCall g list trace tally rs r b
 queued_push {g} {list} {trace} {tally} {rs} {r} {b} so_far ranking e =
     let key = λ (x : Ranked). x.candidate in
     let here = remaining g list in
     let under = bound_after g list in
-    let (x, at_first, is) = mapped_some (with_bound under) (find (may_be_called under) here) (r, b) (sym (call_is g list trace tally rs so_far) ∙ e) in
+    let (x, at_first, is) = mapped_some (with_bound under) (find (may_be_called under) here) (r, b)
+    (sym (call_is g list trace tally rs so_far) ∙ e) in
     let bound = ap (λ (y : Ranked × Bound). y.1) is in
     let first = at_first ∙ ap Some (ap (λ (y : Ranked × Bound). y.0) is) in
-    let found : find (may_be_called b) here ≡ Some r = ap (λ under. find (may_be_called under) here) (sym bound) ∙ first in
+    let found : find (may_be_called b) here ≡ Some r =
+    ap (λ under. find (may_be_called under) here) (sym bound) ∙ first in
     let may = find_passes (may_be_called b) here r found in
-    let next : next_after g list ≡ Some (r.candidate, b) = next_is_first g list ranking.ranks ∙ rw first (rw bound refl) in
+    let next : next_after g list ≡ Some (r.candidate, b) =
+    next_is_first g list ranking.ranks ∙ rw first (rw bound refl) in
     let own = head_of_own_kind b here r found may in
     let apart = distinct_filter key (λ (x : Ranked). not (is_among x.candidate list)) g.list ranking.candidates in
     let fewer = length-without_first (is_of (kind_of r)) here r own in
-    let goes = without_first-filter key (is_of (kind_of r)) here r apart own ∙ sym (remaining_push g list r.candidate) in
+    let goes = without_first-filter key (is_of (kind_of r)) here r apart own
+    ∙ sym (remaining_push g list r.candidate) in
     let parts = length-parts g list in
     let long = ap length so_far.remaining in
     let scholars = count_by-le-length (λ (x : Ranked). x.scholar) (called g list) in
@@ -131,12 +149,14 @@ pub record QueuedEnd (g : RankGroup) (list : List ℕ) (trace : List Bound) (rs 
   pub laws : KeepsOrderLaws g (record { list = list; trace = trace })
   pub nobody : rs ≡ []
 
-pub queued_done : {g : RankGroup} {list : List ℕ} {trace : List Bound} {tally : Tally} {rs : List Ranked} → QueuedSoFar g list trace tally rs → IsRanking g
+pub queued_done : {g : RankGroup} {list : List ℕ} {trace : List Bound} {tally : Tally} {rs : List Ranked}
+    → QueuedSoFar g list trace tally rs → IsRanking g
     → call_by (rates_of g) tally rs ≡ None → QueuedEnd g list trace rs
 queued_done {g} {list} {trace} {tally} {rs} so_far ranking e =
     let here = remaining g list in
     let bound = bound_after g list in
-    let none = mapped_none (with_bound bound) (find (may_be_called bound) here) (sym (call_is g list trace tally rs so_far) ∙ e) in
+    let none = mapped_none (with_bound bound) (find (may_be_called bound) here)
+    (sym (call_is g list trace tally rs so_far) ∙ e) in
     let next : next_after g list ≡ None = next_is_first g list ranking.ranks ∙ rw none refl in
     let order = calls_done g list trace so_far.calls next in
     record {

@@ -1,12 +1,14 @@
 -- Those of a list who stand at the place from which their kind remains, or behind it.
-use Rattle.std.proofs.Common.{ℕ, zero, suc, ◌+◌, ◌≤◌, ◌≡◌, Bool, true, false, List, [], ◌∷◌, drop, inl, inr, refl, ap, arith, Some, nat_le}
+use Rattle.std.proofs.Common.{ℕ, zero, suc, ◌+◌, ◌≤◌, ◌≡◌, Bool, true, false, List, [], ◌∷◌, drop, inl, inr, refl, ap}
+use Rattle.std.proofs.Common.{arith, Some, nat_le}
 use Rattle.std.specs.Prelude.{find, slice_get}
 use Rattle.std.specs.List.{position_or_len}
 use Rattle.std.proofs.lemmas.Bool.{cases_Bool, le-leb, lt-leb}
 use Rattle.call_order.specs.Kinds.{without_first}
 use Rattle.call_order.specs.Heads.{standing}
 
-find_past : {X : Type 0} (from : X → ℕ) (test : X → Bool) (p n : ℕ) → ((x : X) → test x ≡ true → from x ≡ p) → p ≤ n → (xs : List X)
+find_past : {X : Type 0} (from : X → ℕ) (test : X → Bool) (p n : ℕ) → ((x : X) → test x ≡ true → from x ≡ p) → p ≤ n
+    → (xs : List X)
     → find test (standing from n xs) ≡ find test xs
 find_past from test p n at le [] = refl
 find_past from test p n at le (x ∷ xs) =
@@ -21,7 +23,8 @@ find_past from test p n at le (x ∷ xs) =
     ]
 
 -- where those who pass a test stand from the place p on, the first of them is the first from there on
-pub find-standing : {X : Type 0} (from : X → ℕ) (test : X → Bool) (p n k : ℕ) → ((x : X) → test x ≡ true → from x ≡ p) → p ≡ n + k → (xs : List X)
+pub find-standing : {X : Type 0} (from : X → ℕ) (test : X → Bool) (p n k : ℕ) → ((x : X) → test x ≡ true → from x ≡ p)
+    → p ≡ n + k → (xs : List X)
     → find test (standing from n xs) ≡ find test (drop k xs)
 find-standing from test p n zero at e xs = find_past from test p n at (omega arith) xs
 find-standing from test p n (suc k) at e [] = refl
@@ -42,7 +45,8 @@ pub record Moves {X : Type 0} (old new : X → ℕ) (test : X → Bool) (p q : �
   pub was : (x : X) → test x ≡ true → old x ≡ p
   pub is : (x : X) → test x ≡ true → new x ≡ q
 
-moves_past : {X : Type 0} (old new : X → ℕ) (test : X → Bool) (p q n : ℕ) → Moves old new test p q → p ≤ n → (xs : List X) → q ≤ n + position_or_len test xs
+moves_past : {X : Type 0} (old new : X → ℕ) (test : X → Bool) (p q n : ℕ) → Moves old new test p q → p ≤ n
+    → (xs : List X) → q ≤ n + position_or_len test xs
     → standing new n xs ≡ standing old n xs
 moves_past old new test p q n moves le [] far = refl
 moves_past old new test p q n moves le (x ∷ xs) far =
@@ -65,7 +69,8 @@ moves_past old new test p q n moves le (x ∷ xs) far =
 
 -- where p is the place of one who passes, and q the next such place, exactly that one goes
 pub standing-moves : {X : Type 0} (old new : X → ℕ) (test : X → Bool) (p q n k : ℕ) → Moves old new test p q → p ≡ n + k
-    → (xs : List X) (x : X) → slice_get xs k ≡ Some x → test x ≡ true → q ≡ p + 1 + position_or_len test (drop (suc k) xs)
+    → (xs : List X) (x : X) → slice_get xs k ≡ Some x → test x ≡ true
+    → q ≡ p + 1 + position_or_len test (drop (suc k) xs)
     → standing new n xs ≡ without_first test (standing old n xs)
 standing-moves old new test p q n k moves e [] x here passes next = absurd (cc)
 standing-moves old new test p q n zero moves e (y ∷ ys) x here passes next =

@@ -1,5 +1,6 @@
 -- Rows of the state that accept a wish.
-use Rattle.std.proofs.Common.{◌≡◌, ℕ, Bool, true, false, ◌&&◌, nat_eq, List, [], ◌∷◌, if◌then◌else◌, option_map, Option, Some, None, refl, ap}
+use Rattle.std.proofs.Common.{◌≡◌, ℕ, Bool, true, false, ◌&&◌, nat_eq, List, [], ◌∷◌, if◌then◌else◌, option_map, Option}
+use Rattle.std.proofs.Common.{Some, None, refl, ap}
 use Rattle.std.specs.List.{list_any}
 use Rattle.admit_core.proofs.Plain.{and_false, nat_eq_sym}
 use Rattle.admit_core.specs.declared.refusal.Reason.TheVariants.{TwoAccepted}
@@ -31,8 +32,10 @@ module _ (t : Tables) (row : StateRow) where
       by true f =
           let nobody : candidate_with t row.wish ≡ None = rw f at e in
           rw (f, nobody)
-          (ap (λ o. option_map TwoAccepted (option_map row_number o)) (position-none (λ r. is_accepted r.status && same_candidate None (candidate_with t r.wish)) before
-          (none_any (λ r. is_accepted r.status && same_candidate None (candidate_with t r.wish)) before (λ r. and_false (is_accepted r.status)))))
+          (ap (λ o. option_map TwoAccepted (option_map row_number o))
+          (position-none (λ r. is_accepted r.status && same_candidate None (candidate_with t r.wish)) before
+          (none_any (λ r. is_accepted r.status && same_candidate None (candidate_with t r.wish)) before
+          (λ r. and_false (is_accepted r.status)))))
 
   pub is_accepted_of-none : (k : ℕ) → accepting t row ≡ None → is_accepted_of t k row ≡ false
   is_accepted_of-none k e = by (is_accepted row.status) refl
@@ -42,8 +45,11 @@ module _ (t : Tables) (row : StateRow) where
       by true f = let nobody : candidate_with t row.wish ≡ None = rw f at e in rw (f, nobody) refl
 
   module _ (candidate : ℕ) (e : accepting t row ≡ Some candidate) where
-    pub two_accepted-some : (before : List StateRow) → two_accepted t before row ≡ option_map TwoAccepted (first_row (is_accepted_of t candidate) before)
-    two_accepted-some before = let (f, own) = accepting-some (is_accepted row.status) (candidate_with t row.wish) candidate e in rw (f, own) refl
+    pub two_accepted-some : (before : List StateRow)
+        → two_accepted t before row ≡ option_map TwoAccepted (first_row (is_accepted_of t candidate) before)
+    two_accepted-some before = let (f, own) =
+        accepting-some (is_accepted row.status) (candidate_with t row.wish) candidate e in rw (f, own) refl
 
     pub is_accepted_of-some : (k : ℕ) → is_accepted_of t k row ≡ nat_eq candidate k
-    is_accepted_of-some k = let (f, own) = accepting-some (is_accepted row.status) (candidate_with t row.wish) candidate e in rw (f, own) (nat_eq_sym k candidate)
+    is_accepted_of-some k = let (f, own) = accepting-some (is_accepted row.status)
+        (candidate_with t row.wish) candidate e in rw (f, own) (nat_eq_sym k candidate)

@@ -8,7 +8,8 @@ use Rattle.dossier_check.specs.Dealt.{built}
 
 pub zip_built : {V : Type 0} (items : V → List Ranked) (rankings : List RankRow) (rows : List GroupRow) (lists : List V)
     → map items lists ≡ map (ranked_in rankings) (map (λ g. g.id) rows)
-    → map {A = GroupRow × V} (λ p. built p.0 (items p.1)) (zip rows lists) ≡ map (λ g. built g (ranked_in rankings g.id)) rows
+    → map {A = GroupRow × V} (λ p. built p.0 (items p.1)) (zip rows lists)
+    ≡ map (λ g. built g (ranked_in rankings g.id)) rows
 zip_built items rankings [] lists e = refl
 zip_built items rankings (g ∷ rows) [] e = cc
 zip_built items rankings (g ∷ rows) (l ∷ lists) e =

@@ -1,5 +1,6 @@
 -- What dealt rankings tell of the rows.
-use Rattle.std.proofs.Common.{◌≡◌, ℕ, ◌<◌, suc, Bool, true, false, ◌&&◌, nat_eq, List, [], ◌∷◌, length, map, filter, get_or, None, refl, sym, ap, ◌∙◌, subst, arith, true≢false, All, AllPairs}
+use Rattle.std.proofs.Common.{◌≡◌, ℕ, ◌<◌, suc, Bool, true, false, ◌&&◌, nat_eq, List, [], ◌∷◌, length, map, filter}
+use Rattle.std.proofs.Common.{get_or, None, refl, sym, ap, ◌∙◌, subst, arith, true≢false, All, AllPairs}
 use Prim.Native.Nat.{zero}
 use Rattle.std.specs.List.{IsDistinct, AllByRecursion}
 use Rattle.std.proofs.lemmas.Bool.Decides.{nat_tests}
@@ -25,7 +26,8 @@ use Rattle.admit_core.proofs.NoFaults.{no_tests, and_then, none_in, differ, all_
 use Rattle.dossier_check.proofs.ValidRankings.{map-ranked_in}
 
 -- what holds of each list holds of the list that an id has
-pub list_with : {V X : Type 0} (items : V → X) (f : ℕ → X) (P : X → Type 0) (vs : List V) (ids : List ℕ) → map items vs ≡ map f ids
+pub list_with : {V X : Type 0} (items : V → X) (f : ℕ → X) (P : X → Type 0) (vs : List V) (ids : List ℕ)
+    → map items vs ≡ map f ids
     → All (λ v. P (items v)) vs → (id : ℕ) → is_among id ids ≡ true → P (f id)
 list_with items f P vs [] e all id known = absurd (true≢false (sym known))
 list_with items f P [] (i ∷ ids) e all id known = cc
@@ -37,19 +39,23 @@ list_with items f P (v ∷ vs) (i ∷ ids) e all id known = by (nat_eq id i) ref
     tails : map items vs ≡ map f ids
     tails = cc
 
-    by : (b : Bool) → nat_eq id i ≡ b → (map items vs ≡ map f ids → All (λ u. P (items u)) vs → (n : ℕ) → is_among n ids ≡ true → P (f n)) → P (f id)
+    by : (b : Bool) → nat_eq id i ≡ b → (map items vs ≡ map f ids → All (λ u. P (items u)) vs → (n : ℕ)
+        → is_among n ids ≡ true → P (f n)) → P (f id)
     by true g rest = let same : id ≡ i = nat_eq_sound id i g in rw same (subst P heads (all 0 v (omega arith)))
     by false g rest = rest tails (λ k d lt. all (suc k) d (omega arith)) id (rw g at known)
 
 module _ {R K : Type 0} (p : R → Bool) (eq : K → K → Bool) (key : R → K) where
-  later_apart : (n : K) (rows : List R) → AllByRecursion (λ m. eq n m ≡ false) (map key (filter p rows)) → (k : ℕ) (d : R) → k < length rows
+  later_apart : (n : K) (rows : List R) → AllByRecursion (λ m. eq n m ≡ false) (map key (filter p rows))
+      → (k : ℕ) (d : R) → k < length rows
       → p (get_or rows k d) ≡ true → eq n (key (get_or rows k d)) ≡ false
   later_apart n [] apart k d lt e = absurd (omega arith)
   later_apart n (r ∷ rows) apart k d lt e = by (p r) refl (later_apart n rows) k lt e
     where
       by : (b : Bool) → p r ≡ b
-          → (AllByRecursion (λ m. eq n m ≡ false) (map key (filter p rows)) → (i : ℕ) (d : R) → i < length rows → p (get_or rows i d) ≡ true → eq n (key (get_or rows i d)) ≡ false)
-          → (i : ℕ) → i < length (r ∷ rows) → p (get_or (r ∷ rows) i d) ≡ true → eq n (key (get_or (r ∷ rows) i d)) ≡ false
+          → (AllByRecursion (λ m. eq n m ≡ false) (map key (filter p rows)) → (i : ℕ) (d : R) → i < length rows
+          → p (get_or rows i d) ≡ true → eq n (key (get_or rows i d)) ≡ false)
+          → (i : ℕ) → i < length (r ∷ rows) → p (get_or (r ∷ rows) i d) ≡ true
+          → eq n (key (get_or (r ∷ rows) i d)) ≡ false
       by true f rest zero i_lt g = let here = rw f at apart in here.0
       by true f rest (suc i) i_lt g = let here = rw f at apart in rest here.1 i d (omega arith) g
       by false f rest zero i_lt g = absurd (true≢false (sym g ∙ f))
@@ -61,8 +67,10 @@ module _ {R K : Type 0} (p : R → Bool) (eq : K → K → Bool) (key : R → K)
   filtered_apart [] apart i j d lt within e f = absurd (omega arith)
   filtered_apart (r ∷ rows) apart i j d lt within e f = by (p r) refl (filtered_apart rows) i j lt within e f
     where
-      by : (b : Bool) → p r ≡ b → (IsDistinct eq (map key (filter p rows)) → AllPairs (λ q row. p q ≡ true → p row ≡ true → eq (key q) (key row) ≡ false) rows)
-          → (m n : ℕ) → m < n → n < length (r ∷ rows) → p (get_or (r ∷ rows) m d) ≡ true → p (get_or (r ∷ rows) n d) ≡ true
+      by : (b : Bool) → p r ≡ b → (IsDistinct eq (map key (filter p rows))
+          → AllPairs (λ q row. p q ≡ true → p row ≡ true → eq (key q) (key row) ≡ false) rows)
+          → (m n : ℕ) → m < n → n < length (r ∷ rows) → p (get_or (r ∷ rows) m d) ≡ true
+          → p (get_or (r ∷ rows) n d) ≡ true
           → eq (key (get_or (r ∷ rows) m d)) (key (get_or (r ∷ rows) n d)) ≡ false
       by b g rest m zero m_lt n_lt em en = absurd (omega arith)
       by true g rest zero (suc n) m_lt n_lt em en =
@@ -75,16 +83,20 @@ module _ {R K : Type 0} (p : R → Bool) (eq : K → K → Bool) (key : R → K)
       by false g rest (suc m) (suc n) m_lt n_lt em en = rest (rw g at apart) m n d (omega arith) (omega arith) em en
 
 -- what no two have in common in order, no two have before
-distinct_before_by : {X : Type 0} (by key : X → ℕ) (xs : List X) → IsDistinct nat_eq (map key (sorted_by by xs)) → IsDistinct nat_eq (map key xs)
+distinct_before_by : {X : Type 0} (by key : X → ℕ) (xs : List X) → IsDistinct nat_eq (map key (sorted_by by xs))
+    → IsDistinct nat_eq (map key xs)
 distinct_before_by by key xs apart =
     let back = IsPermutation-sym xs (sorted_by by xs) (IsPermutation-sorted_by by xs) in
-    IsDistinct-IsPermutation nat_eq nat_eq_sym (map key (sorted_by by xs)) (map key xs) (IsPermutation-map key (sorted_by by xs) xs back) apart
+    IsDistinct-IsPermutation nat_eq nat_eq_sym (map key (sorted_by by xs)) (map key xs)
+    (IsPermutation-map key (sorted_by by xs) xs back) apart
 
 distinct_before : (xs : List ℕ) → IsDistinct nat_eq (sorted_by (λ n. n) xs) → IsDistinct nat_eq xs
 distinct_before xs apart =
-    IsDistinct-IsPermutation nat_eq nat_eq_sym (sorted_by (λ n. n) xs) xs (IsPermutation-sym xs (sorted_by (λ n. n) xs) (IsPermutation-sorted_by (λ n. n) xs)) apart
+    IsDistinct-IsPermutation nat_eq nat_eq_sym (sorted_by (λ n. n) xs) xs
+    (IsPermutation-sym xs (sorted_by (λ n. n) xs) (IsPermutation-sorted_by (λ n. n) xs)) apart
 
-both_false : (g h m n : ℕ) (b : Bool) → nat_eq h g ≡ b → (b ≡ true → nat_eq m n ≡ false) → (nat_eq h g && nat_eq n m) ≡ false
+both_false : (g h m n : ℕ) (b : Bool) → nat_eq h g ≡ b → (b ≡ true → nat_eq m n ≡ false)
+    → (nat_eq h g && nat_eq n m) ≡ false
 both_false g h m n true e differ = rw e (nat_eq_sym n m ∙ differ refl)
 both_false g h m n false e differ = rw e refl
 
@@ -98,7 +110,8 @@ rows_apart rows key groups known apart i j d lt within =
     let own : IsDistinct nat_eq (map (λ q. key (ranked_row q)) (filter (λ q. nat_eq r.group q.group) rows)) =
     subst (IsDistinct nat_eq) (sym (map-ranked_in rows r.group key)) (apart r.group (known i d (omega arith))) in
     both_false r.group row.group (key (ranked_row r)) (key (ranked_row row)) (nat_eq row.group r.group) refl
-    (λ e. filtered_apart (λ q. nat_eq r.group q.group) nat_eq (λ q. key (ranked_row q)) rows own i j d lt within (self r.group) (nat_eq_sym r.group row.group ∙ e))
+    (λ e. filtered_apart (λ q. nat_eq r.group q.group) nat_eq (λ q. key (ranked_row q)) rows own i j d lt within
+    (self r.group) (nat_eq_sym r.group row.group ∙ e))
   where
     self : (n : ℕ) → nat_eq n n ≡ true
     self n = grind (arith, nat_tests)
@@ -112,7 +125,8 @@ no_rank_fault t dealt is known candidates ranks =
     let ids : List ℕ = group_ids t in
     let people : AllPairs (λ r row. (nat_eq row.group r.group && nat_eq row.candidate r.candidate) ≡ false) t.rankings =
     rows_apart t.rankings (λ r. r.candidate) ids known
-    (λ group there. distinct_before _ (list_with (λ l. l.items) _ (IsDistinct nat_eq) dealt.candidates.items ids is.candidates candidates group there)) in
+    (λ group there. distinct_before _ (list_with (λ l. l.items) _ (IsDistinct nat_eq) dealt.candidates.items ids
+    is.candidates candidates group there)) in
     let ordered : ℕ → List Ranked = λ group. sorted_by (λ r. r.rank) (ranked_in t.rankings group) in
     let lists : map (λ g. g.list) dealt.rankings.items ≡ map ordered ids =
     ap (map (λ (g : RankGroup). g.list)) is.rankings
@@ -121,8 +135,10 @@ no_rank_fault t dealt is known candidates ranks =
     let places : AllPairs (λ r row. (nat_eq row.group r.group && nat_eq row.rank r.rank) ≡ false) t.rankings =
     rows_apart t.rankings (λ r. r.rank) ids known
     (λ group there. distinct_before_by (λ r. r.rank) (λ r. r.rank) (ranked_in t.rankings group)
-    (list_with (λ g. g.list) ordered (λ l. IsDistinct nat_eq (map (λ r. r.rank) l)) dealt.rankings.items ids lists ranks group there)) in
+    (list_with (λ g. g.list) ordered (λ l. IsDistinct nat_eq (map (λ r. r.rank) l)) dealt.rankings.items ids lists ranks
+    group there)) in
     none_in slots.Rankings (ranking_tests t) t.rankings
     (and_then (differ (λ row r. nat_eq row.group r.group && nat_eq row.candidate r.candidate) Repeat t.rankings people)
     (and_then (all_known (λ row. is_among row.group ids) (Unknown 1) t.rankings known)
-    (and_then (differ (λ row r. nat_eq row.group r.group && nat_eq row.rank r.rank) RankTaken t.rankings places) no_tests)))
+    (and_then (differ (λ row r. nat_eq row.group r.group && nat_eq row.rank r.rank) RankTaken t.rankings places)
+    no_tests)))

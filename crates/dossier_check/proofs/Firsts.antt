@@ -1,5 +1,6 @@
 -- The first of a list that passes a test.
-use Rattle.std.proofs.Common.{◌≡◌, ◌<◌, Bool, true, false, not, nat_lt, List, [], ◌∷◌, ◌++◌, length, map, option_map, position, None, refl, sym, arith, true≢false}
+use Rattle.std.proofs.Common.{◌≡◌, ◌<◌, Bool, true, false, not, nat_lt, List, [], ◌∷◌, ◌++◌, length, map, option_map}
+use Rattle.std.proofs.Common.{position, None, refl, sym, arith, true≢false}
 use Rattle.std.specs.List.{list_any, position_or_len}
 use Rattle.admit_core.specs.Faults.{row_number}
 
@@ -20,7 +21,8 @@ not_is_true true h = refl
 not_is_true false h = cc
 
 -- the first among the images
-pub position_or_len-map : {X Y : Type 0} (p : Y → Bool) (f : X → Y) (xs : List X) → position_or_len p (map f xs) ≡ position_or_len (λ x. p (f x)) xs
+pub position_or_len-map : {X Y : Type 0} (p : Y → Bool) (f : X → Y) (xs : List X)
+    → position_or_len p (map f xs) ≡ position_or_len (λ x. p (f x)) xs
 position_or_len-map p f [] = refl
 position_or_len-map p f (x ∷ xs) = rw (position_or_len-map p f xs) refl
 
@@ -28,7 +30,8 @@ pub length-map-here : {X Y : Type 0} (f : X → Y) (xs : List X) → length (map
 length-map-here f [] = refl
 length-map-here f (x ∷ xs) = rw (length-map-here f xs) refl
 
-pub position-map : {X Y : Type 0} (p : Y → Bool) (f : X → Y) (xs : List X) → position p (map f xs) ≡ position (λ x. p (f x)) xs
+pub position-map : {X Y : Type 0} (p : Y → Bool) (f : X → Y) (xs : List X)
+    → position p (map f xs) ≡ position (λ x. p (f x)) xs
 position-map p f xs = rw (position_or_len-map p f xs, length-map-here f xs) refl
 
 pub map-push : {X Y : Type 0} (f : X → Y) (xs : List X) (x : X) → map f (xs ++ x ∷ []) ≡ map f xs ++ f x ∷ []
@@ -40,5 +43,7 @@ pub one_passes : {X : Type 0} (p : X → Bool) (xs : List X) → list_any p xs �
 one_passes p [] h = absurd (true≢false (sym h))
 one_passes p (x ∷ xs) h = grind (arith, one_passes p xs)
 
-pub position-some : {X : Type 0} (p : X → Bool) (xs : List X) → list_any p xs ≡ true → option_map row_number (position p xs) ≡ None → ⊥
-position-some p xs h none = let lt = one_passes p xs h in let e : nat_lt (position_or_len p xs) (length xs) ≡ true = grind arith in cc (rw e at none)
+pub position-some : {X : Type 0} (p : X → Bool) (xs : List X) → list_any p xs ≡ true
+    → option_map row_number (position p xs) ≡ None → ⊥
+position-some p xs h none = let lt = one_passes p xs h in
+    let e : nat_lt (position_or_len p xs) (length xs) ≡ true = grind arith in cc (rw e at none)

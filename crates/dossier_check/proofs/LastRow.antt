@@ -1,5 +1,6 @@
 -- Days that do not fall.
-use Rattle.std.proofs.Common.{◌≡◌, ℕ, ◌+◌, ◌<◌, ◌≤◌, Bool, true, false, nat_lt, List, [], ◌∷◌, ◌++◌, if◌then◌else◌, length, map, get_or, take, Some, None, refl, ap, ◌∙◌, arith}
+use Rattle.std.proofs.Common.{◌≡◌, ℕ, ◌+◌, ◌<◌, ◌≤◌, Bool, true, false, nat_lt, List, [], ◌∷◌, ◌++◌, if◌then◌else◌}
+use Rattle.std.proofs.Common.{length, map, get_or, take, Some, None, refl, ap, ◌∙◌, arith}
 use Rattle.std.specs.List.Sorted.{IsNonDecreasing}
 use Rattle.std.specs.Option.{option_map_or}
 use Rattle.std.proofs.lemmas.Bool.Decides.{nat_tests}
@@ -20,10 +21,13 @@ if_falls true e = cc
 if_falls false e = refl
 
 module _ {R : Type 0} (day : R → ℕ) where
-  next_day : (rows : List R) → Passes (day_falls day) rows → (k : ℕ) (d : R) → k + 1 < length rows → day (get_or rows k d) ≤ day (get_or rows (k + 1) d)
+  next_day : (rows : List R) → Passes (day_falls day) rows → (k : ℕ) (d : R) → k + 1 < length rows
+      → day (get_or rows k d) ≤ day (get_or rows (k + 1) d)
   next_day rows fine k d lt =
-      let last : last_row (take (k + 1) rows) ≡ Some (get_or rows k d) = ap last_row (take_more rows k d (omega arith)) ∙ last_row-push (take k rows) (get_or rows k d) in
-      let falls : option_map_or (λ last. nat_lt (day (get_or rows (k + 1) d)) (day last)) (last_row (take (k + 1) rows)) false ≡ false = if_falls _ (fine.at (k + 1) d lt) in
+      let last : last_row (take (k + 1) rows) ≡ Some (get_or rows k d) =
+      ap last_row (take_more rows k d (omega arith)) ∙ last_row-push (take k rows) (get_or rows k d) in
+      let falls : option_map_or (λ last. nat_lt (day (get_or rows (k + 1) d)) (day last))
+      (last_row (take (k + 1) rows)) false ≡ false = if_falls _ (fine.at (k + 1) d lt) in
       let rises : nat_lt (day (get_or rows (k + 1) d)) (day (get_or rows k d)) ≡ false = rw last at falls in
       grind (arith, nat_tests)
 
@@ -33,4 +37,5 @@ module _ {R : Type 0} (day : R → ℕ) where
       let rows = first ∷ rest in
       IsNonDecreasingBy-from_all_adjacent (λ n. n) (map day rows) (λ k e lt.
       let within : k + 1 < length rows = omega (arith, length-map-here day rows) in
-      rw (get_or-map day rows k first e (omega arith), get_or-map day rows (k + 1) first e within) (next_day rows fine k first within))
+      rw (get_or-map day rows k first e (omega arith), get_or-map day rows (k + 1) first e within)
+      (next_day rows fine k first within))

@@ -8,8 +8,10 @@ use Rattle.admit_core.specs.declared.refusal.Refusal.{Refusal}
 use Rattle.admit_core.specs.declared.tables.Tables.{Tables}
 use Rattle.admit_core.specs.Faults.{first_in, repeats, names_unknown}
 use Rattle.admit_core.specs.Lists.{is_among}
-use Rattle.admit_core.specs.Relations.{group_tests, programme_tests, school_tests, ranking_tests, boarding_tests, wish_tests, state_tests, ceiling_tests, answer_tests, first_fault}
-use Rattle.admit_core.specs.Relations.{programme_ids, school_ids, same_wish, unranked, no_boarding_rank, preference_mixed, preference_taken}
+use Rattle.admit_core.specs.Relations.{group_tests, programme_tests, school_tests, ranking_tests, boarding_tests}
+use Rattle.admit_core.specs.Relations.{wish_tests, state_tests, ceiling_tests, answer_tests, first_fault}
+use Rattle.admit_core.specs.Relations.{programme_ids, school_ids, same_wish, unranked, no_boarding_rank}
+use Rattle.admit_core.specs.Relations.{preference_mixed, preference_taken}
 use Rattle.dossier_check.proofs.FaultFree.{first_passes, rest_pass, pass_all}
 
 -- each test of the wishes, none of which stands at a row
@@ -17,7 +19,8 @@ pub record WishesPass (t : Tables) : Type 0 where
   pub ids : Passes (repeats (λ row r. nat_eq row.id r.id)) t.wishes
   pub once : Passes (repeats same_wish) t.wishes
   pub programmes : Passes (names_unknown 3 (λ row. is_among row.programme (programme_ids t))) t.wishes
-  pub schools : Passes (names_unknown 4 (λ row. option_map_or (λ h. is_among h (school_ids t)) row.school true)) t.wishes
+  pub schools : Passes (names_unknown 4 (λ row. option_map_or (λ h. is_among h (school_ids t)) row.school true))
+      t.wishes
   pub ranked : Passes (unranked t) t.wishes
   pub boarded : Passes (no_boarding_rank t) t.wishes
   pub like_first : Passes preference_mixed t.wishes

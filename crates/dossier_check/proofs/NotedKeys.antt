@@ -1,16 +1,20 @@
 -- The keys of the rows before tell the first row with the key of the next one.
-use Rattle.std.proofs.Common.{◌≡◌, ℕ, ◌+◌, ◌<◌, Bool, true, false, not, nat_lt, List, map, length, position, option_map, Some, None, refl, sym, ap, ◌∙◌, arith}
+use Rattle.std.proofs.Common.{◌≡◌, ℕ, ◌+◌, ◌<◌, Bool, true, false, not, nat_lt, List, map, length, position, option_map}
+use Rattle.std.proofs.Common.{Some, None, refl, sym, ap, ◌∙◌, arith}
 use Rattle.std.specs.List.{list_any, position_or_len}
 use Rattle.admit_core.specs.Faults.{row_number, first_row}
 use Rattle.dossier_check.proofs.Firsts.{position-none, position-map, one_passes, not_is_false, not_is_true}
 
-module _ {R K : Type 0} (eq : K → K → Bool) (key : R → K) (before : List R) (row : R) (keys : List K) (same : keys ≡ map key before) where
+module _ {R K : Type 0} (eq : K → K → Bool) (key : R → K) (before : List R) (row : R) (keys : List K)
+    (same : keys ≡ map key before) where
   first_of_keys : option_map row_number (position (eq (key row)) keys) ≡ first_row (λ r. eq (key row) (key r)) before
-  first_of_keys = ap (λ ks. option_map row_number (position (eq (key row)) ks)) same ∙ ap (option_map row_number) (position-map (eq (key row)) key before)
+  first_of_keys = ap (λ ks. option_map row_number (position (eq (key row)) ks)) same
+      ∙ ap (option_map row_number) (position-map (eq (key row)) key before)
 
   -- a new key stands in no row before
   pub noted-new : not (list_any (eq (key row)) keys) ≡ true → None ≡ first_row (λ r. eq (key row) (key r)) before
-  noted-new new = sym (ap (option_map row_number) (position-none (eq (key row)) keys (not_is_false _ new))) ∙ first_of_keys
+  noted-new new = sym (ap (option_map row_number) (position-none (eq (key row)) keys (not_is_false _ new)))
+      ∙ first_of_keys
 
   -- and a key that is there stands first in the row of its place
   pub noted-old : (place : ℕ) → not (list_any (eq (key row)) keys) ≡ false → place ≡ position_or_len (eq (key row)) keys

@@ -1,5 +1,7 @@
 -- Of a candidate's wishes one at most comes in as accepted.
-use Rattle.std.proofs.Common.{◌≡◌, ℕ, ◌<◌, Bool, true, nat_eq, List, [], ◌∷◌, length, map, zip, find, get_or, option_map, unwrap_or, Option, Some, None, refl, sym, ap, ◌∙◌, subst, arith, true≢false, inl, inr, ◌⊎◌, AllPairs}
+use Rattle.std.proofs.Common.{◌≡◌, ℕ, ◌<◌, Bool, true, nat_eq, List, [], ◌∷◌, length, map, zip, find, get_or}
+use Rattle.std.proofs.Common.{option_map, unwrap_or, Option, Some, None, refl, sym, ap, ◌∙◌, subst, arith, true≢false}
+use Rattle.std.proofs.Common.{inl, inr, ◌⊎◌, AllPairs}
 use Rattle.std.proofs.lemmas.List.Folds.{list_any_at}
 use Rattle.std.proofs.lemmas.Bool.{and_from}
 use Rattle.admit_core.specs.declared.state.Status.{Status}
@@ -15,12 +17,14 @@ use Rattle.dossier_check.proofs.Pairs.{all_pairs_map, same_at, order}
 use Rattle.dossier_check.proofs.Places.{IsFound, found, any_some, nat_eq_sound, nat_eq_same, nat_eq_self}
 use Rattle.dossier_check.proofs.RowFacts.{wish_ids_differ, accepted_apart}
 
-zip-map : {X Y Z : Type 0} (f : X → Y) (g : X → Z) (xs : List X) → zip (map f xs) (map g xs) ≡ map {A = X} {B = Y × Z} (λ x. (f x, g x)) xs
+zip-map : {X Y Z : Type 0} (f : X → Y) (g : X → Z) (xs : List X)
+    → zip (map f xs) (map g xs) ≡ map {A = X} {B = Y × Z} (λ x. (f x, g x)) xs
 zip-map f g [] = refl
 zip-map f g (x ∷ xs) = rw (zip-map f g xs) refl
 
 -- a status other than Waiting is that of a row
-named_accepted : (o : Option StateRow) → unwrap_or (option_map (λ s. s.status) o) Waiting ≡ Accepted → (s : StateRow) × (o ≡ Some s) × (s.status ≡ Accepted)
+named_accepted : (o : Option StateRow) → unwrap_or (option_map (λ s. s.status) o) Waiting ≡ Accepted
+    → (s : StateRow) × (o ≡ Some s) × (s.status ≡ Accepted)
 named_accepted None e = cc
 named_accepted (Some s) e = (s, refl, e)
 
@@ -29,7 +33,8 @@ accepted_is s e = ap is_accepted e
 
 module _ (t : Tables) (fine : HasNoFault t) where
   -- the candidate of a wish by its id
-  own_candidate : (k : ℕ) (d : WishRow) → k < length t.wishes → candidate_with t (get_or t.wishes k d).id ≡ Some (get_or t.wishes k d).candidate
+  own_candidate : (k : ℕ) (d : WishRow) → k < length t.wishes
+      → candidate_with t (get_or t.wishes k d).id ≡ Some (get_or t.wishes k d).candidate
   own_candidate k d lt =
       let w : WishRow = get_or t.wishes k d in
       let test : WishRow → Bool = λ x. nat_eq w.id x.id in
@@ -44,14 +49,19 @@ module _ (t : Tables) (fine : HasNoFault t) where
       ap (option_map (λ w. w.candidate)) is ∙ ap (λ r. Some r.candidate) row
 
   -- two accepted rows are of wishes of two candidates
-  two_rows : (a b : ℕ) (d : StateRow) (c : ℕ) → a < b → b < length t.state → (get_or t.state a d).status ≡ Accepted → (get_or t.state b d).status ≡ Accepted
+  two_rows : (a b : ℕ) (d : StateRow) (c : ℕ) → a < b → b < length t.state → (get_or t.state a d).status ≡ Accepted
+      → (get_or t.state b d).status ≡ Accepted
       → candidate_with t (get_or t.state a d).wish ≡ Some c → candidate_with t (get_or t.state b d).wish ≡ Some c → ⊥
   two_rows a b d c lt in_b at_a at_b of_a of_b =
-      let same : same_candidate (candidate_with t (get_or t.state b d).wish) (candidate_with t (get_or t.state a d).wish) ≡ true = rw (of_a, of_b) (nat_eq_self c) in
-      true≢false (sym (and_from _ _ (accepted_is (get_or t.state a d).status at_a) same) ∙ accepted_apart t fine a b d lt in_b (accepted_is (get_or t.state b d).status at_b))
+      let same : same_candidate (candidate_with t (get_or t.state b d).wish)
+      (candidate_with t (get_or t.state a d).wish) ≡ true = rw (of_a, of_b) (nat_eq_self c) in
+      true≢false (sym (and_from _ _ (accepted_is (get_or t.state a d).status at_a) same)
+      ∙ accepted_apart t fine a b d lt in_b (accepted_is (get_or t.state b d).status at_b))
 
-  one_row : (m n : ℕ) (d : StateRow) (c : ℕ) → m < length t.state → n < length t.state → (get_or t.state m d).status ≡ Accepted → (get_or t.state n d).status ≡ Accepted
-      → candidate_with t (get_or t.state m d).wish ≡ Some c → candidate_with t (get_or t.state n d).wish ≡ Some c → m ≡ n
+  one_row : (m n : ℕ) (d : StateRow) (c : ℕ) → m < length t.state → n < length t.state
+      → (get_or t.state m d).status ≡ Accepted → (get_or t.state n d).status ≡ Accepted
+      → candidate_with t (get_or t.state m d).wish ≡ Some c → candidate_with t (get_or t.state n d).wish ≡ Some c
+      → m ≡ n
   one_row m n d c in_m in_n at_m at_n of_m of_n = by (order m n)
     where
       by : (m < n) ⊎ ((n < m) ⊎ (m ≡ n)) → m ≡ n
@@ -60,7 +70,8 @@ module _ (t : Tables) (fine : HasNoFault t) where
       by (inr (inr is)) = is
 
   not_both : (i j : ℕ) (d : WishRow) → i < j → j < length t.wishes
-      → NotBothAccepted (wish_of_row t (get_or t.wishes i d), status_of_row t (get_or t.wishes i d)) (wish_of_row t (get_or t.wishes j d), status_of_row t (get_or t.wishes j d))
+      → NotBothAccepted (wish_of_row t (get_or t.wishes i d), status_of_row t (get_or t.wishes i d))
+      (wish_of_row t (get_or t.wishes j d), status_of_row t (get_or t.wishes j d))
   not_both i j d lt in_j candidates accepted_v accepted_w =
       let v : WishRow = get_or t.wishes i d in
       let w : WishRow = get_or t.wishes j d in
@@ -72,12 +83,16 @@ module _ (t : Tables) (fine : HasNoFault t) where
       let there : get_or t.state at_b.place a ≡ b = at_b.is a in
       let id_a : v.id ≡ a.wish = nat_eq_sound v.id a.wish at_a.passes in
       let id_b : w.id ≡ b.wish = nat_eq_sound w.id b.wish at_b.passes in
-      let of_a : candidate_with t a.wish ≡ Some w.candidate = ap (candidate_with t) (sym id_a) ∙ own_candidate i d (omega arith) ∙ ap Some candidates in
-      let of_b : candidate_with t b.wish ≡ Some w.candidate = ap (candidate_with t) (sym id_b) ∙ own_candidate j d in_j in
+      let of_a : candidate_with t a.wish ≡ Some w.candidate =
+      ap (candidate_with t) (sym id_a) ∙ own_candidate i d (omega arith) ∙ ap Some candidates in
+      let of_b : candidate_with t b.wish ≡ Some w.candidate =
+      ap (candidate_with t) (sym id_b) ∙ own_candidate j d in_j in
       let place : at_a.place ≡ at_b.place =
-      one_row at_a.place at_b.place a w.candidate at_a.within at_b.within (rw here a_accepted) (rw there b_accepted) (rw here of_a) (rw there of_b) in
+      one_row at_a.place at_b.place a w.candidate at_a.within at_b.within (rw here a_accepted) (rw there b_accepted)
+      (rw here of_a) (rw there of_b) in
       let row : a ≡ b = sym here ∙ ap (λ k. get_or t.state k a) place ∙ there in
-      true≢false (sym (nat_eq_same w.id v.id (id_b ∙ ap (λ s. s.wish) (sym row) ∙ sym id_a)) ∙ wish_ids_differ t fine i j d lt in_j)
+      true≢false (sym (nat_eq_same w.id v.id (id_b ∙ ap (λ s. s.wish) (sym row) ∙ sym id_a))
+      ∙ wish_ids_differ t fine i j d lt in_j)
 
   pub one_accepted : AllPairs NotBothAccepted (zip (dossier_of t).wishes (dossier_of t).statuses)
   one_accepted =

@@ -8,15 +8,18 @@ use Rattle.admit_core.specs.declared.refusal.InFault.TheVariants.{Refused, OutOf
 use Rattle.admit_core.specs.declared.slot.Slot.TheVariants as slots
 use Rattle.admit_core.specs.declared.tables.Tables.{Tables}
 use Rattle.admit_core.specs.Faults.{first_in}
-use Rattle.admit_core.specs.Relations.{first_fault, group_tests, programme_tests, school_tests, ranking_tests, boarding_tests}
+use Rattle.admit_core.specs.Relations.{first_fault, group_tests, programme_tests, school_tests, ranking_tests}
+use Rattle.admit_core.specs.Relations.{boarding_tests}
 use Rattle.dossier_check.specs.Outcome.{AnswersFault, first_in_named, first_in_ranks, first_from_wishes}
 
 -- after a slot without a fault, the first fault is that of the others
-pub after_none : {A : Type 0} (result : Result A InFault) (fault rest : Option Refusal) → fault ≡ None → AnswersFault result rest → AnswersFault result (option_or fault rest)
+pub after_none : {A : Type 0} (result : Result A InFault) (fault rest : Option Refusal) → fault ≡ None
+    → AnswersFault result rest → AnswersFault result (option_or fault rest)
 after_none result fault rest none answers = rw none answers
 
 -- a fault of a slot is the first, whatever follows
-pub first_here : {A : Type 0} (result : Result A InFault) (fault rest : Option Refusal) → IsErr result → AnswersFault result fault → AnswersFault result (option_or fault rest)
+pub first_here : {A : Type 0} (result : Result A InFault) (fault rest : Option Refusal) → IsErr result
+    → AnswersFault result fault → AnswersFault result (option_or fault rest)
 first_here (Ok a) fault rest stops answers = absurd (false≢true stops)
 first_here (Err (Refused refusal)) fault rest stops answers = rw answers refl
 first_here (Err OutOfMemory) fault rest stops answers = tt
@@ -25,12 +28,14 @@ pub none_then : (fault rest : Option Refusal) → fault ≡ None → rest ≡ No
 none_then fault rest none others = rw (none, others) refl
 
 -- an error that a `?` hands on
-pub handed_on : {B : Type 0} (result : Result B InFault) (e : InFault) (fault : Option Refusal) → IsErrAnd result (λ x. x ≡ e) → AnswersFault {A = Unit {0}} (Err e) fault → AnswersFault result fault
+pub handed_on : {B : Type 0} (result : Result B InFault) (e : InFault) (fault : Option Refusal)
+    → IsErrAnd result (λ x. x ≡ e) → AnswersFault {A = Unit {0}} (Err e) fault → AnswersFault result fault
 handed_on (Ok b) e fault err answers = absurd err
 handed_on (Err x) e fault err answers = rw err answers
 
 -- want of memory answers any fault
-pub out_of_memory : {B : Type 0} (result : Result B InFault) (fault : Option Refusal) → IsErrAnd result (λ x. x ≡ OutOfMemory) → AnswersFault result fault
+pub out_of_memory : {B : Type 0} (result : Result B InFault) (fault : Option Refusal)
+    → IsErrAnd result (λ x. x ≡ OutOfMemory) → AnswersFault result fault
 out_of_memory (Ok b) fault err = absurd err
 out_of_memory (Err x) fault err = rw err tt
 
@@ -43,11 +48,13 @@ three_then None None (Some c) rest = refl
 three_then None None None rest = refl
 
 -- the same of two
-two_then : (a b rest : Option Refusal) → option_or (option_or a (option_or b None)) rest ≡ option_or a (option_or b rest)
+two_then : (a b rest : Option Refusal) → option_or (option_or a (option_or b None)) rest
+    ≡ option_or a (option_or b rest)
 two_then a b rest = three_then a b None rest
 
 -- the first fault, part by part
-pub in_parts : (t : Tables) → option_or (first_in_named t) (option_or (first_in_ranks t) (first_from_wishes t)) ≡ first_fault t
+pub in_parts : (t : Tables) → option_or (first_in_named t) (option_or (first_in_ranks t) (first_from_wishes t))
+    ≡ first_fault t
 unfolding first_in_named first_in_ranks first_from_wishes
 in_parts t =
     let groups : Option Refusal = first_in slots.Groups group_tests t.groups in

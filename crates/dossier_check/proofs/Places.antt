@@ -1,5 +1,6 @@
 -- Where the first that passes a test stands, and which one it is.
-use Rattle.std.proofs.Common.{◌≡◌, ℕ, ◌<◌, suc, Bool, true, false, nat_eq, nat_lt, List, [], ◌∷◌, length, get_or, find, position, Some, unwrap_or, refl, sym, ap, ◌∙◌, arith}
+use Rattle.std.proofs.Common.{◌≡◌, ℕ, ◌<◌, suc, Bool, true, false, nat_eq, nat_lt, List, [], ◌∷◌, length, get_or, find}
+use Rattle.std.proofs.Common.{position, Some, unwrap_or, refl, sym, ap, ◌∙◌, arith}
 use Rattle.std.specs.List.{list_any, position_or_len}
 use Rattle.std.proofs.lemmas.Bool.Decides.{nat_tests}
 use Rattle.std.proofs.lemmas.List.Folds.{find_at}
@@ -70,7 +71,8 @@ module _ {X : Type 0} (p : X → Bool) where
   any_some [] e = cc
   any_some (x ∷ xs) e = by (p x) refl (any_some xs)
     where
-      by : (b : Bool) → p x ≡ b → (list_any p xs ≡ true → (y : X) × (find p xs ≡ Some y)) → (y : X) × (find p (x ∷ xs) ≡ Some y)
+      by : (b : Bool) → p x ≡ b → (list_any p xs ≡ true → (y : X) × (find p xs ≡ Some y))
+          → (y : X) × (find p (x ∷ xs) ≡ Some y)
       by true f rest = (x, rw f refl)
       by false f rest = let later = rest (rw f at e) in (later.0, rw f later.1)
 
@@ -83,4 +85,5 @@ module _ (ids : List ℕ) where
   place_within id known = one_passes (nat_eq id) ids known
 
   pub same_place : (a b : ℕ) → is_among a ids ≡ true → is_among b ids ≡ true → place_of ids a ≡ place_of ids b → a ≡ b
-  same_place a b known_a known_b same = sym (at_place a 0 known_a) ∙ ap (λ i. get_or ids i 0) same ∙ at_place b 0 known_b
+  same_place a b known_a known_b same = sym (at_place a 0 known_a) ∙ ap (λ i. get_or ids i 0) same
+      ∙ at_place b 0 known_b

@@ -1,5 +1,6 @@
 -- Statuses put at the places of their wishes, the last row first.
-use Rattle.std.proofs.Common.{◌≡◌, ℕ, ◌+◌, ◌-◌, ◌<◌, ◌≤◌, suc, Bool, true, false, nat_eq, List, [], ◌∷◌, length, get_or, map, drop, replicate, refl, sym, ap, ◌∙◌, true≢false, arith, drop-cons}
+use Rattle.std.proofs.Common.{◌≡◌, ℕ, ◌+◌, ◌-◌, ◌<◌, ◌≤◌, suc, Bool, true, false, nat_eq, List, [], ◌∷◌, length, get_or}
+use Rattle.std.proofs.Common.{map, drop, replicate, refl, sym, ap, ◌∙◌, true≢false, arith, drop-cons}
 use Prim.Native.Nat.{zero}
 use Rattle.std.proofs.Math.ListN.{set, drop_of_length-le}
 use Rattle.std.specs.List.{list_any, IsDistinct}
@@ -24,7 +25,8 @@ module _ (row : StateRow) (rows : List StateRow) where
   put_none (w ∷ ws) none = by (nat_eq row.wish w.id) refl (put_none ws)
     where
       by : (b : Bool) → nat_eq row.wish w.id ≡ b
-          → (list_any (nat_eq row.wish) (map (λ v. v.id) ws) ≡ false → map (status_in rows) ws ≡ map (status_in (row ∷ rows)) ws)
+          → (list_any (nat_eq row.wish) (map (λ v. v.id) ws) ≡ false
+          → map (status_in rows) ws ≡ map (status_in (row ∷ rows)) ws)
           → map (status_in rows) (w ∷ ws) ≡ map (status_in (row ∷ rows)) (w ∷ ws)
       by true e rest = absurd (true≢false (sym (rw e at (sym none))))
       by false e rest =
@@ -32,7 +34,8 @@ module _ (row : StateRow) (rows : List StateRow) where
           rw (other w e, rest none_left) refl
 
   -- a row of the wish at a place
-  pub put_own : (ws : List WishRow) (i : ℕ) → IsDistinct nat_eq (map (λ w. w.id) ws) → IsAt row.wish (map (λ w. w.id) ws) i
+  pub put_own : (ws : List WishRow) (i : ℕ) → IsDistinct nat_eq (map (λ w. w.id) ws)
+      → IsAt row.wish (map (λ w. w.id) ws) i
       → set (map (status_in rows) ws) i row.status ≡ map (status_in (row ∷ rows)) ws
   unfolding IsDistinct
   put_own [] i apart at = absurd at
@@ -54,7 +57,8 @@ waiting : (ws : List WishRow) → replicate (length ws) Waiting ≡ map (status_
 waiting [] = refl
 waiting (w ∷ ws) = ap (λ l. Waiting ∷ l) (waiting ws)
 
-pub none_put : (rows : List StateRow) (ws : List WishRow) → replicate (length ws) Waiting ≡ map (status_in (drop (length rows - 0) rows)) ws
+pub none_put : (rows : List StateRow) (ws : List WishRow)
+    → replicate (length ws) Waiting ≡ map (status_in (drop (length rows - 0) rows)) ws
 none_put rows ws =
     let le : length rows ≤ length rows - 0 = omega arith in rw (drop_of_length-le rows le) (waiting ws)
 

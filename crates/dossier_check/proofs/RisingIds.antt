@@ -1,11 +1,14 @@
 -- Ids that rise: each once, and found by a search.
-use Rattle.std.proofs.Common.{◌≡◌, ℕ, ◌+◌, ◌<◌, ◌≤◌, Bool, true, false, nat_eq, nat_lt, List, [], ◌∷◌, ◌++◌, length, take, get_or, position, slice_get, Some, Result, Ok, Err, is_some, refl, sym, ap, ◌∙◌, arith, inl, inr, ◌⊎◌}
+use Rattle.std.proofs.Common.{◌≡◌, ℕ, ◌+◌, ◌<◌, ◌≤◌, Bool, true, false, nat_eq, nat_lt, List, [], ◌∷◌, ◌++◌, length}
+use Rattle.std.proofs.Common.{take, get_or, position, slice_get, Some, Result, Ok, Err, is_some, refl, sym, ap, ◌∙◌}
+use Rattle.std.proofs.Common.{arith, inl, inr, ◌⊎◌}
 use Rattle.std.specs.List.{list_any, position_or_len, IsDistinct}
 use Rattle.std.specs.List.Sorted.{IsBinarySearchResult}
 use Rattle.std.specs.Ordering.{nat_cmp}
 use Rattle.std.specs.Result.{MatchResult, result_ok}
 use Rattle.std.proofs.lemmas.Bool.Decides.{nat_tests}
-use Rattle.std.proofs.lemmas.List.{get_or_append_left, get_or_at, get_or_default, get_or-take, length-append, length-take-le, take_more}
+use Rattle.std.proofs.lemmas.List.{get_or_append_left, get_or_at, get_or_default, get_or-take, length-append}
+use Rattle.std.proofs.lemmas.List.{length-take-le, take_more}
 use Rattle.std.proofs.lemmas.List.Folds.{list_any_none}
 use Rattle.std.proofs.lemmas.List.Sorted.{searched}
 use Rattle.std.proofs.lemmas.List.Sums.{position_or_len_is}
@@ -21,18 +24,24 @@ differs_above : (m n : ℕ) → m < n → nat_eq n m ≡ false
 differs_above m n lt = grind (arith, nat_tests)
 
 pub apart_rising : (ids : List ℕ) → Rises ids → IsDistinct nat_eq ids
-apart_rising ids rises = IsDistinct-from_apart nat_eq ids (λ i j d lt within. differs (get_or ids i d) (get_or ids j d) (rises i j d lt within))
+apart_rising ids rises = IsDistinct-from_apart nat_eq ids (λ i j d lt within.
+    differs (get_or ids i d) (get_or ids j d) (rises i j d lt within))
 
 -- an id that comes after rising ones is none of them
 pub none_before : (ids : List ℕ) (id : ℕ) → Rises (ids ++ id ∷ []) → list_any (nat_eq id) ids ≡ false
 none_before ids id rises =
     list_any_none (nat_eq id) ids (λ k d lt.
     let within : length ids < length (ids ++ id ∷ []) = omega (arith, length-append ids (id ∷ [])) in
-    let less : get_or ids k d < id = rw (get_or_append_left ids (id ∷ []) d k lt, get_or_at ids id [] d (length ids) refl) at (rises k (length ids) d lt within) in
+    let less : get_or ids k d < id = rw (
+      get_or_append_left ids (id ∷ []) d k lt,
+      get_or_at ids id [] d
+          (length ids) refl,
+    ) at (rises k (length ids) d lt within) in
     differs_above (get_or ids k d) id less)
 
 -- an id that is read at a place is found there
-pub place_rising : (ids : List ℕ) (id i : ℕ) → Rises ids → i < length ids → get_or ids i 0 ≡ id → position (nat_eq id) ids ≡ Some i
+pub place_rising : (ids : List ℕ) (id i : ℕ) → Rises ids → i < length ids → get_or ids i 0 ≡ id
+    → position (nat_eq id) ids ≡ Some i
 place_rising ids id i rises lt there =
     let at : position_or_len (nat_eq id) ids ≡ i =
     position_or_len_is (nat_eq id) ids i 0 (omega arith)
@@ -52,24 +61,29 @@ in_order ids rises i j le lt = by (split i j le)
     by (inr same) = let equal : get_or ids i 0 ≡ get_or ids j 0 = ap (λ k. get_or ids k 0) same in omega arith
 
 -- what a search finds is the place
-pub searched_place : (ids : List ℕ) (id : ℕ) (r : Result ℕ ℕ) → Rises ids → IsBinarySearchResult (λ y. nat_cmp y id) ids r
+pub searched_place : (ids : List ℕ) (id : ℕ) (r : Result ℕ ℕ) → Rises ids
+    → IsBinarySearchResult (λ y. nat_cmp y id) ids r
     → result_ok r ≡ position (nat_eq id) ids
 searched_place ids id r rises answer = by r (searched ids id r answer (in_order ids rises))
   where
     order : (k m : ℕ) → (k < m) ⊎ (m ≤ k)
     order k m = grind arith
 
-    by : (q : Result ℕ ℕ) → MatchResult q (λ i. (i < length ids) × (get_or ids i 0 ≡ id)) (λ i. (i ≤ length ids) × ((k : ℕ) → k < i → get_or ids k 0 < id) × ((k : ℕ) → i ≤ k → k < length ids → id < get_or ids k 0))
+    by : (q : Result ℕ ℕ) → MatchResult q (λ i. (i < length ids) × (get_or ids i 0 ≡ id))
+        (λ i. (i ≤ length ids) × ((k : ℕ) → k < i → get_or ids k 0 < id)
+        × ((k : ℕ) → i ≤ k → k < length ids → id < get_or ids k 0))
         → result_ok q ≡ position (nat_eq id) ids
     by (Ok i) at = sym (place_rising ids id i rises at.0 at.1)
-    by (Err i) at = sym (position-none (nat_eq id) ids (list_any_none (nat_eq id) ids (λ k d lt. rw (get_or_default ids k d 0 lt) (none k lt (order k i)))))
+    by (Err i) at = sym (position-none (nat_eq id) ids
+        (list_any_none (nat_eq id) ids (λ k d lt. rw (get_or_default ids k d 0 lt) (none k lt (order k i)))))
       where
         none : (k : ℕ) → k < length ids → (k < i) ⊎ (i ≤ k) → nat_eq id (get_or ids k 0) ≡ false
         none k lt (inl below) = differs_above (get_or ids k 0) id (at.1 k below)
         none k lt (inr above) = differs id (get_or ids k 0) (at.2 k above lt)
 
 -- the next of rising ids is new to a set of those before it
-pub set_more : (ids ks : List ℕ) (i d : ℕ) → Rises ids → i < length ids → ks ≡ take i ids → insert_key nat_eq ks (get_or ids i d) ≡ take (i + 1) ids
+pub set_more : (ids ks : List ℕ) (i d : ℕ) → Rises ids → i < length ids → ks ≡ take i ids
+    → insert_key nat_eq ks (get_or ids i d) ≡ take (i + 1) ids
 set_more ids ks i d rises lt is =
     let new : list_any (nat_eq (get_or ids i d)) (take i ids) ≡ false =
     list_any_none (nat_eq (get_or ids i d)) (take i ids) (λ k e within.

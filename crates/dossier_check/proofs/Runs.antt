@@ -1,5 +1,6 @@
 -- That wishes which stand together by candidate do not clash.
-use Rattle.std.proofs.Common.{◌≡◌, ◌∙◌, ◌+◌, ◌-◌, ◌≤◌, ◌<◌, ℕ, Bool, true, false, List, Some, arith, ap, drop, get_or, inl, inr, slice_get, ◌⊎◌, length, nat_eq, nat_lt, refl, subst, sym, true≢false}
+use Rattle.std.proofs.Common.{◌≡◌, ◌∙◌, ◌+◌, ◌-◌, ◌≤◌, ◌<◌, ℕ, Bool, true, false, List, Some, arith, ap, drop, get_or}
+use Rattle.std.proofs.Common.{inl, inr, slice_get, ◌⊎◌, length, nat_eq, nat_lt, refl, subst, sym, true≢false}
 use Rattle.std.specs.Prelude.{not}
 use Rattle.std.specs.List.{list_all, slice_range}
 use Rattle.std.proofs.lemmas.Bool.Decides.{nat_tests}
@@ -20,8 +21,10 @@ pub record Joins (rows : List WishRow) (row : WishRow) (next : Run) (to : ℕ) :
   pub run : IsRunUpTo rows next to
   pub same : row.candidate ≡ next.candidate
 
-pub joined : (rows : List WishRow) (row : WishRow) (run next : Run) (to : ℕ) → run_with run row.candidate to ≡ Some next → IsRunUpTo rows run to → Joins rows row next to
-joined rows row run next to is before = by (nat_eq row.candidate run.candidate) refl (nat_lt run.candidate row.candidate) refl
+pub joined : (rows : List WishRow) (row : WishRow) (run next : Run) (to : ℕ) → run_with run row.candidate to ≡ Some next
+    → IsRunUpTo rows run to → Joins rows row next to
+joined rows row run next to is before = by (nat_eq row.candidate run.candidate) refl
+    (nat_lt run.candidate row.candidate) refl
   where
     below : (j : ℕ) (d : WishRow) → run.candidate < row.candidate → j < to → (get_or rows j d).candidate < row.candidate
     below j d lt within = at (before_or j run.from)
@@ -33,7 +36,8 @@ joined rows row run next to is before = by (nat_eq row.candidate run.candidate) 
         at (inl early) = omega (arith, before.others j d early)
         at (inr late) = omega (arith, before.own j d late within)
 
-    by : (a : Bool) → nat_eq row.candidate run.candidate ≡ a → (b : Bool) → nat_lt run.candidate row.candidate ≡ b → Joins rows row next to
+    by : (a : Bool) → nat_eq row.candidate run.candidate ≡ a → (b : Bool) → nat_lt run.candidate row.candidate ≡ b
+        → Joins rows row next to
     by true e b f =
         let same : run ≡ next = cc (rw e at is) in
         let here : Joins rows row run to = record { run = before; same = nat_eq_sound row.candidate run.candidate e } in
@@ -56,7 +60,8 @@ joined rows row run next to is before = by (nat_eq row.candidate run.candidate) 
     by false e false f = cc (rw (e, f) at is)
 
 -- a row that is read
-pub row_there : (rows : List WishRow) (row : WishRow) (place : ℕ) → place < length rows → slice_get rows place ≡ Some row → (d : WishRow) → get_or rows place d ≡ row
+pub row_there : (rows : List WishRow) (row : WishRow) (place : ℕ) → place < length rows
+    → slice_get rows place ≡ Some row → (d : WishRow) → get_or rows place d ≡ row
 row_there rows row place within is d =
     let there : slice_get rows place ≡ Some (get_or rows place d) = slice_get-get_or rows place d within in
     cc (is, there)
@@ -74,7 +79,8 @@ module _ (rows : List WishRow) (run : Run) (to : ℕ) (within : to < length rows
         place : get_or part (j - run.from) d ≡ get_or rows j d
         place =
             let there : run.from + (j - run.from) ≡ j = omega arith in
-            get_or-take (to - run.from) (drop run.from rows) (j - run.from) d (omega arith) ∙ get_or-drop run.from rows (j - run.from) d ∙ ap (λ i. get_or rows i d) there
+            get_or-take (to - run.from) (drop run.from rows) (j - run.from) d (omega arith)
+            ∙ get_or-drop run.from rows (j - run.from) d ∙ ap (λ i. get_or rows i d) there
 
         long : j - run.from < length part
         long = let rest : length (drop run.from rows) ≡ length rows - run.from = length-drop run.from rows in
@@ -107,10 +113,12 @@ module _ (rows : List WishRow) (run : Run) (to : ℕ) (within : to < length rows
         before_or_at : (k : ℕ) → k < to + 1 → (k < to) ⊎ (k ≡ to)
         before_or_at k next = grind arith
 
-        apart_at : (j k : ℕ) (d : WishRow) → j < k → (k < to) ⊎ (k ≡ to) → clashes (get_or rows k d) (get_or rows j d) ≡ false
+        apart_at : (j k : ℕ) (d : WishRow) → j < k → (k < to) ⊎ (k ≡ to)
+            → clashes (get_or rows k d) (get_or rows j d) ≡ false
         apart_at j k d lt (inl early) = before.apart j k d lt early
         apart_at j k d lt (inr is) = rw (is, here d) (last_apart j d (omega arith))
 
-        own_at : (j : ℕ) (d : WishRow) → run.from ≤ j → (j < to) ⊎ (j ≡ to) → (get_or rows j d).candidate ≡ run.candidate
+        own_at : (j : ℕ) (d : WishRow) → run.from ≤ j → (j < to) ⊎ (j ≡ to)
+            → (get_or rows j d).candidate ≡ run.candidate
         own_at j d late (inl early) = before.own j d late early
         own_at j d late (inr is) = rw (is, here d) same

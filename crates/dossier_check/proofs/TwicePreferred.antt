@@ -1,5 +1,6 @@
 -- Preferences in order.
-use Rattle.std.proofs.Common.{◌≡◌, ℕ, Bool, true, false, ◌&&◌, nat_eq, nat_lt, List, map, filter, get_or, Ordering, refl, sym, ap, ◌∙◌, subst, true≢false, AllPairs}
+use Rattle.std.proofs.Common.{◌≡◌, ℕ, Bool, true, false, ◌&&◌, nat_eq, nat_lt, List, map, filter, get_or, Ordering}
+use Rattle.std.proofs.Common.{refl, sym, ap, ◌∙◌, subst, true≢false, AllPairs}
 use Rattle.std.specs.Cmp.{IsTotalOrder}
 use Rattle.std.specs.List.{IsDistinct, IsAllAdjacentAnswer}
 use Rattle.std.specs.List.Sorted.{IsPermutation}
@@ -22,7 +23,8 @@ pair : (a b x y : ℕ) → a ≡ x → b ≡ y → eq_by_cmp preferred_cmp (a, b
 pair a b x y e f = rw (e, f, tied_itself preferred_total (x, y)) refl
 
 -- two wishes with a preference that are not of the same do not have the same
-not_taken : (r row : WishRow) → (has_preference r ≡ true → has_preference row ≡ true → eq_by_cmp preferred_cmp (preferred r) (preferred row) ≡ false)
+not_taken : (r row : WishRow) → (has_preference r ≡ true → has_preference row ≡ true
+    → eq_by_cmp preferred_cmp (preferred r) (preferred row) ≡ false)
     → has_preference row ≡ true → (nat_eq row.candidate r.candidate && nat_eq row.preference r.preference) ≡ false
 not_taken r row apart has = by (nat_eq row.candidate r.candidate) refl (nat_eq row.preference r.preference) refl
   where
@@ -34,12 +36,17 @@ not_taken r row apart has = by (nat_eq row.candidate r.candidate) refl (nat_eq r
         let candidate : r.candidate ≡ row.candidate = sym (nat_eq_sound row.candidate r.candidate ea) in
         let preference : r.preference ≡ row.preference = sym (nat_eq_sound row.preference r.preference eb) in
         let other : has_preference r ≡ true = ap (nat_lt 0) preference ∙ has in
-        absurd (true≢false (sym (pair r.candidate r.preference row.candidate row.preference candidate preference) ∙ apart other has))
+        absurd (true≢false (sym (pair r.candidate r.preference row.candidate row.preference candidate preference)
+        ∙ apart other has))
 
-pub no_preference_twice : (rows : List WishRow) (keys ordered : List (ℕ × ℕ)) (r : Bool) → keys ≡ map preferred (filter has_preference rows) → IsPermutation keys ordered
+pub no_preference_twice : (rows : List WishRow) (keys ordered : List (ℕ × ℕ)) (r : Bool)
+    → keys ≡ map preferred (filter has_preference rows) → IsPermutation keys ordered
     → IsAllAdjacentAnswer (λ x y b. b ≡ is_lt (preferred_cmp x y)) ordered r → r ≡ true
-    → AllPairs (λ w row. has_preference row ≡ true → (nat_eq row.candidate w.candidate && nat_eq row.preference w.preference) ≡ false) rows
+    → AllPairs (λ w row. has_preference row ≡ true
+    → (nat_eq row.candidate w.candidate && nat_eq row.preference w.preference) ≡ false) rows
 no_preference_twice rows keys ordered r made moved answer e i j d lt within =
     let eq = eq_by_cmp preferred_cmp in
-    let apart : IsDistinct eq (map preferred (filter has_preference rows)) = subst (IsDistinct eq) made (apart_in_order preferred_total (0, 0) keys ordered r moved answer e) in
-    not_taken (get_or rows i d) (get_or rows j d) (filtered_apart has_preference eq preferred rows apart i j d lt within)
+    let apart : IsDistinct eq (map preferred (filter has_preference rows)) =
+    subst (IsDistinct eq) made (apart_in_order preferred_total (0, 0) keys ordered r moved answer e) in
+    not_taken (get_or rows i d) (get_or rows j d)
+    (filtered_apart has_preference eq preferred rows apart i j d lt within)

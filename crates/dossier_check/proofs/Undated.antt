@@ -1,5 +1,6 @@
 -- The dates of wishes whose statuses have none.
-use Rattle.std.proofs.Common.{◌≡◌, nat_eq, Bool, true, false, List, [], ◌∷◌, Option, Some, None, find, length, map, refl, is_some}
+use Rattle.std.proofs.Common.{◌≡◌, nat_eq, Bool, true, false, List, [], ◌∷◌, Option, Some, None, find, length, map}
+use Rattle.std.proofs.Common.{refl, is_some}
 use Rattle.std.specs.Prelude.{not, replicate}
 use Rattle.std.specs.List.{list_all}
 use Rattle.std.specs.Option.{option_and_then}
@@ -14,7 +15,8 @@ no_date None is = refl
 no_date (Some date) is = cc
 
 -- no row that is found has a date
-none_found : (p : StateRow → Bool) (rows : List StateRow) → list_all is_undated rows ≡ true → option_and_then (λ s. s.since) (find p rows) ≡ None
+none_found : (p : StateRow → Bool) (rows : List StateRow) → list_all is_undated rows ≡ true
+    → option_and_then (λ s. s.since) (find p rows) ≡ None
 none_found p [] all = refl
 none_found p (row ∷ rows) all = by (p row) refl (none_found p rows (and_parts _ _ all).1)
   where
@@ -27,7 +29,8 @@ none_found p (row ∷ rows) all = by (p row) refl (none_found p rows (and_parts 
     by false is later = rw is later
 
 -- a map whose answers are all the same
-pub map_same : {X Y : Type 0} (f : X → Y) (y : Y) (xs : List X) → ((x : X) → f x ≡ y) → map f xs ≡ replicate (length xs) y
+pub map_same : {X Y : Type 0} (f : X → Y) (y : Y) (xs : List X) → ((x : X) → f x ≡ y)
+    → map f xs ≡ replicate (length xs) y
 map_same f y [] same = refl
 map_same f y (x ∷ xs) same = cc (same x, map_same f y xs same)
 

@@ -9,7 +9,8 @@ use Rattle.dossier_check.proofs.Firsts.{length-map-here}
 use Rattle.dossier_check.proofs.NoFault.{HasNoFault, no_fault}
 use Rattle.dossier_check.proofs.OneAccepted.{one_accepted}
 use Rattle.dossier_check.proofs.RowFacts.{group_ids_apart}
-use Rattle.dossier_check.proofs.ValidAnswers.{valid_ceilings, ceilings_by_day, no_day_twice, valid_answers, answers_by_day}
+use Rattle.dossier_check.proofs.ValidAnswers.{valid_ceilings, ceilings_by_day, no_day_twice, valid_answers}
+use Rattle.dossier_check.proofs.ValidAnswers.{answers_by_day}
 use Rattle.dossier_check.proofs.ValidItems.{own_ids, valid_groups, valid_programmes, valid_schools}
 use Rattle.dossier_check.proofs.ValidSizes.{size_of}
 use Rattle.dossier_check.proofs.ValidWishes.{valid_wishes}

@@ -1,5 +1,6 @@
 -- The ceilings and the answers of the dossier are valid.
-use Rattle.std.proofs.Common.{◌≡◌, ℕ, ◌<◌, Bool, true, false, nat_eq, List, [], ◌∷◌, length, map, get_or, refl, sym, ◌∙◌, subst, arith, true≢false, All, AllPairs}
+use Rattle.std.proofs.Common.{◌≡◌, ℕ, ◌<◌, Bool, true, false, nat_eq, List, [], ◌∷◌, length, map, get_or, refl, sym}
+use Rattle.std.proofs.Common.{◌∙◌, subst, arith, true≢false, All, AllPairs}
 use Rattle.std.specs.List.Sorted.{IsNonDecreasing}
 use Rattle.std.proofs.lemmas.List.Elements.{All-map}
 use Rattle.admit_core.specs.declared.dossier.AnswerKind.{AnswerKind}
@@ -10,7 +11,8 @@ use Rattle.admit_core.specs.declared.tables.Tables.{Tables}
 use Rattle.admit_core.specs.Lists.{is_among, distinct}
 use Rattle.admit_core.specs.Ranges.{AreTables}
 use Rattle.admit_core.specs.Relations.{school_ids, wish_ids, is_target}
-use Rattle.admit_core.specs.Standing.{place_of, school_of_row, wish_of_row, target_of, ceiling_of_row, answer_of_row, dossier_of}
+use Rattle.admit_core.specs.Standing.{place_of, school_of_row, wish_of_row, target_of, ceiling_of_row, answer_of_row}
+use Rattle.admit_core.specs.Standing.{dossier_of}
 use Rattle.admit_core.specs.Validity.{IsValidCeiling, NotSameDay, IsTarget, IsValidAnswer}
 use Rattle.std.proofs.lemmas.Simd.{map-map}
 use Rattle.std.proofs.lemmas.Bool.{and_from}
@@ -35,7 +37,8 @@ among_distinct n (m ∷ ns) e = by (is_among m ns) refl (nat_eq n m) refl (among
     by false f false g rest = rw (f, g) (rest (rw g at e))
 
 module _ (t : Tables) (ranges : AreTables t) (fine : HasNoFault t) where
-  school_there : (school : ℕ) → is_among school (school_ids t) ≡ true → place_of (school_ids t) school < length (dossier_of t).schools
+  school_there : (school : ℕ) → is_among school (school_ids t) ≡ true
+      → place_of (school_ids t) school < length (dossier_of t).schools
   school_there school known = rw (length-map-here school_of_row t.schools, ← length-map-here (λ h. h.id) t.schools)
       (place_within (school_ids t) school known)
 
@@ -67,11 +70,13 @@ module _ (t : Tables) (ranges : AreTables t) (fine : HasNoFault t) where
   pub no_day_twice : AllPairs NotSameDay (dossier_of t).ceilings
   no_day_twice = all_pairs_map NotSameDay (ceiling_of_row t) t.ceilings not_same_day
 
-  wish_there : (wish : ℕ) → is_among wish (wish_ids t) ≡ true → place_of (wish_ids t) wish < length (dossier_of t).wishes
+  wish_there : (wish : ℕ) → is_among wish (wish_ids t) ≡ true
+      → place_of (wish_ids t) wish < length (dossier_of t).wishes
   wish_there wish known = rw (length-map-here (wish_of_row t) t.wishes, ← length-map-here (λ w. w.id) t.wishes)
       (place_within (wish_ids t) wish known)
 
-  target_there : (kind : AnswerKind) (target : ℕ) → is_target t kind target ≡ true → IsTarget (dossier_of t) kind (target_of t kind target)
+  target_there : (kind : AnswerKind) (target : ℕ) → is_target t kind target ≡ true
+      → IsTarget (dossier_of t) kind (target_of t kind target)
   target_there Quit target known = among_distinct target (map (λ w. w.candidate) (dossier_of t).wishes)
       (rw (map-map (λ w. w.candidate) (wish_of_row t) t.wishes) known)
   target_there Accept target known = wish_there target known
@@ -82,7 +87,10 @@ module _ (t : Tables) (ranges : AreTables t) (fine : HasNoFault t) where
   valid_answers =
       All-map (IsValidAnswer (dossier_of t)) (answer_of_row t) t.answers (λ k a lt.
       let row : AnswerRow = get_or t.answers k a in
-      record { day = (ranges.answers.each k a lt).day; target = target_there row.kind row.target (targets_known t fine k a lt) })
+      record {
+        day = (ranges.answers.each k a lt).day;
+        target = target_there row.kind row.target (targets_known t fine k a lt);
+      })
 
   pub answers_by_day : IsNonDecreasing (map (λ a. a.day) (dossier_of t).answers)
   answers_by_day = subst IsNonDecreasing (sym (map-map (λ a. a.day) (answer_of_row t) t.answers))

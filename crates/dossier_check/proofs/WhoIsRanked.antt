@@ -1,5 +1,7 @@
 -- Who is ranked in a group, by the candidates of the groups.
-use Rattle.std.proofs.Common.{◌≡◌, ℕ, ◌≤◌, ◌<◌, Bool, true, false, ◌&&◌, nat_eq, List, [], ◌∷◌, length, map, get_or, Some, Result, Ok, Err, option_map, position, slice_get, refl, sym, ap, ◌∙◌, arith, true≢false, All, inl, inr, ◌⊎◌, subst}
+use Rattle.std.proofs.Common.{◌≡◌, ℕ, ◌≤◌, ◌<◌, Bool, true, false, ◌&&◌, nat_eq, List, [], ◌∷◌, length, map, get_or}
+use Rattle.std.proofs.Common.{Some, Result, Ok, Err, option_map, position, slice_get, refl, sym, ap, ◌∙◌, arith}
+use Rattle.std.proofs.Common.{true≢false, All, inl, inr, ◌⊎◌, subst}
 use Rattle.std.specs.List.{list_any}
 use Rattle.std.specs.List.Sorted.{IsBinarySearchResult, IsNonDecreasing}
 use Rattle.std.specs.Ordering.{nat_cmp}
@@ -19,52 +21,69 @@ use Rattle.admit_core.proofs.SortedLists.{IsPermutation-sorted_by, numbers_in_or
 
 -- the candidates of a group are those whom the rankings have in it
 in_group : (rows : List RankRow) (group candidate : ℕ)
-    → list_any (λ r. nat_eq group r.group && nat_eq candidate r.candidate) rows ≡ list_any (nat_eq candidate) (map (λ r. r.candidate) (ranked_in rows group))
+    → list_any (λ r. nat_eq group r.group && nat_eq candidate r.candidate) rows
+    ≡ list_any (nat_eq candidate) (map (λ r. r.candidate) (ranked_in rows group))
 in_group [] group candidate = refl
 in_group (r ∷ rows) group candidate = by (nat_eq group r.group) refl (in_group rows group candidate)
   where
     by : (b : Bool) → nat_eq group r.group ≡ b
-        → list_any (λ q. nat_eq group q.group && nat_eq candidate q.candidate) rows ≡ list_any (nat_eq candidate) (map (λ q. q.candidate) (ranked_in rows group))
-        → list_any (λ q. nat_eq group q.group && nat_eq candidate q.candidate) (r ∷ rows) ≡ list_any (nat_eq candidate) (map (λ q. q.candidate) (ranked_in (r ∷ rows) group))
+        → list_any (λ q. nat_eq group q.group && nat_eq candidate q.candidate) rows
+        ≡ list_any (nat_eq candidate) (map (λ q. q.candidate) (ranked_in rows group))
+        → list_any (λ q. nat_eq group q.group && nat_eq candidate q.candidate) (r ∷ rows)
+        ≡ list_any (nat_eq candidate) (map (λ q. q.candidate) (ranked_in (r ∷ rows) group))
     by true e rest = rw (e, rest) refl
     by false e rest = rw (e, rest) refl
 
 among_candidates : (rows : List RankRow) (group candidate : ℕ)
-    → list_any (nat_eq candidate) (candidates_in rows group) ≡ list_any (λ r. nat_eq group r.group && nat_eq candidate r.candidate) rows
+    → list_any (nat_eq candidate) (candidates_in rows group)
+    ≡ list_any (λ r. nat_eq group r.group && nat_eq candidate r.candidate) rows
 among_candidates rows group candidate =
     let own : List ℕ = map (λ r. r.candidate) (ranked_in rows group) in
-    sym (list_any-IsPermutation (nat_eq candidate) own (sorted_by (λ n. n) own) (IsPermutation-sorted_by (λ n. n) own)) ∙ sym (in_group rows group candidate)
+    sym (list_any-IsPermutation (nat_eq candidate) own (sorted_by (λ n. n) own) (IsPermutation-sorted_by (λ n. n) own))
+    ∙ sym (in_group rows group candidate)
 
 -- no one is ranked in a group that is not there
-pub none_in_group : (rows : List RankRow) (groups : List ℕ) (group candidate : ℕ) → All (HasItsGroup groups) rows → list_any (nat_eq group) groups ≡ false
+pub none_in_group : (rows : List RankRow) (groups : List ℕ) (group candidate : ℕ) → All (HasItsGroup groups) rows
+    → list_any (nat_eq group) groups ≡ false
     → false ≡ list_any (λ r. nat_eq group r.group && nat_eq candidate r.candidate) rows
 none_in_group rows groups group candidate known unknown =
-    sym (list_any_none (λ r. nat_eq group r.group && nat_eq candidate r.candidate) rows (λ k d lt. by (get_or rows k d) (known k d lt) (nat_eq group (get_or rows k d).group) refl))
+    sym (list_any_none (λ r. nat_eq group r.group && nat_eq candidate r.candidate) rows
+    (λ k d lt. by (get_or rows k d) (known k d lt) (nat_eq group (get_or rows k d).group) refl))
   where
-    by : (r : RankRow) → is_among r.group groups ≡ true → (b : Bool) → nat_eq group r.group ≡ b → (nat_eq group r.group && nat_eq candidate r.candidate) ≡ false
-    by r there true e = let same : group ≡ r.group = nat_eq_sound group r.group e in absurd (true≢false (sym there ∙ rw (← same) unknown))
+    by : (r : RankRow) → is_among r.group groups ≡ true → (b : Bool) → nat_eq group r.group ≡ b
+        → (nat_eq group r.group && nat_eq candidate r.candidate) ≡ false
+    by r there true e = let same : group ≡ r.group = nat_eq_sound group r.group e in
+        absurd (true≢false (sym there ∙ rw (← same) unknown))
     by r there false e = rw e refl
 
 -- the list at the place of a group is that of its candidates
-pub list_at : {V : Type 0} (items : V → List ℕ) (rows : List RankRow) (lists : List V) (groups : List ℕ) (group place : ℕ) (list : V)
-    → map items lists ≡ map (candidates_in rows) groups → position (nat_eq group) groups ≡ Some place → slice_get lists place ≡ Some list
+pub list_at : {V : Type 0} (items : V → List ℕ) (rows : List RankRow) (lists : List V) (groups : List ℕ)
+    (group place : ℕ) (list : V)
+    → map items lists ≡ map (candidates_in rows) groups → position (nat_eq group) groups ≡ Some place
+    → slice_get lists place ≡ Some list
     → items list ≡ candidates_in rows group
 list_at items rows lists groups group place list same at got =
     let here = position-Some (nat_eq group) groups place 0 at in
     let id : group ≡ get_or groups place 0 = nat_eq_sound group (get_or groups place 0) here.1 in
-    let one : slice_get (map items lists) place ≡ Some (items list) = slice_get-map items lists place ∙ ap (option_map items) got in
+    let one : slice_get (map items lists) place ≡ Some (items list) =
+    slice_get-map items lists place ∙ ap (option_map items) got in
     let other : slice_get (map (candidates_in rows) groups) place ≡ Some (candidates_in rows (get_or groups place 0)) =
-    slice_get-map (candidates_in rows) groups place ∙ ap (option_map (candidates_in rows)) (slice_get-get_or groups place 0 here.0) in
-    let both : Some (items list) ≡ Some (candidates_in rows (get_or groups place 0)) = sym one ∙ ap (λ ls. slice_get ls place) same ∙ other in
+    slice_get-map (candidates_in rows) groups place
+    ∙ ap (option_map (candidates_in rows)) (slice_get-get_or groups place 0 here.0) in
+    let both : Some (items list) ≡ Some (candidates_in rows (get_or groups place 0)) =
+    sym one ∙ ap (λ ls. slice_get ls place) same ∙ other in
     let equal : items list ≡ candidates_in rows (get_or groups place 0) = cc both in
     equal ∙ ap (candidates_in rows) (sym id)
 
 -- what a search in ascending numbers finds is among them
 found_among : (xs : List ℕ) (x : ℕ) (r : Result ℕ ℕ)
-    → MatchResult r (λ i. (i < length xs) × (get_or xs i 0 ≡ x)) (λ i. (i ≤ length xs) × ((k : ℕ) → k < i → get_or xs k 0 < x) × ((k : ℕ) → i ≤ k → k < length xs → x < get_or xs k 0))
+    → MatchResult r (λ i. (i < length xs) × (get_or xs i 0 ≡ x))
+    (λ i. (i ≤ length xs) × ((k : ℕ) → k < i → get_or xs k 0 < x)
+    × ((k : ℕ) → i ≤ k → k < length xs → x < get_or xs k 0))
     → is_ok r ≡ list_any (nat_eq x) xs
 found_among xs x (Ok i) at = sym (list_any_at (nat_eq x) xs i 0 at.0 (nat_eq_same x (get_or xs i 0) (sym at.1)))
-found_among xs x (Err i) at = sym (list_any_none (nat_eq x) xs (λ k d lt. rw (get_or_default xs k d 0 lt) (none k lt (order k i))))
+found_among xs x (Err i) at =
+    sym (list_any_none (nat_eq x) xs (λ k d lt. rw (get_or_default xs k d 0 lt) (none k lt (order k i))))
   where
     order : (k m : ℕ) → (k < m) ⊎ (m ≤ k)
     order k m = grind arith
@@ -74,12 +93,14 @@ found_among xs x (Err i) at = sym (list_any_none (nat_eq x) xs (λ k d lt. rw (g
     none k lt (inr above) = let more : x < get_or xs k 0 = at.2 k above lt in grind (arith, nat_tests)
 
 -- what is told of the candidates of a group, who ascend, is told of the rankings
-pub is_found : (rows : List RankRow) (group candidate : ℕ) (ids : List ℕ) (r : Bool) → ids ≡ candidates_in rows group → (IsNonDecreasing ids → r ≡ list_any (nat_eq candidate) ids)
+pub is_found : (rows : List RankRow) (group candidate : ℕ) (ids : List ℕ) (r : Bool) → ids ≡ candidates_in rows group
+    → (IsNonDecreasing ids → r ≡ list_any (nat_eq candidate) ids)
     → r ≡ list_any (λ q. nat_eq group q.group && nat_eq candidate q.candidate) rows
 is_found rows group candidate ids r same answer =
     answer (subst IsNonDecreasing (sym same) (numbers_in_order (map (λ q. q.candidate) (ranked_in rows group))))
     ∙ ap (list_any (nat_eq candidate)) same ∙ among_candidates rows group candidate
 
 -- whether a search in ascending numbers finds one
-pub searched_among : (xs : List ℕ) (x : ℕ) (r : Result ℕ ℕ) → IsNonDecreasing xs → IsBinarySearchResult (λ y. nat_cmp y x) xs r → is_ok r ≡ list_any (nat_eq x) xs
+pub searched_among : (xs : List ℕ) (x : ℕ) (r : Result ℕ ℕ) → IsNonDecreasing xs
+    → IsBinarySearchResult (λ y. nat_cmp y x) xs r → is_ok r ≡ list_any (nat_eq x) xs
 searched_among xs x r ascends answer = found_among xs x r (searched xs x r answer (λ i j le lt. ascends i j 0 le lt))

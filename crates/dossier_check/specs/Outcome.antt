@@ -6,7 +6,8 @@ use Rattle.admit_core.specs.declared.refusal.InFault.TheVariants.{Refused, OutOf
 use Rattle.admit_core.specs.declared.slot.Slot.TheVariants as slots
 use Rattle.admit_core.specs.declared.tables.Tables.{Tables}
 use Rattle.admit_core.specs.Faults.{first_of, first_in}
-use Rattle.admit_core.specs.Relations.{group_tests, programme_tests, school_tests, ranking_tests, boarding_tests, wish_tests, state_tests, ceiling_tests, answer_tests}
+use Rattle.admit_core.specs.Relations.{group_tests, programme_tests, school_tests, ranking_tests, boarding_tests}
+use Rattle.admit_core.specs.Relations.{wish_tests, state_tests, ceiling_tests, answer_tests}
 
 -- exactly the fault, or a value where there is none; want of memory may come at any time
 abbrev pub AnswersFault : {A : Type 0} → Result A InFault → Option Refusal → Type 0

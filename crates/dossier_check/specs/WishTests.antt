@@ -5,7 +5,8 @@ use Rattle.admit_core.specs.declared.tables.Tables.{Tables}
 use Rattle.admit_core.specs.declared.tables.WishRow.{WishRow}
 use Rattle.admit_core.specs.Faults.{Test, repeats, names_unknown}
 use Rattle.admit_core.specs.Lists.{is_among}
-use Rattle.admit_core.specs.Relations.{same_wish, programme_ids, school_ids, unranked, no_boarding_rank, preference_mixed, preference_taken}
+use Rattle.admit_core.specs.Relations.{same_wish, programme_ids, school_ids, unranked, no_boarding_rank}
+use Rattle.admit_core.specs.Relations.{preference_mixed, preference_taken}
 
 -- the tests of wishes, where that of the same wish and that of the same preference may be left out
 abbrev pub tests_unless : Bool → Bool → Tables → List (Test WishRow)

@@ -1,5 +1,6 @@
 -- Texts of digits, from left to right.
-use Rattle.std.proofs.Common.{◌≡◌, ℕ, ◌+◌, ◌-◌, ◌*◌, ◌^◌, ◌<◌, ◌≤◌, true, List, take, length, get_or, rules, arith, refl}
+use Rattle.std.proofs.Common.{◌≡◌, ℕ, ◌+◌, ◌-◌, ◌*◌, ◌^◌, ◌<◌, ◌≤◌, true, List, take, length, get_or, rules, arith}
+use Rattle.std.proofs.Common.{refl}
 use Rattle.std.proofs.lemmas.Bool.Decides.{nat_tests}
 use Rattle.std.specs.Char.{is_ascii_digit, digit_value}
 use Rattle.std.specs.List.{list_all}
@@ -23,7 +24,8 @@ few-digits ds k h short = digits_value_short digits ds k h short
 
 -- one more digit
 pub number-more : (ds : List ℕ) (i : ℕ) → i < length ds → IsNumber (take i ds) → is_ascii_digit (get_or ds i 0) ≡ true
-    → IsNumber (take (i + 1) ds) × (digits_value 10 (take (i + 1) ds) ≡ digits_value 10 (take i ds) * 10 + (get_or ds i 0 - 48))
+    → IsNumber (take (i + 1) ds) × (digits_value 10 (take (i + 1) ds) ≡ digits_value 10 (take i ds) * 10
+    + (get_or ds i 0 - 48))
 number-more ds i within so_far digit = (
   rw (list_all_more is_ascii_digit ds i 0 within, so_far) digit,
   rw (digits_value_more 10 ds i within, digit_value-digit (get_or ds i 0) digit) refl,

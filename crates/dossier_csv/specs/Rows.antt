@@ -17,7 +17,8 @@ use Rattle.admit_core.specs.declared.tables.RankRow.{RankRow}
 use Rattle.admit_core.specs.declared.tables.SchoolRow.{SchoolRow}
 use Rattle.admit_core.specs.declared.tables.StateRow.{StateRow}
 use Rattle.admit_core.specs.declared.tables.WishRow.{WishRow}
-use Rattle.dossier_csv.specs.Columns.{◌>>=◌, IsSince, added_number, amounts, days, flag, ids, number, optional_date, optional_number, percents, word, words}
+use Rattle.dossier_csv.specs.Columns.{◌>>=◌, IsSince, added_number, amounts, days, flag, ids, number, optional_date}
+use Rattle.dossier_csv.specs.Columns.{optional_number, percents, word, words}
 use Rattle.dossier_csv.specs.Layout.{Layout, layout_of}
 
 unfoldable pub group_row : List (List ℕ) → Result GroupRow Reason

@@ -1,5 +1,6 @@
 -- The dates that come of terms can be written.
-use Rattle.std.proofs.Common.{◌≡◌, ◌∙◌, ◌∷◌, [], ℕ, List, Option, None, Some, IfSome, ap, arith, get_or, inl, inr, length, map, refl, sym}
+use Rattle.std.proofs.Common.{◌≡◌, ◌∙◌, ◌∷◌, [], ℕ, List, Option, None, Some, IfSome, ap, arith, get_or, inl, inr}
+use Rattle.std.proofs.Common.{length, map, refl, sym}
 use Rattle.std.specs.Prelude.{ℤ, pos, ◌+ℤ◌, ◌-ℤ◌, ◌&&◌, nat_le, replicate, zip}
 use Rattle.std.proofs.lemmas.Bool.{and_parts, cases_Bool, leb-true}
 use Rattle.std.proofs.lemmas.Int.{ints}
@@ -16,7 +17,8 @@ use Rattle.calendar.proofs.DateLaws.{number-range}
 use Rattle.calendar.specs.Dates.{IsRead, civil, days_in_month, is_date}
 use Rattle.request.specs.Request.{IsDeadlines, IsStart}
 use Rattle.request.specs.declared.request.Deadlines.{Deadlines}
-use Rattle.intake.specs.Dated.{AreDatedFor, date_number, dated_from, day_before, offer_since, since_day, terms_from, terms_in}
+use Rattle.intake.specs.Dated.{AreDatedFor, date_number, dated_from, day_before, offer_since, since_day, terms_from}
+use Rattle.intake.specs.Dated.{terms_in}
 use Rattle.intake.specs.declared.terms.DatedTerms.{DatedTerms}
 
 -- the number of the date of a day, where day 1 has the number start
@@ -34,7 +36,8 @@ civil_read year month day =
           let from_first = and_parts _ _ days.0 in
           let months = and_parts _ _ from_first.0 in
           rw is
-          (number-range year month day (leb-true 1900 year years.0) (leb-true year 2299 years.1) (leb-true 1 month months.0) (leb-true month 12 months.1) (leb-true 1 day from_first.1)
+          (number-range year month day (leb-true 1900 year years.0) (leb-true year 2299 years.1)
+          (leb-true 1 month months.0) (leb-true month 12 months.1) (leb-true 1 day from_first.1)
           (leb-true day (days_in_month year month) days.1)).1
       | inr none ↦ rw none tt
     ]
@@ -119,6 +122,7 @@ dated_some d dates asked deadlines terms each some is same =
     rw same (dated_for d dates deadlines long (rw some at is))
 
 -- the terms of a dossier have a day for each wish
-pub terms_known : (d : DossierRows) (dated : Option DatedTerms) → IfSome dated (AreDatedFor d) → AreTermsFor d (terms_in dated)
+pub terms_known : (d : DossierRows) (dated : Option DatedTerms) → IfSome dated (AreDatedFor d)
+    → AreTermsFor d (terms_in dated)
 terms_known d None known = tt
 terms_known d (Some dated) known = known.one_each

@@ -18,10 +18,14 @@ found_among id ids = by (is_among id ids) refl
     by true any = ap is_some (position-any (nat_eq id) ids any) ∙ sym any
     by false none = ap is_some (position-none (nat_eq id) ids none) ∙ sym none
 
-pub wish_there : (t : Tables) (ids : Ids) (name : Name) (id : ℕ) (found : Bool) → ids ≡ ids_of t → name ≡ Wish id → found ≡ is_some (position (nat_eq id) ids.wishes)
+pub wish_there : (t : Tables) (ids : Ids) (name : Name) (id : ℕ) (found : Bool) → ids ≡ ids_of t → name ≡ Wish id
+    → found ≡ is_some (position (nat_eq id) ids.wishes)
     → found ≡ is_there t name
-wish_there t ids name id found same is by_place = rw is (by_place ∙ found_among id ids.wishes ∙ ap (λ (x : Ids). is_among id x.wishes) same)
+wish_there t ids name id found same is by_place =
+    rw is (by_place ∙ found_among id ids.wishes ∙ ap (λ (x : Ids). is_among id x.wishes) same)
 
-pub school_there : (t : Tables) (ids : Ids) (name : Name) (id : ℕ) (found : Bool) → ids ≡ ids_of t → name ≡ School id → found ≡ is_some (position (nat_eq id) ids.schools)
+pub school_there : (t : Tables) (ids : Ids) (name : Name) (id : ℕ) (found : Bool) → ids ≡ ids_of t → name ≡ School id
+    → found ≡ is_some (position (nat_eq id) ids.schools)
     → found ≡ is_there t name
-school_there t ids name id found same is by_place = rw is (by_place ∙ found_among id ids.schools ∙ ap (λ (x : Ids). is_among id x.schools) same)
+school_there t ids name id found same is by_place =
+    rw is (by_place ∙ found_among id ids.schools ∙ ap (λ (x : Ids). is_among id x.schools) same)

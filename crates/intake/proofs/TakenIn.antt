@@ -1,5 +1,6 @@
 -- What is taken in for a request.
-use Rattle.std.proofs.Common.{◌≡◌, ◌⊎◌, inl, inr, ℕ, Bool, true, false, List, [], Option, Some, None, Result, Ok, Err, IfErr, IsErrAnd, IsTrue, ap, arith, length, refl, subst}
+use Rattle.std.proofs.Common.{◌≡◌, ◌⊎◌, inl, inr, ℕ, Bool, true, false, List, [], Option, Some, None, Result, Ok, Err}
+use Rattle.std.proofs.Common.{IfErr, IsErrAnd, IsTrue, ap, arith, length, refl, subst}
 use Rattle.std.specs.Prelude.{IfSome, MatchResult, if◌then◌else◌}
 use Rattle.admit_core.specs.Relations.{first_fault}
 use Rattle.admit_core.specs.declared.refusal.Refusal.{Refusal}
@@ -20,14 +21,16 @@ use Rattle.intake.specs.declared.stop.Stop.TheVariants as stops
 use Rattle.intake.proofs.ReadOrder.{stopped_then}
 
 -- the files of a mode are those of its sample or of its slots
-pub made_gives : (mode : Mode) (number : ℕ) (slots : Slot → List ℕ) (r : Result Files Stop) → Some number ≡ sample_of mode → Gives (λ files. files) r (made number)
+pub made_gives : (mode : Mode) (number : ℕ) (slots : Slot → List ℕ) (r : Result Files Stop)
+    → Some number ≡ sample_of mode → Gives (λ files. files) r (made number)
     → Gives (λ files. files) r (files_of mode slots)
 unfolding files_of
 made_gives mode number slots r some gives =
     let P : Option ℕ → Type 0 = λ o. Gives (λ (files : Files). files) r (made_or_read o (slots_of mode) slots) in
     subst P some gives
 
-pub read_gives : (mode : Mode) (order : List Slot) (slots : Slot → List ℕ) (r : Result Files Stop) → None ≡ sample_of mode → order ≡ slots_of mode
+pub read_gives : (mode : Mode) (order : List Slot) (slots : Slot → List ℕ) (r : Result Files Stop)
+    → None ≡ sample_of mode → order ≡ slots_of mode
     → Gives (λ files. files) r (files_in order slots) → Gives (λ files. files) r (files_of mode slots)
 unfolding files_of
 read_gives mode order slots r none is gives =
@@ -36,7 +39,8 @@ read_gives mode order slots r none is gives =
     subst P none (subst Q is gives)
 
 -- what stops a run at its files has no cause outside
-pub files_have_cause : (order : List Slot) (before after : OnShelf) (stop : Stop) → IsOfFiles stop → HasCause order before after stop
+pub files_have_cause : (order : List Slot) (before after : OnShelf) (stop : Stop) → IsOfFiles stop
+    → HasCause order before after stop
 files_have_cause order before after (stops.Refused refusal) kinds = tt
 files_have_cause order before after (stops.NoSuch name) kinds = tt
 files_have_cause order before after stops.OutOfMemory kinds = tt
@@ -44,7 +48,8 @@ files_have_cause order before after stops.BadWords kinds = absurd kinds
 files_have_cause order before after (stops.ReadFault slot) kinds = absurd kinds
 
 -- no slot is read
-pub untouched : {A : Type 0} (order : List Slot) (shelf : OnShelf) (r : Result A Stop) → order ≡ [] → IfErr r IsOfFiles → TakesSlots order shelf shelf r
+pub untouched : {A : Type 0} (order : List Slot) (shelf : OnShelf) (r : Result A Stop) → order ≡ [] → IfErr r IsOfFiles
+    → TakesSlots order shelf shelf r
 untouched order shelf (Ok x) is kinds = record {
   ends = λ slots tells slot has. let none : length order ≡ 0 = ap length is in absurd (omega (arith, none, has.1));
   once = λ slot has. omega arith;
@@ -72,7 +77,8 @@ quiet_in (inl same) = same
 quiet_in (inr bad) = absurd bad
 
 -- what comes after the slots does not touch them
-taken_still : {A B : Type 0} (order : List Slot) (before after : OnShelf) (x : A) (r : Result B Stop) → (let q : Result A Stop = Ok x in TakesSlots order before after q) → IfErr r IsOfFiles
+taken_still : {A B : Type 0} (order : List Slot) (before after : OnShelf) (x : A) (r : Result B Stop)
+    → (let q : Result A Stop = Ok x in TakesSlots order before after q) → IfErr r IsOfFiles
     → TakesSlots order before after r
 taken_still order before after x (Ok y) taken kinds = record {
   ends = taken.ends;
@@ -96,15 +102,18 @@ taken_still order before after x (Err stop) taken kinds = record {
 }
 
 -- accepted files have no fault, and what is named
-no_fault : (fault : Option Refusal) (name : Option Name) (files : Files) → (faultless files fault >>= λ sound. having name sound) ≡ Ok files → fault ≡ None
+no_fault : (fault : Option Refusal) (name : Option Name) (files : Files)
+    → (faultless files fault >>= λ sound. having name sound) ≡ Ok files → fault ≡ None
 no_fault None name files is = refl
 no_fault (Some refusal) name files is = cc
 
-true_there : (there : Bool) (name : Name) (files : Files) → (if there then Ok files else Err (stops.NoSuch name)) ≡ Ok files → there ≡ true
+true_there : (there : Bool) (name : Name) (files : Files)
+    → (if there then Ok files else Err (stops.NoSuch name)) ≡ Ok files → there ≡ true
 true_there true name files is = refl
 true_there false name files is = cc
 
-named_there : (fault : Option Refusal) (name : Option Name) (files : Files) → (faultless files fault >>= λ sound. having name sound) ≡ Ok files
+named_there : (fault : Option Refusal) (name : Option Name) (files : Files)
+    → (faultless files fault >>= λ sound. having name sound) ≡ Ok files
     → IfSome name (λ n. IsTrue (is_there files.tables n))
 named_there None None files is = tt
 named_there None (Some name) files is = true_there (is_there files.tables name) name files is
@@ -112,8 +121,11 @@ named_there (Some refusal) name files is = absurd (cc)
 
 module _ (request : Request) (before after : OnShelf) where
   -- what stops the files stops the job
-  pub stops_in : (stop : Stop) (r : Result Input Stop) → ((slots : Slot → List ℕ) → Tells (slots_of request.mode) before.left slots → Stopped stop (files_of request.mode slots))
-      → (let q : Result Files Stop = Err stop in TakesSlots (slots_of request.mode) before after q) → IsErrAnd r (λ s. s ≡ stop) → TakesIn request before after r
+  pub stops_in : (stop : Stop) (r : Result Input Stop)
+      → ((slots : Slot → List ℕ) → Tells (slots_of request.mode) before.left slots
+      → Stopped stop (files_of request.mode slots))
+      → (let q : Result Files Stop = Err stop in TakesSlots (slots_of request.mode) before after q)
+      → IsErrAnd r (λ s. s ≡ stop) → TakesIn request before after r
   unfolding job_of
   stops_in stop (Ok input) stopped taken from = absurd from
   stops_in stop (Err s) stopped taken from = record {
@@ -131,10 +143,13 @@ module _ (request : Request) (before after : OnShelf) where
   }
 
   -- the files give the input, or are not accepted
-  pub takes_in : (files : Files) (r : Result Input Stop) → ((slots : Slot → List ℕ) → Tells (slots_of request.mode) before.left slots → files_of request.mode slots ≡ Ok files)
+  pub takes_in : (files : Files) (r : Result Input Stop)
+      → ((slots : Slot → List ℕ) → Tells (slots_of request.mode) before.left slots
+      → files_of request.mode slots ≡ Ok files)
       → IfSome (sample_of request.mode) (λ number. files.tables ≡ sample_tables number)
       → (let q : Result Files Stop = Ok files in TakesSlots (slots_of request.mode) before after q)
-      → MatchResult r (IsInputFrom request.mode files) (λ stop. Stopped stop (tested request.mode files)) → IfErr r IsOfFiles → TakesIn request before after r
+      → MatchResult r (IsInputFrom request.mode files) (λ stop. Stopped stop (tested request.mode files))
+      → IfErr r IsOfFiles → TakesIn request before after r
   unfolding job_of
   takes_in files (Ok input) read made taken from kinds = record {
     value = record {

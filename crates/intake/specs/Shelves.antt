@@ -1,5 +1,6 @@
 -- What taking in slots does to a shelf.
-use Rattle.std.specs.Prelude.{◌≡◌, ℕ, ◌+◌, ◌<◌, ◌≤◌, ◌⊎◌, List, [], Contains, length, take, Option, Some, Result, Ok, Err, IfErr, IsErrAnd, IsOk, OnOk, slice_index_or, ⊤}
+use Rattle.std.specs.Prelude.{◌≡◌, ℕ, ◌+◌, ◌<◌, ◌≤◌, ◌⊎◌, List, [], Contains, length, take, Option, Some, Result, Ok}
+use Rattle.std.specs.Prelude.{Err, IfErr, IsErrAnd, IsOk, OnOk, slice_index_or, ⊤}
 use Rattle.admit_core.specs.declared.slot.Slot.{Slot}
 use Rattle.slot_io.specs.Bytes.{OthersKept}
 use Rattle.slot_io.specs.Faults.{NoneFell, Rose}

@@ -1,15 +1,18 @@
 -- What is left behind those that are taken out, as one is taken out or put in.
-use Rattle.std.proofs.Common.{◌≡◌, ℕ, zero, suc, ◌+◌, ◌<◌, ◌≤◌, List, [], ◌∷◌, length, length-drop, drop, ◌-◌, refl, sym, subst, ap, ◌∙◌, arith}
+use Rattle.std.proofs.Common.{◌≡◌, ℕ, zero, suc, ◌+◌, ◌<◌, ◌≤◌, List, [], ◌∷◌, length, length-drop, drop, ◌-◌, refl}
+use Rattle.std.proofs.Common.{sym, subst, ap, ◌∙◌, arith}
 use Rattle.std.specs.List.{insert, remove}
 use Rattle.place_queue.specs.Queues.{Queue}
 
-pub drop_removed : (n i j : ℕ) (xs : List ℕ) → j ≡ n + i → n + i < length xs → drop n (remove xs j) ≡ remove (drop n xs) i
+pub drop_removed : (n i j : ℕ) (xs : List ℕ) → j ≡ n + i → n + i < length xs
+    → drop n (remove xs j) ≡ remove (drop n xs) i
 drop_removed zero i j xs is lt = ap (remove xs) (omega (arith, is))
 drop_removed (suc n) i j [] is lt = absurd (omega (arith, lt))
 drop_removed (suc n) i zero (x ∷ xs) is lt = absurd (omega (arith, is))
 drop_removed (suc n) i (suc j) (x ∷ xs) is lt = drop_removed n i j xs (omega (arith, is)) (omega (arith, lt))
 
-pub drop_inserted : (n i j k : ℕ) (xs : List ℕ) → j ≡ n + i → n + i ≤ length xs → drop n (insert xs j k) ≡ insert (drop n xs) i k
+pub drop_inserted : (n i j k : ℕ) (xs : List ℕ) → j ≡ n + i → n + i ≤ length xs
+    → drop n (insert xs j k) ≡ insert (drop n xs) i k
 drop_inserted zero i j k xs is le = ap (λ a. insert xs a k) (omega (arith, is))
 drop_inserted (suc n) i j k [] is le = absurd (omega (arith, le))
 drop_inserted (suc n) i zero k (x ∷ xs) is le = absurd (omega (arith, is))
@@ -41,12 +44,16 @@ module _ (start room : ℕ) (xs : List ℕ) (q : Queue) (seen : queue (drop star
       → queue (drop start new) room ≡ queue (remove q.items at) q.room
   other_out at new lt is =
       let P : Queue → Type 0 = λ p. queue (drop start new) room ≡ queue (remove p.items at) p.room in
-      subst P seen (ap (λ ys. queue ys room) (ap (drop start) is ∙ drop_removed start at (start + at) xs refl (omega (arith, lt, long))))
+      subst P seen (ap (λ ys. queue ys room) (ap (drop start) is ∙ drop_removed start at (start + at) xs refl
+      (omega (arith, lt, long))))
 
-  pub put_in : (at k kept : ℕ) (mid new : List ℕ) → at ≤ length q.items → drop kept mid ≡ drop start xs → kept ≤ length mid → new ≡ insert mid (kept + at) k
+  pub put_in : (at k kept : ℕ) (mid new : List ℕ) → at ≤ length q.items → drop kept mid ≡ drop start xs
+      → kept ≤ length mid → new ≡ insert mid (kept + at) k
       → queue (drop kept new) room ≡ queue (insert q.items at k) q.room
   put_in at k kept mid new le same within is =
       let P : Queue → Type 0 = λ p. queue (drop kept new) room ≡ queue (insert p.items at k) p.room in
-      let as_long : length mid - kept ≡ length xs - start = sym (length-drop kept mid) ∙ ap length same ∙ length-drop start xs in
+      let as_long : length mid - kept ≡ length xs - start =
+      sym (length-drop kept mid) ∙ ap length same ∙ length-drop start xs in
       subst P seen (ap (λ ys. queue ys room)
-      (ap (drop kept) is ∙ drop_inserted kept at (kept + at) k mid refl (omega (arith, le, long, as_long, within)) ∙ ap (λ ys. insert ys at k) same))
+      (ap (drop kept) is ∙ drop_inserted kept at (kept + at) k mid refl (omega (arith, le, long, as_long, within))
+      ∙ ap (λ ys. insert ys at k) same))

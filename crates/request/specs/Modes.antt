@@ -1,14 +1,17 @@
 -- The tables by mode: its word, the slots that it reads, whether it runs days and picks after them,
 -- and what it names.
-use Rattle.std.specs.Prelude.{ℕ, ◌≤◌, Bool, true, false, List, [], ◌∷◌, ◌++◌, Option, Some, None, IfSome, codes, option_map, ⊤}
+use Rattle.std.specs.Prelude.{ℕ, ◌≤◌, Bool, true, false, List, [], ◌∷◌, ◌++◌, Option, Some, None, IfSome, codes}
+use Rattle.std.specs.Prelude.{option_map, ⊤}
 use Rattle.std.specs.Fmt.{decimal}
 use Rattle.std.specs.Option.{option_and_then}
 use Rattle.admit_core.specs.declared.slot.Slot.{Slot}
-use Rattle.admit_core.specs.declared.slot.Slot.TheVariants.{Groups, Programmes, Schools, Rankings, Boarding, Wishes, State, Ceilings, Answers, Chain as ChainSlot}
+use Rattle.admit_core.specs.declared.slot.Slot.TheVariants.{Groups, Programmes, Schools, Rankings, Boarding, Wishes}
+use Rattle.admit_core.specs.declared.slot.Slot.TheVariants.{State, Ceilings, Answers, Chain as ChainSlot}
 use Rattle.clap.specs.Words.{Text}
 use Rattle.dossier_csv.specs.Columns.{choice}
 use Rattle.request.specs.declared.modes.Mode.{Mode}
-use Rattle.request.specs.declared.modes.Mode.TheVariants.{Order, Replay, Chain, Check, Explain, Envy, Beds, Market, Sample}
+use Rattle.request.specs.declared.modes.Mode.TheVariants.{Order, Replay, Chain, Check, Explain, Envy, Beds, Market}
+use Rattle.request.specs.declared.modes.Mode.TheVariants.{Sample}
 use Rattle.request.specs.declared.modes.Name.{Name}
 use Rattle.request.specs.declared.modes.Name.TheVariants.{Wish, School}
 use Rattle.request.specs.declared.modes.Numbers.{Numbers}

@@ -1,5 +1,6 @@
 -- What the words after the program's name ask for.
-use Rattle.std.specs.Prelude.{ℕ, ◌&&◌, List, [], ◌∷◌, ◌≡◌, ◌≤◌, Option, Some, None, Result, Ok, Err, IfSome, codes, nat_le, option_map, unwrap_or, if◌then◌else◌, ℤ, pos, ◌+ℤ◌, ◌≤ℤ◌, ⊤}
+use Rattle.std.specs.Prelude.{ℕ, ◌&&◌, List, [], ◌∷◌, ◌≡◌, ◌≤◌, Option, Some, None, Result, Ok, Err, IfSome, codes}
+use Rattle.std.specs.Prelude.{nat_le, option_map, unwrap_or, if◌then◌else◌, ℤ, pos, ◌+ℤ◌, ◌≤ℤ◌, ⊤}
 use Rattle.std.specs.Option.{ok_or, option_and_then}
 use Rattle.calendar.specs.Dates.{date_of, first_day, last_read_day}
 use Rattle.calendar.specs.Texts.{date_in}

@@ -17,7 +17,10 @@ sample_faultless n high =
     (none_or_none (rankings_fine n high)
     (none_or_none (boarding_fine n high)
     (none_or_none (wishes_fine n)
-    (none_or_none (none_in slots.State (state_tests (sample_tables n)) [] (record { at = λ k d lt. absurd (omega arith) }))
-    (none_or_none (none_in slots.Ceilings (ceiling_tests (sample_tables n)) [] (record { at = λ k d lt. absurd (omega arith) }))
-    (none_or_none (none_in slots.Answers (answer_tests (sample_tables n)) [] (record { at = λ k d lt. absurd (omega arith) }))
+    (none_or_none (none_in slots.State (state_tests (sample_tables n)) []
+    (record { at = λ k d lt. absurd (omega arith) }))
+    (none_or_none (none_in slots.Ceilings (ceiling_tests (sample_tables n)) []
+    (record { at = λ k d lt. absurd (omega arith) }))
+    (none_or_none (none_in slots.Answers (answer_tests (sample_tables n)) []
+    (record { at = λ k d lt. absurd (omega arith) }))
     refl))))))))

@@ -27,7 +27,8 @@ flat_map-range_more f a n m j e more =
     ∙ ap (λ xs. flat_map f (range_with_len a n) ++ xs) (append-nil (f j))
 
 -- a list that grows after its start by one more
-pub grown : {X : Type 0} (new old start front whole : List X) (x y : X) → new ≡ old ++ x ∷ [] → old ≡ start ++ front → x ≡ y → whole ≡ front ++ y ∷ []
+pub grown : {X : Type 0} (new old start front whole : List X) (x y : X) → new ≡ old ++ x ∷ [] → old ≡ start ++ front
+    → x ≡ y → whole ≡ front ++ y ∷ []
     → new ≡ start ++ whole
 grown new old start front whole x y pushed so_far is ends =
     pushed ∙ ap (λ v. v ++ x ∷ []) so_far ∙ append_assoc start front (x ∷ [])

@@ -23,7 +23,8 @@ power_twice k e = ap (λ p. p * e) (pow-suc 2 k ∙ mul_comm (2 ^ k) 2) ∙ mul_
 pub divides_factor : (k d h e : ℕ) → d * (2 * h + 1) ≡ 2 ^ k * e → (f : ℕ) × (d ≡ 2 ^ k * f)
 divides_factor zero d h e is = (d, omega arith)
 divides_factor (suc k) d h e is =
-    let even : d ≡ 2 * (2 ^ k * e - d * h) = half_of d (d * h) (2 ^ k * e) (double_first d h (2 ^ k * e) (2 ^ suc k * e) is (power_twice k e)) in
+    let even : d ≡ 2 * (2 ^ k * e - d * h) =
+    half_of d (d * h) (2 ^ k * e) (double_first d h (2 ^ k * e) (2 ^ suc k * e) is (power_twice k e)) in
     let half : ℕ = 2 ^ k * e - d * h in
     let less : half * (2 * h + 1) ≡ 2 ^ k * e =
     halves (half * (2 * h + 1)) (2 ^ k * e) (sym (twice_product d half h even) ∙ is ∙ power_twice k e) in

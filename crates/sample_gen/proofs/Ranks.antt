@@ -29,12 +29,15 @@ later_place m c i j le j_lt same =
 -- two places of one remainder are one
 pub same_place : (m c i j : ℕ) → i < m → j < m → (c + i) % m ≡ (c + j) % m → i ≡ j
 same_place m c i j i_lt j_lt same =
-    ⊎_elim (λ lt. later_place m c i j (omega arith) j_lt same) (λ le. sym (later_place m c j i le i_lt (sym same))) (cases_lt i j)
+    ⊎_elim (λ lt. later_place m c i j (omega arith) j_lt same) (λ le. sym (later_place m c j i le i_lt (sym same)))
+    (cases_lt i j)
 
 minus_times : (a b q : ℕ) → (b - a) * q ≡ b * q - a * q
-minus_times a b q = mul_comm (b - a) q ∙ mul-sub q b a ∙ ap (λ x. x - q * a) (mul_comm q b) ∙ ap (λ x. b * q - x) (mul_comm q a)
+minus_times a b q = mul_comm (b - a) q ∙ mul-sub q b a ∙ ap (λ x. x - q * a) (mul_comm q b)
+    ∙ ap (λ x. b * q - x) (mul_comm q a)
 
-later_candidate : (h a b : ℕ) → a ≤ b → b ≤ 1000000 → (a * (2 * h + 1)) % (2 ^ 30) ≡ (b * (2 * h + 1)) % (2 ^ 30) → a ≡ b
+later_candidate : (h a b : ℕ) → a ≤ b → b ≤ 1000000 → (a * (2 * h + 1)) % (2 ^ 30) ≡ (b * (2 * h + 1)) % (2 ^ 30)
+    → a ≡ b
 later_candidate h a b le b_le same =
     let q : ℕ = 2 * h + 1 in
     let more : ℕ = b * q / (2 ^ 30) - a * q / (2 ^ 30) in
@@ -47,4 +50,5 @@ later_candidate h a b le b_le same =
 pub same_candidate : (h a b : ℕ) → a ≤ 1000000 → b ≤ 1000000 → rank_in (2 * h + 1) a ≡ rank_in (2 * h + 1) b → a ≡ b
 same_candidate h a b a_le b_le same =
     let rest : (a * (2 * h + 1)) % (2 ^ 30) ≡ (b * (2 * h + 1)) % (2 ^ 30) = omega arith in
-    ⊎_elim (λ lt. later_candidate h a b (omega arith) b_le rest) (λ le. sym (later_candidate h b a le a_le (sym rest))) (cases_lt a b)
+    ⊎_elim (λ lt. later_candidate h a b (omega arith) b_le rest) (λ le. sym (later_candidate h b a le a_le (sym rest)))
+    (cases_lt a b)

@@ -18,4 +18,5 @@ pub returns-in_ok-fall-in-Some-clause-fall : goal.returns-in_ok-fall-in-Some-cla
 returns-in_ok-fall-in-Some-clause-fall g c =
     let f = g.F.Falling in
     let picked = rw c.in-Some.is at c.in_ok-picked.ensures.picked in
-    falls_once (f.system c.args.system.now) _ (f.bars c.args.system.now) _ _ _ _ _ picked c.in_ok-fall-in-Some.ensures.fall c.in_ok-fall-in-Some.ensures.bars
+    falls_once (f.system c.args.system.now) _
+    (f.bars c.args.system.now) _ _ _ _ _ picked c.in_ok-fall-in-Some.ensures.fall c.in_ok-fall-in-Some.ensures.bars

@@ -6,21 +6,24 @@ use Rattle.bar_fixpoint.proofs.engine.greatest.Goals as goal
 pub fall_once-requires : goal.fall_once-requires
 fall_once-requires g c =
     let f = g.F.Falling in
-    under_now (f.system c.args.system.now) (g.met.F.Falling.lawful c.args.system.now) _ _ (f.system c.loop-falls.system) c.loop-falls.invariant.same
+    under_now (f.system c.args.system.now) (g.met.F.Falling.lawful c.args.system.now) _ _
+    (f.system c.loop-falls.system) c.loop-falls.invariant.same
     _ _ _ c.loop-falls.invariant.so_far
 
 pub returns-in_err-fall-clause-above : goal.returns-in_err-fall-clause-above
 returns-in_err-fall-clause-above g c =
     let f = g.F.Falling in
     on_err _
-    (above_now (f.system c.args.system.now) (g.met.F.Falling.lawful c.args.system.now) _ _ (f.system c.loop-falls.system) c.loop-falls.invariant.same
+    (above_now (f.system c.args.system.now) (g.met.F.Falling.lawful c.args.system.now) _ _
+    (f.system c.loop-falls.system) c.loop-falls.invariant.same
     _ _ _ _ c.loop-falls.invariant.so_far c.in_err-fall.ensures.err)
 
 pub loop-falls-smaller : goal.loop-falls-smaller
 loop-falls-smaller g c =
     let f = g.F.Falling in
     let fell = rw c.in-Some.is at c.in_ok-fall.ensures.fall in
-    smaller_now (f.system c.args.system.now) (g.met.F.Falling.lawful c.args.system.now) _ _ (f.system c.loop-falls.system) c.loop-falls.invariant.same
+    smaller_now (f.system c.args.system.now) (g.met.F.Falling.lawful c.args.system.now) _ _
+    (f.system c.loop-falls.system) c.loop-falls.invariant.same
     _ _ _ _ _ _ _ c.loop-falls.invariant.choice c.loop-falls.invariant.so_far fell
 
 pub loop-falls-preserved : goal.loop-falls-preserved
@@ -32,7 +35,8 @@ loop-falls-preserved g c =
       offers = c.fall_once.ensures.offers ∙ c.loop-falls.invariant.offers;
       choice = c.fall_once.ensures.choice ∙ c.loop-falls.invariant.choice;
       so_far =
-          more_now (f.system c.args.system.now) (g.met.F.Falling.lawful c.args.system.now) _ _ (f.system c.loop-falls.system) c.loop-falls.invariant.same
+          more_now (f.system c.args.system.now) (g.met.F.Falling.lawful c.args.system.now) _ _
+          (f.system c.loop-falls.system) c.loop-falls.invariant.same
           _ _ _ _ _ _ _ _ c.loop-falls.invariant.choice c.loop-falls.invariant.so_far c.in_ok-push.ensures.items fell;
     }
 
@@ -41,24 +45,29 @@ returns-in_err-push-clause-above g c =
     let f = g.F.Falling in
     let fell = rw c.in-Some.is at c.in_ok-fall.ensures.fall in
     let more =
-    more_now (f.system c.args.system.now) (g.met.F.Falling.lawful c.args.system.now) _ _ (f.system c.loop-falls.system) c.loop-falls.invariant.same
+    more_now (f.system c.args.system.now) (g.met.F.Falling.lawful c.args.system.now) _ _
+    (f.system c.loop-falls.system) c.loop-falls.invariant.same
     _ _ _ _ _ _ _ _ c.loop-falls.invariant.choice c.loop-falls.invariant.so_far refl fell in
     on_err _
-    (above_now (f.system c.args.system.now) (g.met.F.Falling.lawful c.args.system.now) _ _ (f.system c.loop-falls.system) c.loop-falls.invariant.same _ _ _ _ more refl)
+    (above_now (f.system c.args.system.now) (g.met.F.Falling.lawful c.args.system.now) _ _
+    (f.system c.loop-falls.system) c.loop-falls.invariant.same _ _ _ _ more refl)
 
 pub returns-in_err-push-clause-early : goal.returns-in_err-push-clause-early
 returns-in_err-push-clause-early g c =
     let f = g.F.Falling in
     let fell = rw c.in-Some.is at c.in_ok-fall.ensures.fall in
     let more =
-    more_now (f.system c.args.system.now) (g.met.F.Falling.lawful c.args.system.now) _ _ (f.system c.loop-falls.system) c.loop-falls.invariant.same
+    more_now (f.system c.args.system.now) (g.met.F.Falling.lawful c.args.system.now) _ _
+    (f.system c.loop-falls.system) c.loop-falls.invariant.same
     _ _ _ _ _ _ _ _ c.loop-falls.invariant.choice c.loop-falls.invariant.so_far refl fell in
-    on_err _ (early_so_far (f.system c.args.system.now) (g.met.F.Falling.lawful c.args.system.now) _ _ _ _ _ _ more (inl refl))
+    on_err _ (early_so_far (f.system c.args.system.now) (g.met.F.Falling.lawful c.args.system.now) _ _ _ _ _ _ more
+    (inl refl))
 
 pub returns-clause-greatest : goal.returns-clause-greatest
 returns-clause-greatest g c =
     let f = g.F.Falling in
     let settled = rw c.in_default.is at c.in_ok-fall.ensures.settled in
     let rest = rw c.in_default.is at c.in_ok-fall.ensures.rest in
-    greatest_now (f.system c.args.system.now) (g.met.F.Falling.lawful c.args.system.now) _ _ (f.system c.loop-falls.system) c.loop-falls.invariant.same
+    greatest_now (f.system c.args.system.now) (g.met.F.Falling.lawful c.args.system.now) _ _
+    (f.system c.loop-falls.system) c.loop-falls.invariant.same
     _ _ _ _ c.loop-falls.invariant.so_far rest.0 settled

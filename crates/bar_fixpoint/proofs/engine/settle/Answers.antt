@@ -8,7 +8,8 @@ pub sink_once-requires : goal.sink_once-requires
 sink_once-requires g c =
     let f = g.F.Falling in
     let now = c.loop-school.invariant in
-    under_now (f.system c.args.system.now) (g.met.F.Falling.lawful c.args.system.now) _ _ (f.system c.loop-school.system) now.same
+    under_now (f.system c.args.system.now) (g.met.F.Falling.lawful c.args.system.now) _ _
+    (f.system c.loop-school.system) now.same
     _ _ _ now.so_far.1
 
 pub returns-in_err-_school-clause-above : goal.returns-in_err-_school-clause-above
@@ -16,7 +17,8 @@ returns-in_err-_school-clause-above g c =
     let f = g.F.Falling in
     let now = c.loop-school.invariant in
     on_err _
-    (above_now (f.system c.args.system.now) (g.met.F.Falling.lawful c.args.system.now) _ _ (f.system c.loop-school.system) now.same
+    (above_now (f.system c.args.system.now) (g.met.F.Falling.lawful c.args.system.now) _ _
+    (f.system c.loop-school.system) now.same
     _ _ _ _ now.so_far.1 c.in_err-_school.ensures.err)
 
 pub loop-school-smaller : goal.loop-school-smaller
@@ -24,7 +26,8 @@ loop-school-smaller g c =
     let f = g.F.Falling in
     let now = c.loop-school.invariant in
     let fell = rw c.in-Some.is at c.in_ok-_school.ensures.fall in
-    smaller_now (f.system c.args.system.now) (g.met.F.Falling.lawful c.args.system.now) _ _ (f.system c.loop-school.system) now.same
+    smaller_now (f.system c.args.system.now) (g.met.F.Falling.lawful c.args.system.now) _ _
+    (f.system c.loop-school.system) now.same
     _ _ _ _ _ _ _ now.choice now.so_far.1 fell
 
 pub loop-school-preserved : goal.loop-school-preserved
@@ -39,7 +42,8 @@ loop-school-preserved g c =
       choice = c.sink_once.ensures.choice ∙ now.choice;
       so_far = (
         now.so_far.0 ++ fall ∷ [],
-        more_now (f.system c.args.system.now) (g.met.F.Falling.lawful c.args.system.now) _ _ (f.system c.loop-school.system) now.same
+        more_now (f.system c.args.system.now) (g.met.F.Falling.lawful c.args.system.now) _ _
+            (f.system c.loop-school.system) now.same
             _ _ _ _ _ fall _ _ now.choice now.so_far.1 refl fell,
       );
     }
@@ -50,7 +54,8 @@ returns-clause-greatest g c =
     let now = c.loop-school.invariant in
     let settled = rw c.in_default.is at c.in_ok-_school.ensures.settled in
     let rest = rw c.in_default.is at c.in_ok-_school.ensures.rest in
-    greatest_now (f.system c.args.system.now) (g.met.F.Falling.lawful c.args.system.now) _ _ (f.system c.loop-school.system) now.same
+    greatest_now (f.system c.args.system.now) (g.met.F.Falling.lawful c.args.system.now) _ _
+    (f.system c.loop-school.system) now.same
     _ _ _ _ now.so_far.1 rest.0 settled
 
 pub returns-clause-run : goal.returns-clause-run
@@ -59,5 +64,6 @@ returns-clause-run g c =
     let now = c.loop-school.invariant in
     let settled = rw c.in_default.is at c.in_ok-_school.ensures.settled in
     let rest = rw c.in_default.is at c.in_ok-_school.ensures.rest in
-    run_now (f.system c.args.system.now) (g.met.F.Falling.lawful c.args.system.now) _ _ (f.system c.loop-school.system) now.same
+    run_now (f.system c.args.system.now) (g.met.F.Falling.lawful c.args.system.now) _ _
+    (f.system c.loop-school.system) now.same
     _ _ _ _ _ now.so_far.1 rest.0 rest.1 settled

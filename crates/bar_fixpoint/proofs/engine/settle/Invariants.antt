@@ -14,7 +14,8 @@ invariant-loop-school g l =
       same : f.system l.system ≡ f.system l.fn.system;
       offers : f.offers l.system ≡ f.offers l.fn.system;
       choice : now.choice l.picker.now.1 ≡ first.choice l.fn.picker.now.1;
-      so_far : (falls : List Fall) × SoFar (f.system l.fn.system) (first.choice l.fn.picker.now.1) (first.told l.fn.picker.now.1) falls (f.bars l.system) (now.told l.picker.now.1);
+      so_far : (falls : List Fall) × SoFar (f.system l.fn.system) (first.choice l.fn.picker.now.1)
+          (first.told l.fn.picker.now.1) falls (f.bars l.system) (now.told l.picker.now.1);
     }
 
 abbrev pub decreases-loop-school : goal.decreases-loop-school

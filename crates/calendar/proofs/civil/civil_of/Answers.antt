@@ -8,7 +8,8 @@ invariant_of-result c =
     let month = i8_of c.try_from.result c.args.month _ c.try_from.ensures c.in_ok-month.ensures.value in
     let day = i8_of c.try_from-2.result c.args.day _ c.try_from-2.ensures c.in_ok-day.ensures.value in
     let year = i16_of c.args.year (omega arith) in
-    (made-range c.in-Ok.date c.args.year c.args.month c.args.day _ (c.to_unix_epoch_day.ensures.value ∙ ap epoch_day c.to_plain.ensures) (omega arith) (omega arith)
+    (made-range c.in-Ok.date c.args.year c.args.month c.args.day _
+    (c.to_unix_epoch_day.ensures.value ∙ ap epoch_day c.to_plain.ensures) (omega arith) (omega arith)
     (rw (year, month, day) at c.in-Ok.ensures.value)).0
 
 pub returns-in-Ok : goal.returns-in-Ok
@@ -16,7 +17,8 @@ returns-in-Ok c =
     let month = i8_of c.try_from.result c.args.month _ c.try_from.ensures c.in_ok-month.ensures.value in
     let day = i8_of c.try_from-2.result c.args.day _ c.try_from-2.ensures c.in_ok-day.ensures.value in
     let year = i16_of c.args.year (omega arith) in
-    let made = made-range c.in-Ok.date c.args.year c.args.month c.args.day _ (c.to_unix_epoch_day.ensures.value ∙ ap epoch_day c.to_plain.ensures) (omega arith) (omega arith)
+    let made = made-range c.in-Ok.date c.args.year c.args.month c.args.day _
+    (c.to_unix_epoch_day.ensures.value ∙ ap epoch_day c.to_plain.ensures) (omega arith) (omega arith)
     (rw (year, month, day) at c.in-Ok.ensures.value) in
     record { value = sym made.1; range = made.2 }
 
@@ -25,4 +27,5 @@ returns-in-Err-clause-value c =
     let month = i8_of c.try_from.result c.args.month _ c.try_from.ensures c.in_ok-month.ensures.value in
     let day = i8_of c.try_from-2.result c.args.day _ c.try_from-2.ensures c.in_ok-day.ensures.value in
     let year = i16_of c.args.year (omega arith) in
-    sym (civil-none c.args.year c.args.month c.args.day (omega arith) (omega arith) (λ is. cc (c.in-Err.ensures.succeeds.1 (rw (year, month, day) is))))
+    sym (civil-none c.args.year c.args.month c.args.day (omega arith) (omega arith)
+    (λ is. cc (c.in-Err.ensures.succeeds.1 (rw (year, month, day) is))))

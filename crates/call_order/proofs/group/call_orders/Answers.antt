@@ -11,7 +11,8 @@ loop-group-preserved c =
     let order = c.in_ok-call_order.field-0 in
     let within : k < length groups = omega arith in
     rw (take_more groups k c.group-item.result within, ← c.group-item.is, c.in_ok-push.ensures.items)
-    (AllZip-push IsCallOrder (take k groups) c.loop-group.orders.items c.group-item.result order c.loop-group.invariant c.in_ok-call_order.ensures.order)
+    (AllZip-push IsCallOrder (take k groups) c.loop-group.orders.items c.group-item.result order c.loop-group.invariant
+    c.in_ok-call_order.ensures.order)
 
 pub returns : goal.returns
 returns c =

@@ -8,7 +8,8 @@ use Rattle.call_order.proofs.queued.call_order_queued.Given as goal
 abbrev pub invariant-loop-ranked : goal.invariant-loop-ranked
 invariant-loop-ranked g l =
     record {
-      so_far : QueuedSoFar (ranking_by l.scholar_pct l.resident_pct l.fn.queues.remaining) l.list.items l.trace.items l.tally l.queues.remaining;
+      so_far : QueuedSoFar (ranking_by l.scholar_pct l.resident_pct l.fn.queues.remaining) l.list.items l.trace.items
+          l.tally l.queues.remaining;
       ranks : IsStrictlyIncreasing (map (λ r. r.rank) l.queues.remaining);
       taken : l.queues.taken ≡ l.fn.queues.taken ++ l.list.items;
       steps : l.steps ≡ l.fn.steps + length l.list.items;

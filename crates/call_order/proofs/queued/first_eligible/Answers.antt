@@ -4,7 +4,16 @@ use Rattle.call_order.proofs.queued.first_eligible.Goals as goal
 
 pub returns-in-Free : goal.returns-in-Free
 returns-in-Free c =
-    rw (c.in-Free.is, c.earlier-in-Free-2.ensures, c.earlier.ensures, c.earlier-in-Free.ensures, c.peek.ensures, c.peek-scholar.ensures, c.peek-resident.ensures, c.peek-both.ensures)
+    rw (
+      c.in-Free.is,
+      c.earlier-in-Free-2.ensures,
+      c.earlier.ensures,
+      c.earlier-in-Free.ensures,
+      c.peek.ensures,
+      c.peek-scholar.ensures,
+      c.peek-resident.ensures,
+      c.peek-both.ensures,
+    )
     (sym (find_any_kind c.args.queues.now.remaining c.requires))
 
 pub returns-in-Scholar : goal.returns-in-Scholar

@@ -9,4 +9,5 @@ loop-room-preserved c =
     let i = c.loop-room.room-index in
     ap (map (λ v. v.items)) c.in_ok-push.ensures.items
     ∙ map-append (λ v. v.items) c.loop-room.lists.items (c.in_ok-list.list ∷ [])
-    ∙ rw (c.loop-room.invariant, c.in_ok-list.ensures.items, take_more ks i 0 (omega arith)) (sym (map-append (ranked_in []) (take i ks) (get_or ks i 0 ∷ [])))
+    ∙ rw (c.loop-room.invariant, c.in_ok-list.ensures.items, take_more ks i 0 (omega arith))
+    (sym (map-append (ranked_in []) (take i ks) (get_or ks i 0 ∷ [])))

@@ -9,7 +9,10 @@ use Rattle.dossier_check.proofs.groups.rank_groups.Goals as goal
 
 pub returns : goal.returns
 returns c =
-    let end = YieldsList-end (YieldsList-from_zip {s = c.into_iter-row-iterator.result} (YieldsList-from_slice c.args.tables.now.groups (search rules)) (YieldsList-from_vec c.args.lists.items (search rules) (search rules))) c.loop-row.yielded c.loop-row.row-iterator c.loop-row.yielded_by c.next.result c.next.new.self c.in-None.is c.next.ensures.steps in
+    let end = YieldsList-end (YieldsList-from_zip {s = c.into_iter-row-iterator.result}
+    (YieldsList-from_slice c.args.tables.now.groups (search rules))
+    (YieldsList-from_vec c.args.lists.items (search rules) (search rules))) c.loop-row.yielded
+    c.loop-row.row-iterator c.loop-row.yielded_by c.next.result c.next.new.self c.in-None.is c.next.ensures.steps in
     c.loop-row.invariant
     ∙ sym (map-map (λ p. built p.0 p.1.items) (λ p. (p.0.now, p.1)) c.loop-row.yielded)
     ∙ ap (map (λ p. built p.0 p.1.items)) end.0

@@ -7,4 +7,5 @@ pub returns : goal.returns
 returns c =
     is_sorted_by (λ r. r.rank) c.args.list.now.items c.sort_by_key.new.self.items
     (IsNonDecreasingBy-from_sort_by_key (λ r. r.rank) _ c.in_ok-sort_by_key.ensures.sorted (λ a r q k. search rules))
-    (c.in_ok-sort_by_key.ensures.stable (λ r. r.rank) (answers_always _ (λ a r. r ≡ a.0.now.rank) _ (λ f a r q k. search rules)))
+    (c.in_ok-sort_by_key.ensures.stable (λ r. r.rank)
+    (answers_always _ (λ a r. r ≡ a.0.now.rank) _ (λ f a r q k. search rules)))

@@ -6,9 +6,11 @@ returns-in-Some-row_with c =
     let t = c.args.tables.now in
     let school = c.in-Some.school in
     let candidate = c.args.candidate in
-    let found : find (λ b. nat_eq school b.school && nat_eq candidate b.candidate) t.boarding ≡ Some c.in-Some-row_with.row =
+    let found : find (λ b. nat_eq school b.school && nat_eq candidate b.candidate) t.boarding
+    ≡ Some c.in-Some-row_with.row =
     ap (find (λ b. nat_eq school b.school && nat_eq candidate b.candidate)) (sym c.as_slice-rows.ensures)
-    ∙ sym (c.row_with.ensures (λ b. (b.school, b.candidate)) (c.requires.boarding ∙ ap (map (λ b. (b.school, b.candidate))) (sym c.as_slice-rows.ensures)))
+    ∙ sym (c.row_with.ensures (λ b. (b.school, b.candidate))
+    (c.requires.boarding ∙ ap (map (λ b. (b.school, b.candidate))) (sym c.as_slice-rows.ensures)))
     ∙ c.in-Some-row_with.is in
     rw (c.in-Some.is, found) refl
 
@@ -19,6 +21,7 @@ returns-in-None c =
     let candidate = c.args.candidate in
     let found : find (λ b. nat_eq school b.school && nat_eq candidate b.candidate) t.boarding ≡ None =
     ap (find (λ b. nat_eq school b.school && nat_eq candidate b.candidate)) (sym c.as_slice-rows.ensures)
-    ∙ sym (c.row_with.ensures (λ b. (b.school, b.candidate)) (c.requires.boarding ∙ ap (map (λ b. (b.school, b.candidate))) (sym c.as_slice-rows.ensures)))
+    ∙ sym (c.row_with.ensures (λ b. (b.school, b.candidate))
+    (c.requires.boarding ∙ ap (map (λ b. (b.school, b.candidate))) (sym c.as_slice-rows.ensures)))
     ∙ c.in-None.is in
     rw (c.in-Some.is, found) refl

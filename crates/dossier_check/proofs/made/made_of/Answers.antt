@@ -12,4 +12,5 @@ loop-row-preserved g c =
 pub returns : goal.returns
 returns g c =
     c.loop-row.invariant
-    ∙ ap (map (g.M.Makes.made c.args.maker.now)) (take_all c.loop-row.row-index c.args.rows.now (omega (arith, c.loop-row-test.false)))
+    ∙ ap (map (g.M.Makes.made c.args.maker.now))
+    (take_all c.loop-row.row-index c.args.rows.now (omega (arith, c.loop-row-test.false)))

@@ -10,4 +10,5 @@ returns-then-is_new-clause-first g c before same =
 pub returns-clause-first : goal.returns-clause-first
 returns-clause-first g c before same =
     noted-old g.K.PartialEq.eq g.Q.Key.key before c.args.row.now c.args.keys.now.keys same c.in_ok-place.place
-    (rw (← c.key_of.ensures) (sym c.in_ok-place.ensures.added ∙ c.if-is_new.false)) (rw (← c.key_of.ensures) c.in_ok-place.ensures.index)
+    (rw (← c.key_of.ensures) (sym c.in_ok-place.ensures.added ∙ c.if-is_new.false))
+    (rw (← c.key_of.ensures) c.in_ok-place.ensures.index)

@@ -7,7 +7,8 @@ returns-in-Some g c passes same =
     let rows = c.args.rows.now in
     let at : position passes rows ≡ Some c.in-Some.place = sym same ∙ c.in-Some.is in
     c.copied.ensures
-    ∙ read_at rows c.in-Some.place c.get.result (position-within passes rows c.in-Some.place at) c.get.ensures.lookup.0 c.get.ensures.lookup.1
+    ∙ read_at rows c.in-Some.place c.get.result
+    (position-within passes rows c.in-Some.place at) c.get.ensures.lookup.0 c.get.ensures.lookup.1
     ∙ sym (found_same passes rows c.in-Some.place at)
 
 pub returns-in-None : goal.returns-in-None

@@ -3,4 +3,5 @@ use Rattle.dossier_check.specs.Dealt.{ascending_candidates}
 use Rattle.dossier_check.proofs.ranks.candidate_lists.Given as goal
 
 abbrev pub invariant-loop-list : goal.invariant-loop-list
-invariant-loop-list l = map (λ v. v.items) l.done.items ≡ map (λ v. ascending_candidates v.items) (take l.list-index l.lists)
+invariant-loop-list l = map (λ v. v.items) l.done.items ≡ map (λ v. ascending_candidates v.items)
+    (take l.list-index l.lists)

@@ -6,4 +6,5 @@ use Rattle.dossier_check.proofs.ranks.rises.Goals as goal
 pub returns : goal.returns
 returns c =
     rising c.args.numbers.now c.is_sorted_by.result
-    (c.is_sorted_by.ensures.cases nat_lt (answers_always _ (λ a r. r ≡ nat_lt a.0.now a.1.0.now) _ (λ f a r q k. search rules)))
+    (c.is_sorted_by.ensures.cases nat_lt (answers_always _ (λ a r. r ≡ nat_lt a.0.now a.1.0.now) _
+    (λ f a r q k. search rules)))

@@ -18,7 +18,8 @@ returns-in_err-ranks-clause-fault c =
     let e = c.from_residual-in_err-ranks in
     let here : AnswersFault e.result (first_in_ranks t) = handed_on _ _ _ e.ensures.1 c.in_err-ranks.ensures.fault in
     subst (AnswersFault e.result) (in_parts t)
-    (after_none e.result (first_in_named t) _ c.in_ok-named.ensures.fault (first_here e.result (first_in_ranks t) _ e.ensures.0 here))
+    (after_none e.result (first_in_named t) _ c.in_ok-named.ensures.fault
+    (first_here e.result (first_in_ranks t) _ e.ensures.0 here))
 
 pub check_wishes_on-requires-clause-ranked : goal.check_wishes_on-requires-clause-ranked
 check_wishes_on-requires-clause-ranked c =
@@ -32,7 +33,8 @@ pub returns-in_err-wishes-clause-fault : goal.returns-in_err-wishes-clause-fault
 returns-in_err-wishes-clause-fault c =
     let t = c.args.tables.now in
     let e = c.from_residual-in_err-wishes in
-    let here : AnswersFault e.result (first_from_wishes t) = handed_on _ _ _ e.ensures.1 c.in_err-wishes.ensures.fault in
+    let here : AnswersFault e.result (first_from_wishes t) =
+    handed_on _ _ _ e.ensures.1 c.in_err-wishes.ensures.fault in
     subst (AnswersFault e.result) (in_parts t)
     (after_none e.result (first_in_named t) _ c.in_ok-named.ensures.fault
     (after_none e.result (first_in_ranks t) _ c.in_ok-ranks.ensures.fault here))

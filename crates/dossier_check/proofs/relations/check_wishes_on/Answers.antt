@@ -12,7 +12,8 @@ unfolding first_from_wishes
 returns-in_err-wishes-clause-fault c =
     let t = c.args.tables.now in
     let wishes : Option Refusal = first_in slots.Wishes (wish_tests t) t.wishes in
-    let here : AnswersFault c.from_residual.result wishes = handed_on _ _ _ c.from_residual.ensures.1 c.in_err-wishes.ensures.fault in
+    let here : AnswersFault c.from_residual.result wishes =
+    handed_on _ _ _ c.from_residual.ensures.1 c.in_err-wishes.ensures.fault in
     first_here c.from_residual.result wishes _ c.from_residual.ensures.0 here
 
 pub returns-in_err-state-clause-fault : goal.returns-in_err-state-clause-fault
@@ -21,8 +22,10 @@ returns-in_err-state-clause-fault c =
     let t = c.args.tables.now in
     let wishes : Option Refusal = first_in slots.Wishes (wish_tests t) t.wishes in
     let state : Option Refusal = first_in slots.State (state_tests t) t.state in
-    let here : AnswersFault c.from_residual-in_err-state.result state = handed_on _ _ _ c.from_residual-in_err-state.ensures.1 c.in_err-state.ensures.fault in
-    after_none c.from_residual-in_err-state.result wishes _ c.in_ok-wishes.ensures.fault (first_here c.from_residual-in_err-state.result state _ c.from_residual-in_err-state.ensures.0 here)
+    let here : AnswersFault c.from_residual-in_err-state.result state =
+    handed_on _ _ _ c.from_residual-in_err-state.ensures.1 c.in_err-state.ensures.fault in
+    after_none c.from_residual-in_err-state.result wishes _ c.in_ok-wishes.ensures.fault
+    (first_here c.from_residual-in_err-state.result state _ c.from_residual-in_err-state.ensures.0 here)
 
 pub returns-in_err-check_ceilings-clause-fault : goal.returns-in_err-check_ceilings-clause-fault
 unfolding first_from_wishes
@@ -31,8 +34,12 @@ returns-in_err-check_ceilings-clause-fault c =
     let wishes : Option Refusal = first_in slots.Wishes (wish_tests t) t.wishes in
     let state : Option Refusal = first_in slots.State (state_tests t) t.state in
     let ceilings : Option Refusal = first_in slots.Ceilings (ceiling_tests t) t.ceilings in
-    let here : AnswersFault c.from_residual-in_err-check_ceilings.result ceilings = handed_on _ _ _ c.from_residual-in_err-check_ceilings.ensures.1 c.in_err-check_ceilings.ensures in
-    after_none c.from_residual-in_err-check_ceilings.result wishes _ c.in_ok-wishes.ensures.fault (after_none c.from_residual-in_err-check_ceilings.result state _ c.in_ok-state.ensures.fault (first_here c.from_residual-in_err-check_ceilings.result ceilings _ c.from_residual-in_err-check_ceilings.ensures.0 here))
+    let here : AnswersFault c.from_residual-in_err-check_ceilings.result ceilings =
+    handed_on _ _ _ c.from_residual-in_err-check_ceilings.ensures.1 c.in_err-check_ceilings.ensures in
+    after_none c.from_residual-in_err-check_ceilings.result wishes _ c.in_ok-wishes.ensures.fault
+    (after_none c.from_residual-in_err-check_ceilings.result state _ c.in_ok-state.ensures.fault
+    (first_here c.from_residual-in_err-check_ceilings.result ceilings _
+    c.from_residual-in_err-check_ceilings.ensures.0 here))
 
 pub returns-in_err-check_answers-clause-fault : goal.returns-in_err-check_answers-clause-fault
 unfolding first_from_wishes
@@ -42,8 +49,13 @@ returns-in_err-check_answers-clause-fault c =
     let state : Option Refusal = first_in slots.State (state_tests t) t.state in
     let ceilings : Option Refusal = first_in slots.Ceilings (ceiling_tests t) t.ceilings in
     let answers : Option Refusal = first_in slots.Answers (answer_tests t) t.answers in
-    let here : AnswersFault c.from_residual-in_err-check_answers.result answers = handed_on _ _ _ c.from_residual-in_err-check_answers.ensures.1 c.in_err-check_answers.ensures in
-    after_none c.from_residual-in_err-check_answers.result wishes _ c.in_ok-wishes.ensures.fault (after_none c.from_residual-in_err-check_answers.result state _ c.in_ok-state.ensures.fault (after_none c.from_residual-in_err-check_answers.result ceilings _ c.in_ok-check_ceilings.ensures (first_here c.from_residual-in_err-check_answers.result answers _ c.from_residual-in_err-check_answers.ensures.0 here)))
+    let here : AnswersFault c.from_residual-in_err-check_answers.result answers =
+    handed_on _ _ _ c.from_residual-in_err-check_answers.ensures.1 c.in_err-check_answers.ensures in
+    after_none c.from_residual-in_err-check_answers.result wishes _ c.in_ok-wishes.ensures.fault
+    (after_none c.from_residual-in_err-check_answers.result state _ c.in_ok-state.ensures.fault
+    (after_none c.from_residual-in_err-check_answers.result ceilings _ c.in_ok-check_ceilings.ensures
+    (first_here c.from_residual-in_err-check_answers.result answers _ c.from_residual-in_err-check_answers.ensures.0
+    here)))
 
 pub returns-clause-fault : goal.returns-clause-fault
 unfolding first_from_wishes
@@ -53,4 +65,6 @@ returns-clause-fault c =
     let state : Option Refusal = first_in slots.State (state_tests t) t.state in
     let ceilings : Option Refusal = first_in slots.Ceilings (ceiling_tests t) t.ceilings in
     let answers : Option Refusal = first_in slots.Answers (answer_tests t) t.answers in
-    none_then wishes _ c.in_ok-wishes.ensures.fault (none_then state _ c.in_ok-state.ensures.fault (none_then ceilings _ c.in_ok-check_ceilings.ensures (none_then answers _ c.in_ok-check_answers.ensures refl)))
+    none_then wishes _ c.in_ok-wishes.ensures.fault
+    (none_then state _ c.in_ok-state.ensures.fault
+    (none_then ceilings _ c.in_ok-check_ceilings.ensures (none_then answers _ c.in_ok-check_answers.ensures refl)))

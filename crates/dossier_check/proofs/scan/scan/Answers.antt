@@ -10,7 +10,8 @@ returns-in-Some-clause-fault g c =
     let rows = c.args.rows.now in
     let i = c.loop-place.place in
     let row = c.index-rows-place.result in
-    let e : c.in_ok-reason.field-0 ≡ first_reason (g.C.RowChecks.tests c.loop-place.checks) (take i rows) row = c.in_ok-reason.ensures.reason (take i rows) c.loop-place.invariant.seen in
+    let e : c.in_ok-reason.field-0 ≡ first_reason (g.C.RowChecks.tests c.loop-place.checks) (take i rows) row =
+    c.in_ok-reason.ensures.reason (take i rows) c.loop-place.invariant.seen in
     let stands : first_reason tests (take i rows) (get_or rows i row) ≡ Some c.in-Some.reason =
     rw (← c.index-rows-place.is, ← c.loop-place.invariant.same_tests) (sym e ∙ c.in-Some.is) in
     c.loop-place.invariant.fault ∙ found c.args.slot tests rows i row c.in-Some.reason c.loop-place-test.true stands
@@ -21,15 +22,19 @@ loop-place-preserved g c =
     let rows = c.args.rows.now in
     let i = c.loop-place.place in
     let row = c.index-rows-place.result in
-    let e : c.in_ok-reason.field-0 ≡ first_reason (g.C.RowChecks.tests c.loop-place.checks) (take i rows) row = c.in_ok-reason.ensures.reason (take i rows) c.loop-place.invariant.seen in
+    let e : c.in_ok-reason.field-0 ≡ first_reason (g.C.RowChecks.tests c.loop-place.checks) (take i rows) row =
+    c.in_ok-reason.ensures.reason (take i rows) c.loop-place.invariant.seen in
     let fine : first_reason tests (take i rows) (get_or rows i row) ≡ None =
     rw (← c.index-rows-place.is, ← c.loop-place.invariant.same_tests) (sym e ∙ c.in_default.is) in
     record {
       same_tests = c.in_ok-reason.ensures.same_tests ∙ c.loop-place.invariant.same_tests;
-      seen = rw (take_more rows i row c.loop-place-test.true, ← c.index-rows-place.is) (c.in_ok-reason.ensures.seen (take i rows) c.loop-place.invariant.seen (ap (λ n. n + 2) (sym (length-take-le i rows (omega arith)))) c.in_default.is);
+      seen = rw (take_more rows i row c.loop-place-test.true, ← c.index-rows-place.is)
+          (c.in_ok-reason.ensures.seen (take i rows) c.loop-place.invariant.seen
+          (ap (λ n. n + 2) (sym (length-take-le i rows (omega arith)))) c.in_default.is);
       fault = c.loop-place.invariant.fault ∙ passed c.args.slot tests rows i row c.loop-place-test.true fine;
     }
 
 pub returns-clause-fault : goal.returns-clause-fault
 returns-clause-fault g c =
-    c.loop-place.invariant.fault ∙ ended c.args.slot (g.C.RowChecks.tests c.args.checks.now) c.args.rows.now c.loop-place.place c.loop-place-test.false
+    c.loop-place.invariant.fault ∙ ended c.args.slot (g.C.RowChecks.tests c.args.checks.now) c.args.rows.now
+    c.loop-place.place c.loop-place-test.false

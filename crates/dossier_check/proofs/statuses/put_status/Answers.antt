@@ -11,7 +11,8 @@ returns-in-Some-clause-put c ws rows ids now =
     let there = is_at row.wish c.args.wishes.now.keys place (sym c.get_index_of.ensures.index ∙ c.in-Some.is) in
     c.set_status.ensures
     ∙ ap (λ statuses. slice_set statuses place row.status) now
-    ∙ put_own row rows ws place (subst (IsDistinct nat_eq) ids c.len.ensures.unique) (subst (λ ks. IsAt row.wish ks place) ids there)
+    ∙ put_own row rows ws place (subst (IsDistinct nat_eq) ids c.len.ensures.unique)
+    (subst (λ ks. IsAt row.wish ks place) ids there)
 
 pub returns-in_default-clause-put : goal.returns-in_default-clause-put
 returns-in_default-clause-put c ws rows ids now =

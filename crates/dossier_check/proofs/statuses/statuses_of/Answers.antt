@@ -9,10 +9,12 @@ pub loop-after-init : goal.loop-after-init
 loop-after-init c =
     let t = c.args.tables.now in
     let put : c.in_ok-statuses.statuses.items ≡ map (status_in (drop (length t.state - 0) t.state)) t.wishes =
-    c.in_ok-statuses.ensures.items_if_clones_equal (λ y e. e) ∙ ap (λ n. replicate n Waiting) c.len.ensures ∙ none_put t.state t.wishes in
+    c.in_ok-statuses.ensures.items_if_clones_equal (λ y e. e) ∙ ap (λ n. replicate n Waiting) c.len.ensures
+    ∙ none_put t.state t.wishes in
     record {
       put = put;
-      len = ap length put ∙ length-map-here _ t.wishes ∙ sym (ap length c.requires ∙ length-map-here (λ w. w.id) t.wishes);
+      len = ap length put ∙ length-map-here _ t.wishes
+          ∙ sym (ap length c.requires ∙ length-map-here (λ w. w.id) t.wishes);
     }
 
 pub loop-after-preserved : goal.loop-after-preserved
@@ -34,5 +36,6 @@ pub returns : goal.returns
 returns c =
     let t = c.args.tables.now in
     let after = c.loop-after.after in
-    let le : length t.state ≤ after = subst (λ rows. length rows ≤ after) c.as_slice-rows.ensures c.loop-after-test.false in
+    let le : length t.state ≤ after = subst (λ rows. length rows ≤ after) c.as_slice-rows.ensures
+    c.loop-after-test.false in
     c.loop-after.invariant.put ∙ ap (λ rows. map (status_in rows) t.wishes) (all_put t.state after le)

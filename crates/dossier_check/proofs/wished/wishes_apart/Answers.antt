@@ -8,4 +8,5 @@ pub returns : goal.returns
 returns c =
     no_wish_twice c.args.rows.now _ c.as_slice.result.now c.is_sorted_by.result c.in_ok-keys.ensures
     (rw c.as_slice.ensures.value c.sort_unstable.ensures.permutation)
-    (c.is_sorted_by.ensures.cases (λ x y. is_lt (wished_cmp x y)) (answers_always _ (λ a r. r ≡ is_lt (wished_cmp a.0.now a.1.0.now)) _ (λ f a r q k. search rules)))
+    (c.is_sorted_by.ensures.cases (λ x y. is_lt (wished_cmp x y))
+    (answers_always _ (λ a r. r ≡ is_lt (wished_cmp a.0.now a.1.0.now)) _ (λ f a r q k. search rules)))

@@ -10,11 +10,13 @@ returns-in_err-scanned-clause-fault c =
     let e = c.from_residual-in_err-scanned in
     let h = c.in_ok-apart in
     subst (AnswersFault e.result)
-    (found_same t c.as_slice-rows.result.now h.apart.wishes h.apart.preferences _ c.as_slice-rows.ensures c.in_ok-tests.ensures.tests h.ensures.wishes h.ensures.preferences)
+    (found_same t c.as_slice-rows.result.now h.apart.wishes h.apart.preferences _ c.as_slice-rows.ensures
+    c.in_ok-tests.ensures.tests h.ensures.wishes h.ensures.preferences)
     (handed_on _ _ _ e.ensures.1 c.in_err-scanned.ensures.fault)
 
 pub returns-clause-fault : goal.returns-clause-fault
 returns-clause-fault c =
     let h = c.in_ok-apart in
-    sym (found_same c.args.tables.now c.as_slice-rows.result.now h.apart.wishes h.apart.preferences _ c.as_slice-rows.ensures c.in_ok-tests.ensures.tests h.ensures.wishes h.ensures.preferences)
+    sym (found_same c.args.tables.now c.as_slice-rows.result.now h.apart.wishes h.apart.preferences _
+    c.as_slice-rows.ensures c.in_ok-tests.ensures.tests h.ensures.wishes h.ensures.preferences)
     ∙ c.in_ok-scanned.ensures.fault

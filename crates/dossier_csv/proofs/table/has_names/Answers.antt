@@ -5,9 +5,13 @@ use Rattle.dossier_csv.proofs.table.has_names.Goals as goal
 pub returns-then-ne : goal.returns-then-ne
 returns-then-ne c =
     let kept = c.loop-index.invariant in
-    sym (kept.1 ∙ differs-at _ _ _ _ _ _ (omega arith) c.loop-index-test.true c.get.ensures.value c.as_bytes.ensures.value c.if-ne.ensures)
+    sym (kept.1 ∙ differs-at _ _ _ _ _ _ (omega arith) c.loop-index-test.true c.get.ensures.value
+    c.as_bytes.ensures.value c.if-ne.ensures)
 
 pub loop-index-preserved : goal.loop-index-preserved
 loop-index-preserved c =
-    let kept = c.loop-index.invariant in
-    (kept.0, kept.1 ∙ agrees-at _ _ _ _ _ _ (omega arith) c.loop-index-test.true c.get.ensures.value c.as_bytes.ensures.value c.if-ne.ensures)
+    let kept = c.loop-index.invariant in (
+      kept.0,
+      kept.1 ∙ agrees-at _ _ _ _ _ _ (omega arith) c.loop-index-test.true c.get.ensures.value
+          c.as_bytes.ensures.value c.if-ne.ensures,
+    )

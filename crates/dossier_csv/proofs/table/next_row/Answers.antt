@@ -3,4 +3,5 @@ use Rattle.dossier_csv.proofs.table.next_row.Goals as goal
 
 pub returns-in-Ok-clause-next : goal.returns-in-Ok-clause-next
 returns-in-Ok-clause-next c = λ left has.
-    reads-next _ _ _ _ _ left has (c.in-Ok.ensures.reads has.plain has.ready) (c.in-Ok.ensures.ready has.plain) c.in-Ok.ensures.flexible
+    reads-next _ _ _ _ _ left has (c.in-Ok.ensures.reads has.plain has.ready)
+    (c.in-Ok.ensures.ready has.plain) c.in-Ok.ensures.flexible

@@ -8,7 +8,9 @@ pub returns-in_err-typed_row-clause-value : goal.returns-in_err-typed_row-clause
 returns-in_err-typed_row-clause-value g c = λ all has.
     let (left, here, whole) = c.rows.invariant.whole all has in
     let told = err_from_is_err_and c.from_residual-in_err-typed_row.result c.from_residual-in_err-typed_row.ensures.1 in
-    rw (told.1, told.2) (rows-refused _ _ _ _ _ _ _ left _ _ (rw c.if-branch.true at (c.in_ok-next_row.ensures.next left here)) (rw c.len.ensures at c.in_err-typed_row.ensures.value) whole)
+    rw (told.1, told.2) (rows-refused _ _ _ _ _ _ _ left _ _
+    (rw c.if-branch.true at (c.in_ok-next_row.ensures.next left here))
+    (rw c.len.ensures at c.in_err-typed_row.ensures.value) whole)
 
 pub rows-preserved : goal.rows-preserved
 rows-preserved g c =
@@ -18,8 +20,11 @@ rows-preserved g c =
           let (left, here, whole) = c.rows.invariant.whole all has in
           let next = rw c.if-branch.true at (c.in_ok-next_row.ensures.next left here) in
           let value = rw c.len.ensures at c.in_ok-typed_row.ensures.value in
-          one-more _ _ _ _ _ _ _ _ _ left _ _ next value (rw good at c.push.ensures.items) (rw good at c.push.ensures.len) whole;
-      ranges = more-in-range _ _ _ _ c.rows.invariant.ranges (omega (arith, c.in_ok-typed_row.ensures.bounded, c.len.ensures)) c.in_ok-typed_row.ensures.ranges (rw good at c.push.ensures.items);
+          one-more _ _ _ _ _ _ _ _ _ left _ _ next value (rw good at c.push.ensures.items)
+          (rw good at c.push.ensures.len) whole;
+      ranges = more-in-range _ _ _ _ c.rows.invariant.ranges
+          (omega (arith, c.in_ok-typed_row.ensures.bounded, c.len.ensures)) c.in_ok-typed_row.ensures.ranges
+          (rw good at c.push.ensures.items);
     }
 
 pub returns-clause-value : goal.returns-clause-value

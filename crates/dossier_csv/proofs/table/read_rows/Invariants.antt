@@ -9,7 +9,8 @@ abbrev pub invariant-rows : goal.invariant-rows
 invariant-rows g l = record {
   whole : (all : List (List (List ℕ))) → HasLeft (λ (text : Bor (List ℕ)). Some text.now) l.fn.reader all
       → (left : List (List (List ℕ))) × HasLeft (λ (text : Bor (List ℕ)). Some text.now) l.reader left
-      × (rows_from g.T.TableRow.layout l.width 2 all ≡ put_before l.rows.items (rows_from g.T.TableRow.layout l.width (vec_len l.rows + 2) left));
+      × (rows_from g.T.TableRow.layout l.width 2 all
+      ≡ put_before l.rows.items (rows_from g.T.TableRow.layout l.width (vec_len l.rows + 2) left));
   ranges : AreRows g.T.TableRow.in_range l.rows.items;
 }
 

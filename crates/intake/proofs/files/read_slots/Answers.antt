@@ -5,7 +5,8 @@ use Rattle.intake.specs.Reading.{no_files}
 use Rattle.intake.specs.Shelves.{on_shelf}
 use Rattle.intake.specs.Stops.{stop_of}
 use Rattle.intake.specs.declared.files.Files.{Files}
-use Rattle.intake.proofs.ReadOrder.{all_read, all_taken, fault_there, gives_stop, nothing_read, read_one, refusal_has_cause, rows_stop, size_stops, taken_till, told_at}
+use Rattle.intake.proofs.ReadOrder.{all_read, all_taken, fault_there, gives_stop, nothing_read, read_one}
+use Rattle.intake.proofs.ReadOrder.{refusal_has_cause, rows_stop, size_stops, taken_till, told_at}
 use Rattle.intake.proofs.files.read_slots.Goals as goal
 
 pub loop-slot-init : goal.loop-slot-init
@@ -20,10 +21,13 @@ loop-slot-preserved g c =
     let place = c.loop-slot.slot-index in
     let within : place < length order = omega arith in
     let slot = get_or order place Groups in
-    read_one order c.requires (on_shelf g.S.Shelf.left g.S.Shelf.taken g.S.Shelf.faults c.args.shelf.now) (on_shelf g.S.Shelf.left g.S.Shelf.taken g.S.Shelf.faults c.loop-slot.shelf)
+    read_one order c.requires (on_shelf g.S.Shelf.left g.S.Shelf.taken g.S.Shelf.faults c.args.shelf.now)
+    (on_shelf g.S.Shelf.left g.S.Shelf.taken g.S.Shelf.faults c.loop-slot.shelf)
     (on_shelf g.S.Shelf.left g.S.Shelf.taken g.S.Shelf.faults c.slot_bytes.new.shelf)
-    place slot c.loop-slot.files within (get_or_default order place slot Groups within) c.loop-slot.invariant c.in_ok-bytes.ensures.touches
-    c.in_ok-bytes.bytes.items c.in_ok-files.files c.in_ok-bytes.ensures.value c.in_ok-bytes.ensures.ends c.in_ok-files.ensures.value c.in_ok-files.ensures.ranges c.in_ok-bytes.ensures.fault
+    place slot c.loop-slot.files within (get_or_default order place slot Groups within) c.loop-slot.invariant
+    c.in_ok-bytes.ensures.touches
+    c.in_ok-bytes.bytes.items c.in_ok-files.files c.in_ok-bytes.ensures.value c.in_ok-bytes.ensures.ends
+    c.in_ok-files.ensures.value c.in_ok-files.ensures.ranges c.in_ok-bytes.ensures.fault
 
 pub returns-in_err-bytes-clause-value : goal.returns-in_err-bytes-clause-value
 returns-in_err-bytes-clause-value g c =
@@ -33,9 +37,11 @@ returns-in_err-bytes-clause-value g c =
     let within : place < length order = omega arith in
     let slot = get_or order place Groups in
     gives_stop (λ files. files) c.from_residual.result c.in_err-bytes.field-0.0 _ c.from_residual.ensures.1
-    (size_stops order c.requires (on_shelf g.S.Shelf.left g.S.Shelf.taken g.S.Shelf.faults c.args.shelf.now) (on_shelf g.S.Shelf.left g.S.Shelf.taken g.S.Shelf.faults c.loop-slot.shelf)
+    (size_stops order c.requires (on_shelf g.S.Shelf.left g.S.Shelf.taken g.S.Shelf.faults c.args.shelf.now)
+    (on_shelf g.S.Shelf.left g.S.Shelf.taken g.S.Shelf.faults c.loop-slot.shelf)
     (on_shelf g.S.Shelf.left g.S.Shelf.taken g.S.Shelf.faults c.slot_bytes.new.shelf)
-    place slot c.loop-slot.files within (get_or_default order place slot Groups within) c.loop-slot.invariant c.in_err-bytes.ensures.touches
+    place slot c.loop-slot.files within (get_or_default order place slot Groups within) c.loop-slot.invariant
+    c.in_err-bytes.ensures.touches
     c.in_err-bytes.field-0.0 c.in_err-bytes.ensures.value slots tells)
 
 pub returns-in_err-bytes-clause-slots : goal.returns-in_err-bytes-clause-slots
@@ -48,10 +54,13 @@ returns-in_err-bytes-clause-slots g c =
     let mid = on_shelf g.S.Shelf.left g.S.Shelf.taken g.S.Shelf.faults c.loop-slot.shelf in
     let after = on_shelf g.S.Shelf.left g.S.Shelf.taken g.S.Shelf.faults c.slot_bytes.new.shelf in
     let is_there = get_or_default order place slot Groups within in
-    taken_till order c.requires before mid after place slot c.loop-slot.files within is_there c.loop-slot.invariant c.in_err-bytes.ensures.touches
+    taken_till order c.requires before mid after place slot c.loop-slot.files within is_there c.loop-slot.invariant
+    c.in_err-bytes.ensures.touches
     c.from_residual.result c.in_err-bytes.field-0.0 c.from_residual.ensures.1
-    (fault_there order c.requires before mid after place slot c.loop-slot.files within is_there c.loop-slot.invariant c.in_err-bytes.ensures.touches c.in_err-bytes.field-0.0 c.in_err-bytes.ensures.fault)
-    (told_at order c.requires before mid after place slot c.loop-slot.files within is_there c.loop-slot.invariant c.in_err-bytes.ensures.touches c.in_err-bytes.field-0.0 c.in_err-bytes.ensures.fault)
+    (fault_there order c.requires before mid after place slot c.loop-slot.files within is_there c.loop-slot.invariant
+    c.in_err-bytes.ensures.touches c.in_err-bytes.field-0.0 c.in_err-bytes.ensures.fault)
+    (told_at order c.requires before mid after place slot c.loop-slot.files within is_there c.loop-slot.invariant
+    c.in_err-bytes.ensures.touches c.in_err-bytes.field-0.0 c.in_err-bytes.ensures.fault)
 
 pub returns-in_err-files-clause-value : goal.returns-in_err-files-clause-value
 returns-in_err-files-clause-value g c =
@@ -60,11 +69,15 @@ returns-in_err-files-clause-value g c =
     let place = c.loop-slot.slot-index in
     let within : place < length order = omega arith in
     let slot = get_or order place Groups in
-    gives_stop (λ files. files) c.from_residual-in_err-files.result (stop_of c.in_err-files.field-0.0) _ c.from_residual-in_err-files.ensures.1
-    (rows_stop order c.requires (on_shelf g.S.Shelf.left g.S.Shelf.taken g.S.Shelf.faults c.args.shelf.now) (on_shelf g.S.Shelf.left g.S.Shelf.taken g.S.Shelf.faults c.loop-slot.shelf)
+    gives_stop (λ files. files) c.from_residual-in_err-files.result
+    (stop_of c.in_err-files.field-0.0) _ c.from_residual-in_err-files.ensures.1
+    (rows_stop order c.requires (on_shelf g.S.Shelf.left g.S.Shelf.taken g.S.Shelf.faults c.args.shelf.now)
+    (on_shelf g.S.Shelf.left g.S.Shelf.taken g.S.Shelf.faults c.loop-slot.shelf)
     (on_shelf g.S.Shelf.left g.S.Shelf.taken g.S.Shelf.faults c.slot_bytes.new.shelf)
-    place slot c.loop-slot.files within (get_or_default order place slot Groups within) c.loop-slot.invariant c.in_ok-bytes.ensures.touches
-    c.in_ok-bytes.bytes.items c.in_err-files.field-0.0 c.in_ok-bytes.ensures.value c.in_err-files.ensures.value slots tells)
+    place slot c.loop-slot.files within (get_or_default order place slot Groups within) c.loop-slot.invariant
+    c.in_ok-bytes.ensures.touches
+    c.in_ok-bytes.bytes.items c.in_err-files.field-0.0 c.in_ok-bytes.ensures.value c.in_err-files.ensures.value slots
+    tells)
 
 pub returns-in_err-files-clause-slots : goal.returns-in_err-files-clause-slots
 returns-in_err-files-clause-slots g c =
@@ -72,10 +85,13 @@ returns-in_err-files-clause-slots g c =
     let place = c.loop-slot.slot-index in
     let within : place < length order = omega arith in
     let slot = get_or order place Groups in
-    taken_till order c.requires (on_shelf g.S.Shelf.left g.S.Shelf.taken g.S.Shelf.faults c.args.shelf.now) (on_shelf g.S.Shelf.left g.S.Shelf.taken g.S.Shelf.faults c.loop-slot.shelf)
+    taken_till order c.requires (on_shelf g.S.Shelf.left g.S.Shelf.taken g.S.Shelf.faults c.args.shelf.now)
+    (on_shelf g.S.Shelf.left g.S.Shelf.taken g.S.Shelf.faults c.loop-slot.shelf)
     (on_shelf g.S.Shelf.left g.S.Shelf.taken g.S.Shelf.faults c.slot_bytes.new.shelf)
-    place slot c.loop-slot.files within (get_or_default order place slot Groups within) c.loop-slot.invariant c.in_ok-bytes.ensures.touches
-    c.from_residual-in_err-files.result (stop_of c.in_err-files.field-0.0) c.from_residual-in_err-files.ensures.1 (refusal_has_cause _ _ _ c.in_err-files.field-0.0) (inl c.in_ok-bytes.ensures.fault)
+    place slot c.loop-slot.files within (get_or_default order place slot Groups within) c.loop-slot.invariant
+    c.in_ok-bytes.ensures.touches
+    c.from_residual-in_err-files.result (stop_of c.in_err-files.field-0.0) c.from_residual-in_err-files.ensures.1
+    (refusal_has_cause _ _ _ c.in_err-files.field-0.0) (inl c.in_ok-bytes.ensures.fault)
 
 pub returns-clause-value : goal.returns-clause-value
 returns-clause-value g c = all_read _ _ _ c.loop-slot.slot-index c.loop-slot.files (omega arith) c.loop-slot.invariant

@@ -9,4 +9,5 @@ returns c =
     let mode_is : rule_of c.required-mode.result ≡ mode_rule = search rules in
     let first : app_of c.in_ok-command.command ≡ with_rule (new_app (codes "parcours")) mode_rule =
     c.in_ok-command.ensures.shape (search rules) ∙ ap₂ with_rule c.new-2.ensures.app mode_is in
-    IfOk-weaker c.with_options.result _ _ (λ m h. h ∙ ap (λ app. with_options app option_names) first) c.with_options.ensures
+    IfOk-weaker c.with_options.result _ _ (λ m h. h ∙ ap (λ app. with_options app option_names) first)
+    c.with_options.ensures

@@ -5,7 +5,9 @@ use Rattle.request.proofs.words.read_named.Goals as goal
 
 pub returns-in_ok-request_in-in-Ok-clause-value : goal.returns-in_ok-request_in-in-Ok-clause-value
 returns-in_ok-request_in-in-Ok-clause-value c =
-    words_ask (map (λ s. s.now) c.args.words.now) (rows_of (found_of c.in-Ok.matches)) c.in_ok-request_in-in-Ok.field-0 c.in-Ok.ensures.kinds c.in-Ok.ensures.matches
+    words_ask (map (λ s. s.now) c.args.words.now)
+    (rows_of (found_of c.in-Ok.matches)) c.in_ok-request_in-in-Ok.field-0 c.in-Ok.ensures.kinds
+    c.in-Ok.ensures.matches
     c.in_ok-request_in-in-Ok.ensures.value
 
 pub returns-in_err-request_in-in-Ok-clause-value : goal.returns-in_err-request_in-in-Ok-clause-value
@@ -15,4 +17,5 @@ returns-in_err-request_in-in-Ok-clause-value c =
 
 pub returns-in-Err-clause-value : goal.returns-in-Err-clause-value
 returns-in-Err-clause-value c =
-    words_refused (map (λ s. s.now) c.args.words.now) c.refusal_of.result c.in-Err.error c.kind.result c.in-Err.ensures.kinds c.kind.ensures c.refusal_of.ensures
+    words_refused (map (λ s. s.now) c.args.words.now) c.refusal_of.result c.in-Err.error c.kind.result
+    c.in-Err.ensures.kinds c.kind.ensures c.refusal_of.ensures

@@ -4,4 +4,5 @@ use Rattle.request.proofs.words.start_date.Goals as goal
 
 pub returns-then-year-le2298-clause-range : goal.returns-then-year-le2298-clause-range
 returns-then-year-le2298-clause-range c =
-    start_of c.in_ok-date.date c.in_ok-date.ensures.range (subst (λ (d : ℕ × ℕ × ℕ). 1901 ≤ d.0) c.parts-year.ensures.value c.if-year-ge1901.true)
+    start_of c.in_ok-date.date c.in_ok-date.ensures.range
+    (subst (λ (d : ℕ × ℕ × ℕ). 1901 ≤ d.0) c.parts-year.ensures.value c.if-year-ge1901.true)

@@ -18,4 +18,5 @@ pub returns-clause-faultless : goal.returns-clause-faultless
 returns-clause-faultless c =
     let n = c.args.number in
     IfOk-weaker c.tables_of.result (λ t. t ≡ sample_tables n) (λ t. first_fault t ≡ None)
-    (λ t is. subst (λ (u : Tables). first_fault u ≡ None) (sym is) (sample_faultless n c.requires.at_most)) c.tables_of.ensures
+    (λ t is. subst (λ (u : Tables). first_fault u ≡ None) (sym is) (sample_faultless n c.requires.at_most))
+    c.tables_of.ensures

@@ -12,9 +12,12 @@ loop-i-preserved g c =
     let lt : c.loop-i.i < length sys.ceilings = omega (arith, c.loop-i-test.true, c.count-i-end.ensures) in
     elim c.if-is_overfilled.branch [
       | then-is_overfilled+in_ok-push w ↦
-          let some : is_some (rank_over sys bars c.loop-i.i) ≡ true = ap is_some (sym c.in_ok-over.ensures) ∙ sym w.if-is_overfilled.ensures in
-          rw w.places-is (w.in_ok-push.ensures.items ∙ ap (λ xs. xs ++ c.loop-i.i ∷ []) c.loop-i.invariant ∙ sym (listed sys bars c.loop-i.i lt some))
+          let some : is_some (rank_over sys bars c.loop-i.i) ≡ true =
+          ap is_some (sym c.in_ok-over.ensures) ∙ sym w.if-is_overfilled.ensures in
+          rw w.places-is (w.in_ok-push.ensures.items ∙ ap (λ xs. xs ++ c.loop-i.i ∷ []) c.loop-i.invariant
+          ∙ sym (listed sys bars c.loop-i.i lt some))
       | else-is_overfilled w ↦
-          let none : is_some (rank_over sys bars c.loop-i.i) ≡ false = ap is_some (sym c.in_ok-over.ensures) ∙ sym w.if-is_overfilled.ensures in
+          let none : is_some (rank_over sys bars c.loop-i.i) ≡ false =
+          ap is_some (sym c.in_ok-over.ensures) ∙ sym w.if-is_overfilled.ensures in
           rw w.places-is (c.loop-i.invariant ∙ sym (left_out sys bars c.loop-i.i lt none))
     ]

@@ -4,7 +4,9 @@ use Rattle.call_order.proofs.queues.Queues.build.Goals as goal
 
 pub invariant_of-result : goal.invariant_of-result
 invariant_of-result c =
-    let heads = first-heads c.first_heads-heads.result c.args.list.now (vec_len c.in_ok-taken.taken) (vec_capacity c.in_ok-taken.taken) c.first_heads-heads.ensures c.requires c.in_ok-taken.ensures.len (c.in_ok-taken.ensures.capacity) in
+    let heads = first-heads c.first_heads-heads.result c.args.list.now (vec_len c.in_ok-taken.taken)
+    (vec_capacity c.in_ok-taken.taken) c.first_heads-heads.ensures c.requires c.in_ok-taken.ensures.len
+    (c.in_ok-taken.ensures.capacity) in
     rw c.in_ok-list.ensures.items heads
 
 pub returns-clause-remaining : goal.returns-clause-remaining

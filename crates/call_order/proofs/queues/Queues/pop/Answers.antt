@@ -14,11 +14,19 @@ push_reserved-requires g c =
     (head-goes c.self.invariant c.self.view_is c.args.kind c.in_ok-head.head c.in_ok-head.ensures).room
 
 pub returns-in_err-head-clause-remaining : goal.returns-in_err-head-clause-remaining
-returns-in_err-head-clause-remaining g c = sym (without_first-none (is_of c.args.kind) c.args.self.now.remaining (sym c.in_err-head.ensures))
+returns-in_err-head-clause-remaining g c =
+    sym (without_first-none (is_of c.args.kind) c.args.self.now.remaining (sym c.in_err-head.ensures))
 
 pub invariant_of-self : goal.invariant_of-self
 invariant_of-self g c =
-    rw (c.move_to.ensures, c.next_place-next.ensures.next, c.place.ensures, c.deref.ensures.value, c.push_reserved.ensures.len, c.push_reserved.ensures.capacity)
+    rw (
+      c.move_to.ensures,
+      c.next_place-next.ensures.next,
+      c.place.ensures,
+      c.deref.ensures.value,
+      c.push_reserved.ensures.len,
+      c.push_reserved.ensures.capacity,
+    )
     (head-goes c.self.invariant c.self.view_is c.args.kind c.in_ok-head.head c.in_ok-head.ensures).still
 
 pub returns-clause-remaining : goal.returns-clause-remaining

@@ -9,4 +9,6 @@ returns-then-is_apart c before =
     let place = c.args.place in
     let next = c.in_ok-next.next in
     let joins = joined rows row c.args.self next place (sym c.with.ensures ∙ c.in_ok-next.was) before in
-    goes_on rows next place c.requires.within joins.run row (row_there rows row place c.requires.within c.wish_at-row.ensures) joins.same (sym c.is_apart.ensures ∙ c.if-is_apart.true)
+    goes_on rows next place c.requires.within joins.run row
+    (row_there rows row place c.requires.within c.wish_at-row.ensures) joins.same
+    (sym c.is_apart.ensures ∙ c.if-is_apart.true)

@@ -10,7 +10,8 @@ returns-then-not-contains-clause-reason c before seen =
     let t = c.args.self.now.tables.now in
     let pair : ℕ × ℕ = (c.in-Some.school, c.args.row.now.candidate) in
     let boarded : is_boarded t pair.0 pair.1 ≡ false =
-    sym (any-map (pair_eq pair) (λ b. (b.school, b.candidate)) t.boarding) ∙ ap (list_any (pair_eq pair)) (sym seen) ∙ sym c.contains.ensures ∙ c.if-not-contains.true in
+    sym (any-map (pair_eq pair) (λ b. (b.school, b.candidate)) t.boarding) ∙ ap (list_any (pair_eq pair)) (sym seen)
+    ∙ sym c.contains.ensures ∙ c.if-not-contains.true in
     rw (c.in-Some.is, boarded) refl
 
 pub returns-else-not-contains-clause-reason : goal.returns-else-not-contains-clause-reason
@@ -18,5 +19,6 @@ returns-else-not-contains-clause-reason c before seen =
     let t = c.args.self.now.tables.now in
     let pair : ℕ × ℕ = (c.in-Some.school, c.args.row.now.candidate) in
     let boarded : is_boarded t pair.0 pair.1 ≡ true =
-    sym (any-map (pair_eq pair) (λ b. (b.school, b.candidate)) t.boarding) ∙ ap (list_any (pair_eq pair)) (sym seen) ∙ sym c.contains.ensures ∙ c.if-not-contains.false in
+    sym (any-map (pair_eq pair) (λ b. (b.school, b.candidate)) t.boarding) ∙ ap (list_any (pair_eq pair)) (sym seen)
+    ∙ sym c.contains.ensures ∙ c.if-not-contains.false in
     rw (c.in-Some.is, boarded) refl

@@ -8,7 +8,9 @@ returns-then-has-clause-reason c before seen =
     let row = c.args.row.now in
     let q = c.in-Some.programme in
     let found : find (λ p. nat_eq row.programme p.id) t.programmes ≡ Some q =
-    ap (find (λ p. nat_eq row.programme p.id)) (sym c.as_slice-programmes.ensures) ∙ sym (c.placed_row_of.ensures (λ p. p.id) (seen.0 ∙ ap (map (λ p. p.id)) (sym c.as_slice-programmes.ensures))) ∙ ap (option_map (λ found. found.1)) c.in-Some.is in
+    ap (find (λ p. nat_eq row.programme p.id)) (sym c.as_slice-programmes.ensures)
+    ∙ sym (c.placed_row_of.ensures (λ p. p.id) (seen.0 ∙ ap (map (λ p. p.id)) (sym c.as_slice-programmes.ensures)))
+    ∙ ap (option_map (λ found. found.1)) c.in-Some.is in
     let ranked : is_in_group t row.candidate q.group ≡ true = sym (c.has.ensures t seen.1) ∙ c.if-has.true in
     rw (found, ranked) refl
 
@@ -18,6 +20,8 @@ returns-else-has-clause-reason c before seen =
     let row = c.args.row.now in
     let q = c.in-Some.programme in
     let found : find (λ p. nat_eq row.programme p.id) t.programmes ≡ Some q =
-    ap (find (λ p. nat_eq row.programme p.id)) (sym c.as_slice-programmes.ensures) ∙ sym (c.placed_row_of.ensures (λ p. p.id) (seen.0 ∙ ap (map (λ p. p.id)) (sym c.as_slice-programmes.ensures))) ∙ ap (option_map (λ found. found.1)) c.in-Some.is in
+    ap (find (λ p. nat_eq row.programme p.id)) (sym c.as_slice-programmes.ensures)
+    ∙ sym (c.placed_row_of.ensures (λ p. p.id) (seen.0 ∙ ap (map (λ p. p.id)) (sym c.as_slice-programmes.ensures)))
+    ∙ ap (option_map (λ found. found.1)) c.in-Some.is in
     let ranked : is_in_group t row.candidate q.group ≡ false = sym (c.has.ensures t seen.1) ∙ c.if-has.false in
     rw (found, ranked) refl
