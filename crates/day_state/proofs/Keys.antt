@@ -10,7 +10,7 @@ use Rattle.std.proofs.lemmas.List.{get_or-map, length-map}
 use Rattle.std.proofs.lemmas.Simd.{map-map}
 use Rattle.std.proofs.lemmas.List.Elements.{All-map}
 use Rattle.std.proofs.lemmas.List.Folds.{map_fixed}
-use Rattle.std.proofs.lemmas.List.FromFn.{length-range_with_len, get_or-range_with_len, length-map-range_with_len, get_or-map-range_with_len}
+use Rattle.std.proofs.lemmas.List.FromFn.{length-range_with_len, length-map-range_with_len, get_or-map-range_with_len}
 use Rattle.std.proofs.lemmas.List.Sorted.{All-permutation, length_permutation, IsPermutation-map, IsNonDecreasingBy-from_sort, list_any-IsPermutation}
 use Rattle.std.proofs.lemmas.Map.Keys.{IsDistinct-head, IsDistinct-tail, IsDistinct-IsPermutation}
 use Rattle.std.proofs.lemmas.Map.Made.{IsDistinct-from_AllPairs}
@@ -19,6 +19,7 @@ use Rattle.admit_core.proofs.Plain.{any-filter, nat_eq_sym}
 use Rattle.admit_core.proofs.Tests.{Ascends, same_members}
 use Rattle.admit_core.specs.declared.dossier.Wish.{Wish}
 use Rattle.day_state.specs.Kept.{candidate_in, key_at, place_in, all_keys, IsIndex}
+use Rattle.day_state.proofs.Numbering.{below_all}
 
 -- numbers that do not fall and differ rise
 rises_above : (x : ℕ) (xs : List ℕ) → ((k : ℕ) → k < length xs → x ≤ get_or xs k 0)
@@ -83,13 +84,8 @@ module _ (ws : List Wish) (few : length ws < 2 ^ 32) where
   abbrev places : List ℕ
   places = range_with_len 0 (length ws)
 
-  in_range : All (λ k. k < length ws) places
-  in_range k d lt =
-      let k_in : k < length ws = omega (arith, length-range_with_len 0 (length ws)) in
-      rw (get_or-range_with_len 0 (length ws) k d k_in) (omega arith)
-
   back_in_range : All (λ k. place_in (key_at ws k) ≡ k) places
-  back_in_range k d lt = place_back ws (get_or places k d) (omega (arith, in_range k d lt, few))
+  back_in_range k d lt = place_back ws (get_or places k d) (omega (arith, below_all (length ws) k d lt, few))
 
   keys_apart : IsDistinct eqb (all_keys ws)
   keys_apart = IsDistinct-from_AllPairs Decides-eqb (all_keys ws) (λ i j d i_lt j_lt same.
@@ -113,7 +109,8 @@ module _ (ws : List Wish) (few : length ws < 2 ^ 32) where
       subst (λ (ks : List ℕ). IsPermutation ks order)
       (map-map place_in (key_at ws) places ∙ map_fixed (λ k. place_in (key_at ws k)) places back_in_range)
       (subst (IsPermutation (map place_in (all_keys ws))) (sym made) (IsPermutation-map place_in (all_keys ws) keys moved)) in
-      let within : All (λ k. k < length ws) order = All-permutation (λ k. k < length ws) places order shuffled in_range in
+      let within : All (λ k. k < length ws) order =
+      All-permutation (λ k. k < length ws) places order shuffled (below_all (length ws)) in
       let ascending : Ascends (map (key_at ws) order) =
       subst Ascends (sym keys_are)
       (ascends_apart keys up (IsDistinct-IsPermutation eqb nat_eq_sym (all_keys ws) keys moved keys_apart)) in

@@ -369,7 +369,8 @@ pub record AreBundles (sites : Sites) (ws : List Wish) (bundles : List (Option �
 pub range_at : (n k d : ℕ) → k < n → get_or (range_with_len 0 n) k d ≡ k
 range_at n k d lt = get_or-range_with_len 0 n k d lt ∙ omega arith
 
-below_all : (n : ℕ) → All (λ k. k < n) (range_with_len 0 n)
+-- all places are below their number
+pub below_all : (n : ℕ) → All (λ k. k < n) (range_with_len 0 n)
 below_all n i d lt =
     let i_lt : i < n = omega (arith, lt, length-range_with_len 0 n) in
     rw (range_at n i d i_lt) i_lt

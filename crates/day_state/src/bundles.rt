@@ -35,7 +35,7 @@ pub struct Turn {
 }
 
 impl Bundles {
-    /// The bundles of wishes, of which none is live, by the first wish of each one's.
+    /// The bundles of wishes by the first wish of each one's bundle; none is live.
     pub fn build(alloc: Global, firsts: &[Option<u32>]) -> Result<Bundles, OutOfMemory>
         requires few { length firsts.now < 2 ^ 31 }
         requires within { AreWithin firsts.now }
