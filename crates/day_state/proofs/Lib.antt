@@ -1,6 +1,6 @@
 -- Reading order. Each file says in its first line what it shows.
 -- One mark: Counting, Places, KeptCounts, Lost, Freeing, Change, SameMarks.
--- The order by candidate: Ordering, Runs. A candidate's wishes: Along, Changing, Best, Taking.
+-- The order by candidate: Ordering, Keys, Runs. A candidate's wishes: Along, Changing, Best, Taking.
 -- Bundles, from bottom to top: Numbering (their first wishes), Sharing (which have a count),
 -- Bundled (what a count tells of its candidate), the longest of the folder.
 -- Days: OneAccepted, Filled, Lapsing, Answering, Independence (candidates stand apart), and last
@@ -10,6 +10,7 @@ pub mod Places
 pub mod KeptCounts
 pub mod Change
 pub mod Ordering
+pub mod Keys
 pub mod Runs
 pub mod Along
 pub mod Numbering

@@ -1,5 +1,5 @@
 -- The first wishes of bundles, as a walk in the order of the candidates finds them.
-use Rattle.std.proofs.Common.{ℕ, ◌+◌, ◌≤◌, ◌<◌, ◌≡◌, Bool, true, false, ◌&&◌, List, [], ◌∷◌, length, get_or, set, replicate, inl, inr, refl, sym, ◌∙◌, ap, subst, arith, nat_eq, filter, Option, Some, None, zero, suc}
+use Rattle.std.proofs.Common.{ℕ, ◌+◌, ◌≤◌, ◌<◌, ◌≡◌, Bool, true, false, ◌&&◌, List, [], ◌∷◌, length, get_or, set, replicate, inl, inr, refl, sym, ◌∙◌, ap, arith, nat_eq, filter, Option, Some, None, zero, suc}
 use Rattle.std.specs.Prelude.{slice_index, ◌==◌, All}
 use Rattle.std.specs.Option.{ForSome}
 use Rattle.std.specs.List.{find, list_any, range_with_len}
@@ -13,8 +13,9 @@ use Rattle.admit_core.specs.declared.dossier.Wish.{Wish}
 use Rattle.admit_core.proofs.NextCalls.{find_passes}
 use Rattle.admit_core.proofs.Plain.{any-filter, find_same}
 use Rattle.day_state.specs.declared.bundles.Sites.{Sites}
+use Rattle.day_state.specs.declared.bundles.Sites.TheVariants.{Programmes, Schools}
 use Rattle.day_state.specs.Kept.{candidate_in, wish_in, IsIndex}
-use Rattle.day_state.specs.Bundles.{site_of, is_same, together, number_in, joined, bundle_there, noted, bundle_of, bundles_of, AreWithin}
+use Rattle.day_state.specs.Bundles.{site_of, is_same, together, number_in, joined, bundle_there, noted, bundle_of, bundles_of, AreSitesBelow, AreWithin}
 use Rattle.day_state.proofs.Places.{candidate_in as candidate_there}
 use Rattle.day_state.proofs.Along.{among-filter}
 
@@ -248,16 +249,18 @@ more_walked sites ws order count last numbers i index lt within walk =
       ];
     }
 
--- the same, where its site and its number were found
-pub walked_more : (sites : Sites) (ws : List Wish) (order : List ℕ) (count : ℕ) (last numbers new_last new_numbers seen : List (Option ℕ))
-    (i : ℕ) (o b : Option ℕ) → IsIndex ws order → i < length order → ForSome o (λ h. h < count)
+-- the same, where its site was found
+pub walked_more : (sites : Sites) (ws : List Wish) (order : List ℕ) (count : ℕ)
+    (last numbers new_last new_numbers : List (Option ℕ)) (i : ℕ) (o : Option ℕ) → IsIndex ws order
+    → i < length order → AreSitesBelow sites ws count
     → let x = slice_index order i in
-    o ≡ site_of sites (wish_in ws x) → seen ≡ last → b ≡ bundle_there ws seen o x → new_last ≡ noted last o b
-    → new_numbers ≡ set numbers x b → IsWalked sites ws order count last numbers i
+    o ≡ site_of sites (wish_in ws x) → new_last ≡ noted last o (bundle_there ws last o x)
+    → new_numbers ≡ set numbers x (bundle_there ws last o x) → IsWalked sites ws order count last numbers i
     → IsWalked sites ws order count new_last new_numbers (i + 1)
-walked_more sites ws order count last numbers new_last new_numbers seen i o b index lt within site same number last_is numbers_is walk =
-    let P = λ (o : Option ℕ). ForSome o (λ h. h < count) in
-    rw (last_is, numbers_is, number, same, site) (more_walked sites ws order count last numbers i index lt (subst P site within) walk)
+walked_more sites ws order count last numbers new_last new_numbers i o index lt below site last_is numbers_is walk =
+    let x = slice_index order i in
+    rw (last_is, numbers_is, site)
+    (more_walked sites ws order count last numbers i index lt (below x (index.within i 0 lt)) walk)
 
 last_within : (sites : Sites) (ws : List Wish) (order : List ℕ) (i h : ℕ) (found : Option ℕ) → IsIndex ws order
     → LastAt sites ws order i h found → ForSome found (λ b. b < length ws)
@@ -267,23 +270,39 @@ last_within sites ws order i h (Some f) index last b e =
     rw (← same) (find_within (λ x. together sites (wish_in ws (slice_index order last.at)) (wish_in ws x)) order
     (length ws) f index.within last.first)
 
--- the number that the next step notes is a place
-pub number_within : (sites : Sites) (ws : List Wish) (order : List ℕ) (count : ℕ) (last numbers : List (Option ℕ))
-    (i : ℕ) → IsIndex ws order → i < length order
-    → ForSome (site_of sites (wish_in ws (slice_index order i))) (λ h. h < count) → IsWalked sites ws order count last numbers i
-    → let x = slice_index order i in
-    ForSome (bundle_there ws last (site_of sites (wish_in ws x)) x) (λ b. b < length ws)
-number_within sites ws order count last numbers i index lt within walk = λ b e.
-    let x = slice_index order i in
-    find_within (λ y. together sites (wish_in ws x) (wish_in ws y)) order (length ws) b index.within
-    (number_here sites ws order count last numbers i (site_of sites (wish_in ws x)) index lt walk refl within ∙ e)
+-- what the next step asks
+pub record CanWalkOn (ws : List Wish) (last numbers : List (Option ℕ)) (o : Option ℕ) (x : ℕ) : Type 0 where
+  pub place : x < length ws
+  pub first : x < length numbers
+  pub site : ForSome o (λ h. h < length last)
+  pub found : ForSome o (λ h. ForSome (number_in last h) (λ b. b < length ws))
 
--- the found bundle of a place, as the next step asks
-pub found_within : (sites : Sites) (ws : List Wish) (order : List ℕ) (count : ℕ) (last numbers : List (Option ℕ))
-    (i h : ℕ) → IsIndex ws order → IsWalked sites ws order count last numbers i
-    → h < count → ForSome (number_in last h) (λ b. b < length ws)
-found_within sites ws order count last numbers i h index walk lt =
-    last_within sites ws order i h (number_in last h) index (walk.last_at h lt)
+pub can_walk_on : (sites : Sites) (ws : List Wish) (order : List ℕ) (count : ℕ) (last numbers : List (Option ℕ))
+    (i : ℕ) (o : Option ℕ) → IsIndex ws order → i < length order → AreSitesBelow sites ws count
+    → let x = slice_index order i in
+    o ≡ site_of sites (wish_in ws x) → IsWalked sites ws order count last numbers i → CanWalkOn ws last numbers o x
+can_walk_on sites ws order count last numbers i o index lt below site walk =
+    let x = slice_index order i in
+    let x_in : x < length ws = index.within i 0 lt in
+    record {
+      place = x_in;
+      first = omega (arith, x_in, walk.long);
+      site = λ h e. omega (arith, below x x_in h (sym site ∙ e), walk.sites_long);
+      found = λ h e. last_within sites ws order i h (number_in last h) index (walk.last_at h (below x x_in h (sym site ∙ e)));
+    }
+
+-- the walk by programme and by school
+pub record AreWalked (ws : List Wish) (order : List ℕ) (programmes schools : ℕ)
+    (last_programmes in_programmes last_schools in_schools : List (Option ℕ)) (i : ℕ) : Type 0 where
+  pub by_programme : IsWalked Programmes ws order programmes last_programmes in_programmes i
+  pub by_school : IsWalked Schools ws order schools last_schools in_schools i
+
+pub walks_begin : (ws : List Wish) (order : List ℕ) (p h : ℕ) (last_p in_p last_h in_h : List (Option ℕ))
+    → last_p ≡ replicate p None → in_p ≡ replicate (length ws) None → last_h ≡ replicate h None
+    → in_h ≡ replicate (length ws) None → AreWalked ws order p h last_p in_p last_h in_h 0
+walks_begin ws order p h last_p in_p last_h in_h last_p_is in_p_is last_h_is in_h_is =
+    rw (last_p_is, in_p_is, last_h_is, in_h_is)
+    (record { by_programme = walked_none Programmes ws order p; by_school = walked_none Schools ws order h })
 
 -- each place stands somewhere in the order
 place_of : (ws : List Wish) (order : List ℕ) (k : ℕ) → IsIndex ws order → k < length ws
@@ -350,7 +369,8 @@ pub record AreBundles (sites : Sites) (ws : List Wish) (bundles : List (Option �
 pub range_at : (n k d : ℕ) → k < n → get_or (range_with_len 0 n) k d ≡ k
 range_at n k d lt = get_or-range_with_len 0 n k d lt ∙ omega arith
 
-below_all : (n : ℕ) → All (λ k. k < n) (range_with_len 0 n)
+-- all places are below their number
+pub below_all : (n : ℕ) → All (λ k. k < n) (range_with_len 0 n)
 below_all n i d lt =
     let i_lt : i < n = omega (arith, lt, length-range_with_len 0 n) in
     rw (range_at n i d i_lt) i_lt

@@ -2,17 +2,15 @@
 use Rattle.std.proofs.Common.{ℕ, ◌+◌, ◌-◌, ◌≤◌, ◌<◌, ◌≡◌, Bool, true, false, not, ◌&&◌, List, [], ◌∷◌, ◌++◌, length, get_or, take, drop, inl, inr, refl, sym, ◌∙◌, ap, arith, filter, zero, suc, leb, ltb}
 use Rattle.std.specs.Prelude.{slice_range, ◌==◌, All}
 use Rattle.std.specs.List.{list_any, range_with_len}
-use Rattle.std.specs.List.Sorted.{IsNonDecreasingBy, IsPermutation, IsStableByKey, IsPartitionPoint}
+use Rattle.std.specs.List.Sorted.{IsPermutation, IsStableByKey, IsPartitionPoint}
 use Rattle.std.specs.Ordering.{nat_cmp, is_lt}
 use Rattle.std.proofs.lemmas.Bool.{cases_Bool, cases_lt, both_ways, cases_order, or_parts, eqb-true, eq-eqb, ne_eqb, lt-ltb, le-ltb, ltb-true, ltb-false, leb-true, leb-false, le-leb}
 use Rattle.std.proofs.lemmas.List.{append-nil, length-take, length-drop, get_or-take, get_or-drop, take-append-drop, map-id}
 use Rattle.std.proofs.lemmas.List.Elements.{filter-append}
 use Rattle.std.proofs.lemmas.List.Folds.{Any-from_list_any, drop_split}
-use Rattle.std.proofs.lemmas.List.FromFn.{length-range_with_len, get_or-range_with_len, map-range_with_len_more}
-use Rattle.std.proofs.lemmas.List.Sorted.{All-permutation, length_permutation}
+use Rattle.std.proofs.lemmas.List.FromFn.{map-range_with_len_more}
+use Rattle.std.proofs.lemmas.List.Sorted.{All-permutation}
 use Rattle.admit_core.proofs.Plain.{filter_same, filter_none}
-use Rattle.admit_core.specs.declared.dossier.Wish.{Wish}
-use Rattle.day_state.specs.Kept.{candidate_in, IsIndex}
 
 pub filter_all : {X : Type 0} (p : X → Bool) (xs : List X) → All (λ x. p x ≡ true) xs → filter p xs ≡ xs
 filter_all p [] all = refl
@@ -52,21 +50,6 @@ stable_own {X} key xs ys moved stable c =
           let all = none_found p xs none in
           filter_none p ys (All-permutation (λ x. p x ≡ false) xs ys moved all) ∙ sym (filter_none p xs all)
     ]
-
-pub index_from : (ws : List Wish) (order : List ℕ) → IsPermutation (range_with_len 0 (length ws)) order
-    → IsNonDecreasingBy (candidate_in ws) order
-    → IsStableByKey (candidate_in ws) nat_cmp (range_with_len 0 (length ws)) order → IsIndex ws order
-index_from ws order moved rises stable =
-    let n = length ws in
-    let within = λ (k : ℕ). k < n in
-    record {
-      as_long = length_permutation (range_with_len 0 n) order moved ∙ length-range_with_len 0 n;
-      within = All-permutation within (range_with_len 0 n) order moved
-          (λ k e lt. let in_range : k < n = omega (arith, length-range_with_len 0 n) in
-          rw (get_or-range_with_len 0 n k e in_range) (omega arith));
-      rises = rises;
-      own = stable_own (candidate_in ws) (range_with_len 0 n) order moved stable;
-    }
 
 -- one more place
 pub range_more : (a n j : ℕ) → a + n ≡ j → range_with_len a (n + 1) ≡ range_with_len a n ++ j ∷ []

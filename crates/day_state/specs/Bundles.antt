@@ -38,6 +38,11 @@ bundle_of sites ws k =
 abbrev pub bundles_of : Sites → List Wish → List (Option ℕ)
 bundles_of sites ws = map (bundle_of sites ws) (range_with_len 0 (length ws))
 
+-- the sites of all wishes are below a count
+abbrev pub AreSitesBelow : Sites → List Wish → ℕ → Type 0
+AreSitesBelow sites ws count =
+    (k : ℕ) → k < length ws → ForSome (site_of sites (wish_in ws k)) (λ h. h < count)
+
 -- each bundle begins at a place
 abbrev pub AreWithin : List (Option ℕ) → Type 0
 AreWithin bundles =
@@ -71,12 +76,18 @@ abbrev pub number_of : List (Option ℕ) → Option ℕ → Number
 number_of bundles None = NoSite
 number_of bundles (Some b) = if is_shared bundles b then Shared (rank_of bundles b) else Alone
 
+abbrev pub numbers_by : List (Option ℕ) → List Number
+numbers_by bundles = map (number_of bundles) bundles
+
 abbrev pub all_numbers : Sites → List Wish → List Number
-all_numbers sites ws = map (number_of (bundles_of sites ws)) (bundles_of sites ws)
+all_numbers sites ws = numbers_by (bundles_of sites ws)
 
 -- how many bundles have two wishes or more
+abbrev pub shared_by : List (Option ℕ) → ℕ
+shared_by bundles = rank_of bundles (length bundles)
+
 abbrev pub shared_in_all : Sites → List Wish → ℕ
-shared_in_all sites ws = rank_of (bundles_of sites ws) (length (bundles_of sites ws))
+shared_in_all sites ws = shared_by (bundles_of sites ws)
 
 -- what a packed number stands for
 abbrev pub unpacked : ℕ → Number

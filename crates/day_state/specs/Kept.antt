@@ -1,5 +1,5 @@
 -- What is kept beside the marks: an index of the candidates, and the numbers of those who are live.
-use Rattle.std.specs.Prelude.{◌≡◌, ℕ, ◌+◌, ◌-◌, ◌≤◌, ◌<◌, Bool, true, false, cond, ◌&&◌, List, map, length, filter, Option, Some, None, ◌==◌, slice_get, slice_index, slice_set, unwrap_or, All}
+use Rattle.std.specs.Prelude.{◌≡◌, ℕ, ◌+◌, ◌-◌, ◌*◌, ◌%◌, ◌≤◌, ◌<◌, Bool, true, false, cond, ◌&&◌, List, map, length, filter, Option, Some, None, ◌==◌, slice_get, slice_index, slice_set, unwrap_or, All}
 use Rattle.std.specs.List.{list_any, range_with_len}
 use Rattle.std.specs.List.Sorted.{IsNonDecreasingBy}
 use Rattle.admit_core.specs.declared.dossier.Wish.{Wish}
@@ -34,6 +34,18 @@ wish_in ws k =
 -- the candidate of the wish at a place, or 0 where none is there
 abbrev pub candidate_in : List Wish → ℕ → ℕ
 candidate_in ws k = slice_index (map (λ w. w.candidate) ws) k
+
+-- the candidate of the wish at a place and, behind it, the place, as one number
+abbrev pub key_at : List Wish → ℕ → ℕ
+key_at ws k = candidate_in ws k * 4294967296 + k
+
+-- the place in such a number
+abbrev pub place_in : ℕ → ℕ
+place_in key = key % 4294967296
+
+-- the keys of all wishes
+abbrev pub all_keys : List Wish → List ℕ
+all_keys ws = map (key_at ws) (range_with_len 0 (length ws))
 
 -- the wish at a place is live and passes a test
 abbrev pub lives_at : List Wish → List Mark → (Wish → Bool) → ℕ → Bool

@@ -1,8 +1,9 @@
 //! The walks that number the bundles of a dossier's wishes.
 ghost use Rattle.std.specs.Prelude.{◌≡◌, ℕ, ◌<◌, ◌^◌, map, length, slice_set, IfOk, replicate, false, None};
 ghost use Rattle.std.specs.Option.{ForSome};
-ghost use Rattle.day_state.specs.Bundles.{site_of, number_in, bundles_of, joined, bundle_there, noted, shared_flags, with_later, AreWithin, all_ranks, flag_in, number_of, numbered};
-ghost use Rattle.day_state.specs.Kept.{wish_in, IsIndex};
+ghost use Rattle.day_state.specs.declared.bundles.Sites.TheVariants.{Programmes, Schools};
+ghost use Rattle.day_state.specs.Bundles.{site_of, number_in, AreSitesBelow, bundles_of, joined, bundle_there, noted, shared_flags, with_later, AreWithin, all_ranks, flag_in, number_of, numbered};
+ghost use Rattle.day_state.specs.Kept.{IsIndex};
 
 use crate::bundles::Sites;
 use crate::mark::{counted, wish_at};
@@ -20,28 +21,72 @@ fn site_of(sites: Sites, wish: Wish) -> Option<u32>
     }
 }
 
-/// The first wish of each wish's bundle, which is the first one in an order by candidate.
+/// Of each wish the first one of its bundle, by its programme and by its school.
+#[derive(Drop)]
+pub struct Firsts {
+    pub programmes: Vec<Option<u32>>,
+    pub schools: Vec<Option<u32>>,
+}
+
+/// The first wish of each wish's bundle, which is the first one in an order by candidate. Most of
+/// the time goes into reading the rows in that order, so one walk finds both kinds.
 pub fn firsts_of(
     alloc: Global,
-    sites: Sites,
     wishes: &[Wish],
     order: &[u32],
-    count: usize,
-) -> Result<Vec<Option<u32>>, OutOfMemory>
+    programmes: usize,
+    schools: usize,
+) -> Result<Firsts, OutOfMemory>
     requires order { IsIndex wishes.now order.now }
-    requires sites { (k : ℕ) → k < length wishes.now
-        → ForSome (site_of sites (wish_in wishes.now k)) (λ h. h < count) }
-    ensures { IfOk result (λ v. v.items ≡ bundles_of sites wishes.now) }
+    requires programmes { AreSitesBelow Programmes wishes.now programmes }
+    requires schools { AreSitesBelow Schools wishes.now schools }
+    ensures programmes { IfOk result (λ f. f.programmes.items ≡ bundles_of Programmes wishes.now) }
+    ensures schools { IfOk result (λ f. f.schools.items ≡ bundles_of Schools wishes.now) }
 {
-    let mut last = no_numbers(alloc, count)?;
-    let mut firsts = no_numbers(alloc, wishes.len())?;
+    let mut last_programmes = no_numbers(alloc, programmes)?;
+    let mut in_programmes = no_numbers(alloc, wishes.len())?;
+    let mut last_schools = no_numbers(alloc, schools)?;
+    let mut in_schools = no_numbers(alloc, wishes.len())?;
     for place in order {
-        let site = site_of(sites, wish_at(wishes, *place));
-        let first = bundle_there(wishes, last.as_slice(), site, *place);
-        note(&mut last, site, first);
-        set_first(&mut firsts, *place, first);
+        let wish = wish_at(wishes, *place);
+        let programme = site_of(Sites::Programmes, wish);
+        walk_on(
+            wishes,
+            &mut last_programmes,
+            &mut in_programmes,
+            programme,
+            *place,
+        );
+        let school = site_of(Sites::Schools, wish);
+        walk_on(wishes, &mut last_schools, &mut in_schools, school, *place);
     }
-    Ok(firsts)
+    Ok(Firsts {
+        programmes: in_programmes,
+        schools: in_schools,
+    })
+}
+
+/// Notes the first wish of the bundle of the wish that comes next in the order.
+fn walk_on(
+    wishes: &[Wish],
+    last: &mut Vec<Option<u32>>,
+    firsts: &mut Vec<Option<u32>>,
+    site: Option<u32>,
+    place: u32,
+)
+    requires place { place < length wishes.now }
+    requires first { place < length firsts.old.items }
+    requires site { ForSome site (λ h. h < length last.old.items) }
+    requires found { ForSome site
+        (λ h. ForSome (number_in last.old.items h) (λ b. b < length wishes.now)) }
+    ensures last { last.new.items ≡ noted last.old.items site
+        (bundle_there wishes.now last.old.items site place) }
+    ensures firsts { firsts.new.items ≡ slice_set firsts.old.items place
+        (bundle_there wishes.now last.old.items site place) }
+{
+    let first = bundle_there(wishes, last.as_slice(), site, place);
+    note(last, site, first);
+    set_first(firsts, place, first);
 }
 
 fn set_first(firsts: &mut Vec<Option<u32>>, place: u32, first: Option<u32>)

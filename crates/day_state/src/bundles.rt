@@ -1,13 +1,13 @@
 //! Bundles: the wishes of one candidate in one programme, or in one school.
-ghost use Rattle.std.specs.Prelude.{◌≡◌, ℕ, ◌<◌, ◌≤◌, ◌+◌, ◌^◌, length, slice_index, IfOk, replicate};
+ghost use Rattle.std.specs.Prelude.{◌≡◌, ◌<◌, ◌≤◌, ◌+◌, ◌^◌, length, slice_index, IfOk, replicate};
 ghost use Rattle.std.specs.Option.{ForSome};
-ghost use Rattle.day_state.specs.Bundles.{site_of, number_at, count_of, count_at, all_numbers, shared_in_all, has_live};
-ghost use Rattle.day_state.specs.Kept.{wish_in, one_if, recount_some, IsIndex};
+ghost use Rattle.day_state.specs.Bundles.{AreWithin, number_at, count_of, count_at, numbers_by, shared_by, has_live};
+ghost use Rattle.day_state.specs.Kept.{one_if, recount_some};
 
-use crate::bundle_numbers::{firsts_of, numbers_of, ranks_of, shared_among};
+use crate::bundle_numbers::{numbers_of, ranks_of, shared_among};
 use crate::counts::{copy_counts, recount_some, zeros};
 use crate::numbers::{Number, Numbers};
-use admit_core::{OutOfMemory, Wish};
+use admit_core::OutOfMemory;
 use std::alloc::Global;
 use std::rc::Rc;
 
@@ -35,33 +35,17 @@ pub struct Turn {
 }
 
 impl Bundles {
-    /// The bundles of wishes, of which none is live; `order` has their places by candidate, and
-    /// there are so many sites.
-    pub fn build(
-        alloc: Global,
-        sites: Sites,
-        wishes: &[Wish],
-        order: &[u32],
-        count: usize,
-    ) -> Result<Bundles, OutOfMemory>
-        requires order { IsIndex wishes.now order.now }
-        requires sites { (k : ℕ) → k < length wishes.now
-            → ForSome (site_of sites (wish_in wishes.now k)) (λ h. h < count) }
-        requires few { length wishes.now < 2 ^ 31 }
-        ensures numbers { IfOk result (λ b. b.numbers.value ≡ all_numbers sites wishes.now) }
-        ensures live { IfOk result
-            (λ b. b.live.items ≡ replicate (shared_in_all sites wishes.now) 0) }
+    /// The bundles of wishes by the first wish of each one's bundle; none is live.
+    pub fn build(alloc: Global, firsts: &[Option<u32>]) -> Result<Bundles, OutOfMemory>
+        requires few { length firsts.now < 2 ^ 31 }
+        requires within { AreWithin firsts.now }
+        ensures numbers { IfOk result (λ b. b.numbers.value ≡ numbers_by firsts.now) }
+        ensures live { IfOk result (λ b. b.live.items ≡ replicate (shared_by firsts.now) 0) }
     {
-        let firsts = firsts_of(alloc, sites, wishes, order, count)?;
-        let shared = shared_among(alloc, firsts.as_slice())?;
+        let shared = shared_among(alloc, firsts)?;
         let ranks = ranks_of(alloc, shared.as_slice())?;
-        let live = zeros(alloc, ranks[wishes.len()] as usize)?;
-        let numbers = numbers_of(
-            alloc,
-            firsts.as_slice(),
-            shared.as_slice(),
-            ranks.as_slice(),
-        )?;
+        let live = zeros(alloc, ranks[firsts.len()] as usize)?;
+        let numbers = numbers_of(alloc, firsts, shared.as_slice(), ranks.as_slice())?;
         Ok(Bundles {
             numbers: Rc::new(alloc, numbers)?,
             live,

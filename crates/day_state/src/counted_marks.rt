@@ -10,7 +10,8 @@ ghost use Rattle.day_state.specs.Along.{change_own, changed_by};
 ghost use Rattle.day_state.specs.Best.{best_among};
 ghost use Rattle.day_state.specs.Kept.{mark_in, lives_at, has_seat_there, has_bed_there, waiting_mark, state_of, IsIndex};
 
-use crate::bundles::{Bundles, Sites};
+use crate::bundle_numbers::firsts_of;
+use crate::bundles::Bundles;
 use crate::counts::{copy_counts, recount, recount_some, zeros};
 use crate::mark::{
     OwnChange, better, changed_by, is_same_mark, live_preference, lives_in_programme,
@@ -63,8 +64,9 @@ impl<'d> CountedMarks<'d> {
         let marks = waiting_marks(alloc, wishes.len())?;
         let seats = zeros(alloc, programmes)?;
         let beds = zeros(alloc, schools)?;
-        let in_programmes = Bundles::build(alloc, Sites::Programmes, wishes, order, programmes)?;
-        let in_schools = Bundles::build(alloc, Sites::Schools, wishes, order, schools)?;
+        let firsts = firsts_of(alloc, wishes, order, programmes, schools)?;
+        let in_programmes = Bundles::build(alloc, firsts.programmes.as_slice())?;
+        let in_schools = Bundles::build(alloc, firsts.schools.as_slice())?;
         Ok(CountedMarks {
             dossier,
             marks,

@@ -1,15 +1,13 @@
 //! An index from a candidate to their own wishes.
-ghost use Rattle.std.specs.Prelude.{◌≡◌, ◌<◌, ◌≤◌, ◌^◌, length, IfOk, OnOk, All, nat_lt, nat_le, true, false};
-ghost use Rattle.std.specs.List.{range_with_len};
-ghost use Rattle.std.specs.List.Sorted.{IsNonDecreasingBy, IsPermutation, IsStableByKey, IsPartitionPoint};
-ghost use Rattle.std.specs.Ordering.{nat_cmp};
+ghost use Rattle.std.specs.Prelude.{◌≡◌, ◌<◌, ◌≤◌, ◌^◌, length, map, IfOk, All, nat_lt, nat_le, true, false};
+ghost use Rattle.std.specs.List.Sorted.{IsNonDecreasingBy, IsPartitionPoint};
 ghost use Rattle.admit_core.specs.DossierRows.{DossierRows, candidate_of};
 ghost use Rattle.admit_core.specs.OwnWishes.{own_places};
-ghost use Rattle.day_state.specs.Kept.{candidate_in, IsIndex, IsSpan, HoldsOneKey, IsSpanPut, AreSpans};
+ghost use Rattle.day_state.specs.Kept.{candidate_in, key_at, place_in, all_keys, IsIndex, IsSpan, HoldsOneKey, IsSpanPut, AreSpans};
 
 use crate::spans::{Span, part};
 use admit_core::{Dossier, OutOfMemory, Wish};
-use std::alloc::{AllocError, Global};
+use std::alloc::Global;
 use std::marker::Model;
 
 /// The places of a dossier's wishes in order by candidate, and for each wish where those of its
@@ -82,36 +80,48 @@ pub fn candidate_at(wishes: &[Wish], place: u32) -> u32
     }
 }
 
-/// The places below a count, ascending.
-fn places(alloc: Global, count: u32) -> Result<Vec<u32>, OutOfMemory>
-    ensures { IfOk result (λ v. v.items ≡ range_with_len 0 count) }
+/// The candidate of the wish at a place and, behind it, the place, as one number.
+fn key_at(wishes: &[Wish], place: u32) -> u64
+    ensures { result ≡ key_at wishes.now place }
 {
-    let mut places = Vec::with_capacity(alloc, count as usize)?;
-    for place in 0..count {
-        places.push(place)?;
-    }
-    Ok(places)
+    u64::from(candidate_at(wishes, place)) * 4_294_967_296 + u64::from(place)
 }
 
-/// The places of wishes in order by candidate, those of one candidate ascending.
+/// The place in such a number.
+fn place_in(key: u64) -> u32
+    ensures { result ≡ place_in key }
+{
+    (key % 4_294_967_296) as u32
+}
+
+/// The keys of all wishes, in the order of the wishes.
+fn keys_of(alloc: Global, wishes: &[Wish]) -> Result<Vec<u64>, OutOfMemory>
+    requires { length wishes.now < 2 ^ 32 }
+    ensures { IfOk result (λ v. v.items ≡ all_keys wishes.now) }
+{
+    let mut keys = Vec::with_capacity(alloc, wishes.len())?;
+    for place in 0..wishes.len() as u32 {
+        keys.push(key_at(wishes, place))?;
+    }
+    Ok(keys)
+}
+
+/// The places in keys.
+fn places_in(alloc: Global, keys: &[u64]) -> Result<Vec<u32>, OutOfMemory>
+    ensures { IfOk result (λ v. v.items ≡ map place_in keys.now) }
+{
+    Ok(keys.iter().map(|key| place_in(*key)).collect(alloc)?)
+}
+
+/// The places of wishes in order by candidate, those of one candidate ascending. What is sorted is
+/// a key of each wish, so that no comparison reads a row.
 fn order_of(alloc: Global, wishes: &[Wish]) -> Result<Vec<u32>, OutOfMemory>
     requires { length wishes.now < 2 ^ 32 }
     ensures { IfOk result (λ v. IsIndex wishes.now v.items) }
 {
-    let mut order = places(alloc, wishes.len() as u32)?;
-    sort_places(wishes, &mut order)?;
-    Ok(order)
-}
-
-/// Puts places in order by candidate; those of one candidate keep their order.
-fn sort_places(wishes: &[Wish], order: &mut Vec<u32>) -> Result<(), AllocError>
-    ensures moved { IsPermutation order.old.items order.new.items }
-    ensures rises { OnOk result (IsNonDecreasingBy (candidate_in wishes.now) order.new.items) }
-    ensures stable { OnOk result (IsStableByKey (candidate_in wishes.now) nat_cmp order.old.items
-        order.new.items) }
-{
-    order.sort_by_key(|place| candidate_at(wishes, *place))?;
-    Ok(())
+    let mut keys = keys_of(alloc, wishes)?;
+    keys.sort_unstable();
+    places_in(alloc, keys.as_slice())
 }
 
 /// The first of the places in order whose candidate isn't below this one.

@@ -1,55 +1,56 @@
-use Rattle.std.proofs.Common.{List, ◌∙◌, ap, length, replicate, subst, sym}
+use Rattle.std.proofs.Common.{ℕ, List, Option, ◌∙◌, ap, length, replicate, subst, sym}
 use Rattle.admit_core.specs.declared.dossier.Wish.{Wish}
 use Rattle.admit_core.specs.DossierRows.{DossierRows}
 use Rattle.admit_core.specs.Validity.{IsValid}
+use Rattle.day_state.specs.declared.bundles.Sites.TheVariants.{Programmes, Schools}
+use Rattle.day_state.specs.Bundles.{numbers_by, shared_by}
 use Rattle.day_state.specs.Kept.{IsIndex, state_of, waiting_mark}
 use Rattle.day_state.proofs.Bundled.{few_wishes, keeps_waiting, programme_in, school_in}
+use Rattle.day_state.proofs.Numbering.{bundles_fit}
 use Rattle.day_state.proofs.counted_marks.CountedMarks.waiting.Goals as goal
 
-pub build-requires-clause-order : goal.build-requires-clause-order
-build-requires-clause-order c =
+pub firsts_of-requires : goal.firsts_of-requires
+firsts_of-requires c =
     let wishes = c.as_slice-wishes.ensures ∙ ap (λ (d : DossierRows). d.wishes) c.dossier.view_is in
-    subst (λ (ws : List Wish). IsIndex ws c.args.order.now) (sym wishes) c.requires
+    let valid = subst IsValid c.dossier.view_is c.dossier.invariant in
+    record {
+      order = subst (λ (ws : List Wish). IsIndex ws c.args.order.now) (sym wishes) c.requires;
+      programmes = programme_in c.args.dossier.now c.as_slice-wishes.result.now wishes valid
+          (c.len-programmes.ensures ∙ ap (λ (d : DossierRows). length d.programmes) c.dossier.view_is);
+      schools = school_in c.args.dossier.now c.as_slice-wishes.result.now wishes valid
+          (c.len-schools.ensures ∙ ap (λ (d : DossierRows). length d.schools) c.dossier.view_is);
+    }
 
-pub build-requires-clause-sites : goal.build-requires-clause-sites
-build-requires-clause-sites c =
-    programme_in c.args.dossier.now c.as_slice-wishes.result.now
+pub build-requires : goal.build-requires
+build-requires c =
+    let few = few_wishes c.args.dossier.now c.as_slice-wishes.result.now
     (c.as_slice-wishes.ensures ∙ ap (λ (d : DossierRows). d.wishes) c.dossier.view_is)
-    (subst IsValid c.dossier.view_is c.dossier.invariant)
-    (c.len-programmes.ensures ∙ ap (λ (d : DossierRows). length d.programmes) c.dossier.view_is)
+    (subst IsValid c.dossier.view_is c.dossier.invariant) in
+    let fit = bundles_fit Programmes c.as_slice-wishes.result.now c.as_slice.result.now
+    (c.as_slice.ensures.value ∙ c.in_ok-firsts.ensures.programmes) few in
+    record { few = fit.0; within = fit.1 }
 
-pub build-requires-clause-few : goal.build-requires-clause-few
-build-requires-clause-few c =
-    few_wishes c.args.dossier.now c.as_slice-wishes.result.now
+pub build-requires-2 : goal.build-requires-2
+build-requires-2 c =
+    let few = few_wishes c.args.dossier.now c.as_slice-wishes.result.now
     (c.as_slice-wishes.ensures ∙ ap (λ (d : DossierRows). d.wishes) c.dossier.view_is)
-    (subst IsValid c.dossier.view_is c.dossier.invariant)
-
-pub build-requires-2-clause-order : goal.build-requires-2-clause-order
-build-requires-2-clause-order c =
-    let wishes = c.as_slice-wishes.ensures ∙ ap (λ (d : DossierRows). d.wishes) c.dossier.view_is in
-    subst (λ (ws : List Wish). IsIndex ws c.args.order.now) (sym wishes) c.requires
-
-pub build-requires-2-clause-sites : goal.build-requires-2-clause-sites
-build-requires-2-clause-sites c =
-    school_in c.args.dossier.now c.as_slice-wishes.result.now
-    (c.as_slice-wishes.ensures ∙ ap (λ (d : DossierRows). d.wishes) c.dossier.view_is)
-    (subst IsValid c.dossier.view_is c.dossier.invariant)
-    (c.len-schools.ensures ∙ ap (λ (d : DossierRows). length d.schools) c.dossier.view_is)
-
-pub build-requires-2-clause-few : goal.build-requires-2-clause-few
-build-requires-2-clause-few c =
-    few_wishes c.args.dossier.now c.as_slice-wishes.result.now
-    (c.as_slice-wishes.ensures ∙ ap (λ (d : DossierRows). d.wishes) c.dossier.view_is)
-    (subst IsValid c.dossier.view_is c.dossier.invariant)
+    (subst IsValid c.dossier.view_is c.dossier.invariant) in
+    let fit = bundles_fit Schools c.as_slice-wishes.result.now c.as_slice-2.result.now
+    (c.as_slice-2.ensures.value ∙ c.in_ok-firsts.ensures.schools) few in
+    record { few = fit.0; within = fit.1 }
 
 pub invariant_of-result : goal.invariant_of-result
 invariant_of-result c =
+    let programmes = c.as_slice.ensures.value ∙ c.in_ok-firsts.ensures.programmes in
+    let schools = c.as_slice-2.ensures.value ∙ c.in_ok-firsts.ensures.schools in
+    let none = λ (firsts : List (Option ℕ)). replicate (shared_by firsts) 0 in
     keeps_waiting c.args.dossier.now c.as_slice-wishes.result.now
     (c.as_slice-wishes.ensures ∙ ap (λ (d : DossierRows). d.wishes) c.dossier.view_is)
     (c.len-programmes.ensures ∙ ap (λ (d : DossierRows). length d.programmes) c.dossier.view_is)
     (c.len-schools.ensures ∙ ap (λ (d : DossierRows). length d.schools) c.dossier.view_is)
-    c.in_ok-marks.ensures c.in_ok-seats.ensures c.in_ok-beds.ensures c.in_ok-in_programmes.ensures.numbers
-    c.in_ok-in_programmes.ensures.live c.in_ok-in_schools.ensures.numbers c.in_ok-in_schools.ensures.live
+    c.in_ok-marks.ensures c.in_ok-seats.ensures c.in_ok-beds.ensures
+    (c.in_ok-in_programmes.ensures.numbers ∙ ap numbers_by programmes) (c.in_ok-in_programmes.ensures.live ∙ ap none programmes)
+    (c.in_ok-in_schools.ensures.numbers ∙ ap numbers_by schools) (c.in_ok-in_schools.ensures.live ∙ ap none schools)
 
 pub returns : goal.returns
 returns c =
