@@ -1,10 +1,12 @@
 -- Changes along a candidate's own wishes change what a change of all marks does.
-use Rattle.std.proofs.Common.{ℕ, ◌+◌, ◌≤◌, ◌<◌, ◌≡◌, Bool, true, false, cond, ◌&&◌, ◌||◌, List, [], ◌∷◌, length, get_or, set, drop, inl, inr, refl, sym, ◌∙◌, ap, arith, nat_eq, filter, zero, suc}
+use Rattle.std.proofs.Common.{ℕ, ◌+◌, ◌≤◌, ◌<◌, ◌≡◌, Bool, true, false, cond, ◌&&◌, ◌||◌, List, [], ◌∷◌, length, get_or}
+use Rattle.std.proofs.Common.{set, drop, inl, inr, refl, sym, ◌∙◌, ap, arith, nat_eq, filter, zero, suc}
 use Rattle.std.specs.Prelude.{slice_index, ◌==◌, All, if◌then◌else◌}
 use Rattle.std.specs.List.{list_any, range_with_len}
 use Rattle.std.proofs.lemmas.Bool.{cases_eq, eqb-true, eq-eqb, ne_eqb, or_from, and_right}
 use Rattle.std.proofs.lemmas.Option.{unwrap_or-slice_get}
-use Rattle.std.proofs.lemmas.List.{length-map, length-set, get_or-set_same, get_or-set_other, at_drop_more, at_drop_all, get_or_default, same_lists, get_or-map}
+use Rattle.std.proofs.lemmas.List.{length-map, length-set, get_or-set_same, get_or-set_other, at_drop_more, at_drop_all}
+use Rattle.std.proofs.lemmas.List.{get_or_default, same_lists, get_or-map}
 use Rattle.std.proofs.lemmas.List.Elements.{filter_passes}
 use Rattle.std.proofs.lemmas.Slice.Zip.{length-zip, get_or-zip}
 use Rattle.admit_core.proofs.Plain.{map_same, any-filter}
@@ -55,7 +57,8 @@ in_range q j a zero le lt = absurd (omega arith)
 in_range q j a (suc n) le lt =
     elim (cases_eq j a) [
       | inl same ↦ rw (← same, eq-eqb j j refl, not_below q j (j + 1) n (omega arith)) (and_true (q j))
-      | inr other ↦ rw (ne_eqb j a other, and_right (q a) false refl) (in_range q j (a + 1) n (omega arith) (omega arith))
+      | inr other ↦ rw (ne_eqb j a other, and_right (q a) false refl)
+          (in_range q j (a + 1) n (omega arith) (omega arith))
     ]
 
 pub among-filter : (q : ℕ → Bool) (j n : ℕ) → j < n → is_among j (filter q (range_with_len 0 n)) ≡ q j
@@ -66,14 +69,16 @@ pub along_dossier : (f : Wish → Mark → Mark) (ks : List ℕ) (s : State) →
 along_dossier f [] s = refl
 along_dossier f (k ∷ ks) s = along_dossier f ks (with_mark_at s k (f (wish_in s.dossier.wishes k) (mark_in s.marks k)))
 
-pub along_long : (f : Wish → Mark → Mark) (ks : List ℕ) (s : State) → length (change_along f ks s).marks ≡ length s.marks
+pub along_long : (f : Wish → Mark → Mark) (ks : List ℕ) (s : State)
+    → length (change_along f ks s).marks ≡ length s.marks
 along_long f [] s = refl
 along_long f (k ∷ ks) s =
     let m = f (wish_in s.dossier.wishes k) (mark_in s.marks k) in
     along_long f ks (with_mark_at s k m) ∙ length-set s.marks k m
 
 pub mark_in-set_same : (ms : List Mark) (k : ℕ) (m : Mark) → k < length ms → mark_in (set ms k m) k ≡ m
-mark_in-set_same ms k m lt = unwrap_or-slice_get (set ms k m) k (mark_in [] 0) ∙ get_or-set_same ms k m (mark_in [] 0) lt
+mark_in-set_same ms k m lt = unwrap_or-slice_get (set ms k m) k (mark_in [] 0)
+    ∙ get_or-set_same ms k m (mark_in [] 0) lt
 
 pub mark_in-set_other : (ms : List Mark) (k j : ℕ) (m : Mark) → (j ≡ k → ⊥) → mark_in (set ms k m) j ≡ mark_in ms j
 mark_in-set_other ms k j m ne =
@@ -81,7 +86,8 @@ mark_in-set_other ms k j m ne =
     ∙ sym (unwrap_or-slice_get ms j (mark_in [] 0))
 
 -- the mark at a place after the changes
-pub along_at : (f : Wish → Mark → Mark) (ks : List ℕ) (s : State) → Apart ks → All (λ k. k < length s.marks) ks → (j : ℕ)
+pub along_at : (f : Wish → Mark → Mark) (ks : List ℕ) (s : State) → Apart ks → All (λ k. k < length s.marks) ks
+    → (j : ℕ)
     → mark_in (change_along f ks s).marks j
     ≡ (if is_among j ks then f (wish_in s.dossier.wishes j) (mark_in s.marks j) else mark_in s.marks j)
 along_at f [] s apart within j = refl
@@ -96,7 +102,8 @@ along_at f (k ∷ ks) s apart within j =
     ]
 
 -- a change of all marks by place
-with_marks_at : (f : Wish → Mark → Mark) (s : State) → length s.marks ≡ length s.dossier.wishes → (j : ℕ) (d : Mark) → j < length s.marks
+with_marks_at : (f : Wish → Mark → Mark) (s : State) → length s.marks ≡ length s.dossier.wishes → (j : ℕ) (d : Mark)
+    → j < length s.marks
     → get_or (with_marks s f).marks j d ≡ f (wish_in s.dossier.wishes j) (mark_in s.marks j)
 with_marks_at f s long j d lt =
     let ws = s.dossier.wishes in
@@ -114,7 +121,8 @@ pub same_state : (s t : State) → s.dossier ≡ t.dossier → s.marks ≡ t.mar
 same_state s t a b = let e : made s.dossier s.marks ≡ made t.dossier t.marks = rw (a, b) refl in e
 
 -- two lists of marks that are equal by place
-pub same_marks : (xs ys : List Mark) → length xs ≡ length ys → ((k : ℕ) → k < length xs → mark_in xs k ≡ mark_in ys k) → xs ≡ ys
+pub same_marks : (xs ys : List Mark) → length xs ≡ length ys → ((k : ℕ) → k < length xs → mark_in xs k ≡ mark_in ys k)
+    → xs ≡ ys
 same_marks xs ys long same =
     same_lists xs ys long (λ k d lt.
     let b = mark_in [] 0 in
@@ -127,9 +135,11 @@ length-with_marks f s long =
     let g = λ (x : Wish × Mark). f x.0 x.1 in
     omega (arith, length-map (entries s) g, length-zip s.dossier.wishes s.marks)
 
-pub mark_in-with_marks : (f : Wish → Mark → Mark) (s : State) → length s.marks ≡ length s.dossier.wishes → (j : ℕ) → j < length s.marks
+pub mark_in-with_marks : (f : Wish → Mark → Mark) (s : State) → length s.marks ≡ length s.dossier.wishes → (j : ℕ)
+    → j < length s.marks
     → mark_in (with_marks s f).marks j ≡ f (wish_in s.dossier.wishes j) (mark_in s.marks j)
-mark_in-with_marks f s long j lt = unwrap_or-slice_get (with_marks s f).marks j (mark_in [] 0) ∙ with_marks_at f s long j (mark_in [] 0) lt
+mark_in-with_marks f s long j lt = unwrap_or-slice_get (with_marks s f).marks j (mark_in [] 0)
+    ∙ with_marks_at f s long j (mark_in [] 0) lt
 
 -- the law of the loops: changes along a candidate's own wishes
 pub along_own : (f : Wish → Mark → Mark) (c : ℕ) (s : State) → length s.marks ≡ length s.dossier.wishes
@@ -141,7 +151,8 @@ along_own f c s long =
     let g = λ (w : Wish) (m : Mark). if w.candidate == c then f w m else m in
     let ks = own_places d c in
     same_state (change_along f ks s) (change_own f c s) (along_dossier f ks s)
-    (same_marks (change_along f ks s).marks (change_own f c s).marks (along_long f ks s ∙ sym (length-with_marks g s long)) (λ j lt.
+    (same_marks (change_along f ks s).marks (change_own f c s).marks
+    (along_long f ks s ∙ sym (length-with_marks g s long)) (λ j lt.
     let j_in : j < length s.marks = omega (arith, along_long f ks s) in
     along_at f ks s (apart-filter q 0 n) (λ k e k_lt. rw long (own_within d c k e k_lt)) j
     ∙ rw (among-filter q j n (omega arith), candidate_in d.wishes j) refl
@@ -156,7 +167,8 @@ pub record IsOnWay (f : Wish → Mark → Mark) (start now : State) (own : List 
 pub on_way_none : (f : Wish → Mark → Mark) (s : State) (own : List ℕ) → IsOnWay f s s own 0
 on_way_none f s own = record { dossier = refl; long = refl; rest = refl }
 
-pub on_way_more : (f : Wish → Mark → Mark) (start now : State) (own : List ℕ) (i : ℕ) → IsOnWay f start now own i → i < length own
+pub on_way_more : (f : Wish → Mark → Mark) (start now : State) (own : List ℕ) (i : ℕ) → IsOnWay f start now own i
+    → i < length own
     → let k = slice_index own i in
     IsOnWay f start (with_mark_at now k (f (wish_in now.dossier.wishes k) (mark_in now.marks k))) own (i + 1)
 on_way_more f start now own i way lt =
@@ -168,8 +180,10 @@ on_way_more f start now own i way lt =
       rest = sym (at_drop_more (λ (ks : List ℕ). change_along f ks now) own i 0 lt) ∙ way.rest;
     }
 
-pub on_way_all : (f : Wish → Mark → Mark) (start now : State) (c i : ℕ) → length start.marks ≡ length start.dossier.wishes
-    → IsOnWay f start now (own_places start.dossier c) i → length (own_places start.dossier c) ≤ i → now ≡ change_own f c start
+pub on_way_all : (f : Wish → Mark → Mark) (start now : State) (c i : ℕ)
+    → length start.marks ≡ length start.dossier.wishes
+    → IsOnWay f start now (own_places start.dossier c) i → length (own_places start.dossier c) ≤ i
+    → now ≡ change_own f c start
 on_way_all f start now c i long way le =
     let own = own_places start.dossier c in
     sym (at_drop_all (λ (ks : List ℕ). change_along f ks now) own i le) ∙ way.rest ∙ along_own f c start long
@@ -183,9 +197,11 @@ own_at d c i lt =
     (own_within d c i 0 lt, eqb-true (candidate_of d k) c (filter_passes q (range_with_len 0 (length d.wishes)) i 0 lt))
 
 -- the next place of a loop along a candidate's wishes, as a change of its mark asks
-pub on_way_place : (f : Wish → Mark → Mark) (start now : State) (own : List ℕ) (c i : ℕ) → length start.marks ≡ length start.dossier.wishes
+pub on_way_place : (f : Wish → Mark → Mark) (start now : State) (own : List ℕ) (c i : ℕ)
+    → length start.marks ≡ length start.dossier.wishes
     → own ≡ own_places start.dossier c → IsOnWay f start now own i → i < length own
-    → (slice_index own i < length now.marks) × (own ≡ own_places now.dossier (candidate_of now.dossier (slice_index own i)))
+    → (slice_index own i < length now.marks)
+    × (own ≡ own_places now.dossier (candidate_of now.dossier (slice_index own i)))
 on_way_place f start now own c i long is way lt =
     let at = own_at start.dossier c i (rw (← is) lt) in
     let within : slice_index own i < length start.dossier.wishes = rw is at.0 in
@@ -193,22 +209,26 @@ on_way_place f start now own c i long is way lt =
     (omega (arith, within, long, way.long), rw (way.dossier, same) is)
 
 -- the end of such a loop
-pub on_way_end : (f : Wish → Mark → Mark) (start now : State) (own : List ℕ) (c i : ℕ) → length start.marks ≡ length start.dossier.wishes
+pub on_way_end : (f : Wish → Mark → Mark) (start now : State) (own : List ℕ) (c i : ℕ)
+    → length start.marks ≡ length start.dossier.wishes
     → own ≡ own_places start.dossier c → IsOnWay f start now own i → length own ≤ i → now ≡ change_own f c start
 on_way_end f start now own c i long is way le = on_way_all f start now c i long (rw is at way) (rw is at le)
 
-pub with_marks_same : (f g : Wish → Mark → Mark) (s : State) → ((w : Wish) (m : Mark) → f w m ≡ g w m) → with_marks s f ≡ with_marks s g
+pub with_marks_same : (f g : Wish → Mark → Mark) (s : State) → ((w : Wish) (m : Mark) → f w m ≡ g w m)
+    → with_marks s f ≡ with_marks s g
 with_marks_same f g s same =
     same_state (with_marks s f) (with_marks s g) refl
     (map_same (λ (x : Wish × Mark). f x.0 x.1) (λ (x : Wish × Mark). g x.0 x.1) (λ x. same x.0 x.1) (entries s))
 
-own_first : (own test : Bool) (m n : Mark) → (if own then (if test then n else m) else m) ≡ (if test && own then n else m)
+own_first : (own test : Bool) (m n : Mark)
+    → (if own then (if test then n else m) else m) ≡ (if test && own then n else m)
 own_first true true m n = refl
 own_first true false m n = refl
 own_first false true m n = refl
 own_first false false m n = refl
 
-pub refuse_live_is : (s : State) (c : ℕ) (stamp : Stamp) → change_own (changed_by RefuseLive stamp) c s ≡ refuse_live s c stamp
+pub refuse_live_is : (s : State) (c : ℕ) (stamp : Stamp)
+    → change_own (changed_by RefuseLive stamp) c s ≡ refuse_live s c stamp
 refuse_live_is s c stamp =
     with_marks_same (λ w m. if w.candidate == c then changed_by RefuseLive stamp w m else m)
     (λ w m. if is_live m && (w.candidate == c) then changed_to Refused stamp m else m) s

@@ -1,12 +1,16 @@
 -- How many wishes of a bundle are live, and what that tells of its candidate.
-use Rattle.std.proofs.Common.{ℕ, ◌+◌, ◌-◌, ◌≤◌, ◌<◌, ◌≡◌, Bool, true, false, ◌&&◌, List, [], ◌∷◌, length, map, set, replicate, inl, inr, refl, sym, ◌∙◌, ap, subst, arith, filter, Option, Some, None, zero, suc}
+use Rattle.std.proofs.Common.{ℕ, ◌+◌, ◌-◌, ◌≤◌, ◌<◌, ◌≡◌, Bool, true, false, ◌&&◌, List, [], ◌∷◌, length, map, set}
+use Rattle.std.proofs.Common.{replicate, inl, inr, refl, sym, ◌∙◌, ap, subst, arith, filter, Option, Some, None, zero}
+use Rattle.std.proofs.Common.{suc}
 use Rattle.std.specs.Prelude.{slice_index, ◌==◌, nat_lt}
 use Rattle.std.specs.Option.{ForSome}
 use Rattle.std.specs.List.{list_any, range_with_len}
 use Rattle.std.specs.Cmp.{both_ways}
-use Rattle.std.proofs.lemmas.Bool.{cases_Bool, cases_eq, ne_eqb, eqb-true, eq-eqb, lt-ltb, and_parts, and_right, false≢true}
+use Rattle.std.proofs.lemmas.Bool.{cases_Bool, cases_eq, ne_eqb, eqb-true, eq-eqb, lt-ltb, and_parts, and_right}
+use Rattle.std.proofs.lemmas.Bool.{false≢true}
 use Rattle.std.proofs.lemmas.Option.{unwrap_or-slice_get}
-use Rattle.std.proofs.lemmas.List.{length-map, length-set, length-replicate, get_or-replicate, get_or-set_same, get_or-set_other, get_or_default}
+use Rattle.std.proofs.lemmas.List.{length-map, length-set, length-replicate, get_or-replicate, get_or-set_same}
+use Rattle.std.proofs.lemmas.List.{get_or-set_other, get_or_default}
 use Rattle.std.proofs.Math.ListN.{get_or-map}
 use Rattle.std.proofs.lemmas.List.Folds.{list_any_at, Any-from_list_any}
 use Rattle.std.proofs.lemmas.List.Sums.{length-filter, count_by-le-length}
@@ -21,8 +25,11 @@ use Rattle.day_state.specs.declared.bundles.Sites.{Sites}
 use Rattle.day_state.specs.declared.bundles.Sites.TheVariants.{Programmes, Schools}
 use Rattle.day_state.specs.declared.numbers.Number.{Number}
 use Rattle.day_state.specs.declared.numbers.Number.TheVariants.{NoSite}
-use Rattle.day_state.specs.Kept.{mark_in, wish_in, waiting_mark, holds_one, holds_bed_in, one_if, recount, recount_some, has_seat_there, has_bed_there, state_of}
-use Rattle.day_state.specs.Bundles.{site_of, is_same, number_in, bundles_of, is_shared, rank_of, number_of, number_at, count_of, all_numbers, shared_in_all, has_live, live_in_bundle, AreLiveCounts, IsBundled, KeepsCounts}
+use Rattle.day_state.specs.Kept.{mark_in, wish_in, waiting_mark, holds_one, holds_bed_in, one_if, recount, recount_some}
+use Rattle.day_state.specs.Kept.{has_seat_there, has_bed_there, state_of}
+use Rattle.day_state.specs.Bundles.{site_of, is_same, number_in, bundles_of, is_shared, rank_of, number_of, number_at}
+use Rattle.day_state.specs.Bundles.{count_of, all_numbers, shared_in_all, has_live, live_in_bundle, AreLiveCounts}
+use Rattle.day_state.specs.Bundles.{IsBundled, KeepsCounts}
 use Rattle.day_state.proofs.Counting.{here_step, there_step}
 use Rattle.day_state.proofs.Numbering.{range_at, bundles_are}
 use Rattle.day_state.proofs.Sharing.{alone_first, rank_within, rank_apart, count_parts}
@@ -72,7 +79,8 @@ any_counts p (x ∷ xs) =
 any_in_range : (p q : ℕ → Bool) (a n : ℕ) → ((j : ℕ) → j < a + n → p j ≡ q j)
     → list_any p (range_with_len a n) ≡ list_any q (range_with_len a n)
 any_in_range p q a zero same = refl
-any_in_range p q a (suc n) same = rw (same a (omega arith), any_in_range p q (a + 1) n (λ j lt. same j (omega arith))) refl
+any_in_range p q a (suc n) same = rw (same a (omega arith), any_in_range p q (a + 1) n (λ j lt. same j (omega arith)))
+    refl
 
 -- the wish at a place is a live one of a bundle
 abbrev counts_in : List Mark → List (Option ℕ) → ℕ → ℕ → Bool
@@ -85,7 +93,8 @@ live_turned ms numbers b k m lt =
     rw (length-set ms k m)
     (count_turned (counts_in ms numbers b) (counts_in (set ms k m) numbers b) k 0 (length ms) (omega arith)
     (omega arith) (λ j other. rw (mark_in-set_other ms k j m other) refl)
-    ∙ ap (λ n. live_in_bundle ms numbers b + one_if (is_live n && is_same (Some b) (number_in numbers k))) (mark_in-set_same ms k m lt))
+    ∙ ap (λ n. live_in_bundle ms numbers b + one_if (is_live n && is_same (Some b) (number_in numbers k)))
+    (mark_in-set_same ms k m lt))
 
 alone : (live : Bool) (o : Option ℕ) (b : ℕ) → o ≡ Some b → one_if (live && is_same (Some b) o) ≡ one_if live
 alone true o b e = rw (e, eq-eqb b b refl) refl
@@ -95,8 +104,10 @@ elsewhere : (live : Bool) (o : Option ℕ) (b : ℕ) → (o ≡ Some b → ⊥) 
 elsewhere live None b other = rw (and_right live false refl) refl
 elsewhere live (Some c) b other = rw (ne_eqb c b (λ e. other (rw e refl)), and_right live false refl) refl
 
-live_here : (ms : List Mark) (numbers : List (Option ℕ)) (b k : ℕ) (m : Mark) → k < length ms → number_in numbers k ≡ Some b
-    → live_in_bundle (set ms k m) numbers b + one_if (is_live (mark_in ms k)) ≡ live_in_bundle ms numbers b + one_if (is_live m)
+live_here : (ms : List Mark) (numbers : List (Option ℕ)) (b k : ℕ) (m : Mark) → k < length ms
+    → number_in numbers k ≡ Some b
+    → live_in_bundle (set ms k m) numbers b + one_if (is_live (mark_in ms k))
+    ≡ live_in_bundle ms numbers b + one_if (is_live m)
 live_here ms numbers b k m lt is =
     omega (
       arith,
@@ -105,7 +116,8 @@ live_here ms numbers b k m lt is =
       alone (is_live m) (number_in numbers k) b is,
     )
 
-live_elsewhere : (ms : List Mark) (numbers : List (Option ℕ)) (b k : ℕ) (m : Mark) → k < length ms → (number_in numbers k ≡ Some b → ⊥)
+live_elsewhere : (ms : List Mark) (numbers : List (Option ℕ)) (b k : ℕ) (m : Mark) → k < length ms
+    → (number_in numbers k ≡ Some b → ⊥)
     → live_in_bundle (set ms k m) numbers b ≡ live_in_bundle ms numbers b
 live_elsewhere ms numbers b k m lt other =
     omega (
@@ -118,7 +130,8 @@ live_elsewhere ms numbers b k m lt other =
 -- the counts where the mark is of another bundle than each of those that are counted
 counts_stay : (ms : List Mark) (bundles : List (Option ℕ)) (live : List ℕ) (k : ℕ) (m : Mark)
     → AreLiveCounts ms bundles live → k < length ms
-    → ((b : ℕ) → is_shared bundles b ≡ true → number_in bundles k ≡ Some b → ⊥) → AreLiveCounts (set ms k m) bundles live
+    → ((b : ℕ) → is_shared bundles b ≡ true → number_in bundles k ≡ Some b → ⊥)
+    → AreLiveCounts (set ms k m) bundles live
 counts_stay ms bundles live k m are lt other = record {
   as_long = are.as_long;
   each = λ b b_lt shared. are.each b b_lt shared ∙ sym (live_elsewhere ms bundles b k m lt (other b shared));
@@ -128,8 +141,10 @@ counts_stay ms bundles live k m are lt other = record {
 counts_turned : (ms : List Mark) (bundles : List (Option ℕ)) (live : List ℕ) (k : ℕ) (m : Mark) (o : Option ℕ)
     → AreLiveCounts ms bundles live → k < length ms
     → number_in bundles k ≡ o → ForSome o (λ b. b < length bundles)
-    → AreLiveCounts (set ms k m) bundles (recount_some live (count_of (number_of bundles o)) (is_live (mark_in ms k)) (is_live m))
-counts_turned ms bundles live k m None are lt is within = counts_stay ms bundles live k m are lt (λ b shared e. let none = sym is ∙ e in cc)
+    → AreLiveCounts (set ms k m) bundles (recount_some live (count_of (number_of bundles o)) (is_live (mark_in ms k))
+    (is_live m))
+counts_turned ms bundles live k m None are lt is within =
+    counts_stay ms bundles live k m are lt (λ b shared e. let none = sym is ∙ e in cc)
 counts_turned ms bundles live k m (Some c) are lt is within =
     elim (cases_Bool (is_shared bundles c)) [
       | inr alone ↦
@@ -152,7 +167,8 @@ counts_turned ms bundles live k m (Some c) are lt is within =
                   (get_or-set_same live r next 0 r_in
                   ∙ (omega (arith, live_here ms bundles c k m lt is, are.each c c_in c_shared)))
               | inr other ↦
-                  get_or-set_other live r (rank_of bundles b) next 0 (rank_apart bundles b c shared c_shared b_lt c_in other)
+                  get_or-set_other live r (rank_of bundles b) next 0
+                  (rank_apart bundles b c shared c_shared b_lt c_in other)
                   ∙ are.each b b_lt shared
                   ∙ sym (live_elsewhere ms bundles b k m lt (λ e. let both = sym is ∙ e in other (cc)))
             ];
@@ -171,7 +187,8 @@ count_most ms numbers b =
 
 -- the number of a wish's bundle
 number_is : (sites : Sites) (s : State) (numbers : List Number) (live : List ℕ) (k : ℕ) → IsBundled sites s numbers live
-    → number_at numbers k ≡ number_of (bundles_of sites s.dossier.wishes) (number_in (bundles_of sites s.dossier.wishes) k)
+    → number_at numbers k ≡ number_of (bundles_of sites s.dossier.wishes)
+    (number_in (bundles_of sites s.dossier.wishes) k)
 number_is sites s numbers live k bundled =
     let bundles = bundles_of sites s.dossier.wishes in
     rw bundled.numbered
@@ -198,13 +215,19 @@ bundled_more sites s numbers live k m long lt bundled =
 bundle_fits : (sites : Sites) (s : State) (numbers : List Number) (live : List ℕ) (k : ℕ) (m : Mark)
     → length s.marks ≡ length s.dossier.wishes → k < length s.marks
     → length s.dossier.wishes ≤ 16000000 → IsBundled sites s numbers live
-    → ForSome (count_of (number_at numbers k)) (λ n. Fits live (length s.marks) n (is_live (mark_in s.marks k)) (is_live m))
+    → ForSome (count_of (number_at numbers k))
+    (λ n. Fits live (length s.marks) n (is_live (mark_in s.marks k)) (is_live m))
 bundle_fits sites s numbers live k m long lt short bundled n e =
     let bundles = bundles_of sites s.dossier.wishes in
     let bundles_are_so = bundles_are sites s.dossier.wishes in
     let parts = count_parts bundles (number_in bundles k) n (rw (number_is sites s numbers live k bundled) at e) in
     let b = parts.0 in
-    let b_in : b < length bundles = omega (arith, bundles_are_so.as_long, bundles_are_so.within k (omega arith) b parts.1) in
+    let b_in : b < length bundles = omega (
+      arith,
+      bundles_are_so.as_long,
+      bundles_are_so.within k
+          (omega arith) b parts.1,
+    ) in
     let is = bundled.counts.each b b_in parts.2 in
     rw (← parts.3)
     (record {
@@ -231,7 +254,12 @@ number_within sites s numbers live k long lt bundled n e =
     let bundles = bundles_of sites s.dossier.wishes in
     let bundles_are_so = bundles_are sites s.dossier.wishes in
     let parts = count_parts bundles (number_in bundles k) n (rw (number_is sites s numbers live k bundled) at e) in
-    let b_in : parts.0 < length bundles = omega (arith, bundles_are_so.as_long, bundles_are_so.within k (omega arith) parts.0 parts.1) in
+    let b_in : parts.0 < length bundles = omega (
+      arith,
+      bundles_are_so.as_long,
+      bundles_are_so.within k
+          (omega arith) parts.0 parts.1,
+    ) in
     omega (arith, parts.3, bundled.counts.as_long, rank_within bundles parts.0 parts.2 b_in)
 
 -- a wish has a number, and where that names a count, it is there
@@ -240,7 +268,8 @@ pub record HasNumber (numbers : List Number) (live : List ℕ) (k : ℕ) : Type 
   pub number : ForSome (count_of (number_at numbers k)) (λ n. n < length live)
 
 pub has_number : {sites : Sites} {s : State} {numbers : List Number} {live : List ℕ} {k : ℕ}
-    → IsBundled sites s numbers live → length s.marks ≡ length s.dossier.wishes → k < length s.marks → HasNumber numbers live k
+    → IsBundled sites s numbers live → length s.marks ≡ length s.dossier.wishes → k < length s.marks
+    → HasNumber numbers live k
 has_number {sites} {s} {numbers} {live} {k} bundled long lt = record {
   place = omega (arith, long, lt, numbers_long sites s numbers live bundled);
   number = number_within sites s numbers live k long lt bundled;
@@ -320,7 +349,8 @@ has_live_is sites s numbers live k long lt bundled =
     ap (λ n. has_live live n (is_live (mark_in ms k))) (number_is sites s numbers live k bundled)
     ∙ bundle_any ms bundles live k o bundled.counts (bundles_are_so.as_long ∙ sym long) lt refl
     (λ b e. omega (arith, long, bundles_are_so.within k k_in b e))
-    ∙ any_in_range (λ j. is_live (mark_in ms j) && is_same o (number_in bundles j)) (λ j. holds (entry_in s j)) 0 (length ms)
+    ∙ any_in_range (λ j. is_live (mark_in ms j) && is_same o (number_in bundles j)) (λ j. holds (entry_in s j)) 0
+    (length ms)
     (λ j j_lt.
     let j_in : j < length ws = omega arith in
     ap (λ t. is_live (mark_in ms j) && t) (bundles_are_so.shared k j k_in j_in)
@@ -380,7 +410,8 @@ all_waiting : (d : DossierRows)
     → let n = length d.wishes in
     KeepsCounts (state_of d (replicate n waiting_mark)) (replicate (length d.programmes) 0)
     (replicate (length d.schools) 0) (all_numbers Programmes d.wishes)
-    (replicate (shared_in_all Programmes d.wishes) 0) (all_numbers Schools d.wishes) (replicate (shared_in_all Schools d.wishes) 0)
+    (replicate (shared_in_all Programmes d.wishes) 0) (all_numbers Schools d.wishes)
+    (replicate (shared_in_all Schools d.wishes) 0)
 all_waiting d = record {
   kept = kept_waiting d;
   programmes = bundled_waiting Programmes d;
@@ -389,7 +420,8 @@ all_waiting d = record {
 
 -- all wishes of a valid dossier wait, whose wishes, programmes and schools were read
 module _ (d : DossierRows) (ws : List Wish) (wishes : ws ≡ d.wishes) where
-  pub keeps_waiting : {marks : List Mark} {seats beds in_programmes in_schools : List ℕ} {of_programmes of_schools : List Number}
+  pub keeps_waiting : {marks : List Mark} {seats beds in_programmes in_schools : List ℕ}
+      {of_programmes of_schools : List Number}
       {p h : ℕ} → p ≡ length d.programmes → h ≡ length d.schools → marks ≡ replicate (length ws) waiting_mark
       → seats ≡ replicate p 0 → beds ≡ replicate h 0 → of_programmes ≡ all_numbers Programmes ws
       → in_programmes ≡ replicate (shared_in_all Programmes ws) 0 → of_schools ≡ all_numbers Schools ws
@@ -420,17 +452,21 @@ module _ (d : DossierRows) (ws : List Wish) (wishes : ws ≡ d.wishes) where
 -- what the counts of a bundle tell of its candidate in a state
 abbrev Tells : Sites → (State → ℕ → Bool) → List Number → ℕ → Type 0
 Tells sites there numbers k =
-    (s : State) (live : List ℕ) → length s.marks ≡ length s.dossier.wishes → k < length s.marks → IsBundled sites s numbers live
+    (s : State) (live : List ℕ) → length s.marks ≡ length s.dossier.wishes → k < length s.marks
+    → IsBundled sites s numbers live
     → has_live live (number_at numbers k) (is_live (mark_in s.marks k)) ≡ there s k
 
 -- a turn of a bundle tells whether its candidate was live there, and is
 turned : (sites : Sites) (there : State → ℕ → Bool) (s : State) (numbers : List Number) (live : List ℕ) (k : ℕ)
     (m : Mark) (was lives had has : Bool) (after : List ℕ)
-    → Tells sites there numbers k → length s.marks ≡ length s.dossier.wishes → k < length s.marks → IsBundled sites s numbers live
-    → was ≡ is_live (mark_in s.marks k) → lives ≡ is_live m → after ≡ recount_some live (count_of (number_at numbers k)) was lives
+    → Tells sites there numbers k → length s.marks ≡ length s.dossier.wishes → k < length s.marks
+    → IsBundled sites s numbers live
+    → was ≡ is_live (mark_in s.marks k) → lives ≡ is_live m
+    → after ≡ recount_some live (count_of (number_at numbers k)) was lives
     → had ≡ has_live live (number_at numbers k) was → has ≡ has_live after (number_at numbers k) lives
     → (had ≡ there s k) × (has ≡ there (with_mark_at s k m) k)
-turned sites there s numbers live k m was lives had has after tells long lt bundled was_is lives_is after_is had_is has_is =
+turned sites there s numbers live k m was lives had has after tells long lt bundled was_is lives_is after_is had_is
+    has_is =
     let next = recount_some live (count_of (number_at numbers k)) (is_live (mark_in s.marks k)) (is_live m) in
     let more = bundled_more sites s numbers live k m long lt bundled in
     let after_is_so : after ≡ next = rw (← was_is, ← lives_is) after_is in (
@@ -438,11 +474,13 @@ turned sites there s numbers live k m was lives had has after tells long lt bund
       has_is
           ∙ rw (after_is_so, lives_is)
           (ap (λ n. has_live next (number_at numbers k) (is_live n)) (sym (mark_in-set_same s.marks k m lt))
-          ∙ tells (with_mark_at s k m) next (length-set s.marks k m ∙ long) (omega (arith, length-set s.marks k m, lt)) more),
+          ∙ tells (with_mark_at s k m) next (length-set s.marks k m ∙ long)
+          (omega (arith, length-set s.marks k m, lt)) more),
     )
 
 -- where all counts are kept, and the mark of a wish becomes m
-module _ {d : DossierRows} {marks : List Mark} {seats beds : List ℕ} {of_programmes : List Number} {in_programmes : List ℕ}
+module _ {d : DossierRows} {marks : List Mark} {seats beds : List ℕ} {of_programmes : List Number}
+    {in_programmes : List ℕ}
     {of_schools : List Number} {in_schools : List ℕ}
     (keeps : KeepsCounts (state_of d marks) seats beds of_programmes in_programmes of_schools in_schools)
     {wish : ℕ} (lt : wish < length marks) (m : Mark) where
@@ -457,15 +495,18 @@ module _ {d : DossierRows} {marks : List Mark} {seats beds : List ℕ} {of_progr
       of_schools (recount_some in_schools (count_of (number_at of_schools wish)) was (is_live m))
   keeps_changed valid = record {
     kept = kept_changed valid keeps.kept lt m;
-    programmes = bundled_more Programmes (state_of d marks) of_programmes in_programmes wish m keeps.kept.marks lt keeps.programmes;
+    programmes = bundled_more Programmes (state_of d marks) of_programmes in_programmes wish m keeps.kept.marks lt
+        keeps.programmes;
     schools = bundled_more Schools (state_of d marks) of_schools in_schools wish m keeps.kept.marks lt keeps.schools;
   }
 
   -- whether the candidate was live in the programme of the wish, and is
   pub seat_turned : {was lives had has : Bool} {after : List ℕ} → was ≡ is_live (mark_in marks wish) → lives ≡ is_live m
       → after ≡ recount_some in_programmes (count_of (number_at of_programmes wish)) was lives
-      → had ≡ has_live in_programmes (number_at of_programmes wish) was → has ≡ has_live after (number_at of_programmes wish) lives
-      → (had ≡ has_seat_there (state_of d marks) wish) × (has ≡ has_seat_there (with_mark_at (state_of d marks) wish m) wish)
+      → had ≡ has_live in_programmes (number_at of_programmes wish) was
+      → has ≡ has_live after (number_at of_programmes wish) lives
+      → (had ≡ has_seat_there (state_of d marks) wish)
+      × (has ≡ has_seat_there (with_mark_at (state_of d marks) wish m) wish)
   seat_turned {was} {lives} {had} {has} {after} =
       turned Programmes has_seat_there (state_of d marks) of_programmes in_programmes wish m was lives had has after
       (λ s live long lt bundled. has_seat_is bundled long lt) keeps.kept.marks lt keeps.programmes
@@ -473,8 +514,10 @@ module _ {d : DossierRows} {marks : List Mark} {seats beds : List ℕ} {of_progr
   -- and in its school
   pub bed_turned : {was lives had has : Bool} {after : List ℕ} → was ≡ is_live (mark_in marks wish) → lives ≡ is_live m
       → after ≡ recount_some in_schools (count_of (number_at of_schools wish)) was lives
-      → had ≡ has_live in_schools (number_at of_schools wish) was → has ≡ has_live after (number_at of_schools wish) lives
-      → (had ≡ has_bed_there (state_of d marks) wish) × (has ≡ has_bed_there (with_mark_at (state_of d marks) wish m) wish)
+      → had ≡ has_live in_schools (number_at of_schools wish) was
+      → has ≡ has_live after (number_at of_schools wish) lives
+      → (had ≡ has_bed_there (state_of d marks) wish)
+      × (has ≡ has_bed_there (with_mark_at (state_of d marks) wish m) wish)
   bed_turned {was} {lives} {had} {has} {after} =
       turned Schools has_bed_there (state_of d marks) of_schools in_schools wish m was lives had has after
       (λ s live long lt bundled. has_bed_is bundled long lt) keeps.kept.marks lt keeps.schools

@@ -1,5 +1,6 @@
 -- What a change of one mark asks and gives, in the words of the code.
-use Rattle.std.proofs.Common.{ℕ, ◌+◌, ◌≤◌, ◌<◌, ◌≡◌, Bool, true, false, not, ◌&&◌, List, [], map, length, get_or, sym, ◌∙◌, ap, arith, filter, Option, Some, None}
+use Rattle.std.proofs.Common.{ℕ, ◌+◌, ◌≤◌, ◌<◌, ◌≡◌, Bool, true, false, not, ◌&&◌, List, [], map, length, get_or, sym}
+use Rattle.std.proofs.Common.{◌∙◌, ap, arith, filter, Option, Some, None}
 use Rattle.std.specs.Prelude.{slice_index, ◌==◌, All}
 use Rattle.std.proofs.lemmas.Option.{unwrap_or-slice_get}
 use Rattle.std.proofs.lemmas.List.{length-map, get_or_read}
@@ -15,7 +16,8 @@ use Rattle.admit_core.specs.State.{State, is_live, has_school, with_mark_at, hol
 use Rattle.admit_core.specs.OwnWishes.{own_places}
 use Rattle.admit_core.specs.AutoAnswer.{freed_by}
 use Rattle.admit_core.specs.Validity.{IsValid, IsValidWish}
-use Rattle.day_state.specs.Kept.{mark_in, wish_in, holds_bed_in, one_if, recount, recount_some, has_seat_there, has_bed_there, state_of, AreCounts, IsKept}
+use Rattle.day_state.specs.Kept.{mark_in, wish_in, holds_bed_in, one_if, recount, recount_some, has_seat_there}
+use Rattle.day_state.specs.Kept.{has_bed_there, state_of, AreCounts, IsKept}
 use Rattle.day_state.proofs.Places.{candidate_in}
 use Rattle.day_state.proofs.KeptCounts.{kept_after, holders_after, count_bounds}
 use Rattle.day_state.proofs.Freeing.{freed_there}
@@ -24,7 +26,8 @@ pub own_within : (d : DossierRows) (c : ℕ) → All (λ k. k < length d.wishes)
 own_within d c =
     let n = length d.wishes in
     All-filter (λ k. candidate_of d k == c) (λ k. k < n) (range_with_len 0 n)
-    (λ k e lt. let in_range : k < n = omega (arith, length-range_with_len 0 n) in rw (get_or-range_with_len 0 n k e in_range) (omega arith))
+    (λ k e lt. let in_range : k < n = omega (arith, length-range_with_len 0 n) in
+    rw (get_or-range_with_len 0 n k e in_range) (omega arith))
 
 pub one_at_most : (b : Bool) → one_if b ≤ 1
 one_at_most true = omega arith
@@ -38,11 +41,16 @@ pub record Fits (counts : List ℕ) (n k : ℕ) (had has : Bool) : Type 0 where
 
 fits_from : (old new : ℕ → ℕ → Bool) (ns : List ℕ) (n : ℕ) (counts : List ℕ) → AreCounts old (distinct ns) n counts
     → (k c : ℕ) → k < n → length ns ≤ 16000000
-    → length (filter (λ x. new x k) (distinct ns)) + one_if (old c k) ≡ length (filter (λ x. old x k) (distinct ns)) + one_if (new c k)
+    → length (filter (λ x. new x k) (distinct ns)) + one_if (old c k)
+    ≡ length (filter (λ x. old x k) (distinct ns)) + one_if (new c k)
     → Fits counts n k (old c k) (new c k)
 fits_from old new ns n counts are k c lt short here =
     let bounds = count_bounds old new ns n counts are k c lt here in
-    record { place = omega (arith, are.as_long); comes = omega (arith, bounds.1, one_at_most (new c k)); goes = bounds.0 }
+    record {
+      place = omega (arith, are.as_long);
+      comes = omega (arith, bounds.1, one_at_most (new c k));
+      goes = bounds.0;
+    }
 
 pub seat_fits : (s : State) (seats beds : List ℕ) (place : ℕ) (m : Mark) → IsKept s seats beds → place < length s.marks
     → length s.dossier.wishes ≤ 16000000 → (wish_in s.dossier.wishes place).programme < length s.dossier.programmes
@@ -72,7 +80,8 @@ bed_fits_at s seats beds place m kept lt short (Some g) h is within =
     (holders_after (λ v. has_school v h) s place m kept.marks lt))
 
 pub bed_fits : (s : State) (seats beds : List ℕ) (place : ℕ) (m : Mark) → IsKept s seats beds → place < length s.marks
-    → length s.dossier.wishes ≤ 16000000 → ForSome (wish_in s.dossier.wishes place).school (λ h. h < length s.dossier.schools)
+    → length s.dossier.wishes ≤ 16000000 → ForSome (wish_in s.dossier.wishes place).school
+    (λ h. h < length s.dossier.schools)
     → ForSome (wish_in s.dossier.wishes place).school
     (λ h. Fits beds (length s.dossier.schools) h (has_bed_there s place)
     (has_bed_there (with_mark_at s place m) place))
@@ -80,7 +89,8 @@ bed_fits s seats beds place m kept lt short school h is =
     bed_fits_at s seats beds place m kept lt short (wish_in s.dossier.wishes place).school h is (school h is)
 
 -- what a wish names is there
-pub wish_valid : (d : DossierRows) → IsValid d → (place : ℕ) → place < length d.wishes → IsValidWish d (wish_in d.wishes place)
+pub wish_valid : (d : DossierRows) → IsValid d → (place : ℕ) → place < length d.wishes
+    → IsValidWish d (wish_in d.wishes place)
 wish_valid d valid place lt =
     rw (unwrap_or-slice_get d.wishes place (wish_in [] 0)) (valid.wishes place (wish_in [] 0) lt)
 
@@ -99,7 +109,8 @@ module _ {d : DossierRows} {marks : List Mark} {seats beds : List ℕ} {wish : �
   named_valid = wish_valid d valid wish (omega (arith, kept.marks))
 
   -- the count of the wish's programme, and that of its school, before the change
-  pub seat_ready : Fits seats (length d.programmes) (wish_in d.wishes wish).programme (has_seat_there (state_of d marks) wish)
+  pub seat_ready : Fits seats (length d.programmes) (wish_in d.wishes wish).programme
+      (has_seat_there (state_of d marks) wish)
       (has_seat_there (with_mark_at (state_of d marks) wish m) wish)
   seat_ready = seat_fits (state_of d marks) seats beds wish m kept lt valid.size.wishes named_valid.programme
 

@@ -39,7 +39,8 @@ ok_own_fit s stamp answers r long is = (
 
 -- and then the wishes of each candidate come of their own answers alone
 pub ok_apart : (s t : State) (stamp : Stamp) (answers : List Answer) (r : Result (Unit {0}) UnfitAt) → IsMarked s
-    → r ≡ refused_at (first_unfit 0 s stamp answers) → t ≡ after_fitting_front s stamp answers → IsOk r → AreOwn s stamp answers t
+    → r ≡ refused_at (first_unfit 0 s stamp answers) → t ≡ after_fitting_front s stamp answers → IsOk r
+    → AreOwn s stamp answers t
 ok_apart s t stamp answers r long is end ok =
     let none : first_unfit 0 s stamp answers ≡ None = none_if_ok (first_unfit 0 s stamp answers) (rw is at ok) in
     rw (end ∙ front_all 0 s stamp answers none) (answers_stay_apart s stamp answers long)

@@ -1,5 +1,6 @@
 -- What changes of a candidate's marks free.
-use Rattle.std.proofs.Common.{ℕ, ◌+◌, ◌≤◌, ◌<◌, ◌≡◌, Bool, true, false, not, ◌&&◌, List, [], ◌∷◌, length, set, get_or, inl, inr, refl, sym, ◌∙◌, ap, arith, Option, Some, None, zero, suc, zip}
+use Rattle.std.proofs.Common.{ℕ, ◌+◌, ◌≤◌, ◌<◌, ◌≡◌, Bool, true, false, not, ◌&&◌, List, [], ◌∷◌, length, set, get_or}
+use Rattle.std.proofs.Common.{inl, inr, refl, sym, ◌∙◌, ap, arith, Option, Some, None, zero, suc, zip}
 use Rattle.std.specs.Prelude.{◌==◌}
 use Rattle.std.specs.Option.{ForSome}
 use Rattle.std.specs.List.{list_any}
@@ -17,7 +18,8 @@ use Rattle.day_state.proofs.Places.{entry_in, entries-with_mark_at}
 use Rattle.day_state.proofs.KeptCounts.{holds_same_other, school_fails, none_fails}
 use Rattle.day_state.proofs.Lost.{Falls, lost_in, lost_none, lost_one, lost_both, lost_at_most}
 
-pub freed_none : (s t : State) (c : ℕ) → ((k : ℕ) → holds_seat t c k ≡ holds_seat s c k) → ((k : ℕ) → holds_bed t c k ≡ holds_bed s c k)
+pub freed_none : (s t : State) (c : ℕ) → ((k : ℕ) → holds_seat t c k ≡ holds_seat s c k)
+    → ((k : ℕ) → holds_bed t c k ≡ holds_bed s c k)
     → freed_by s t c ≡ record { seats = 0; beds = 0 }
 freed_none s t c seats beds =
     rw (
@@ -28,7 +30,8 @@ freed_none s t c seats beds =
 beds_freed_at : (s : State) (place : ℕ) (m : Mark) → length s.marks ≡ length s.dossier.wishes → place < length s.marks
     → (o : Option ℕ) → (wish_in s.dossier.wishes place).school ≡ o → ForSome o (λ h. h < length s.dossier.schools)
     → let t = with_mark_at s place m in let c = (wish_in s.dossier.wishes place).candidate in
-    lost_in (holds_bed s c) (holds_bed t c) (length s.dossier.schools) ≡ one_if (holds_bed_in s c o && not (holds_bed_in t c o))
+    lost_in (holds_bed s c) (holds_bed t c) (length s.dossier.schools)
+    ≡ one_if (holds_bed_in s c o && not (holds_bed_in t c o))
 beds_freed_at s place m long lt None is within =
     let c = (wish_in s.dossier.wishes place).candidate in
     let t = with_mark_at s place m in
@@ -59,11 +62,13 @@ freed_there s place m long lt programme school =
     let seats : lost_in (holds_seat s c) (holds_seat t c) (length s.dossier.programmes)
     ≡ one_if (has_seat_there s place && not (has_seat_there t place)) =
     lost_one (holds_seat s c) (holds_seat t c) (length s.dossier.programmes) w.programme programme
-    (λ k other. holds_same_other (λ v. v.programme == k) s place m long lt (ne_eqb w.programme k (λ e. other (sym e))) c) in
+    (λ k other. holds_same_other (λ v. v.programme == k) s place m long lt
+    (ne_eqb w.programme k (λ e. other (sym e))) c) in
     rw (seats, beds_freed_at s place m long lt w.school refl school) refl
 
 -- a test of one element that may only fail where it passed
-pub any-set_falls : {X : Type 0} (p : X → Bool) (xs : List X) (i : ℕ) (y d : X) → i < length xs → (p y ≡ true → p (get_or xs i d) ≡ true)
+pub any-set_falls : {X : Type 0} (p : X → Bool) (xs : List X) (i : ℕ) (y d : X) → i < length xs
+    → (p y ≡ true → p (get_or xs i d) ≡ true)
     → list_any p (set xs i y) ≡ true → list_any p xs ≡ true
 any-set_falls p [] i y d lt falls t = absurd (omega arith)
 any-set_falls p (x ∷ xs) zero y d lt falls t =
@@ -113,7 +118,8 @@ has_freed_none s c = record {
 }
 
 -- one more change: what it frees comes to what was freed
-pub freed_more : (start now next : State) (c : ℕ) (freed : Freed) → now.dossier ≡ start.dossier → HasFreed start now c freed
+pub freed_more : (start now next : State) (c : ℕ) (freed : Freed) → now.dossier ≡ start.dossier
+    → HasFreed start now c freed
     → Falls (holds_seat now c) (holds_seat next c) → Falls (holds_bed now c) (holds_bed next c)
     → (freed.seats + (freed_by now next c).seats ≡ (freed_by start next c).seats) ×
     (freed.beds + (freed_by now next c).beds ≡ (freed_by start next c).beds)
@@ -123,7 +129,8 @@ freed_more start now next c freed same so_far seats beds =
     rw so_far.counted (
       ap (λ n. lost_in (holds_seat start c) (holds_seat now c) programmes + lost_in (holds_seat now c)
           (holds_seat next c) n) (ap (λ (d : DossierRows). length d.programmes) same)
-          ∙ sym (lost_both (holds_seat start c) (holds_seat now c) (holds_seat next c) programmes so_far.seats_fall seats),
+          ∙ sym (lost_both (holds_seat start c) (holds_seat now c)
+          (holds_seat next c) programmes so_far.seats_fall seats),
       ap (λ n. lost_in (holds_bed start c) (holds_bed now c) schools + lost_in (holds_bed now c) (holds_bed next c)
           n) (ap (λ (d : DossierRows). length d.schools) same)
           ∙ sym (lost_both (holds_bed start c) (holds_bed now c) (holds_bed next c) schools so_far.beds_fall beds),

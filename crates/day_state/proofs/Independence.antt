@@ -1,7 +1,9 @@
 -- What a candidate's wishes become depends on their own answers alone.
-use Rattle.std.proofs.Common.{ℕ, ◌+◌, ◌≤◌, ◌<◌, ◌≡◌, Bool, true, false, ◌&&◌, ◌||◌, List, [], ◌∷◌, ◌++◌, map, length, filter, inl, inr, refl, sym, ◌∙◌, ap, arith, zero, suc, Some, None}
+use Rattle.std.proofs.Common.{ℕ, ◌+◌, ◌≤◌, ◌<◌, ◌≡◌, Bool, true, false, ◌&&◌, ◌||◌, List, [], ◌∷◌, ◌++◌, map, length}
+use Rattle.std.proofs.Common.{filter, inl, inr, refl, sym, ◌∙◌, ap, arith, zero, suc, Some, None}
 use Rattle.std.specs.Prelude.{slice_index, ◌==◌, if◌then◌else◌}
-use Rattle.std.proofs.lemmas.Bool.{cases_Bool, cases_eq, cases_lt, and_parts, and_from, eqb-true, eqb-false, eq-eqb, ne_eqb, and_right}
+use Rattle.std.proofs.lemmas.Bool.{cases_Bool, cases_eq, cases_lt, and_parts, and_from, eqb-true, eqb-false, eq-eqb}
+use Rattle.std.proofs.lemmas.Bool.{ne_eqb, and_right}
 use Rattle.std.proofs.lemmas.List.{length-set}
 use Rattle.admit_core.specs.declared.dossier.Answer.{Answer}
 use Rattle.admit_core.specs.declared.dossier.AnswerKind.{AnswerKind}
@@ -11,14 +13,17 @@ use Rattle.admit_core.specs.declared.state.Mark.{Mark}
 use Rattle.admit_core.specs.declared.state.Stamp.{Stamp}
 use Rattle.admit_core.specs.declared.state.Status.{Status}
 use Rattle.admit_core.specs.declared.state.Status.TheVariants.{Accepted, Refused, Withdrawn, Quit as HasQuit}
-use Rattle.admit_core.specs.State.{State, with_mark_at, with_marks, is_live, is_waiting, is_live_status, is_waiting_status, changed_to}
-use Rattle.admit_core.specs.Answers.{mark_at, candidate_at, refuse_live, after_kind, after, after_all, is_own_kind, own, status_at, kind_fits, fits, first_unfit}
+use Rattle.admit_core.specs.State.{State, with_mark_at, with_marks, is_live, is_waiting, is_live_status}
+use Rattle.admit_core.specs.State.{is_waiting_status, changed_to}
+use Rattle.admit_core.specs.Answers.{mark_at, candidate_at, refuse_live, after_kind, after, after_all, is_own_kind, own}
+use Rattle.admit_core.specs.Answers.{status_at, kind_fits, fits, first_unfit}
 use Rattle.day_state.specs.Kept.{mark_in, wish_in}
 use Rattle.admit_core.specs.DossierRows.{DossierRows}
 use Rattle.day_state.specs.Laws.{AnswersStayApart, FitsApart, OrderIsFree, MayExchange}
 use Rattle.day_state.proofs.Answering.{dossier_after}
 use Rattle.day_state.proofs.Places.{candidate_in}
-use Rattle.day_state.proofs.Along.{mark_in-with_marks, length-with_marks, mark_in-set_same, mark_in-set_other, same_state, same_marks}
+use Rattle.day_state.proofs.Along.{mark_in-with_marks, length-with_marks, mark_in-set_same, mark_in-set_other}
+use Rattle.day_state.proofs.Along.{same_state, same_marks}
 use Rattle.day_state.proofs.OneAccepted.{who}
 
 -- two states of one dossier in which the wishes of a candidate have the same marks
@@ -32,7 +37,8 @@ pub agrees_self : (c : ℕ) (s : State) → length s.marks ≡ length s.dossier.
 agrees_self c s long = record { dossier = refl; long = long; long_too = long; same = λ k lt own. refl }
 
 -- a change at a place of another candidate
-set_other : (c : ℕ) (s t : State) (place : ℕ) (m : Mark) → Agrees c s t → (who s place ≡ c → ⊥) → Agrees c (with_mark_at s place m) t
+set_other : (c : ℕ) (s t : State) (place : ℕ) (m : Mark) → Agrees c s t → (who s place ≡ c → ⊥)
+    → Agrees c (with_mark_at s place m) t
 set_other c s t place m a other = record {
   dossier = a.dossier;
   long = length-set s.marks place m ∙ a.long;
@@ -56,7 +62,8 @@ set_both c s t place m n a same = record {
           mark_in-set_same s.marks place m (omega (arith, a.long)),
           mark_in-set_same t.marks place n (omega (arith, a.long_too)),
         ) (same place_in (rw here at own))
-    | inr there ↦ rw (mark_in-set_other s.marks place k m there, mark_in-set_other t.marks place k n there) (a.same k lt own)
+    | inr there ↦ rw (mark_in-set_other s.marks place k m there, mark_in-set_other t.marks place k n there)
+        (a.same k lt own)
   ];
 }
 
@@ -105,7 +112,8 @@ other_answer c s t stamp Refuse target a other =
 other_answer c s t stamp Withdraw target a other =
     set_other c s t target (changed_to Withdrawn stamp (mark_at s target)) a (of_place s target c other)
 other_answer c s t stamp Quit target a other =
-    all_other c s t (λ w m. if (is_live m || is_waiting m) && (w.candidate == target) then changed_to HasQuit stamp m else m) a
+    all_other c s t (λ w m. if (is_live m || is_waiting m)
+    && (w.candidate == target) then changed_to HasQuit stamp m else m) a
     (λ w m own. not_own (is_live m || is_waiting m) w.candidate target c (changed_to HasQuit stamp m) m own other)
 
 -- an answer in both states
@@ -136,11 +144,14 @@ own_same s t c Refuse target e = rw e refl
 own_same s t c Withdraw target e = rw e refl
 own_same s t c Quit target e = refl
 
-pub dossier_after_all : (s : State) (stamp : Stamp) (answers : List Answer) → (after_all s stamp answers).dossier ≡ s.dossier
+pub dossier_after_all : (s : State) (stamp : Stamp) (answers : List Answer)
+    → (after_all s stamp answers).dossier ≡ s.dossier
 dossier_after_all s stamp [] = refl
-dossier_after_all s stamp (a ∷ rest) = dossier_after_all (after s stamp a) stamp rest ∙ dossier_after s stamp a.kind a.target
+dossier_after_all s stamp (a ∷ rest) = dossier_after_all (after s stamp a) stamp rest
+    ∙ dossier_after s stamp a.kind a.target
 
-pub agrees_after : (c : ℕ) (first s t : State) (stamp : Stamp) → s.dossier ≡ first.dossier → Agrees c s t → (answers : List Answer)
+pub agrees_after : (c : ℕ) (first s t : State) (stamp : Stamp) → s.dossier ≡ first.dossier → Agrees c s t
+    → (answers : List Answer)
     → Agrees c (after_all s stamp answers) (after_all t stamp (own first c answers))
 agrees_after c first s t stamp e a [] = a
 agrees_after c first s t stamp e a (x ∷ rest) =
@@ -168,11 +179,13 @@ mark_past (m ∷ ms) zero le = absurd (omega arith)
 mark_past (m ∷ ms) (suc k) le = mark_past ms k (omega arith)
 
 -- the wish that an answer speaks of has one mark in both
-same_target : (c : ℕ) (s t : State) (place : ℕ) → Agrees c s t → who s place ≡ c → mark_in s.marks place ≡ mark_in t.marks place
+same_target : (c : ℕ) (s t : State) (place : ℕ) → Agrees c s t → who s place ≡ c
+    → mark_in s.marks place ≡ mark_in t.marks place
 same_target c s t place a own =
     elim (cases_lt place (length s.dossier.wishes)) [
       | inl inside ↦ a.same place inside own
-      | inr past ↦ mark_past s.marks place (omega (arith, a.long)) ∙ sym (mark_past t.marks place (omega (arith, a.long_too)))
+      | inr past ↦ mark_past s.marks place (omega (arith, a.long))
+          ∙ sym (mark_past t.marks place (omega (arith, a.long_too)))
     ]
 
 same_fit : (c : ℕ) (s t : State) (kind : AnswerKind) (target : ℕ) → Agrees c s t → is_own_kind kind s c target ≡ true
@@ -206,7 +219,8 @@ fit_from_none k s stamp (a ∷ rest) e =
       | inr unfit ↦ absurd (some_not (k, status_at s a.target) (rw unfit at e))
     ]
 
-own_fit : (c : ℕ) (first s t : State) (stamp : Stamp) → s.dossier ≡ first.dossier → Agrees c s t → (answers : List Answer)
+own_fit : (c : ℕ) (first s t : State) (stamp : Stamp) → s.dossier ≡ first.dossier → Agrees c s t
+    → (answers : List Answer)
     → all_fit s stamp answers ≡ true → all_fit t stamp (own first c answers) ≡ true
 own_fit c first s t stamp e a [] u = refl
 own_fit c first s t stamp e a (x ∷ rest) u =
@@ -250,7 +264,8 @@ fit_from_own first s t stamp e a (x ∷ rest) u =
     (fit_from_own first (after s stamp x) (next_of first stamp x t) stamp (dossier_after s stamp x.kind x.target ∙ e)
     (λ d. elim (cases_Bool (is_own_kind x.kind first d x.target)) [
       | inl own_one ↦ rw own_one (same_answer d s (t d) stamp x.kind x.target (a d))
-      | inr other ↦ rw other (other_answer d s (t d) stamp x.kind x.target (a d) (own_same first s d x.kind x.target e ∙ other))
+      | inr other ↦ rw other (other_answer d s (t d) stamp x.kind x.target (a d)
+          (own_same first s d x.kind x.target e ∙ other))
     ])
     rest
     (λ d. elim (cases_Bool (is_own_kind x.kind first d x.target)) [

@@ -1,5 +1,6 @@
 -- Places sorted by a key of each, its candidate and behind it the place: they are an index by candidate.
-use Rattle.std.proofs.Common.{ℕ, zero, suc, ◌+◌, ◌≤◌, ◌<◌, ◌≡◌, Bool, false, ◌&&◌, ◌^◌, List, [], ◌∷◌, length, map, get_or, inl, inr, sym, ◌∙◌, ap, arith, filter, subst, nat_eq, eqb}
+use Rattle.std.proofs.Common.{ℕ, zero, suc, ◌+◌, ◌≤◌, ◌<◌, ◌≡◌, Bool, false, ◌&&◌, ◌^◌, List, [], ◌∷◌, length, map}
+use Rattle.std.proofs.Common.{get_or, inl, inr, sym, ◌∙◌, ap, arith, filter, subst, nat_eq, eqb}
 use Rattle.std.specs.Prelude.{◌==◌, All}
 use Rattle.std.specs.List.{AllByRecursion, IsDistinct, range_with_len}
 use Rattle.std.specs.List.Sorted.{IsNonDecreasing, IsPermutation, IsSorted}
@@ -11,7 +12,8 @@ use Rattle.std.proofs.lemmas.Simd.{map-map}
 use Rattle.std.proofs.lemmas.List.Elements.{All-map}
 use Rattle.std.proofs.lemmas.List.Folds.{map_fixed}
 use Rattle.std.proofs.lemmas.List.FromFn.{length-range_with_len, length-map-range_with_len, get_or-map-range_with_len}
-use Rattle.std.proofs.lemmas.List.Sorted.{All-permutation, length_permutation, IsPermutation-map, IsNonDecreasingBy-from_sort, list_any-IsPermutation}
+use Rattle.std.proofs.lemmas.List.Sorted.{All-permutation, length_permutation, IsPermutation-map}
+use Rattle.std.proofs.lemmas.List.Sorted.{IsNonDecreasingBy-from_sort, list_any-IsPermutation}
 use Rattle.std.proofs.lemmas.Map.Keys.{IsDistinct-head, IsDistinct-tail, IsDistinct-IsPermutation}
 use Rattle.std.proofs.lemmas.Map.Made.{IsDistinct-from_AllPairs}
 use Rattle.std.proofs.lemmas.Nat.{mod-mul-add}
@@ -93,22 +95,27 @@ module _ (ws : List Wish) (few : length ws < 2 ^ 32) where
       let i_is = get_or-map-range_with_len (key_at ws) 0 (length ws) i i d (omega arith) (omega arith) in
       let j_is = get_or-map-range_with_len (key_at ws) 0 (length ws) j j d j_in (omega arith) in
       let alike : i ≡ j =
-      sym (place_back ws i (omega (arith, few))) ∙ ap place_in (sym i_is ∙ same ∙ j_is) ∙ place_back ws j (omega (arith, few)) in
+      sym (place_back ws i (omega (arith, few))) ∙ ap place_in (sym i_is ∙ same ∙ j_is)
+      ∙ place_back ws j (omega (arith, few)) in
       omega arith)
 
-  pub index_by_keys : (keys order : List ℕ) → IsPermutation (all_keys ws) keys → IsSorted nat_cmp keys → order ≡ map place_in keys
+  pub index_by_keys : (keys order : List ℕ) → IsPermutation (all_keys ws) keys → IsSorted nat_cmp keys
+      → order ≡ map place_in keys
       → IsIndex ws order
   index_by_keys keys order moved sorted made =
       let up : IsNonDecreasing keys = IsNonDecreasingBy-from_sort (λ x. x) keys sorted in
       let back_all : All (λ x. key_at ws (place_in x) ≡ x) keys =
       All-permutation (λ x. key_at ws (place_in x) ≡ x) (all_keys ws) keys moved
-      (All-map (λ x. key_at ws (place_in x) ≡ x) (key_at ws) places (λ k d lt. ap (key_at ws) (back_in_range k d lt))) in
+      (All-map (λ x. key_at ws (place_in x) ≡ x) (key_at ws) places
+      (λ k d lt. ap (key_at ws) (back_in_range k d lt))) in
       let keys_are : map (key_at ws) order ≡ keys =
-      ap (map (key_at ws)) made ∙ map-map (key_at ws) place_in keys ∙ map_fixed (λ x. key_at ws (place_in x)) keys back_all in
+      ap (map (key_at ws)) made ∙ map-map (key_at ws) place_in keys
+      ∙ map_fixed (λ x. key_at ws (place_in x)) keys back_all in
       let shuffled : IsPermutation places order =
       subst (λ (ks : List ℕ). IsPermutation ks order)
       (map-map place_in (key_at ws) places ∙ map_fixed (λ k. place_in (key_at ws k)) places back_in_range)
-      (subst (IsPermutation (map place_in (all_keys ws))) (sym made) (IsPermutation-map place_in (all_keys ws) keys moved)) in
+      (subst (IsPermutation (map place_in (all_keys ws))) (sym made)
+      (IsPermutation-map place_in (all_keys ws) keys moved)) in
       let within : All (λ k. k < length ws) order =
       All-permutation (λ k. k < length ws) places order shuffled (below_all (length ws)) in
       let ascending : Ascends (map (key_at ws) order) =
@@ -119,7 +126,8 @@ module _ (ws : List Wish) (few : length ws < 2 ^ 32) where
         within = within;
         rises = λ i j d le lt.
             let i_in : i < length order = omega (arith, le, lt) in
-            let key_up = subst IsNonDecreasing (sym keys_are) up i j 0 le (omega (arith, lt, length-map order (key_at ws))) in
+            let key_up = subst IsNonDecreasing (sym keys_are) up i j 0 le
+            (omega (arith, lt, length-map order (key_at ws))) in
             let i_is = get_or-map (key_at ws) order i d 0 i_in in
             let j_is = get_or-map (key_at ws) order j d 0 lt in
             omega (arith, key_up, i_is, j_is, within i d i_in, within j d lt, few);
@@ -127,6 +135,7 @@ module _ (ws : List Wish) (few : length ws < 2 ^ 32) where
             let p = λ (k : ℕ). candidate_in ws k == c in
             same_members (filter p order) (filter p places) (own_ascends ws c order ascending)
             (range_ascends p 0 (length ws))
-            (λ k. any-filter (nat_eq k) p order ∙ sym (list_any-IsPermutation (λ j. p j && nat_eq k j) places order shuffled)
+            (λ k. any-filter (nat_eq k) p order ∙ sym (list_any-IsPermutation
+            (λ j. p j && nat_eq k j) places order shuffled)
             ∙ sym (any-filter (nat_eq k) p places));
       }

@@ -1,21 +1,27 @@
 -- The first wishes of bundles, as a walk in the order of the candidates finds them.
-use Rattle.std.proofs.Common.{ℕ, ◌+◌, ◌≤◌, ◌<◌, ◌≡◌, Bool, true, false, ◌&&◌, List, [], ◌∷◌, length, get_or, set, replicate, inl, inr, refl, sym, ◌∙◌, ap, arith, nat_eq, filter, Option, Some, None, zero, suc}
+use Rattle.std.proofs.Common.{ℕ, ◌+◌, ◌≤◌, ◌<◌, ◌≡◌, Bool, true, false, ◌&&◌, List, [], ◌∷◌, length, get_or, set}
+use Rattle.std.proofs.Common.{replicate, inl, inr, refl, sym, ◌∙◌, ap, arith, nat_eq, filter, Option, Some, None, zero}
+use Rattle.std.proofs.Common.{suc}
 use Rattle.std.specs.Prelude.{slice_index, ◌==◌, All}
 use Rattle.std.specs.Option.{ForSome}
 use Rattle.std.specs.List.{find, list_any, range_with_len}
 use Rattle.std.specs.Cmp.{both_ways}
-use Rattle.std.proofs.lemmas.Bool.{cases_Bool, cases_eq, eqb-true, eq-eqb, and_parts, and_from, and_right, false_from_ne_true, false≢true}
+use Rattle.std.proofs.lemmas.Bool.{cases_Bool, cases_eq, eqb-true, eq-eqb, and_parts, and_from, and_right}
+use Rattle.std.proofs.lemmas.Bool.{false_from_ne_true, false≢true}
 use Rattle.std.proofs.lemmas.Option.{unwrap_or-slice_get}
-use Rattle.std.proofs.lemmas.List.{length-set, length-replicate, get_or-replicate, get_or-set_same, get_or-set_other, get_or_default, ext_get_or}
+use Rattle.std.proofs.lemmas.List.{length-set, length-replicate, get_or-replicate, get_or-set_same, get_or-set_other}
+use Rattle.std.proofs.lemmas.List.{get_or_default, ext_get_or}
 use Rattle.std.proofs.lemmas.List.Folds.{list_any_at, Any-from_list_any}
-use Rattle.std.proofs.lemmas.List.FromFn.{length-range_with_len, get_or-range_with_len, length-map-range_with_len, get_or-map-range_with_len}
+use Rattle.std.proofs.lemmas.List.FromFn.{length-range_with_len, get_or-range_with_len, length-map-range_with_len}
+use Rattle.std.proofs.lemmas.List.FromFn.{get_or-map-range_with_len}
 use Rattle.admit_core.specs.declared.dossier.Wish.{Wish}
 use Rattle.admit_core.proofs.NextCalls.{find_passes}
 use Rattle.admit_core.proofs.Plain.{any-filter, find_same}
 use Rattle.day_state.specs.declared.bundles.Sites.{Sites}
 use Rattle.day_state.specs.declared.bundles.Sites.TheVariants.{Programmes, Schools}
 use Rattle.day_state.specs.Kept.{candidate_in, wish_in, IsIndex}
-use Rattle.day_state.specs.Bundles.{site_of, is_same, together, number_in, joined, bundle_there, noted, bundle_of, bundles_of, AreSitesBelow, AreWithin}
+use Rattle.day_state.specs.Bundles.{site_of, is_same, together, number_in, joined, bundle_there, noted, bundle_of}
+use Rattle.day_state.specs.Bundles.{bundles_of, AreSitesBelow, AreWithin}
 use Rattle.day_state.proofs.Places.{candidate_in as candidate_there}
 use Rattle.day_state.proofs.Along.{among-filter}
 
@@ -92,7 +98,8 @@ LastAt sites ws order i h None = (j : ℕ) → j < i → site_of sites (wish_in 
 LastAt sites ws order i h (Some f) = IsLast sites ws order i h f
 
 -- the way along an order, up to i
-pub record IsWalked (sites : Sites) (ws : List Wish) (order : List ℕ) (count : ℕ) (last numbers : List (Option ℕ)) (i : ℕ) : Type 0 where
+pub record IsWalked (sites : Sites) (ws : List Wish) (order : List ℕ) (count : ℕ) (last numbers : List (Option ℕ))
+    (i : ℕ) : Type 0 where
   pub sites_long : length last ≡ count
   pub long : length numbers ≡ length ws
   pub last_at : (h : ℕ) → h < count → LastAt sites ws order i h (number_in last h)
@@ -117,9 +124,11 @@ candidates_rise ws order i j index le lt =
     (index.rises i j 0 le lt)
 
 -- the wish at hand joins the bundle that its site had last, where it is of the same candidate
-joins : (sites : Sites) (ws : List Wish) (order : List ℕ) (i h : ℕ) (found : Option ℕ) → IsIndex ws order → i < length order
+joins : (sites : Sites) (ws : List Wish) (order : List ℕ) (i h : ℕ) (found : Option ℕ) → IsIndex ws order
+    → i < length order
     → let x = slice_index order i in
-    site_of sites (wish_in ws x) ≡ Some h → LastAt sites ws order i h found → first_in sites ws order x ≡ Some (joined ws found x)
+    site_of sites (wish_in ws x) ≡ Some h → LastAt sites ws order i h found
+    → first_in sites ws order x ≡ Some (joined ws found x)
 joins sites ws order i h None index lt site last =
     let x = slice_index order i in
     let p = λ (y : ℕ). together sites (wish_in ws x) (wish_in ws y) in
@@ -148,7 +157,8 @@ joins sites ws order i h (Some f) index lt site last =
           let there : site_of sites (wish_in ws (slice_index order j)) ≡ Some h = parts.3 ∙ sym parts.2 ∙ site in
           let below = last.latest j j_lt there in
           let above = candidates_rise ws order last.at i index (omega (arith, last.before)) lt in
-          let same : (wish_in ws f).candidate ≡ (wish_in ws x).candidate = omega (arith, below, above, parts.0, found.0) in
+          let same : (wish_in ws f).candidate ≡ (wish_in ws x).candidate =
+          omega (arith, below, above, parts.0, found.0) in
           absurd (let yes = eq-eqb (wish_in ws f).candidate (wish_in ws x).candidate same in cc))))
     ]
 
@@ -186,7 +196,8 @@ last_stays sites ws order i h (Some f) other last = record {
 number_set_same : (ns : List (Option ℕ)) (k : ℕ) (o : Option ℕ) → k < length ns → number_in (set ns k o) k ≡ o
 number_set_same ns k o lt = unwrap_or-slice_get (set ns k o) k None ∙ get_or-set_same ns k o None lt
 
-number_set_other : (ns : List (Option ℕ)) (k j : ℕ) (o : Option ℕ) → (j ≡ k → ⊥) → number_in (set ns k o) j ≡ number_in ns j
+number_set_other : (ns : List (Option ℕ)) (k j : ℕ) (o : Option ℕ) → (j ≡ k → ⊥)
+    → number_in (set ns k o) j ≡ number_in ns j
 number_set_other ns k j o ne = unwrap_or-slice_get (set ns k o) j None ∙ get_or-set_other ns k j o None ne
     ∙ sym (unwrap_or-slice_get ns j None)
 
@@ -224,10 +235,12 @@ noted_long last (Some h) number = length-set last h number
 -- one more wish on the way
 more_walked : (sites : Sites) (ws : List Wish) (order : List ℕ) (count : ℕ) (last numbers : List (Option ℕ))
     (i : ℕ) → IsIndex ws order → i < length order
-    → ForSome (site_of sites (wish_in ws (slice_index order i))) (λ h. h < count) → IsWalked sites ws order count last numbers i
+    → ForSome (site_of sites (wish_in ws (slice_index order i))) (λ h. h < count)
+    → IsWalked sites ws order count last numbers i
     → let x = slice_index order i in
     let site = site_of sites (wish_in ws x) in
-    IsWalked sites ws order count (noted last site (bundle_there ws last site x)) (set numbers x (bundle_there ws last site x)) (i + 1)
+    IsWalked sites ws order count (noted last site (bundle_there ws last site x))
+    (set numbers x (bundle_there ws last site x)) (i + 1)
 more_walked sites ws order count last numbers i index lt within walk =
     let x = slice_index order i in
     let site = site_of sites (wish_in ws x) in
@@ -288,7 +301,8 @@ can_walk_on sites ws order count last numbers i o index lt below site walk =
       place = x_in;
       first = omega (arith, x_in, walk.long);
       site = λ h e. omega (arith, below x x_in h (sym site ∙ e), walk.sites_long);
-      found = λ h e. last_within sites ws order i h (number_in last h) index (walk.last_at h (below x x_in h (sym site ∙ e)));
+      found = λ h e. last_within sites ws order i h (number_in last h) index
+          (walk.last_at h (below x x_in h (sym site ∙ e)));
     }
 
 -- the walk by programme and by school
@@ -317,7 +331,8 @@ place_of ws order k index lt =
     let same = eqb-true k x (and_parts (q x) (nat_eq k x) passes).1 in
     (j, within, get_or_default order j 0 x within ∙ at ∙ sym same)
 
-bundles_shared : (sites : Sites) (ws : List Wish) (order : List ℕ) (j k : ℕ) → ((i : ℕ) × (i < length order) × (slice_index order i ≡ k))
+bundles_shared : (sites : Sites) (ws : List Wish) (order : List ℕ) (j k : ℕ)
+    → ((i : ℕ) × (i < length order) × (slice_index order i ≡ k))
     → is_same (first_in sites ws order j) (first_in sites ws order k) ≡ together sites (wish_in ws j) (wish_in ws k)
 bundles_shared sites ws order j k place =
     let v = wish_in ws j in
@@ -349,7 +364,8 @@ find_among p q weaker (x ∷ xs) =
     ]
 
 -- the first place in the order is the first place of all
-first_is : (sites : Sites) (ws : List Wish) (order : List ℕ) (k : ℕ) → IsIndex ws order → first_in sites ws order k ≡ bundle_of sites ws k
+first_is : (sites : Sites) (ws : List Wish) (order : List ℕ) (k : ℕ) → IsIndex ws order
+    → first_in sites ws order k ≡ bundle_of sites ws k
 first_is sites ws order k index =
     let c = candidate_in ws k in
     let p = λ (x : ℕ). together sites (wish_in ws k) (wish_in ws x) in
@@ -375,7 +391,8 @@ below_all n i d lt =
     let i_lt : i < n = omega (arith, lt, length-range_with_len 0 n) in
     rw (range_at n i d i_lt) i_lt
 
-bundle_in : (sites : Sites) (ws : List Wish) (k : ℕ) → k < length ws → number_in (bundles_of sites ws) k ≡ bundle_of sites ws k
+bundle_in : (sites : Sites) (ws : List Wish) (k : ℕ) → k < length ws
+    → number_in (bundles_of sites ws) k ≡ bundle_of sites ws k
 bundle_in sites ws k lt =
     unwrap_or-slice_get (bundles_of sites ws) k None
     ∙ get_or-map-range_with_len (bundle_of sites ws) 0 (length ws) k k None lt (omega arith)
@@ -389,7 +406,8 @@ bundles_are sites ws =
           (below_all n) (sym (bundle_in sites ws k lt) ∙ e);
       shared = λ j k j_lt k_lt.
           rw (bundle_in sites ws j j_lt, bundle_in sites ws k k_lt)
-          (bundles_shared sites ws (range_with_len 0 n) j k (k, omega (arith, k_lt, length-range_with_len 0 n), range_at n k 0 k_lt));
+          (bundles_shared sites ws (range_with_len 0 n) j k
+          (k, omega (arith, k_lt, length-range_with_len 0 n), range_at n k 0 k_lt));
     }
 
 bundles_within : (sites : Sites) (ws : List Wish) → AreWithin (bundles_of sites ws)
@@ -398,19 +416,25 @@ bundles_within sites ws k lt b e =
     omega (arith, are.as_long, are.within k (omega (arith, lt, are.as_long)) b e)
 
 -- a list of the bundles is as long as the wishes, and each bundle is one of them
-pub bundles_fit : (sites : Sites) (ws : List Wish) (firsts : List (Option ℕ)) → firsts ≡ bundles_of sites ws → length ws < 2147483648
+pub bundles_fit : (sites : Sites) (ws : List Wish) (firsts : List (Option ℕ)) → firsts ≡ bundles_of sites ws
+    → length ws < 2147483648
     → (length firsts < 2147483648) × AreWithin firsts
-bundles_fit sites ws firsts are few = rw are (omega (arith, (bundles_are sites ws).as_long, few), bundles_within sites ws)
+bundles_fit sites ws firsts are few = rw are (
+  omega (arith, (bundles_are sites ws).as_long, few),
+  bundles_within sites ws,
+)
 
 -- at the end all wishes have their bundles
 pub walked_all : (sites : Sites) (ws : List Wish) (order : List ℕ) (count : ℕ) (last numbers : List (Option ℕ))
     (i : ℕ) → IsIndex ws order → length order ≤ i
     → IsWalked sites ws order count last numbers i → numbers ≡ bundles_of sites ws
 walked_all sites ws order count last numbers i index le walk =
-    ext_get_or None numbers (bundles_of sites ws) (walk.long ∙ sym (length-map-range_with_len (bundle_of sites ws) 0 (length ws)))
+    ext_get_or None numbers (bundles_of sites ws)
+    (walk.long ∙ sym (length-map-range_with_len (bundle_of sites ws) 0 (length ws)))
     (λ k lt.
     let here : k < length ws = omega (arith, lt, walk.long) in
     let place = place_of ws order k index here in
-    let is : number_in numbers k ≡ first_in sites ws order k = rw place.2 at (walk.walked place.0 (omega (arith, place.1))) in
+    let is : number_in numbers k ≡ first_in sites ws order k =
+    rw place.2 at (walk.walked place.0 (omega (arith, place.1))) in
     sym (unwrap_or-slice_get numbers k None) ∙ is ∙ first_is sites ws order k index ∙ sym (bundle_in sites ws k here)
     ∙ unwrap_or-slice_get (bundles_of sites ws) k None)

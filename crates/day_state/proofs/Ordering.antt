@@ -1,11 +1,14 @@
 -- Places put in order by a key: those of one key stand together, ascending.
-use Rattle.std.proofs.Common.{ℕ, ◌+◌, ◌-◌, ◌≤◌, ◌<◌, ◌≡◌, Bool, true, false, not, ◌&&◌, List, [], ◌∷◌, ◌++◌, length, get_or, take, drop, inl, inr, refl, sym, ◌∙◌, ap, arith, filter, zero, suc, leb, ltb}
+use Rattle.std.proofs.Common.{ℕ, ◌+◌, ◌-◌, ◌≤◌, ◌<◌, ◌≡◌, Bool, true, false, not, ◌&&◌, List, [], ◌∷◌, ◌++◌, length}
+use Rattle.std.proofs.Common.{get_or, take, drop, inl, inr, refl, sym, ◌∙◌, ap, arith, filter, zero, suc, leb, ltb}
 use Rattle.std.specs.Prelude.{slice_range, ◌==◌, All}
 use Rattle.std.specs.List.{list_any, range_with_len}
 use Rattle.std.specs.List.Sorted.{IsPermutation, IsStableByKey, IsPartitionPoint}
 use Rattle.std.specs.Ordering.{nat_cmp, is_lt}
-use Rattle.std.proofs.lemmas.Bool.{cases_Bool, cases_lt, both_ways, cases_order, or_parts, eqb-true, eq-eqb, ne_eqb, lt-ltb, le-ltb, ltb-true, ltb-false, leb-true, leb-false, le-leb}
-use Rattle.std.proofs.lemmas.List.{append-nil, length-take, length-drop, get_or-take, get_or-drop, take-append-drop, map-id}
+use Rattle.std.proofs.lemmas.Bool.{cases_Bool, cases_lt, both_ways, cases_order, or_parts, eqb-true, eq-eqb, ne_eqb}
+use Rattle.std.proofs.lemmas.Bool.{lt-ltb, le-ltb, ltb-true, ltb-false, leb-true, leb-false, le-leb}
+use Rattle.std.proofs.lemmas.List.{append-nil, length-take, length-drop, get_or-take, get_or-drop, take-append-drop}
+use Rattle.std.proofs.lemmas.List.{map-id}
 use Rattle.std.proofs.lemmas.List.Elements.{filter-append}
 use Rattle.std.proofs.lemmas.List.Folds.{Any-from_list_any, drop_split}
 use Rattle.std.proofs.lemmas.List.FromFn.{map-range_with_len_more}
@@ -14,7 +17,8 @@ use Rattle.admit_core.proofs.Plain.{filter_same, filter_none}
 
 pub filter_all : {X : Type 0} (p : X → Bool) (xs : List X) → All (λ x. p x ≡ true) xs → filter p xs ≡ xs
 filter_all p [] all = refl
-filter_all p (x ∷ xs) all = rw (all 0 x (omega arith)) (ap (λ l. x ∷ l) (filter_all p xs (λ k d lt. all (suc k) d (omega arith))))
+filter_all p (x ∷ xs) all = rw (all 0 x (omega arith)) (ap (λ l. x ∷ l)
+    (filter_all p xs (λ k d lt. all (suc k) d (omega arith))))
 
 pub none_found : {X : Type 0} (p : X → Bool) (xs : List X) → list_any p xs ≡ false → All (λ x. p x ≡ false) xs
 none_found p [] e k d lt = absurd (omega arith)
@@ -27,7 +31,13 @@ tie_is a b =
       | inl same ↦ rw (← same, le-ltb a a (omega arith), eq-eqb a a refl) refl
       | inr other ↦ elim other [
         | inl below ↦ rw (lt-ltb a b below, ne_eqb b a (λ e. omega arith)) refl
-        | inr above ↦ rw (le-ltb a b (omega arith), lt-ltb b a above, ne_eqb a b (λ e. omega arith), ne_eqb b a (λ e. omega arith)) refl
+        | inr above ↦ rw (
+          le-ltb a b (omega arith),
+          lt-ltb b a above,
+          ne_eqb a b (λ e. omega arith),
+          ne_eqb b a
+              (λ e. omega arith),
+        ) refl
       ]
     ]
 
@@ -35,7 +45,8 @@ tie_with : (a c b : ℕ) → a ≡ c → (b == c) ≡ (not (is_lt (nat_cmp a b))
 tie_with a c b same = rw (← same) (sym (tie_is a b))
 
 -- what a stable sort by a key leaves of one key
-pub stable_own : {X : Type 0} (key : X → ℕ) (xs ys : List X) → IsPermutation xs ys → IsStableByKey key nat_cmp xs ys → (c : ℕ)
+pub stable_own : {X : Type 0} (key : X → ℕ) (xs ys : List X) → IsPermutation xs ys → IsStableByKey key nat_cmp xs ys
+    → (c : ℕ)
     → filter (λ x. key x == c) ys ≡ filter (λ x. key x == c) xs
 stable_own {X} key xs ys moved stable c =
     let p = λ (x : X). key x == c in
@@ -78,7 +89,8 @@ between_order {X} key (x ∷ xs) c from to from_in lower upper =
     elim (cases_lt to from) [
       | inl less ↦
           let k = key (get_or (x ∷ xs) to x) in
-          absurd (both_ways (leb k c) (upper.1 to x (omega arith) (omega arith)) (lt_le k c (lower.0 to x (omega arith) less)))
+          absurd (both_ways (leb k c) (upper.1 to x (omega arith) (omega arith))
+          (lt_le k c (lower.0 to x (omega arith) less)))
       | inr more ↦ more
     ]
 
@@ -93,15 +105,18 @@ between {X} key xs c from to from_in to_in lower upper =
     let front : filter p (take from xs) ≡ [] = filter_none p (take from xs) (λ k d lt.
     let k_in : k < from = omega (arith, length-take from xs) in
     rw (get_or-take from xs k d k_in) (below_not _ _ (lower.0 k d (omega arith) k_in))) in
-    let middle : filter p (slice_range xs from to) ≡ slice_range xs from to = filter_all p (slice_range xs from to) (λ k d lt.
+    let middle : filter p (slice_range xs from to) ≡ slice_range xs from to =
+    filter_all p (slice_range xs from to) (λ k d lt.
     let k_in : k < to - from = omega (arith, length-take (to - from) (drop from xs)) in
     rw (get_or-take (to - from) (drop from xs) k d k_in, get_or-drop from xs k d)
-    (between_is _ _ (lower.1 (from + k) d (omega arith) (omega arith)) (upper.0 (from + k) d (omega arith) (omega arith)))) in
+    (between_is _ _ (lower.1 (from + k) d (omega arith) (omega arith))
+    (upper.0 (from + k) d (omega arith) (omega arith)))) in
     let back : filter p (drop to xs) ≡ [] = filter_none p (drop to xs) (λ k d lt.
     rw (get_or-drop to xs k d) (above_not _ _ (upper.1 (to + k) d (omega arith) (omega (arith, length-drop to xs))))) in
     let whole : xs ≡ take from xs ++ (slice_range xs from to ++ drop to xs) =
     sym (take-append-drop from xs) ∙ ap (λ (l : List X). take from xs ++ l) (drop_split xs from to le) in
     let parts : filter p xs ≡ slice_range xs from to =
     ap (filter p) whole ∙ filter-append p (take from xs) (slice_range xs from to ++ drop to xs)
-    ∙ rw (front, filter-append p (slice_range xs from to) (drop to xs), middle, back) (append-nil (slice_range xs from to)) in
+    ∙ rw (front, filter-append p (slice_range xs from to) (drop to xs), middle, back)
+    (append-nil (slice_range xs from to)) in
     (le, sym parts)

@@ -1,5 +1,6 @@
 -- The entries of a state by place, and a change of one mark.
-use Rattle.std.proofs.Common.{ℕ, ◌<◌, ◌≡◌, Bool, ◌&&◌, List, [], ◌∷◌, map, length, set, get_or, refl, sym, ◌∙◌, ap, arith, zero, suc, zip}
+use Rattle.std.proofs.Common.{ℕ, ◌<◌, ◌≡◌, Bool, ◌&&◌, List, [], ◌∷◌, map, length, set, get_or, refl, sym, ◌∙◌, ap}
+use Rattle.std.proofs.Common.{arith, zero, suc, zip}
 use Rattle.std.specs.Prelude.{slice_index, ◌==◌}
 use Rattle.std.specs.List.{list_any, range_with_len}
 use Rattle.std.proofs.lemmas.Option.{unwrap_or-slice_get}
@@ -60,13 +61,15 @@ own_any test s c long =
 pub entries-with_mark_at : (s : State) (place : ℕ) (m : Mark)
     → entries (with_mark_at s place m) ≡ set (entries s) place (wish_in s.dossier.wishes place, m)
 entries-with_mark_at s place m =
-    zip-set s.dossier.wishes s.marks place m (wish_in [] 0) ∙ rw (unwrap_or-slice_get s.dossier.wishes place (wish_in [] 0)) refl
+    zip-set s.dossier.wishes s.marks place m (wish_in [] 0)
+    ∙ rw (unwrap_or-slice_get s.dossier.wishes place (wish_in [] 0)) refl
 
 -- what a test of the entries finds is the same where it does not see the change
 pub holds_same : (test : Wish → Bool) (s : State) (place : ℕ) (m : Mark) (c : ℕ)
     → length s.marks ≡ length s.dossier.wishes → place < length s.marks
     → (is_live m && ((wish_in s.dossier.wishes place).candidate == c) && test (wish_in s.dossier.wishes place))
-    ≡ (is_live (mark_in s.marks place) && ((wish_in s.dossier.wishes place).candidate == c) && test (wish_in s.dossier.wishes place))
+    ≡ (is_live (mark_in s.marks place) && ((wish_in s.dossier.wishes place).candidate == c)
+    && test (wish_in s.dossier.wishes place))
     → holds_one test (with_mark_at s place m) c ≡ holds_one test s c
 holds_same test s place m c long lt e =
     let ws = s.dossier.wishes in
@@ -77,4 +80,5 @@ holds_same test s place m c long lt e =
     get_or-zip ws ms place d (omega arith) lt
     ∙ rw (unwrap_or-slice_get ws place (wish_in [] 0), unwrap_or-slice_get ms place (mark_in [] 0)) refl in
     ap (list_any holds) (entries-with_mark_at s place m)
-    ∙ any-set_same holds (entries s) place (wish_in ws place, m) d (omega (arith, length-zip ws ms)) (e ∙ sym (ap holds at))
+    ∙ any-set_same holds (entries s) place (wish_in ws place, m) d (omega (arith, length-zip ws ms))
+    (e ∙ sym (ap holds at))

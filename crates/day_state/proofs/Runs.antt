@@ -1,11 +1,14 @@
--- The wishes of one candidate stand together in an order by candidate: one walk along it gives each wish the span of its candidate.
-use Rattle.std.proofs.Common.{ℕ, ◌+◌, ◌-◌, ◌≤◌, ◌<◌, ◌≡◌, Bool, true, ◌||◌, List, [], ◌∷◌, ◌++◌, length, get_or, take, inl, inr, refl, sym, ◌∙◌, ap, arith, filter, subst, nat_eq}
+-- The wishes of one candidate stand together in an order by candidate: one walk along it gives each wish the span of
+-- its candidate.
+use Rattle.std.proofs.Common.{ℕ, ◌+◌, ◌-◌, ◌≤◌, ◌<◌, ◌≡◌, Bool, true, ◌||◌, List, [], ◌∷◌, ◌++◌, length, get_or, take}
+use Rattle.std.proofs.Common.{inl, inr, refl, sym, ◌∙◌, ap, arith, filter, subst, nat_eq}
 use Rattle.std.specs.Prelude.{◌==◌, All}
 use Rattle.std.specs.List.{range_with_len}
 use Rattle.std.specs.List.Sorted.{IsNonDecreasingBy}
 use Rattle.std.proofs.Math.ListN.{set}
 use Rattle.std.proofs.Math.Seq.{take-add}
-use Rattle.std.proofs.lemmas.Bool.{cases_Bool, cases_lt, eqb-true, eq-eqb, eqb-false, false≢true, lt-ltb, le-ltb, le-leb, lt-leb, or_cases, or_parts}
+use Rattle.std.proofs.lemmas.Bool.{cases_Bool, cases_lt, eqb-true, eq-eqb, eqb-false, false≢true, lt-ltb, le-ltb}
+use Rattle.std.proofs.lemmas.Bool.{le-leb, lt-leb, or_cases, or_parts}
 use Rattle.std.proofs.lemmas.List.{get_or_default, get_or-set_same, get_or-set_other, length-set, take_all}
 use Rattle.std.proofs.lemmas.List.Folds.{list_any-append, list_any_more}
 use Rattle.std.proofs.lemmas.Map.Views.{Contains-from_any}
@@ -51,7 +54,8 @@ pub record AreSpanned (ws : List Wish) (order : List ℕ) (from : ℕ) (spans : 
       → candidate_in ws (get_or order k 0) < candidate_in ws (get_or order from 0)
   pub done : (k : ℕ) → is_among k (take from order) ≡ true → IsSpan ws order (candidate_in ws k) (span_in spans k)
 
-pub spanned_none : (ws : List Wish) (order : List ℕ) (spans : List Span) → length spans ≡ length ws → AreSpanned ws order 0 spans
+pub spanned_none : (ws : List Wish) (order : List ℕ) (spans : List Span) → length spans ≡ length ws
+    → AreSpanned ws order 0 spans
 spanned_none ws order spans long = record {
   within = omega arith;
   one_each = long;
@@ -60,7 +64,8 @@ spanned_none ws order spans long = record {
 }
 
 -- a number of a list, and of what is left of it
-among_kept : (k : ℕ) (p : ℕ → Bool) (xs : List ℕ) → is_among k (filter p xs) ≡ true → (is_among k xs ≡ true) × (p k ≡ true)
+among_kept : (k : ℕ) (p : ℕ → Bool) (xs : List ℕ) → is_among k (filter p xs) ≡ true
+    → (is_among k xs ≡ true) × (p k ≡ true)
 among_kept k p [] among = absurd (false≢true among)
 among_kept k p (x ∷ xs) among =
     elim (cases_Bool (p x)) [
@@ -131,7 +136,8 @@ module _ (ws : List Wish) (order : List ℕ) (from to : ℕ) (rises : IsNonDecre
       }
 
 -- one more run
-pub spanned_more : (ws : List Wish) (order : List ℕ) (from to : ℕ) (span : Span) (spans next : List Span) → IsIndex ws order
+pub spanned_more : (ws : List Wish) (order : List ℕ) (from to : ℕ) (span : Span) (spans next : List Span)
+    → IsIndex ws order
     → from < length order → AreSpanned ws order from spans
     → from < to → to ≤ length order → HoldsOneKey (candidate_in ws) order from to → span.from ≡ from → span.to ≡ to
     → IsSpanPut (part_of order span) span spans next → AreSpanned ws order to next
@@ -139,7 +145,8 @@ spanned_more ws order from to span spans next index lt so_far further within run
     let key = candidate_in ws in
     let c = key (get_or order from 0) in
     let rises = index.rises in
-    let is = run_is_span ws order from to rises lt further within run (λ k k_lt. so_far.below k k_lt lt) span from_is to_is in
+    let is = run_is_span ws order from to rises lt further within run
+    (λ k k_lt. so_far.below k k_lt lt) span from_is to_is in
     let own = part_of order span in
     let front : take to order ≡ take from order ++ own =
     ap (λ (n : ℕ). take n order) (omega (arith, further)) ∙ take-add from (to - from) order
@@ -175,7 +182,8 @@ spanned_more ws order from to span spans next index lt so_far further within run
           ];
     }
 
-pub spanned_all : (ws : List Wish) (order : List ℕ) (from : ℕ) (spans : List Span) → IsIndex ws order → AreSpanned ws order from spans
+pub spanned_all : (ws : List Wish) (order : List ℕ) (from : ℕ) (spans : List Span) → IsIndex ws order
+    → AreSpanned ws order from spans
     → length order ≤ from → AreSpans ws order (length ws) spans
 spanned_all ws order from spans index so_far le = record {
   count = so_far.one_each;

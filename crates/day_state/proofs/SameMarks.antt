@@ -28,5 +28,6 @@ mark_same m n same =
 pub set_again : (s : State) (k : ℕ) (m : Mark) → mark_in s.marks k ≡ m → s ≡ with_mark_at s k m
 set_again s k m is =
     let kept : slice_set s.marks k m ≡ s.marks =
-    ap (slice_set s.marks k) (sym is ∙ unwrap_or-slice_get s.marks k waiting_mark) ∙ set-get_or s.marks k waiting_mark in
+    ap (slice_set s.marks k) (sym is ∙ unwrap_or-slice_get s.marks k waiting_mark)
+    ∙ set-get_or s.marks k waiting_mark in
     ap (λ (ms : List Mark). let t : State = record { dossier = s.dossier; marks = ms } in t) (sym kept)

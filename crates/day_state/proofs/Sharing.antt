@@ -1,18 +1,23 @@
 -- Which bundles have two wishes or more, and their numbers.
-use Rattle.std.proofs.Common.{ℕ, ◌+◌, ◌-◌, ◌≤◌, ◌<◌, ◌≡◌, Bool, true, false, not, cond, ◌&&◌, ◌||◌, List, [], ◌∷◌, ◌++◌, map, length, get_or, take, set, replicate, inl, inr, refl, sym, ◌∙◌, ap, arith, Option, Some, None, zero, suc}
+use Rattle.std.proofs.Common.{ℕ, ◌+◌, ◌-◌, ◌≤◌, ◌<◌, ◌≡◌, Bool, true, false, not, cond, ◌&&◌, ◌||◌, List, [], ◌∷◌, ◌++◌}
+use Rattle.std.proofs.Common.{map, length, get_or, take, set, replicate, inl, inr, refl, sym, ◌∙◌, ap, arith, Option}
+use Rattle.std.proofs.Common.{Some, None, zero, suc}
 use Rattle.std.specs.Prelude.{slice_index, ◌==◌}
 use Rattle.std.specs.Option.{ForSome}
 use Rattle.std.specs.List.{list_any, range_with_len}
 use Rattle.std.proofs.lemmas.Bool.{cases_Bool, cases_eq, cases_lt, eq-eqb, ne_eqb, and_right, false≢true}
 use Rattle.std.proofs.lemmas.Option.{unwrap_or-slice_get}
-use Rattle.std.proofs.lemmas.List.{length-set, length-take-le, length-replicate, get_or-replicate, get_or-set_same, get_or-set_other, ext_get_or}
+use Rattle.std.proofs.lemmas.List.{length-set, length-take-le, length-replicate, get_or-replicate, get_or-set_same}
+use Rattle.std.proofs.lemmas.List.{get_or-set_other, ext_get_or}
 use Rattle.std.proofs.lemmas.List.Filters.{length-filter_more}
 use Rattle.std.proofs.lemmas.List.Sums.{length-filter, count_by-le-length}
 use Rattle.std.proofs.lemmas.List.Folds.{list_any_at, list_any-append}
-use Rattle.std.proofs.lemmas.List.FromFn.{length-range_with_len, length-map-range_with_len, get_or-map-range_with_len, map-range_with_len_more}
+use Rattle.std.proofs.lemmas.List.FromFn.{length-range_with_len, length-map-range_with_len, get_or-map-range_with_len}
+use Rattle.std.proofs.lemmas.List.FromFn.{map-range_with_len_more}
 use Rattle.admit_core.proofs.Plain.{or_true, or_false}
 use Rattle.day_state.specs.Kept.{one_if}
-use Rattle.day_state.specs.Bundles.{is_same, number_in, is_later, is_shared, shared_flags, true_before, all_ranks, rank_of, with_later, number_of, numbered, count_of, flag_in}
+use Rattle.day_state.specs.Bundles.{is_same, number_in, is_later, is_shared, shared_flags, true_before, all_ranks}
+use Rattle.day_state.specs.Bundles.{rank_of, with_later, number_of, numbered, count_of, flag_in}
 use Rattle.day_state.proofs.Numbering.{range_at}
 use Rattle.day_state.proofs.Ordering.{range_more}
 
@@ -33,7 +38,8 @@ alone_first bundles b k none lt is =
 pub flags_long : (bundles : List (Option ℕ)) → length (shared_flags bundles) ≡ length bundles
 flags_long bundles = length-map-range_with_len (is_shared bundles) 0 (length bundles)
 
-pub flag_is : (bundles : List (Option ℕ)) (b : ℕ) → b < length bundles → get_or (shared_flags bundles) b false ≡ is_shared bundles b
+pub flag_is : (bundles : List (Option ℕ)) (b : ℕ) → b < length bundles
+    → get_or (shared_flags bundles) b false ≡ is_shared bundles b
 flag_is bundles b lt = get_or-map-range_with_len (is_shared bundles) 0 (length bundles) b b false lt (omega arith)
 
 pub true_more : (flags : List Bool) (i : ℕ) (d : Bool) → i < length flags
@@ -64,7 +70,8 @@ rank_below bundles b c shared lt le =
     let more : true_before flags (b + 1) ≡ true_before flags b + 1 = true_more flags b false (omega arith)
     ∙ rw (flag_is bundles b (omega arith), shared) refl in
     let e : (b + 1) + (c - (b + 1)) ≡ c = omega arith in
-    let rises : true_before flags (b + 1) ≤ true_before flags c = rw e at (true_rises flags (b + 1) (c - (b + 1)) (omega arith)) in
+    let rises : true_before flags (b + 1) ≤ true_before flags c =
+    rw e at (true_rises flags (b + 1) (c - (b + 1)) (omega arith)) in
     omega (arith, more, rises)
 
 pub rank_within : (bundles : List (Option ℕ)) (b : ℕ) → is_shared bundles b ≡ true → b < length bundles
@@ -96,7 +103,8 @@ flagged_none bundles = record {
   each = λ b lt. get_or-replicate (length bundles) b false false lt;
 }
 
-any_more : (p : ℕ → Bool) (i : ℕ) → list_any p (range_with_len 0 (i + 1)) ≡ (list_any p (range_with_len 0 i) || (p i || false))
+any_more : (p : ℕ → Bool) (i : ℕ) → list_any p (range_with_len 0 (i + 1))
+    ≡ (list_any p (range_with_len 0 i) || (p i || false))
 any_more p i = ap (list_any p) (range_more 0 i i (omega arith)) ∙ list_any-append p (range_with_len 0 i) (i ∷ [])
 
 later_long : (flags : List Bool) (o : Option ℕ) (k : ℕ) → length (with_later flags o k) ≡ length flags
@@ -111,7 +119,8 @@ later_none : (x : Bool) (i b : ℕ) → (x || ((not (i == b) && is_same (Some b)
 later_none x i b = rw (and_right (not (i == b)) false refl) (or_false x)
 
 -- one more wish
-later_more : (flags : List Bool) (o : Option ℕ) (i b : ℕ) (x : Bool) → ForSome o (λ c. c < length flags) → get_or flags b false ≡ x
+later_more : (flags : List Bool) (o : Option ℕ) (i b : ℕ) (x : Bool) → ForSome o (λ c. c < length flags)
+    → get_or flags b false ≡ x
     → get_or (with_later flags o i) b false ≡ (x || ((not (i == b) && is_same (Some b) o) || false))
 later_more flags None i b x within are = are ∙ sym (later_none x i b)
 later_more flags (Some c) i b x within are =
@@ -126,7 +135,8 @@ later_more flags (Some c) i b x within are =
           rw (ne_eqb c i later)
           (elim (cases_eq c b) [
             | inl same ↦
-                let here : get_or (set flags c true) b false ≡ true = rw (← same) (get_or-set_same flags c true false (within c refl)) in
+                let here : get_or (set flags c true) b false ≡ true =
+                rw (← same) (get_or-set_same flags c true false (within c refl)) in
                 here ∙ rw (ne_eqb i b (λ e. later (same ∙ sym e)), eq-eqb c b same) (sym (or_true x))
             | inr other ↦
                 rw (ne_eqb c b other, and_right (not (i == b)) false refl)
@@ -134,8 +144,10 @@ later_more flags (Some c) i b x within are =
           ])
     ]
 
-pub flagged_more : (bundles : List (Option ℕ)) (flags : List Bool) (i : ℕ) → AreFlagged bundles flags i → i < length bundles
-    → ForSome (number_in bundles i) (λ b. b < length bundles) → AreFlagged bundles (with_later flags (number_in bundles i) i) (i + 1)
+pub flagged_more : (bundles : List (Option ℕ)) (flags : List Bool) (i : ℕ) → AreFlagged bundles flags i
+    → i < length bundles
+    → ForSome (number_in bundles i) (λ b. b < length bundles)
+    → AreFlagged bundles (with_later flags (number_in bundles i) i) (i + 1)
 flagged_more bundles flags i so_far lt within = record {
   long = later_long flags (number_in bundles i) i ∙ so_far.long;
   each = λ b b_lt.
@@ -169,7 +181,8 @@ ranked_none flags = record { so_far = refl; next = refl }
 pub rank_more : (flags : List Bool) (rank sum i : ℕ) (b : Bool) → i < length flags → rank ≡ true_before flags i
     → b ≡ flag_in flags i → sum + 0 ≡ rank + one_if b → sum ≡ true_before flags (i + 1)
 rank_more flags rank sum i b lt is flag added =
-    let here : sum + 0 ≡ rank + one_if (get_or flags i false) = rw (flag ∙ unwrap_or-slice_get flags i false) at added in
+    let here : sum + 0 ≡ rank + one_if (get_or flags i false) =
+    rw (flag ∙ unwrap_or-slice_get flags i false) at added in
     omega (arith, here, is, true_more flags i false lt)
 
 pub ranks_more : (flags : List Bool) (ranks new : List ℕ) (rank i : ℕ) → AreRanked flags ranks rank i
@@ -196,17 +209,20 @@ pub rank_read : (bundles : List (Option ℕ)) (k : ℕ) → k ≤ length bundles
     → slice_index (all_ranks (shared_flags bundles)) k ≡ rank_of bundles k
 rank_read bundles k le =
     let flags = shared_flags bundles in
-    get_or-map-range_with_len (true_before flags) 0 (length flags + 1) k k 0 (omega (arith, flags_long bundles)) (omega arith)
+    get_or-map-range_with_len (true_before flags) 0 (length flags + 1) k k 0 (omega (arith, flags_long bundles))
+    (omega arith)
 
 -- what flags and ranks tell is the number
-pub numbered_is : (bundles : List (Option ℕ)) (shared : List Bool) (ranks : List ℕ) (o : Option ℕ) → shared ≡ shared_flags bundles
+pub numbered_is : (bundles : List (Option ℕ)) (shared : List Bool) (ranks : List ℕ) (o : Option ℕ)
+    → shared ≡ shared_flags bundles
     → ranks ≡ all_ranks shared → ForSome o (λ b. b < length bundles) → numbered shared ranks o ≡ number_of bundles o
 numbered_is bundles shared ranks None flags are within = refl
 numbered_is bundles shared ranks (Some b) flags are within =
     let lt = within b refl in
     let flag : flag_in (shared_flags bundles) b ≡ is_shared bundles b =
     unwrap_or-slice_get (shared_flags bundles) b false ∙ flag_is bundles b lt in
-    let rank : slice_index (all_ranks (shared_flags bundles)) b ≡ rank_of bundles b = rank_read bundles b (omega arith) in
+    let rank : slice_index (all_ranks (shared_flags bundles)) b ≡ rank_of bundles b =
+    rank_read bundles b (omega arith) in
     rw (are, flags, flag, rank) refl
 
 -- a number is packed in four bytes beside what stands for none and for a wish alone

@@ -1,5 +1,6 @@
 -- The automatic answer of one candidate.
-use Rattle.std.proofs.Common.{ℕ, ◌<◌, ◌≡◌, Bool, true, false, [], length, inl, inr, refl, sym, subst, ◌∙◌, arith, Option, Some, None}
+use Rattle.std.proofs.Common.{ℕ, ◌<◌, ◌≡◌, Bool, true, false, [], length, inl, inr, refl, sym, subst, ◌∙◌, arith}
+use Rattle.std.proofs.Common.{Option, Some, None}
 use Rattle.std.specs.Prelude.{◌==◌, nat_lt, option_map, if◌then◌else◌}
 use Rattle.std.proofs.lemmas.Bool.{cases_Bool, eqb-true}
 use Rattle.std.proofs.lemmas.Option.{unwrap_or-slice_get}
@@ -25,7 +26,8 @@ mapped_none : {X Y : Type 0} (f : X → Y) (o : Option X) → None ≡ option_ma
 mapped_none f None e = refl
 mapped_none f (Some x) e = absurd (cc)
 
-mapped_some : {X Y : Type 0} (f : X → Y) (o : Option X) (y : Y) → Some y ≡ option_map f o → (x : X) × (o ≡ Some x) × (y ≡ f x)
+mapped_some : {X Y : Type 0} (f : X → Y) (o : Option X) (y : Y) → Some y ≡ option_map f o
+    → (x : X) × (o ≡ Some x) × (y ≡ f x)
 mapped_some f None y e = absurd (cc)
 mapped_some f (Some x) y e = (x, refl, (cc))
 
@@ -42,7 +44,8 @@ auto_none s c stamp long e =
     rw none
     (same_state s (with_marks s f) refl
     (same_marks s.marks (with_marks s f).marks (sym (length-with_marks f s long))
-    (λ k lt. sym (mark_in-with_marks f s long k lt ∙ either_way ((wish_in s.dossier.wishes k).candidate == c) (mark_in s.marks k)))))
+    (λ k lt. sym (mark_in-with_marks f s long k lt
+    ∙ either_way ((wish_in s.dossier.wishes k).candidate == c) (mark_in s.marks k)))))
 
 found_best : (s : State) (c best : ℕ) (stamp : Stamp) (x : Wish × Mark) → best_live s c ≡ Some x
     → best ≡ x.0.preference → change_own (changed_by (TakeBest best) stamp) c s ≡ auto_one s c stamp
@@ -67,7 +70,8 @@ only_best x stamp w m t =
 -- at most one wish of each candidate stays accepted
 one_taken : (s : State) (c : ℕ) (stamp : Stamp) (x : Wish × Mark) → IsValid s.dossier
     → length s.marks ≡ length s.dossier.wishes → best_live s c ≡ Some x
-    → IsOneAccepted s → IsOneAccepted (with_marks s (λ w m. if w.candidate == c then auto_mark stamp (Some x) w m else m))
+    → IsOneAccepted s → IsOneAccepted
+    (with_marks s (λ w m. if w.candidate == c then auto_mark stamp (Some x) w m else m))
 one_taken s c stamp x valid long is one =
     let f = λ (w : Wish) (m : Mark). if w.candidate == c then auto_mark stamp (Some x) w m else m in
     let t = with_marks s f in

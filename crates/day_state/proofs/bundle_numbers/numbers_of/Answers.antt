@@ -46,4 +46,5 @@ loop-place-preserved c =
     (sym (map_more (number_of firsts) firsts k None k_in))
 
 pub returns : goal.returns
-returns c = c.loop-place.invariant ∙ ap (map (number_of c.args.firsts.now)) (take_all c.loop-place.place c.args.firsts.now (omega arith))
+returns c = c.loop-place.invariant ∙ ap (map (number_of c.args.firsts.now))
+    (take_all c.loop-place.place c.args.firsts.now (omega arith))

@@ -7,7 +7,8 @@ loop-place-preserved c =
     let k = c.loop-place.place in
     let k_in : k < length c.args.flags.now = omega arith in
     record {
-      so_far = ranks_more c.args.flags.now c.loop-place.ranks.items _ c.loop-place.rank k c.loop-place.invariant c.in_ok-push.ensures.items;
+      so_far = ranks_more c.args.flags.now c.loop-place.ranks.items _ c.loop-place.rank k c.loop-place.invariant
+          c.in_ok-push.ensures.items;
       next = rank_more c.args.flags.now c.loop-place.rank c.counted-rank.result k c.flag_at.result k_in
           c.loop-place.invariant.next c.flag_at.ensures c.counted-rank.ensures;
     }

@@ -16,4 +16,5 @@ loop-place-preserved c =
     (c.requires.within c.loop-place.place k_in))
 
 pub returns : goal.returns
-returns c = flagged_all c.args.firsts.now c.loop-place.shared.items c.loop-place.place c.loop-place.invariant (omega arith)
+returns c = flagged_all c.args.firsts.now c.loop-place.shared.items c.loop-place.place c.loop-place.invariant
+    (omega arith)

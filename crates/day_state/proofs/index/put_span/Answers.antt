@@ -8,7 +8,8 @@ loop-place-init c = span_put_none c.args.places.now c.args.span c.args.spans.now
 pub loop-place-preserved : goal.loop-place-preserved
 loop-place-preserved c =
     let lt = c.loop-place-test.true in
-    span_put_more c.args.places.now c.loop-place.place-index c.args.span c.args.spans.now.items c.loop-place.spans.items _ lt
+    span_put_more c.args.places.now c.loop-place.place-index c.args.span c.args.spans.now.items c.loop-place.spans.items
+    _ lt
     (c.requires c.loop-place.place-index 0 lt) c.loop-place.invariant refl
 
 pub returns : goal.returns

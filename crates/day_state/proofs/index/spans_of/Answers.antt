@@ -9,10 +9,12 @@ loop-from-preserved c =
     let span : Span = record { from = c.loop-from.from; to = c.end_of_run-to.result } in
     let P = λ (own : List ℕ). IsSpanPut own span c.loop-from.spans.items c.put_span.new.spans.items in
     spanned_more c.args.wishes.now c.args.order.now c.loop-from.from c.end_of_run-to.result span c.loop-from.spans.items
-    c.put_span.new.spans.items c.requires.index c.loop-from-test.true c.loop-from.invariant c.end_of_run-to.ensures.further
+    c.put_span.new.spans.items c.requires.index c.loop-from-test.true c.loop-from.invariant
+    c.end_of_run-to.ensures.further
     c.end_of_run-to.ensures.within c.end_of_run-to.ensures.alike refl refl (subst P c.part.ensures c.put_span.ensures)
 
 pub returns : goal.returns
 returns c =
-    spanned_all c.args.wishes.now c.args.order.now c.loop-from.from c.loop-from.spans.items c.requires.index c.loop-from.invariant
+    spanned_all c.args.wishes.now c.args.order.now c.loop-from.from c.loop-from.spans.items c.requires.index
+    c.loop-from.invariant
     c.loop-from-test.false

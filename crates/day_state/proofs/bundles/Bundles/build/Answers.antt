@@ -14,14 +14,16 @@ pub index-requires : goal.index-requires
 index-requires c =
     let firsts = c.args.firsts.now in
     let flags : c.as_slice.result.now ≡ shared_flags firsts = c.as_slice.ensures.value ∙ c.in_ok-shared.ensures in
-    let ranks : c.in_ok-ranks.ranks.items ≡ all_ranks (shared_flags firsts) = c.in_ok-ranks.ensures ∙ ap all_ranks flags in
+    let ranks : c.in_ok-ranks.ranks.items ≡ all_ranks (shared_flags firsts) =
+    c.in_ok-ranks.ensures ∙ ap all_ranks flags in
     omega (arith, c.in_ok-ranks.ranks.ok.0, ap length ranks, ranks_long firsts)
 
 pub returns-clause-live : goal.returns-clause-live
 returns-clause-live c =
     let firsts = c.args.firsts.now in
     let flags : c.as_slice.result.now ≡ shared_flags firsts = c.as_slice.ensures.value ∙ c.in_ok-shared.ensures in
-    let ranks : c.in_ok-ranks.ranks.items ≡ all_ranks (shared_flags firsts) = c.in_ok-ranks.ensures ∙ ap all_ranks flags in
+    let ranks : c.in_ok-ranks.ranks.items ≡ all_ranks (shared_flags firsts) =
+    c.in_ok-ranks.ensures ∙ ap all_ranks flags in
     let lt : length firsts < length c.in_ok-ranks.ranks.items = omega (arith, ap length ranks, ranks_long firsts) in
     let read : get_or c.in_ok-ranks.ranks.items (length firsts) 0 ≡ rank_of firsts (length firsts) =
     rw ranks (rank_read firsts (length firsts) (omega arith)) in

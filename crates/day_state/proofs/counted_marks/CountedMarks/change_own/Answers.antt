@@ -55,7 +55,8 @@ freed_in_all-freed-requires c =
     subst IsWhole c.self.view_is c.self.invariant.kept.marks in
     let same : c.self.inside.dossier.now ≡ c.args.self.now.dossier = ap (λ (s : State). s.dossier) c.self.view_is in
     let wishes : c.as_slice-wishes.result.now ≡ c.loop-place.self.dossier.wishes =
-    c.as_slice-wishes.ensures ∙ ap (λ (d : DossierRows). d.wishes) (c.dossier.view_is ∙ same ∙ sym c.loop-place.invariant.on_way.dossier) in
+    c.as_slice-wishes.ensures ∙ ap (λ (d : DossierRows). d.wishes) (c.dossier.view_is ∙ same
+    ∙ sym c.loop-place.invariant.on_way.dossier) in
     let valid : IsValid c.args.self.now.dossier = subst IsValid (c.dossier.view_is ∙ same) c.dossier.invariant in
     let step : IsStep c.args.change c.args.stamp c.loop-place.self c.set_other.new.self
     (slice_index c.args.own.now c.loop-place.place-index) c.changed_by-mark.result c.set_other.result = record {
@@ -74,7 +75,8 @@ loop-place-preserved c =
     subst IsWhole c.self.view_is c.self.invariant.kept.marks in
     let same : c.self.inside.dossier.now ≡ c.args.self.now.dossier = ap (λ (s : State). s.dossier) c.self.view_is in
     let wishes : c.as_slice-wishes.result.now ≡ c.loop-place.self.dossier.wishes =
-    c.as_slice-wishes.ensures ∙ ap (λ (d : DossierRows). d.wishes) (c.dossier.view_is ∙ same ∙ sym c.loop-place.invariant.on_way.dossier) in
+    c.as_slice-wishes.ensures ∙ ap (λ (d : DossierRows). d.wishes) (c.dossier.view_is ∙ same
+    ∙ sym c.loop-place.invariant.on_way.dossier) in
     let valid : IsValid c.args.self.now.dossier = subst IsValid (c.dossier.view_is ∙ same) c.dossier.invariant in
     let step : IsStep c.args.change c.args.stamp c.loop-place.self c.set_other.new.self
     (slice_index c.args.own.now c.loop-place.place-index) c.changed_by-mark.result c.set_other.result = record {

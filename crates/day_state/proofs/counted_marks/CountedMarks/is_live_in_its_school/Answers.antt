@@ -18,6 +18,7 @@ returns c =
     let lives : c.is_live-lives.result ≡ is_live (mark_in marks c.args.wish) = c.is_live-lives.ensures
     ∙ ap is_live (c.mark.ensures ∙ ap (λ (s : State). mark_in s.marks c.args.wish) (sym c.self.view_is)) in
     c.is_live.ensures
-    ∙ ap (has_live c.self.inside.in_schools.live.items (number_at c.self.inside.in_schools.numbers.value c.args.wish)) lives
+    ∙ ap (has_live c.self.inside.in_schools.live.items (number_at c.self.inside.in_schools.numbers.value c.args.wish))
+    lives
     ∙ has_bed_is c.self.invariant.schools c.self.invariant.kept.marks in_range
     ∙ ap (λ (s : State). has_bed_there s c.args.wish) c.self.view_is

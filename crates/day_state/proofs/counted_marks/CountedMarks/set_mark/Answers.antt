@@ -33,7 +33,8 @@ recount-requires c =
     let marks = c.self.inside.marks.items in
     let in_range : c.args.wish < length marks = rw (sym c.self.view_is) at c.requires in
     let valid : IsValid d = subst IsValid c.dossier.view_is c.dossier.invariant in
-    let wishes : c.as_slice.result.now ≡ d.wishes = c.as_slice.ensures ∙ ap (λ (d : DossierRows). d.wishes) c.dossier.view_is in
+    let wishes : c.as_slice.result.now ≡ d.wishes =
+    c.as_slice.ensures ∙ ap (λ (d : DossierRows). d.wishes) c.dossier.view_is in
     let was = live_read marks c.args.wish in_range c.index.ensures c.is_live-was_live.ensures in
     let seat = seat_turned c.self.invariant in_range c.args.mark was c.is_live-lives.ensures c.turn-seat.ensures.live
     c.turn-seat.ensures.had c.turn-seat.ensures.has in
@@ -50,7 +51,8 @@ recount_some-requires c =
     let marks = c.self.inside.marks.items in
     let in_range : c.args.wish < length marks = rw (sym c.self.view_is) at c.requires in
     let valid : IsValid d = subst IsValid c.dossier.view_is c.dossier.invariant in
-    let wishes : c.as_slice.result.now ≡ d.wishes = c.as_slice.ensures ∙ ap (λ (d : DossierRows). d.wishes) c.dossier.view_is in
+    let wishes : c.as_slice.result.now ≡ d.wishes =
+    c.as_slice.ensures ∙ ap (λ (d : DossierRows). d.wishes) c.dossier.view_is in
     let was = live_read marks c.args.wish in_range c.index.ensures c.is_live-was_live.ensures in
     let bed = bed_turned c.self.invariant in_range c.args.mark was c.is_live-lives.ensures c.turn-bed.ensures.live
     c.turn-bed.ensures.had c.turn-bed.ensures.has in
@@ -67,7 +69,8 @@ invariant_of-self c =
     let marks = c.self.inside.marks.items in
     let in_range : c.args.wish < length marks = rw (sym c.self.view_is) at c.requires in
     let valid : IsValid d = subst IsValid c.dossier.view_is c.dossier.invariant in
-    let wishes : c.as_slice.result.now ≡ d.wishes = c.as_slice.ensures ∙ ap (λ (d : DossierRows). d.wishes) c.dossier.view_is in
+    let wishes : c.as_slice.result.now ≡ d.wishes =
+    c.as_slice.ensures ∙ ap (λ (d : DossierRows). d.wishes) c.dossier.view_is in
     let was = live_read marks c.args.wish in_range c.index.ensures c.is_live-was_live.ensures in
     let seat = seat_turned c.self.invariant in_range c.args.mark was c.is_live-lives.ensures c.turn-seat.ensures.live
     c.turn-seat.ensures.had c.turn-seat.ensures.has in

@@ -18,4 +18,5 @@ returns-in-None-clause-freed c =
 
 pub returns-in-Some-clause-state : goal.returns-in-Some-clause-state
 returns-in-Some-clause-state c =
-    c.change_own.ensures.state ∙ auto_best c.args.self.now c.args.candidate c.in-Some.best c.args.stamp c.in-Some.ensures
+    c.change_own.ensures.state ∙ auto_best c.args.self.now c.args.candidate c.in-Some.best c.args.stamp
+    c.in-Some.ensures

@@ -49,10 +49,12 @@ invariant_of-result c =
     (c.len-programmes.ensures ∙ ap (λ (d : DossierRows). length d.programmes) c.dossier.view_is)
     (c.len-schools.ensures ∙ ap (λ (d : DossierRows). length d.schools) c.dossier.view_is)
     c.in_ok-marks.ensures c.in_ok-seats.ensures c.in_ok-beds.ensures
-    (c.in_ok-in_programmes.ensures.numbers ∙ ap numbers_by programmes) (c.in_ok-in_programmes.ensures.live ∙ ap none programmes)
+    (c.in_ok-in_programmes.ensures.numbers ∙ ap numbers_by programmes)
+    (c.in_ok-in_programmes.ensures.live ∙ ap none programmes)
     (c.in_ok-in_schools.ensures.numbers ∙ ap numbers_by schools) (c.in_ok-in_schools.ensures.live ∙ ap none schools)
 
 pub returns : goal.returns
 returns c =
     let wishes = c.as_slice-wishes.ensures ∙ ap (λ (d : DossierRows). d.wishes) c.dossier.view_is in
-    ap (state_of c.args.dossier.now) (c.in_ok-marks.ensures ∙ ap (λ (ws : List Wish). replicate (length ws) waiting_mark) wishes)
+    ap (state_of c.args.dossier.now)
+    (c.in_ok-marks.ensures ∙ ap (λ (ws : List Wish). replicate (length ws) waiting_mark) wishes)

@@ -7,4 +7,5 @@ pub invariant_of-self : goal.invariant_of-self
 invariant_of-self c =
     let s = c.self.inside.live in
     let valid : IsValid s.dossier = subst IsValid (c.dossier.view_is ∙ c.dossier-dossier.ensures) c.dossier.invariant in
-    rw c.take_best.ensures.state (whole_taken c.self.inside.index.value s c.args.candidate c.args.stamp valid c.self.invariant)
+    rw c.take_best.ensures.state (whole_taken c.self.inside.index.value s c.args.candidate c.args.stamp valid
+    c.self.invariant)

@@ -8,4 +8,5 @@ invariant_of-self c = rw (c.change_own.ensures.state ∙ quit_all_is c.self.insi
     (whole_quit c.self.inside.index.value c.self.inside.live c.args.candidate c.args.stamp c.self.invariant)
 
 pub returns : goal.returns
-returns c = rw (← c.self.view_is) (c.change_own.ensures.state ∙ quit_all_is c.self.inside.live c.args.candidate c.args.stamp)
+returns c = rw (← c.self.view_is) (c.change_own.ensures.state ∙ quit_all_is c.self.inside.live c.args.candidate
+    c.args.stamp)
