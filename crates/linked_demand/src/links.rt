@@ -16,10 +16,11 @@ ghost use Rattle.linked_demand.specs.Filled.{wants_bed};
 ghost use Rattle.linked_demand.specs.Rows.{row_item, IsOpenItem};
 
 use crate::boarders::Boarder;
+use crate::closed::leaves_by_closing;
 use crate::cursors::Cursors;
 use crate::fresh::note_fresh;
 use crate::fronts::{list_fronts, list_sure};
-use crate::line::{is_reached, last_wanting, leaves_seat, next_wanting};
+use crate::line::{is_reached, last_wanting, next_wanting};
 use crate::lineup::Lineup;
 use crate::marks::Marks;
 use crate::open_wishes::OpenWishes;
@@ -204,16 +205,19 @@ impl<'a, 'd> SeatLinks<'a, 'd> {
     {
         let lineup = self.lineup;
         let programme = item.programme as usize;
-        let place = item.place as usize;
         let claims = &lineup.claims[programme];
-        let claim = claims.at(place);
         let beside = lineup.maybe_sure.as_slice();
-        let is_live = self.state.is_live_in_its_programme(item.wish);
-        let wanted = self.cursors.wants_seat(is_live, &self.opens, beside, claim);
-        self.opens.close(item.wish);
-        let wants = self.cursors.wants_seat(is_live, &self.opens, beside, claim);
         let before = self.reached[programme];
-        if leaves_seat(wanted, wants, place, before) {
+        let leaves = leaves_by_closing(
+            self.state,
+            claims,
+            beside,
+            &mut self.cursors,
+            &mut self.opens,
+            item,
+            before,
+        );
+        if leaves {
             let now = next_wanting(self.state, &self.opens, claims, before);
             self.reached[programme] = now;
             if let Some(next) = last_wanting(self.state, &self.opens, claims, before, now) {
