@@ -21,7 +21,7 @@ use Rattle.linked_demand.specs.Demand.{is_proposed_at}
 use Rattle.linked_demand.specs.Line.{LineRow, is_reached}
 use Rattle.linked_demand.specs.Links.{IsLinked, IsPlaceOf, IsSeatPlace, LinksRow, WaitsAt}
 use Rattle.linked_demand.specs.Opens.{line_of}
-use Rattle.linked_demand.specs.Rows.{line_place, row_item}
+use Rattle.linked_demand.specs.Rows.{is_sure, line_place, row_item}
 use Rattle.linked_demand.specs.Wants.{IsReached, stops_wanting, wants_with}
 use Rattle.linked_demand.proofs.Closing.{Closes, claim_right, closes_read, proposed_at_is, proposed_right, wish_of, wish_there, wish_within}
 use Rattle.linked_demand.proofs.Leaving.{Reads}
@@ -44,7 +44,7 @@ module _ {s : State} {orders : List CallOrder} {opens : List Bool} {lines : List
     (is : record { state = s; orders = orders; opens = opens } ≡ row) where
   -- what is made of a boarder
   pub item_made : (b : Boarder) → IsBoarder row.state.dossier b → (place : ℕ) (flag : Bool)
-      → place ≡ slice_index places b.wish → flag ≡ get_or sure b.wish false
+      → place ≡ slice_index places b.wish → flag ≡ is_sure row.state row.orders b.wish
       → record { rank = b.rank; wish = b.wish; programme = b.programme; place = place; sure = flag }
       ≡ row_item row.state row.orders b.wish
   item_made b right place flag place_read flag_read =
@@ -55,7 +55,8 @@ module _ {s : State} {orders : List CallOrder} {opens : List Bool} {lines : List
       let place_now : place ≡ line_place s.dossier orders w =
       place_read
       ∙ sym (place_is w.candidate (line_of s.dossier orders w.programme) (slice_index places b.wish) (links.places_are b.wish w at)) in
-      let flag_now : flag ≡ needs_no_seat s orders w = flag_read ∙ links.sure_are b.wish w at in
+      let flag_now : flag ≡ needs_no_seat s orders w =
+      flag_read ∙ ap (λ (r : LinksRow). is_sure r.state r.orders b.wish) (sym is) in
       let made : record { rank = b.rank; wish = b.wish; programme = b.programme; place = place; sure = flag }
       ≡ row_item s orders b.wish =
       λ i. record {
