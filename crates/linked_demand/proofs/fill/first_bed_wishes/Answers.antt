@@ -1,4 +1,4 @@
-use Rattle.std.proofs.Common.{ℕ, ◌≡◌, map, ◌∙◌, ap, arith}
+use Rattle.std.proofs.Common.{◌≡◌, map, ◌∙◌, ap, arith}
 use Rattle.std.specs.List.{range_with_len}
 use Rattle.linked_demand.specs.Filled.{bed_wish}
 use Rattle.linked_demand.proofs.Flagging.{more_of}
