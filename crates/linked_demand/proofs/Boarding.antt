@@ -1,9 +1,9 @@
 -- What a list of boarders tells.
-use Rattle.std.proofs.Common.{ℕ, suc, ◌<◌, ◌≡◌, Bool, true, false, ◌&&◌, List, [], ◌∷◌, filter, length, get_or, inl, inr, refl, sym, ◌∙◌, ap, arith, nat_eq, Option, subst}
-use Rattle.std.specs.Prelude.{All}
+use Rattle.std.proofs.Common.{ℕ, suc, ◌<◌, ◌≡◌, Bool, true, false, ◌&&◌, List, [], ◌∷◌, filter, length, get_or, inl, inr, refl, sym, ◌∙◌, ap, arith, nat_eq, Option, Some, None, unwrap_or, if◌then◌else◌, subst}
+use Rattle.std.specs.Prelude.{All, is_some}
 use Rattle.std.specs.List.Sorted.{IsNonDecreasingBy, IsPermutation, IsStableByKey}
 use Rattle.std.specs.Ordering.{nat_cmp}
-use Rattle.std.proofs.lemmas.Bool.{cases_Bool, eq-eqb, eqb-true}
+use Rattle.std.proofs.lemmas.Bool.{cases_Bool, false≢true, eq-eqb, eqb-true}
 use Rattle.std.proofs.lemmas.List.{get_or-map, length-map}
 use Rattle.std.proofs.lemmas.List.Sorted.{All-permutation}
 use Rattle.std.proofs.lemmas.Map.Views.{any-filter_same}
@@ -93,3 +93,13 @@ boarders_sorted d old new by_place moved rises stable =
       };
       each = each;
     }
+
+-- what is kept of a wish with a bed to ask for tells it, and whether its candidate needs no seat
+pub wanted_bed : (wants sure flag : Bool) → (if wants then Some sure else None) ≡ Some flag
+    → (wants ≡ true) × (flag ≡ sure)
+wanted_bed true sure flag e = (refl, ap (λ (o : Option Bool). unwrap_or o flag) (sym e))
+wanted_bed false sure flag e = absurd (false≢true (ap is_some e))
+
+pub wanted_none : (wants sure : Bool) → (if wants then Some sure else None) ≡ None → wants ≡ false
+wanted_none true sure e = absurd (false≢true (ap is_some (sym e)))
+wanted_none false sure e = refl

@@ -1,5 +1,6 @@
 -- What an item of a row keeps of its wish: the place of its candidate in the line, and whether they need a seat.
-use Rattle.std.proofs.Common.{ℕ, ◌<◌, ◌≡◌, Bool, true, false, ◌&&◌, ◌||◌, List, [], length, get_or, refl, sym, ◌∙◌, ap, arith, nat_eq, subst}
+use Rattle.std.proofs.Common.{ℕ, ◌<◌, ◌≡◌, Bool, true, false, ◌&&◌, ◌||◌, List, [], length, get_or, refl, sym, ◌∙◌, ap, arith, nat_eq, nat_lt, subst}
+use Rattle.std.proofs.Math.ListN.{set}
 use Rattle.std.specs.Prelude.{slice_index, All}
 use Rattle.std.specs.List.{position_or_len}
 use Rattle.std.proofs.Math.Bool.{or_comm}
@@ -12,7 +13,7 @@ use Rattle.admit_core.specs.declared.ranking.CallOrder.{CallOrder}
 use Rattle.admit_core.specs.DossierRows.{DossierRows}
 use Rattle.admit_core.specs.Proposals.{needs_no_seat}
 use Rattle.admit_core.specs.State.{State, holds_seat}
-use Rattle.day_state.specs.Kept.{wish_in}
+use Rattle.day_state.specs.Kept.{has_seat_there, wish_in}
 use Rattle.linked_demand.specs.declared.boarders.Boarder.{Boarder}
 use Rattle.linked_demand.specs.declared.rows.RowWish.{RowWish}
 use Rattle.linked_demand.specs.Boarders.{IsBoarder}
@@ -20,8 +21,10 @@ use Rattle.linked_demand.specs.Demand.{is_proposed_at}
 use Rattle.linked_demand.specs.Line.{LineRow, is_reached}
 use Rattle.linked_demand.specs.Links.{IsLinked, IsPlaceOf, IsSeatPlace, LinksRow, WaitsAt}
 use Rattle.linked_demand.specs.Opens.{line_of}
-use Rattle.linked_demand.specs.Rows.{line_place, row_item}
+use Rattle.linked_demand.specs.Rows.{is_sure, line_place, row_item}
+use Rattle.linked_demand.specs.Wants.{IsReached, stops_wanting, wants_with}
 use Rattle.linked_demand.proofs.Closing.{Closes, claim_right, closes_read, proposed_at_is, proposed_right, wish_of, wish_there, wish_within}
+use Rattle.linked_demand.proofs.Leaving.{Reads}
 use Rattle.linked_demand.proofs.Ticking.{claim_fits}
 
 -- the one place of a number is that of its first one
@@ -41,7 +44,7 @@ module _ {s : State} {orders : List CallOrder} {opens : List Bool} {lines : List
     (is : record { state = s; orders = orders; opens = opens } ≡ row) where
   -- what is made of a boarder
   pub item_made : (b : Boarder) → IsBoarder row.state.dossier b → (place : ℕ) (flag : Bool)
-      → place ≡ slice_index places b.wish → flag ≡ get_or sure b.wish false
+      → place ≡ slice_index places b.wish → flag ≡ is_sure row.state row.orders b.wish
       → record { rank = b.rank; wish = b.wish; programme = b.programme; place = place; sure = flag }
       ≡ row_item row.state row.orders b.wish
   item_made b right place flag place_read flag_read =
@@ -52,7 +55,8 @@ module _ {s : State} {orders : List CallOrder} {opens : List Bool} {lines : List
       let place_now : place ≡ line_place s.dossier orders w =
       place_read
       ∙ sym (place_is w.candidate (line_of s.dossier orders w.programme) (slice_index places b.wish) (links.places_are b.wish w at)) in
-      let flag_now : flag ≡ needs_no_seat s orders w = flag_read ∙ links.sure_are b.wish w at in
+      let flag_now : flag ≡ needs_no_seat s orders w =
+      flag_read ∙ ap (λ (r : LinksRow). is_sure r.state r.orders b.wish) (sym is) in
       let made : record { rank = b.rank; wish = b.wish; programme = b.programme; place = place; sure = flag }
       ≡ row_item s orders b.wish =
       λ i. record {
@@ -127,3 +131,35 @@ module _ {s : State} {orders : List CallOrder} {opens : List Bool} {lines : List
         ∙ ap (λ (b : Bool). b && (x.sure || reached)) (sym set)
         ∙ right
         ∙ sym (proposed_at_is here x.wish w k.mark k.at))
+
+-- what is known where a wish of a row is closed
+module _ {s : State} {orders : List CallOrder} {opens : List Bool} {reached : List ℕ}
+    {claims : List (List (List ℕ))} {places : List ℕ} {sure : List Bool}
+    (reach : IsReached s orders opens reached claims places sure) (row : LinksRow)
+    (is : record { state = s; orders = orders; opens = opens } ≡ row) (x : RowWish)
+    (waits : (w : Wish) × (m : Mark) × WaitsAt row.state x.wish w m)
+    (item : x ≡ row_item row.state row.orders x.wish) where
+  pub item_reads : (all : List (List ℕ)) → all ≡ get_or claims x.programme all
+      → (before : ℕ) → before ≡ get_or reached x.programme before
+      → (closed : List Bool) → closed ≡ set opens x.wish false → (leaves : Bool)
+      → leaves ≡ (nat_lt x.place before
+      && stops_wanting (has_seat_there s x.wish) opens closed (get_or all x.place []))
+      → Reads (closes_item reach.links row is x waits item) x.place all (get_or all x.place []) reached before
+      (has_seat_there s x.wish) (wants_with (has_seat_there s x.wish) opens (get_or all x.place []))
+      (wants_with (has_seat_there s x.wish) (set opens x.wish false) (get_or all x.place [])) leaves
+  item_reads all all_read before before_read closed closed_is leaves leaves_is =
+      let live : Bool = has_seat_there s x.wish in
+      let claim : List ℕ = get_or all x.place [] in
+      record {
+        stands = item_stands reach.links row is x waits item;
+        row_read = all_read;
+        claim_read = refl;
+        reached_are = reach.reached_are;
+        before_read = before_read;
+        live_is = item_live reach.links row is x waits item live refl;
+        wanted_is = refl;
+        wants_is = refl;
+        leaves_is =
+            leaves_is
+            ∙ ap (λ (fs : List Bool). nat_lt x.place before && stops_wanting live opens fs claim) closed_is;
+      }

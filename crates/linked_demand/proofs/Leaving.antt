@@ -7,7 +7,7 @@ use Rattle.std.proofs.lemmas.Bool.{cases_Bool, and_parts, ltb-true, ltb-false, n
 use Rattle.std.proofs.lemmas.List.{get_or_read, set-get_or, map-set, get_or-map, length-map, length-set}
 use Rattle.std.proofs.lemmas.Simd.{map-map}
 use Rattle.std.proofs.lemmas.List.FromFn.{length-map-range_with_len, get_or-map-range_with_len}
-use Rattle.admit_core.proofs.Plain.{and_not}
+use Rattle.admit_core.proofs.Plain.{and_assoc, and_not}
 use Rattle.admit_core.specs.declared.dossier.Wish.{Wish}
 use Rattle.admit_core.specs.declared.ranking.CallOrder.{CallOrder}
 use Rattle.admit_core.specs.State.{State, entries, holds_seat, seats_left}
@@ -224,13 +224,19 @@ pub record Reads {s : State} {orders : List CallOrder} {opens : List Bool} {clai
   pub live_is : live ≡ holds_seat s w.candidate w.programme
   pub wanted_is : wanted ≡ (not live && list_any (λ v. get_or opens v false) claim)
   pub wants_is : wants ≡ (not live && list_any (λ v. get_or (set opens i false) v false) claim)
-  pub leaves_is : leaves ≡ (wanted && (not wants && nat_lt place before))
+  pub leaves_is : leaves ≡ (nat_lt place before && (wanted && not wants))
 
 module _ {s : State} {orders : List CallOrder} {opens : List Bool} {claims : List (List (List ℕ))}
     {places : List ℕ} {sure : List Bool} {i : ℕ} {w : Wish}
     {k : Closes s orders opens (seat_rows s orders opens) claims places sure i w} {place : ℕ}
     {row : List (List ℕ)} {claim : List ℕ} {reached : List ℕ} {before : ℕ} {live wanted wants leaves : Bool}
     (r : Reads k place row claim reached before live wanted wants leaves) where
+  leaves_last : leaves ≡ (wanted && (not wants && nat_lt place before))
+  leaves_last =
+      r.leaves_is
+      ∙ and_comm (nat_lt place before) (wanted && not wants)
+      ∙ sym (and_assoc wanted (not wants) (nat_lt place before))
+
   own_claim : claim ≡ claim_of s.dossier w.programme w.candidate
   own_claim = claim_right k place r.stands row r.row_read claim r.claim_read
 
@@ -259,7 +265,7 @@ module _ {s : State} {orders : List CallOrder} {opens : List Bool} {claims : Lis
       nobody_leaves k place r.stands wanted wants before
       (wants_here k opens k.links.opens_each claim own_claim live r.live_is wanted r.wanted_is)
       (wants_here k (set opens i false) long claim own_claim live r.live_is wants r.wants_is)
-      reach_was (sym r.leaves_is ∙ stays)
+      reach_was (sym leaves_last ∙ stays)
 
   pub moves_closed : leaves ≡ true → (now : ℕ) (answer : Option ℕ)
       → now ≡ before + next (drop before (wants_along s (set opens i false) row))
@@ -268,7 +274,7 @@ module _ {s : State} {orders : List CallOrder} {opens : List Bool} {claims : Lis
       one_leaves k place r.stands wanted wants before now (wants_along s (set opens i false) row) answer
       (wants_here k opens k.links.opens_each claim own_claim live r.live_is wanted r.wanted_is)
       (wants_here k (set opens i false) long claim own_claim live r.live_is wants r.wants_is) reach_was
-      (sym r.leaves_is ∙ goes) (wants_there k (set opens i false) long row r.row_read) now_is answer_is
+      (sym leaves_last ∙ goes) (wants_there k (set opens i false) long row r.row_read) now_is answer_is
 
 -- whether a place is reached, by the number that is kept
 pub reached_is : (s : State) (orders : List CallOrder) (opens : List Bool) (p place : ℕ) (n : ℕ)

@@ -1,18 +1,22 @@
 -- The rows of the schools, filled boarder by boarder.
-use Rattle.std.specs.Prelude.{ℕ, Bool, false, not, ◌&&◌, List, length, map, filter, slice_index_or, Vec}
+use Rattle.std.specs.Prelude.{ℕ, Bool, false, not, ◌&&◌, List, length, map, filter, slice_index_or, Option, Some, None, if◌then◌else◌, Vec}
 use Rattle.std.specs.declared.alloc.Global.{Global}
 use Rattle.day_state.specs.Kept.{has_bed_there, wish_in}
 use Rattle.admit_core.specs.declared.ranking.CallOrder.{CallOrder}
 use Rattle.admit_core.specs.State.{State, is_school}
 use Rattle.linked_demand.specs.declared.rows.RowWish.{RowWish}
 use Rattle.linked_demand.specs.Keyed.{AreRowsOf}
-use Rattle.linked_demand.specs.Rows.{row_item}
+use Rattle.linked_demand.specs.Rows.{is_sure, row_item}
 
 -- the wish at a place is open by its flag, and its candidate has no bed in its school
 abbrev pub wants_bed : State → List Bool → ℕ → Bool
 wants_bed s opens k = slice_index_or opens k false && not (has_bed_there s k)
 
--- and it has this school, in whose row it stands
+-- where it does, whether its candidate needs no seat
+abbrev pub bed_wish : State → List CallOrder → List Bool → ℕ → Option Bool
+bed_wish s orders opens k = if wants_bed s opens k then Some (is_sure s orders k) else None
+
+-- it wants a bed and has this school, in whose row it stands
 abbrev pub is_in_row : State → List Bool → ℕ → ℕ → Bool
 is_in_row s opens h k = wants_bed s opens k && is_school (wish_in s.dossier.wishes k).school h
 

@@ -17,6 +17,10 @@ use Rattle.linked_demand.specs.Opens.{line_of}
 abbrev pub line_place : DossierRows → List CallOrder → Wish → ℕ
 line_place d orders w = position_or_len (nat_eq w.candidate) (line_of d orders w.programme)
 
+-- whether the candidate of the wish at a place needs no seat
+abbrev pub is_sure : State → List CallOrder → ℕ → Bool
+is_sure s orders k = needs_no_seat s orders (wish_in s.dossier.wishes k)
+
 -- what a row keeps of a wish
 abbrev pub item_of : State → List CallOrder → ℕ → Wish → RowWish
 item_of s orders k w = record {

@@ -1,5 +1,5 @@
 -- Who of a line wants a seat, as the claims and the flags of open wishes tell it.
-use Rattle.std.specs.Prelude.{◌≡◌, ℕ, ◌<◌, Bool, List, [], length, map, All, slice_index_or}
+use Rattle.std.specs.Prelude.{◌≡◌, ℕ, ◌<◌, Bool, false, not, ◌&&◌, List, [], length, map, All, slice_index_or}
 use Rattle.std.specs.List.{list_any, range_with_len}
 use Rattle.admit_core.specs.declared.ranking.CallOrder.{CallOrder}
 use Rattle.admit_core.specs.State.{State}
@@ -10,6 +10,14 @@ use Rattle.linked_demand.specs.Opens.{seat_row, wanting_at}
 -- one who has a claim wants a seat by one of its wishes
 abbrev pub wants_along : State → List Bool → List (List ℕ) → List Bool
 wants_along s opens claims = map (list_any (wanting_at s opens)) claims
+
+-- one with this claim wants a seat, who is live in the programme or not
+abbrev pub wants_with : Bool → List Bool → List ℕ → Bool
+wants_with live opens claim = not live && list_any (λ k. slice_index_or opens k false) claim
+
+-- they want one under some flags, and none under others
+abbrev pub stops_wanting : Bool → List Bool → List Bool → List ℕ → Bool
+stops_wanting live old new claim = wants_with live old claim && not (wants_with live new claim)
 
 -- the wishes of the claims are places below a number
 abbrev pub AreBelow : ℕ → List (List ℕ) → Type 0

@@ -8,6 +8,7 @@
 mod boarders;
 mod calling;
 mod claims;
+mod closed;
 mod cursors;
 mod cut;
 mod fill;

@@ -118,13 +118,6 @@ pub fn last_wanting(
     }
 }
 
-/// Whether one who is reached wants no seat any more.
-pub fn leaves_seat(wanted: bool, wants: bool, place: usize, reached: usize) -> bool
-    ensures { result ≡ (wanted && (not wants && nat_lt place reached)) }
-{
-    wanted && (!wants && place < reached)
-}
-
 /// Whether a place is one of the first ones that are reached.
 pub fn is_reached(place: usize, reached: usize) -> bool
     ensures { result ≡ nat_lt place reached }

@@ -12,14 +12,15 @@ ghost use Rattle.admit_core.specs.declared.dossier.Wish.{Wish};
 ghost use Rattle.admit_core.specs.declared.state.Mark.{Mark};
 ghost use Rattle.linked_demand.specs.Links.{LinksRow, WaitsAt, AllOpenWait};
 ghost use Rattle.linked_demand.specs.Demand.{is_proposed_at};
-ghost use Rattle.linked_demand.specs.Filled.{wants_bed};
-ghost use Rattle.linked_demand.specs.Rows.{row_item, IsOpenItem};
+ghost use Rattle.linked_demand.specs.Filled.{bed_wish, wants_bed};
+ghost use Rattle.linked_demand.specs.Rows.{is_sure, row_item, IsOpenItem};
 
 use crate::boarders::Boarder;
+use crate::closed::leaves_by_closing;
 use crate::cursors::Cursors;
 use crate::fresh::note_fresh;
 use crate::fronts::{list_fronts, list_sure};
-use crate::line::{is_reached, last_wanting, leaves_seat, next_wanting};
+use crate::line::{is_reached, last_wanting, next_wanting};
 use crate::lineup::Lineup;
 use crate::marks::Marks;
 use crate::open_wishes::OpenWishes;
@@ -155,19 +156,19 @@ impl<'a, 'd> SeatLinks<'a, 'd> {
         })
     }
 
-    /// What the row of a boarder's school keeps of the wish.
-    pub fn row_wish(&self, boarder: Boarder) -> RowWish
-        requires { IsBoarder self.now.state.dossier boarder }
+    /// What the row of a boarder's school keeps of the wish, of whose candidate it is known whether
+    /// they need no seat.
+    pub fn row_wish(&self, boarder: Boarder, sure: bool) -> RowWish
+        requires boarder { IsBoarder self.now.state.dossier boarder }
+        requires sure { «sure» ≡ is_sure self.now.state self.now.orders boarder.wish }
         ensures { result ≡ row_item self.now.state self.now.orders boarder.wish }
     {
-        let lineup = self.lineup;
-        let wish = boarder.wish;
         RowWish {
             rank: boarder.rank,
-            wish,
+            wish: boarder.wish,
             programme: boarder.programme,
-            place: lineup.places[wish as usize],
-            sure: needs_no_seat(self.state, &lineup.early, wish),
+            place: self.lineup.places[boarder.wish as usize],
+            sure,
         }
     }
 
@@ -204,16 +205,19 @@ impl<'a, 'd> SeatLinks<'a, 'd> {
     {
         let lineup = self.lineup;
         let programme = item.programme as usize;
-        let place = item.place as usize;
         let claims = &lineup.claims[programme];
-        let claim = claims.at(place);
         let beside = lineup.maybe_sure.as_slice();
-        let is_live = self.state.is_live_in_its_programme(item.wish);
-        let wanted = self.cursors.wants_seat(is_live, &self.opens, beside, claim);
-        self.opens.close(item.wish);
-        let wants = self.cursors.wants_seat(is_live, &self.opens, beside, claim);
         let before = self.reached[programme];
-        if leaves_seat(wanted, wants, place, before) {
+        let leaves = leaves_by_closing(
+            self.state,
+            claims,
+            beside,
+            &mut self.cursors,
+            &mut self.opens,
+            item,
+            before,
+        );
+        if leaves {
             let now = next_wanting(self.state, &self.opens, claims, before);
             self.reached[programme] = now;
             if let Some(next) = last_wanting(self.state, &self.opens, claims, before, now) {
@@ -237,13 +241,32 @@ impl<'a, 'd> SeatLinks<'a, 'd> {
         self.state
     }
 
-    /// Whether a boarder's wish stands in the row of its school: it is open, and its candidate has
-    /// no bed there.
-    pub fn wants_bed(&self, boarder: Boarder) -> bool
-        requires { IsBoarder self.now.state.dossier boarder }
-        ensures { result ≡ wants_bed self.now.state self.now.opens boarder.wish }
+    /// Whether a wish is open, and its candidate has no bed in its school.
+    fn wants_bed(&self, wish: u32) -> bool
+        requires { wish < length self.now.state.dossier.wishes }
+        ensures { result ≡ wants_bed self.now.state self.now.opens wish }
     {
-        self.opens.get(boarder.wish) && !self.state.is_live_in_its_school(boarder.wish)
+        self.opens.get(wish) && !self.state.is_live_in_its_school(wish)
+    }
+
+    /// Whether the candidate of a wish needs no seat.
+    fn is_sure(&self, wish: u32) -> bool
+        requires { wish < length self.now.state.dossier.wishes }
+        ensures { result ≡ is_sure self.now.state self.now.orders wish }
+    {
+        needs_no_seat(self.state, &self.lineup.early, wish)
+    }
+
+    /// Whether the candidate of a wish needs no seat, where it wants a bed.
+    pub fn bed_wish(&self, wish: u32) -> Option<bool>
+        requires { wish < length self.now.state.dossier.wishes }
+        ensures { result ≡ bed_wish self.now.state self.now.orders self.now.opens wish }
+    {
+        if self.wants_bed(wish) {
+            Some(self.is_sure(wish))
+        } else {
+            None
+        }
     }
 
     /// Whether a wish is open.

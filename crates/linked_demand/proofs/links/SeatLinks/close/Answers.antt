@@ -1,66 +1,39 @@
-use Rattle.std.proofs.Common.{◌≡◌, ℕ, ◌+◌, ◌<◌, ◌&&◌, not, Bool, List, arith, ap, length, drop, refl, sym, ◌∙◌, get_or, false, slice_set, None, subst}
+use Rattle.std.proofs.Common.{◌≡◌, ℕ, ◌+◌, ◌<◌, Bool, List, [], arith, ap, length, drop, refl, sym, ◌∙◌, get_or, false, slice_set, None, subst}
 use Rattle.std.specs.Prelude.{All}
 use Rattle.std.proofs.lemmas.List.{length-set}
-use Rattle.std.specs.List.{list_any}
 use Rattle.linked_demand.specs.Line.{next, last_new}
 use Rattle.linked_demand.specs.Links.{LinksRow}
 use Rattle.linked_demand.specs.Opens.{all_sure, line_of}
 use Rattle.linked_demand.specs.Wants.{wants_along}
 use Rattle.linked_demand.proofs.Closing.{wish_within, programme_within, claims_each, row_within}
-use Rattle.linked_demand.proofs.Items.{closes_item, item_claim, item_live, item_stands}
-use Rattle.linked_demand.proofs.Leaving.{Reads, before_within, row_below, stays_closed, moves_closed, reached_each, reach_put, reach_kept, in_claims, claim_there}
+use Rattle.linked_demand.proofs.Items.{closes_item, item_claim, item_reads, item_stands}
+use Rattle.linked_demand.proofs.Leaving.{before_within, row_below, stays_closed, moves_closed, reached_each, reach_put, reach_kept, in_claims, claim_there}
 use Rattle.linked_demand.proofs.Moving.{newly_none, newly_some}
 use Rattle.linked_demand.proofs.Ticking.{claim_fits, told_none, told_some}
 use Rattle.linked_demand.proofs.links.SeatLinks.close.Goals as goal
 
--- an open wish of a claim wants a seat under flags, where its candidate is not live
-abbrev any_wanted : Bool → List ℕ → List Bool → Bool
-any_wanted live claim flags = not live && list_any (λ v. get_or flags v false) claim
-
-pub close-requires : goal.close-requires
-close-requires g c =
-    let k = closes_item c.self.invariant.reach.links c.args.self.now c.self.view_is c.args.item
-    c.requires.waits c.requires.item in
-    omega (arith, wish_within k, c.self.invariant.reach.links.opens_each)
+pub leaves_by_closing-leaves-requires : goal.leaves_by_closing-leaves-requires
+leaves_by_closing-leaves-requires g c =
+    let links = c.self.invariant.reach.links in
+    let k = closes_item links c.args.self.now c.self.view_is c.args.item c.requires.waits c.requires.item in
+    let at = item_stands links c.args.self.now c.self.view_is c.args.item c.requires.waits c.requires.item in
+    let row = c.index-claims.result.now in
+    let claim = get_or row c.args.item.place [] in
+    let P = λ (n : ℕ). All (λ v. v < n) claim in
+    record {
+      wish = wish_within k;
+      opens = links.opens_each;
+      place = row_within k c.args.item.place at row c.index-claims.ensures;
+      claim = subst P (sym links.opens_each)
+          (item_claim links c.args.self.now c.self.view_is c.args.item c.requires.waits c.requires.item
+          row c.index-claims.ensures claim refl);
+    }
 
 pub index-claims-requires : goal.index-claims-requires
 index-claims-requires g c =
     let k = closes_item c.self.invariant.reach.links c.args.self.now c.self.view_is c.args.item
     c.requires.waits c.requires.item in
     omega (arith, programme_within k, claims_each k)
-
-pub at-claim-requires : goal.at-claim-requires
-at-claim-requires g c =
-    let k = closes_item c.self.invariant.reach.links c.args.self.now c.self.view_is c.args.item
-    c.requires.waits c.requires.item in
-    let at = item_stands c.self.invariant.reach.links c.args.self.now c.self.view_is c.args.item c.requires.waits c.requires.item in
-    row_within k c.args.item.place at c.index-claims.result.now c.index-claims.ensures
-
-pub is_live_in_its_programme-is_live-requires : goal.is_live_in_its_programme-is_live-requires
-is_live_in_its_programme-is_live-requires g c =
-    wish_within (closes_item c.self.invariant.reach.links c.args.self.now c.self.view_is c.args.item
-    c.requires.waits c.requires.item)
-
-pub wants_seat-wanted-requires : goal.wants_seat-wanted-requires
-wants_seat-wanted-requires g c =
-    let P = λ (n : ℕ). All (λ v. v < n) c.at-claim.result.now in
-    subst P (sym c.self.invariant.reach.links.opens_each)
-    (item_claim c.self.invariant.reach.links c.args.self.now c.self.view_is c.args.item c.requires.waits c.requires.item
-    c.index-claims.result.now c.index-claims.ensures c.at-claim.result.now c.at-claim.ensures)
-
-pub wants_seat-wants-requires : goal.wants_seat-wants-requires
-wants_seat-wants-requires g c =
-    let P = λ (n : ℕ). All (λ v. v < n) c.at-claim.result.now in
-    let long : length c.self.inside.state.now.dossier.wishes ≡ length c.close.new.self =
-    omega (
-      arith,
-      ap length c.close.ensures,
-      length-set c.self.inside.opens c.args.item.wish false,
-      c.self.invariant.reach.links.opens_each,
-    ) in
-    subst P long
-    (item_claim c.self.invariant.reach.links c.args.self.now c.self.view_is c.args.item c.requires.waits c.requires.item
-    c.index-claims.result.now c.index-claims.ensures c.at-claim.result.now c.at-claim.ensures)
 
 pub index-before-requires : goal.index-before-requires
 index-before-requires g c =
@@ -78,106 +51,50 @@ pub next_wanting-now-requires-clause-from : goal.next_wanting-now-requires-claus
 next_wanting-now-requires-clause-from g c =
     let r = c.self.inside in
     let s = r.state.now in
-    let claim = c.at-claim.result.now in
     let k = closes_item c.self.invariant.reach.links c.args.self.now c.self.view_is c.args.item
     c.requires.waits c.requires.item in
-    let reads : Reads k c.args.item.place c.index-claims.result.now claim r.reached.items
-    c.index-before.result.now c.is_live_in_its_programme-is_live.result c.wants_seat-wanted.result
-    c.wants_seat-wants.result c.leaves_seat.result =
-    record {
-      stands = item_stands c.self.invariant.reach.links c.args.self.now c.self.view_is c.args.item c.requires.waits c.requires.item;
-      row_read = c.index-claims.ensures;
-      claim_read = c.at-claim.ensures;
-      reached_are = c.self.invariant.reach.reached_are;
-      before_read = c.index-before.ensures;
-      live_is = item_live c.self.invariant.reach.links c.args.self.now c.self.view_is c.args.item c.requires.waits
-          c.requires.item c.is_live_in_its_programme-is_live.result c.is_live_in_its_programme-is_live.ensures;
-      wanted_is = c.wants_seat-wanted.ensures;
-      wants_is =
-          c.wants_seat-wants.ensures
-          ∙ ap (any_wanted c.is_live_in_its_programme-is_live.result claim) c.close.ensures;
-      leaves_is = c.leaves_seat.ensures;
-    } in
+    let reads = item_reads c.self.invariant.reach c.args.self.now c.self.view_is c.args.item c.requires.waits c.requires.item
+    c.index-claims.result.now c.index-claims.ensures c.index-before.result.now c.index-before.ensures
+    c.leaves_by_closing-leaves.new.opens c.leaves_by_closing-leaves.ensures.opens
+    c.leaves_by_closing-leaves.result c.leaves_by_closing-leaves.ensures.leaves in
     before_within reads
 
 pub next_wanting-now-requires-clause-claims : goal.next_wanting-now-requires-clause-claims
 next_wanting-now-requires-clause-claims g c =
     let r = c.self.inside in
     let s = r.state.now in
-    let claim = c.at-claim.result.now in
     let k = closes_item c.self.invariant.reach.links c.args.self.now c.self.view_is c.args.item
     c.requires.waits c.requires.item in
-    let reads : Reads k c.args.item.place c.index-claims.result.now claim r.reached.items
-    c.index-before.result.now c.is_live_in_its_programme-is_live.result c.wants_seat-wanted.result
-    c.wants_seat-wants.result c.leaves_seat.result =
-    record {
-      stands = item_stands c.self.invariant.reach.links c.args.self.now c.self.view_is c.args.item c.requires.waits c.requires.item;
-      row_read = c.index-claims.ensures;
-      claim_read = c.at-claim.ensures;
-      reached_are = c.self.invariant.reach.reached_are;
-      before_read = c.index-before.ensures;
-      live_is = item_live c.self.invariant.reach.links c.args.self.now c.self.view_is c.args.item c.requires.waits
-          c.requires.item c.is_live_in_its_programme-is_live.result c.is_live_in_its_programme-is_live.ensures;
-      wanted_is = c.wants_seat-wanted.ensures;
-      wants_is =
-          c.wants_seat-wants.ensures
-          ∙ ap (any_wanted c.is_live_in_its_programme-is_live.result claim) c.close.ensures;
-      leaves_is = c.leaves_seat.ensures;
-    } in
+    let reads = item_reads c.self.invariant.reach c.args.self.now c.self.view_is c.args.item c.requires.waits c.requires.item
+    c.index-claims.result.now c.index-claims.ensures c.index-before.result.now c.index-before.ensures
+    c.leaves_by_closing-leaves.new.opens c.leaves_by_closing-leaves.ensures.opens
+    c.leaves_by_closing-leaves.result c.leaves_by_closing-leaves.ensures.leaves in
     row_below reads
 
 pub last_wanting-requires-clause-claims : goal.last_wanting-requires-clause-claims
 last_wanting-requires-clause-claims g c =
     let r = c.self.inside in
     let s = r.state.now in
-    let claim = c.at-claim.result.now in
     let k = closes_item c.self.invariant.reach.links c.args.self.now c.self.view_is c.args.item
     c.requires.waits c.requires.item in
-    let reads : Reads k c.args.item.place c.index-claims.result.now claim r.reached.items
-    c.index-before.result.now c.is_live_in_its_programme-is_live.result c.wants_seat-wanted.result
-    c.wants_seat-wants.result c.leaves_seat.result =
-    record {
-      stands = item_stands c.self.invariant.reach.links c.args.self.now c.self.view_is c.args.item c.requires.waits c.requires.item;
-      row_read = c.index-claims.ensures;
-      claim_read = c.at-claim.ensures;
-      reached_are = c.self.invariant.reach.reached_are;
-      before_read = c.index-before.ensures;
-      live_is = item_live c.self.invariant.reach.links c.args.self.now c.self.view_is c.args.item c.requires.waits
-          c.requires.item c.is_live_in_its_programme-is_live.result c.is_live_in_its_programme-is_live.ensures;
-      wanted_is = c.wants_seat-wanted.ensures;
-      wants_is =
-          c.wants_seat-wants.ensures
-          ∙ ap (any_wanted c.is_live_in_its_programme-is_live.result claim) c.close.ensures;
-      leaves_is = c.leaves_seat.ensures;
-    } in
+    let reads = item_reads c.self.invariant.reach c.args.self.now c.self.view_is c.args.item c.requires.waits c.requires.item
+    c.index-claims.result.now c.index-claims.ensures c.index-before.result.now c.index-before.ensures
+    c.leaves_by_closing-leaves.new.opens c.leaves_by_closing-leaves.ensures.opens
+    c.leaves_by_closing-leaves.result c.leaves_by_closing-leaves.ensures.leaves in
     row_below reads
 
-pub invariant_of-self-else-leaves_seat : goal.invariant_of-self-else-leaves_seat
-invariant_of-self-else-leaves_seat g c =
+pub invariant_of-self-else-leaves : goal.invariant_of-self-else-leaves
+invariant_of-self-else-leaves g c =
     let r = c.self.inside in
     let s = r.state.now in
-    let claim = c.at-claim.result.now in
     let k = closes_item c.self.invariant.reach.links c.args.self.now c.self.view_is c.args.item
     c.requires.waits c.requires.item in
-    let reads : Reads k c.args.item.place c.index-claims.result.now claim r.reached.items
-    c.index-before.result.now c.is_live_in_its_programme-is_live.result c.wants_seat-wanted.result
-    c.wants_seat-wants.result c.leaves_seat.result =
-    record {
-      stands = item_stands c.self.invariant.reach.links c.args.self.now c.self.view_is c.args.item c.requires.waits c.requires.item;
-      row_read = c.index-claims.ensures;
-      claim_read = c.at-claim.ensures;
-      reached_are = c.self.invariant.reach.reached_are;
-      before_read = c.index-before.ensures;
-      live_is = item_live c.self.invariant.reach.links c.args.self.now c.self.view_is c.args.item c.requires.waits
-          c.requires.item c.is_live_in_its_programme-is_live.result c.is_live_in_its_programme-is_live.ensures;
-      wanted_is = c.wants_seat-wanted.ensures;
-      wants_is =
-          c.wants_seat-wants.ensures
-          ∙ ap (any_wanted c.is_live_in_its_programme-is_live.result claim) c.close.ensures;
-      leaves_is = c.leaves_seat.ensures;
-    } in
-    let stays = stays_closed reads c.if-leaves_seat.false in
-    rw c.close.ensures (record {
+    let reads = item_reads c.self.invariant.reach c.args.self.now c.self.view_is c.args.item c.requires.waits c.requires.item
+    c.index-claims.result.now c.index-claims.ensures c.index-before.result.now c.index-before.ensures
+    c.leaves_by_closing-leaves.new.opens c.leaves_by_closing-leaves.ensures.opens
+    c.leaves_by_closing-leaves.result c.leaves_by_closing-leaves.ensures.leaves in
+    let stays = stays_closed reads c.if-leaves.false in
+    rw c.leaves_by_closing-leaves.ensures.opens (record {
       reach =
           reach_kept k r.reached.items c.self.invariant.reach.reached_are
           c.index-before.result.now c.index-before.ensures stays.reach;
@@ -189,36 +106,22 @@ pub invariant_of-self : goal.invariant_of-self
 invariant_of-self g c =
     let r = c.self.inside in
     let s = r.state.now in
-    let claim = c.at-claim.result.now in
     let k = closes_item c.self.invariant.reach.links c.args.self.now c.self.view_is c.args.item
     c.requires.waits c.requires.item in
-    let reads : Reads k c.args.item.place c.index-claims.result.now claim r.reached.items
-    c.index-before.result.now c.is_live_in_its_programme-is_live.result c.wants_seat-wanted.result
-    c.wants_seat-wants.result c.leaves_seat.result =
-    record {
-      stands = item_stands c.self.invariant.reach.links c.args.self.now c.self.view_is c.args.item c.requires.waits c.requires.item;
-      row_read = c.index-claims.ensures;
-      claim_read = c.at-claim.ensures;
-      reached_are = c.self.invariant.reach.reached_are;
-      before_read = c.index-before.ensures;
-      live_is = item_live c.self.invariant.reach.links c.args.self.now c.self.view_is c.args.item c.requires.waits
-          c.requires.item c.is_live_in_its_programme-is_live.result c.is_live_in_its_programme-is_live.ensures;
-      wanted_is = c.wants_seat-wanted.ensures;
-      wants_is =
-          c.wants_seat-wants.ensures
-          ∙ ap (any_wanted c.is_live_in_its_programme-is_live.result claim) c.close.ensures;
-      leaves_is = c.leaves_seat.ensures;
-    } in
+    let reads = item_reads c.self.invariant.reach c.args.self.now c.self.view_is c.args.item c.requires.waits c.requires.item
+    c.index-claims.result.now c.index-claims.ensures c.index-before.result.now c.index-before.ensures
+    c.leaves_by_closing-leaves.new.opens c.leaves_by_closing-leaves.ensures.opens
+    c.leaves_by_closing-leaves.result c.leaves_by_closing-leaves.ensures.leaves in
     let row = c.index-claims.result.now in
     let before : ℕ = c.index-before.result.now in
     let now : ℕ = c.next_wanting-now.result in
     let moved =
-    moves_closed reads c.if-leaves_seat.true now c.last_wanting.result
+    moves_closed reads c.if-leaves.true now c.last_wanting.result
     (c.next_wanting-now.ensures.place
-    ∙ ap (λ (fs : List Bool). before + next (drop before (wants_along s fs row))) c.close.ensures)
+    ∙ ap (λ (fs : List Bool). before + next (drop before (wants_along s fs row))) c.leaves_by_closing-leaves.ensures.opens)
     (c.last_wanting.ensures.answer
-    ∙ ap (λ (fs : List Bool). last_new (wants_along s fs row) before now) c.close.ensures) in
-    rw c.close.ensures (record {
+    ∙ ap (λ (fs : List Bool). last_new (wants_along s fs row) before now) c.leaves_by_closing-leaves.ensures.opens) in
+    rw c.leaves_by_closing-leaves.ensures.opens (record {
       reach = reach_put k r.reached.items c.self.invariant.reach.reached_are now moved.reach;
       early_each = c.self.invariant.early_each;
       maybe_sure_are = c.self.invariant.maybe_sure_are;
@@ -228,36 +131,22 @@ pub invariant_of-self-in_default : goal.invariant_of-self-in_default
 invariant_of-self-in_default g c =
     let r = c.self.inside in
     let s = r.state.now in
-    let claim = c.at-claim.result.now in
     let k = closes_item c.self.invariant.reach.links c.args.self.now c.self.view_is c.args.item
     c.requires.waits c.requires.item in
-    let reads : Reads k c.args.item.place c.index-claims.result.now claim r.reached.items
-    c.index-before.result.now c.is_live_in_its_programme-is_live.result c.wants_seat-wanted.result
-    c.wants_seat-wants.result c.leaves_seat.result =
-    record {
-      stands = item_stands c.self.invariant.reach.links c.args.self.now c.self.view_is c.args.item c.requires.waits c.requires.item;
-      row_read = c.index-claims.ensures;
-      claim_read = c.at-claim.ensures;
-      reached_are = c.self.invariant.reach.reached_are;
-      before_read = c.index-before.ensures;
-      live_is = item_live c.self.invariant.reach.links c.args.self.now c.self.view_is c.args.item c.requires.waits
-          c.requires.item c.is_live_in_its_programme-is_live.result c.is_live_in_its_programme-is_live.ensures;
-      wanted_is = c.wants_seat-wanted.ensures;
-      wants_is =
-          c.wants_seat-wants.ensures
-          ∙ ap (any_wanted c.is_live_in_its_programme-is_live.result claim) c.close.ensures;
-      leaves_is = c.leaves_seat.ensures;
-    } in
+    let reads = item_reads c.self.invariant.reach c.args.self.now c.self.view_is c.args.item c.requires.waits c.requires.item
+    c.index-claims.result.now c.index-claims.ensures c.index-before.result.now c.index-before.ensures
+    c.leaves_by_closing-leaves.new.opens c.leaves_by_closing-leaves.ensures.opens
+    c.leaves_by_closing-leaves.result c.leaves_by_closing-leaves.ensures.leaves in
     let row = c.index-claims.result.now in
     let before : ℕ = c.index-before.result.now in
     let now : ℕ = c.next_wanting-now.result in
     let moved =
-    moves_closed reads c.if-leaves_seat.true now c.last_wanting.result
+    moves_closed reads c.if-leaves.true now c.last_wanting.result
     (c.next_wanting-now.ensures.place
-    ∙ ap (λ (fs : List Bool). before + next (drop before (wants_along s fs row))) c.close.ensures)
+    ∙ ap (λ (fs : List Bool). before + next (drop before (wants_along s fs row))) c.leaves_by_closing-leaves.ensures.opens)
     (c.last_wanting.ensures.answer
-    ∙ ap (λ (fs : List Bool). last_new (wants_along s fs row) before now) c.close.ensures) in
-    rw c.close.ensures (record {
+    ∙ ap (λ (fs : List Bool). last_new (wants_along s fs row) before now) c.leaves_by_closing-leaves.ensures.opens) in
+    rw c.leaves_by_closing-leaves.ensures.opens (record {
       reach = reach_put k r.reached.items c.self.invariant.reach.reached_are now moved.reach;
       early_each = c.self.invariant.early_each;
       maybe_sure_are = c.self.invariant.maybe_sure_are;
@@ -277,7 +166,7 @@ note_fresh-requires g c =
       bars = c.requires.bars ∙ schools;
       opens = omega (
         arith,
-        ap length c.close.ensures,
+        ap length c.leaves_by_closing-leaves.ensures.opens,
         length-set c.self.inside.opens c.args.item.wish false,
         c.self.invariant.reach.links.opens_each,
       );
@@ -285,108 +174,66 @@ note_fresh-requires g c =
       marked = c.requires.marked ∙ schools;
     }
 
-pub returns-else-leaves_seat : goal.returns-else-leaves_seat
-returns-else-leaves_seat g c =
+pub returns-else-leaves : goal.returns-else-leaves
+returns-else-leaves g c =
     let r = c.self.inside in
     let s = r.state.now in
-    let claim = c.at-claim.result.now in
     let k = closes_item c.self.invariant.reach.links c.args.self.now c.self.view_is c.args.item
     c.requires.waits c.requires.item in
-    let reads : Reads k c.args.item.place c.index-claims.result.now claim r.reached.items
-    c.index-before.result.now c.is_live_in_its_programme-is_live.result c.wants_seat-wanted.result
-    c.wants_seat-wants.result c.leaves_seat.result =
-    record {
-      stands = item_stands c.self.invariant.reach.links c.args.self.now c.self.view_is c.args.item c.requires.waits c.requires.item;
-      row_read = c.index-claims.ensures;
-      claim_read = c.at-claim.ensures;
-      reached_are = c.self.invariant.reach.reached_are;
-      before_read = c.index-before.ensures;
-      live_is = item_live c.self.invariant.reach.links c.args.self.now c.self.view_is c.args.item c.requires.waits
-          c.requires.item c.is_live_in_its_programme-is_live.result c.is_live_in_its_programme-is_live.ensures;
-      wanted_is = c.wants_seat-wanted.ensures;
-      wants_is =
-          c.wants_seat-wants.ensures
-          ∙ ap (any_wanted c.is_live_in_its_programme-is_live.result claim) c.close.ensures;
-      leaves_is = c.leaves_seat.ensures;
-    } in
-    let stays = stays_closed reads c.if-leaves_seat.false in
+    let reads = item_reads c.self.invariant.reach c.args.self.now c.self.view_is c.args.item c.requires.waits c.requires.item
+    c.index-claims.result.now c.index-claims.ensures c.index-before.result.now c.index-before.ensures
+    c.leaves_by_closing-leaves.new.opens c.leaves_by_closing-leaves.ensures.opens
+    c.leaves_by_closing-leaves.result c.leaves_by_closing-leaves.ensures.leaves in
+    let stays = stays_closed reads c.if-leaves.false in
     let closed = λ (l : LinksRow). record l { opens = slice_set l.opens c.args.item.wish false } in
     let told = told_none s r.orders.now.orders r.opens c.args.item.wish c.args.self.now c.self.view_is
     (newly_none k None stays.fresh refl) c.args.bars.now c.args.steps.now c.args.marked.now in
-    rw c.close.ensures (record { value = ap closed c.self.view_is; steps = told.steps; marked = told.marked })
+    rw c.leaves_by_closing-leaves.ensures.opens (record { value = ap closed c.self.view_is; steps = told.steps; marked = told.marked })
 
 pub returns-in_default : goal.returns-in_default
 returns-in_default g c =
     let r = c.self.inside in
     let s = r.state.now in
-    let claim = c.at-claim.result.now in
     let k = closes_item c.self.invariant.reach.links c.args.self.now c.self.view_is c.args.item
     c.requires.waits c.requires.item in
-    let reads : Reads k c.args.item.place c.index-claims.result.now claim r.reached.items
-    c.index-before.result.now c.is_live_in_its_programme-is_live.result c.wants_seat-wanted.result
-    c.wants_seat-wants.result c.leaves_seat.result =
-    record {
-      stands = item_stands c.self.invariant.reach.links c.args.self.now c.self.view_is c.args.item c.requires.waits c.requires.item;
-      row_read = c.index-claims.ensures;
-      claim_read = c.at-claim.ensures;
-      reached_are = c.self.invariant.reach.reached_are;
-      before_read = c.index-before.ensures;
-      live_is = item_live c.self.invariant.reach.links c.args.self.now c.self.view_is c.args.item c.requires.waits
-          c.requires.item c.is_live_in_its_programme-is_live.result c.is_live_in_its_programme-is_live.ensures;
-      wanted_is = c.wants_seat-wanted.ensures;
-      wants_is =
-          c.wants_seat-wants.ensures
-          ∙ ap (any_wanted c.is_live_in_its_programme-is_live.result claim) c.close.ensures;
-      leaves_is = c.leaves_seat.ensures;
-    } in
+    let reads = item_reads c.self.invariant.reach c.args.self.now c.self.view_is c.args.item c.requires.waits c.requires.item
+    c.index-claims.result.now c.index-claims.ensures c.index-before.result.now c.index-before.ensures
+    c.leaves_by_closing-leaves.new.opens c.leaves_by_closing-leaves.ensures.opens
+    c.leaves_by_closing-leaves.result c.leaves_by_closing-leaves.ensures.leaves in
     let row = c.index-claims.result.now in
     let before : ℕ = c.index-before.result.now in
     let now : ℕ = c.next_wanting-now.result in
     let moved =
-    moves_closed reads c.if-leaves_seat.true now c.last_wanting.result
+    moves_closed reads c.if-leaves.true now c.last_wanting.result
     (c.next_wanting-now.ensures.place
-    ∙ ap (λ (fs : List Bool). before + next (drop before (wants_along s fs row))) c.close.ensures)
+    ∙ ap (λ (fs : List Bool). before + next (drop before (wants_along s fs row))) c.leaves_by_closing-leaves.ensures.opens)
     (c.last_wanting.ensures.answer
-    ∙ ap (λ (fs : List Bool). last_new (wants_along s fs row) before now) c.close.ensures) in
+    ∙ ap (λ (fs : List Bool). last_new (wants_along s fs row) before now) c.leaves_by_closing-leaves.ensures.opens) in
     let closed = λ (l : LinksRow). record l { opens = slice_set l.opens c.args.item.wish false } in
     let told =
     told_none s r.orders.now.orders r.opens c.args.item.wish c.args.self.now c.self.view_is
     (newly_none k c.last_wanting.result moved.fresh c.in_default.is) c.args.bars.now c.args.steps.now c.args.marked.now in
-    rw c.close.ensures (record { value = ap closed c.self.view_is; steps = told.steps; marked = told.marked })
+    rw c.leaves_by_closing-leaves.ensures.opens (record { value = ap closed c.self.view_is; steps = told.steps; marked = told.marked })
 
 pub returns-in-Some : goal.returns-in-Some
 returns-in-Some g c =
     let r = c.self.inside in
     let s = r.state.now in
-    let claim = c.at-claim.result.now in
     let k = closes_item c.self.invariant.reach.links c.args.self.now c.self.view_is c.args.item
     c.requires.waits c.requires.item in
-    let reads : Reads k c.args.item.place c.index-claims.result.now claim r.reached.items
-    c.index-before.result.now c.is_live_in_its_programme-is_live.result c.wants_seat-wanted.result
-    c.wants_seat-wants.result c.leaves_seat.result =
-    record {
-      stands = item_stands c.self.invariant.reach.links c.args.self.now c.self.view_is c.args.item c.requires.waits c.requires.item;
-      row_read = c.index-claims.ensures;
-      claim_read = c.at-claim.ensures;
-      reached_are = c.self.invariant.reach.reached_are;
-      before_read = c.index-before.ensures;
-      live_is = item_live c.self.invariant.reach.links c.args.self.now c.self.view_is c.args.item c.requires.waits
-          c.requires.item c.is_live_in_its_programme-is_live.result c.is_live_in_its_programme-is_live.ensures;
-      wanted_is = c.wants_seat-wanted.ensures;
-      wants_is =
-          c.wants_seat-wants.ensures
-          ∙ ap (any_wanted c.is_live_in_its_programme-is_live.result claim) c.close.ensures;
-      leaves_is = c.leaves_seat.ensures;
-    } in
+    let reads = item_reads c.self.invariant.reach c.args.self.now c.self.view_is c.args.item c.requires.waits c.requires.item
+    c.index-claims.result.now c.index-claims.ensures c.index-before.result.now c.index-before.ensures
+    c.leaves_by_closing-leaves.new.opens c.leaves_by_closing-leaves.ensures.opens
+    c.leaves_by_closing-leaves.result c.leaves_by_closing-leaves.ensures.leaves in
     let row = c.index-claims.result.now in
     let before : ℕ = c.index-before.result.now in
     let now : ℕ = c.next_wanting-now.result in
     let moved =
-    moves_closed reads c.if-leaves_seat.true now c.last_wanting.result
+    moves_closed reads c.if-leaves.true now c.last_wanting.result
     (c.next_wanting-now.ensures.place
-    ∙ ap (λ (fs : List Bool). before + next (drop before (wants_along s fs row))) c.close.ensures)
+    ∙ ap (λ (fs : List Bool). before + next (drop before (wants_along s fs row))) c.leaves_by_closing-leaves.ensures.opens)
     (c.last_wanting.ensures.answer
-    ∙ ap (λ (fs : List Bool). last_new (wants_along s fs row) before now) c.close.ensures) in
+    ∙ ap (λ (fs : List Bool). last_new (wants_along s fs row) before now) c.leaves_by_closing-leaves.ensures.opens) in
     let within = c.in-Some.ensures.within in
     let fresh_claim = claim_there k row c.index-claims.ensures c.in-Some.next within c.at.result.now c.at.ensures in
     let p : ℕ = c.args.item.programme in
@@ -399,7 +246,7 @@ returns-in-Some g c =
     (get_or (line_of s.dossier orders p) c.in-Some.next 0) c.args.self.now c.self.view_is
     (newly_some k c.last_wanting.result moved.fresh c.in-Some.next c.in-Some.is lt)
     c.self.invariant.reach.links.marks_each c.args.bars.now c.at.result.now fresh_claim
-    c.close.new.self (all_sure s c.deref.result.now) c.close.ensures
+    c.leaves_by_closing-leaves.new.opens (all_sure s c.deref.result.now) c.leaves_by_closing-leaves.ensures.opens
     (ap (all_sure s) c.deref.ensures.value) c.args.steps.now c.note_fresh.new.steps
     c.args.marked.now c.note_fresh.new.marked c.note_fresh.ensures.steps c.note_fresh.ensures.marked in
-    rw c.close.ensures (record { value = ap closed c.self.view_is; steps = told.steps; marked = told.marked })
+    rw c.leaves_by_closing-leaves.ensures.opens (record { value = ap closed c.self.view_is; steps = told.steps; marked = told.marked })

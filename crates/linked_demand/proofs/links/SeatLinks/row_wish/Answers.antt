@@ -1,7 +1,6 @@
-use Rattle.std.proofs.Common.{◌<◌, Bool, List, false, length, get_or, arith, ap, subst, sym, ◌∙◌}
+use Rattle.std.proofs.Common.{◌<◌, length, arith, subst, sym}
 use Rattle.std.proofs.lemmas.List.{get_or_read}
 use Rattle.linked_demand.specs.Links.{LinksRow}
-use Rattle.linked_demand.specs.Opens.{all_sure}
 use Rattle.linked_demand.proofs.Items.{item_made}
 use Rattle.linked_demand.proofs.links.SeatLinks.row_wish.Goals as goal
 
@@ -12,9 +11,8 @@ returns c =
     let b = c.args.boarder in
     let links = c.self.invariant.reach.links in
     let P = λ (l : LinksRow). b.wish < length l.state.dossier.wishes in
-    let within : b.wish < length s.dossier.wishes = subst P (sym c.self.view_is) c.requires.within in
+    let within : b.wish < length s.dossier.wishes = subst P (sym c.self.view_is) c.requires.boarder.within in
     let places = r.lineup.now.places.items in
-    let flag = c.needs_no_seat.ensures
-    ∙ ap (λ (es : List Bool). get_or (all_sure s es) b.wish false) c.deref.ensures.value in
-    item_made links c.args.self.now c.self.view_is b c.requires c.index.result.now c.needs_no_seat.result
-    (get_or_read places b.wish c.index.result.now (omega (arith, within, links.places_each)) c.index.ensures 0) flag
+    item_made links c.args.self.now c.self.view_is b c.requires.boarder c.index.result.now c.args.sure
+    (get_or_read places b.wish c.index.result.now (omega (arith, within, links.places_each)) c.index.ensures 0)
+    c.requires.sure
