@@ -1,12 +1,15 @@
 -- The answers of places and the list of those that have one.
-use Rattle.std.proofs.Common.{ℕ, zero, suc, ◌+◌, ◌-◌, ◌≤◌, ◌<◌, ◌≡◌, ◌≢◌, Bool, true, false, cond, List, [], ◌∷◌, ◌++◌, length, drop, filter, get_or, inl, inr, refl, sym, ◌∙◌, ap, arith, nat_lt, Option, None, subst}
+use Rattle.std.proofs.Common.{ℕ, zero, suc, ◌+◌, ◌-◌, ◌≤◌, ◌<◌, ◌≡◌, ◌≢◌, Bool, true, false, cond, List, [], ◌∷◌, ◌++◌}
+use Rattle.std.proofs.Common.{length, drop, filter, get_or, inl, inr, refl, sym, ◌∙◌, ap, arith, nat_lt, Option, None}
+use Rattle.std.proofs.Common.{subst}
 use Rattle.std.specs.Prelude.{replicate, is_some}
 use Rattle.std.specs.List.{range_with_len, insert, remove, All}
 use Rattle.std.specs.List.Sorted.{IsNonDecreasing, IsPartitionPoint}
 use Rattle.std.proofs.Math.ListN.{set}
 use Rattle.std.proofs.Math.Seq.{take-append_seam, drop-append_seam}
 use Rattle.std.proofs.lemmas.Bool.{cases_lt, cases_eq, false≢true, lt-ltb, le-ltb}
-use Rattle.std.proofs.lemmas.List.{length-set, length-append, length-replicate, get_or-set_same, get_or-set_other, get_or_append_left, get_or-append_right, get_or_read}
+use Rattle.std.proofs.lemmas.List.{length-set, length-append, length-replicate, get_or-set_same, get_or-set_other}
+use Rattle.std.proofs.lemmas.List.{get_or_append_left, get_or-append_right, get_or_read}
 use Rattle.std.proofs.lemmas.List.Elements.{All-filter, filter-append}
 use Rattle.std.proofs.lemmas.List.FromFn.{length-range_with_len, get_or-range_with_len}
 use Rattle.std.proofs.lemmas.List.Kept.{IsNonDecreasingBy-filter}
@@ -27,7 +30,8 @@ filter_agree p q a (suc n) same =
     (ap (λ ks. cond (q a) (a ∷ ks) ks) (filter_agree p q (a + 1) n (λ h ge lt. same h (omega arith) (omega arith))))
 
 range_parts : (a k m n b : ℕ) → n ≡ k + m → b ≡ a + k → range_with_len a n ≡ range_with_len a k ++ range_with_len b m
-range_parts a zero m n b n_is b_is = let long : n ≡ m = omega arith in let from : b ≡ a = omega arith in rw (long, from) refl
+range_parts a zero m n b n_is b_is = let long : n ≡ m = omega arith in let from : b ≡ a = omega arith in
+    rw (long, from) refl
 range_parts a (suc k) m n b n_is b_is =
     let long : n ≡ suc (k + m) = omega arith in
     rw long (ap (λ ks. a ∷ ks) (range_parts (a + 1) k m (k + m) b refl (omega arith)))
@@ -39,7 +43,8 @@ abbrev above : (ℕ → Bool) → ℕ → ℕ → List ℕ
 above p k n = filter p (range_with_len (k + 1) (n - (k + 1)))
 
 -- those below a place, the place itself, and those above
-parts : (p : ℕ → Bool) (k n : ℕ) → k < n → filter p (range_with_len 0 n) ≡ below p k ++ cond (p k) (k ∷ above p k n) (above p k n)
+parts : (p : ℕ → Bool) (k n : ℕ) → k < n
+    → filter p (range_with_len 0 n) ≡ below p k ++ cond (p k) (k ∷ above p k n) (above p k n)
 parts p k n lt = ap (filter p) (range_parts 0 k (suc (n - (k + 1))) n k (omega arith) (omega arith))
     ∙ filter-append p (range_with_len 0 k) (range_with_len k (suc (n - (k + 1))))
 
@@ -100,7 +105,8 @@ none_pass [] = refl
 none_pass (k ∷ ks) = none_pass ks
 
 -- no place has an answer yet
-none_answered : (n a : ℕ) → filter (λ h. is_some (get_or {A = Option ℕ} (replicate n None) h None)) (range_with_len a n) ≡ []
+none_answered : (n a : ℕ) → filter (λ h. is_some (get_or {A = Option ℕ} (replicate n None) h None)) (range_with_len a n)
+    ≡ []
 none_answered n a =
     filter_agree (λ h. is_some (get_or {A = Option ℕ} (replicate n None) h None)) (λ h. false) a n
     (λ h ge lt. ap is_some (get_or-none n h)) ∙ none_pass (range_with_len a n)

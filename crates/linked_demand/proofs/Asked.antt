@@ -1,5 +1,6 @@
 -- The marked schools are asked one after another.
-use Rattle.std.proofs.Common.{ℕ, zero, suc, ◌<◌, ◌≡◌, Bool, true, false, not, ◌&&◌, List, length, inl, inr, refl, sym, ◌∙◌, ap, arith, get_or, Option, Some, None, Vec, unwrap_or, replicate, subst}
+use Rattle.std.proofs.Common.{ℕ, zero, suc, ◌<◌, ◌≡◌, Bool, true, false, not, ◌&&◌, List, length, inl, inr, refl, sym}
+use Rattle.std.proofs.Common.{◌∙◌, ap, arith, get_or, Option, Some, None, Vec, unwrap_or, replicate, subst}
 use Rattle.std.specs.Prelude.{slice_get, slice_index}
 use Rattle.std.specs.declared.alloc.Global.{Global}
 use Rattle.std.proofs.Math.ListN.{set}
@@ -28,7 +29,8 @@ pub record AskedSoFar (l : LinksRow) (rows : List (Vec RowWish Global)) (free : 
   pub fewer : (h : ℕ) → get_or now h false ≡ true → get_or old h false ≡ true
   pub asked : IsAsked l rows free (λ h. get_or old h false && not (get_or now h false)) start overfilled
 
-module _ (l : LinksRow) (rows : List (Vec RowWish Global)) (free : List ℕ) (old : List Bool) (start : List (Option ℕ)) where
+module _ (l : LinksRow) (rows : List (Vec RowWish Global)) (free : List ℕ) (old : List Bool)
+    (start : List (Option ℕ)) where
   pub asked_none : AskedSoFar l rows free old old start start
   asked_none = record {
     as_long = refl;

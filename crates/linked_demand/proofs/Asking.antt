@@ -1,5 +1,7 @@
 -- The kept answers of the schools stay right where a bar falls.
-use Rattle.std.proofs.Common.{ℕ, ◌≤◌, ◌<◌, ◌≡◌, ◌≢◌, Bool, false, not, ◌&&◌, List, [], ◌∷◌, map, length, filter, inl, inr, refl, sym, ◌∙◌, ap, arith, get_or, suc, Option, Some, None, subst, Vec, option_map, unwrap_or}
+use Rattle.std.proofs.Common.{ℕ, ◌≤◌, ◌<◌, ◌≡◌, ◌≢◌, Bool, false, not, ◌&&◌, List, [], ◌∷◌, map, length, filter, inl}
+use Rattle.std.proofs.Common.{inr, refl, sym, ◌∙◌, ap, arith, get_or, suc, Option, Some, None, subst, Vec, option_map}
+use Rattle.std.proofs.Common.{unwrap_or}
 use Rattle.std.specs.Prelude.{slice_get, slice_index, slice_set}
 use Rattle.std.specs.List.{range_with_len}
 use Rattle.std.specs.declared.alloc.Global.{Global}
@@ -59,7 +61,8 @@ ranks_stay old new bars i to h within le state orders old_opens new_opens before
     let os = old.orders in
     let low = slice_set bars i to in
     let now_opens : new.opens ≡ opens_of new.state low = new_opens ∙ ap (λ (t : State). opens_of t low) (sym state) in
-    let now : (j : ℕ) (e : Wish × Mark) → slice_get (entries s) j ≡ Some e → is_proposed_at new j ≡ is_proposed s os low e.0 e.1 =
+    let now : (j : ℕ) (e : Wish × Mark) → slice_get (entries s) j ≡ Some e
+    → is_proposed_at new j ≡ is_proposed s os low e.0 e.1 =
     λ j e at.
     let P = λ (t : State). slice_get (entries t) j ≡ Some e in
     proposed_entry new low now_opens j e (subst P (sym state) at)
@@ -101,7 +104,8 @@ answers_all links bars free rows right test old new long asked rest =
     fill_by_all (over_at links.state links.orders bars) new n None (asked.as_long ∙ long) (λ h lt.
     elim (slice_get_cases rows h).1 [
       | inl there ↦ elim (cases_Bool (test h)) [
-        | inl marked ↦ asked.each h there.0 there.2 ∙ rw marked (row_answers links bars free rows right h there.0 there.2)
+        | inl marked ↦ asked.each h there.0 there.2
+            ∙ rw marked (row_answers links bars free rows right h there.0 there.2)
         | inr unmarked ↦ asked.each h there.0 there.2 ∙ rw unmarked (rest h lt unmarked)
       ]
       | inr past ↦ absurd (omega (arith, past.0, lt, right.rows_each, right.bars_each))

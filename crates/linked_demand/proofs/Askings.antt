@@ -1,5 +1,7 @@
 -- The flags of open wishes, from those of the waiting ones: the wishes with a school are asked for its bar.
-use Rattle.std.proofs.Common.{ℕ, ◌+◌, ◌<◌, ◌≡◌, Bool, true, false, not, ◌&&◌, ◌||◌, List, [], map, length, take, get_or, set, inl, inr, refl, sym, ◌∙◌, ap, arith, nat_eq, Option, Some, None, length-set, zero-add}
+use Rattle.std.proofs.Common.{ℕ, ◌+◌, ◌<◌, ◌≡◌, Bool, true, false, not, ◌&&◌, ◌||◌, List, [], map, length, take, get_or}
+use Rattle.std.proofs.Common.{set, inl, inr, refl, sym, ◌∙◌, ap, arith, nat_eq, Option, Some, None, length-set}
+use Rattle.std.proofs.Common.{zero-add}
 use Rattle.std.specs.Prelude.{is_some}
 use Rattle.std.specs.List.{range_with_len}
 use Rattle.std.proofs.lemmas.Bool.{cases_Bool, eqb-true, eqb-false}
@@ -54,7 +56,8 @@ closed_by true true false = refl
 -- one more is asked
 pub asked_more : (s : State) (bars places : List ℕ) (i p : ℕ) (flags : List Bool) (flag : Bool)
     → i < length places → get_or places i 0 ≡ p → p < length s.dossier.wishes
-    → flag ≡ (get_or flags p false && not (is_behind_bar s bars (wish_in s.dossier.wishes p) (wish_in s.dossier.wishes p).school))
+    → flag ≡ (get_or flags p false && not (is_behind_bar s bars (wish_in s.dossier.wishes p)
+    (wish_in s.dossier.wishes p).school))
     → AreAsked s bars (take i places) flags → AreAsked s bars (take (i + 1) places) (set flags p flag)
 asked_more s bars places i p flags flag lt p_is within flag_is asked =
     let w = wish_in s.dossier.wishes p in

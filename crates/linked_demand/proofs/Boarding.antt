@@ -1,5 +1,7 @@
 -- What a list of boarders tells.
-use Rattle.std.proofs.Common.{ℕ, suc, ◌<◌, ◌≡◌, Bool, true, false, ◌&&◌, List, [], ◌∷◌, filter, length, get_or, inl, inr, refl, sym, ◌∙◌, ap, arith, nat_eq, Option, Some, None, unwrap_or, if◌then◌else◌, subst}
+use Rattle.std.proofs.Common.{ℕ, suc, ◌<◌, ◌≡◌, Bool, true, false, ◌&&◌, List, [], ◌∷◌, filter, length, get_or, inl}
+use Rattle.std.proofs.Common.{inr, refl, sym, ◌∙◌, ap, arith, nat_eq, Option, Some, None, unwrap_or, if◌then◌else◌}
+use Rattle.std.proofs.Common.{subst}
 use Rattle.std.specs.Prelude.{All, is_some}
 use Rattle.std.specs.List.Sorted.{IsNonDecreasingBy, IsPermutation, IsStableByKey}
 use Rattle.std.specs.Ordering.{nat_cmp}
@@ -19,7 +21,8 @@ use Rattle.linked_demand.specs.Seats.{boards_at, boarders_of}
 use Rattle.linked_demand.specs.Filled.{wants_bed, is_in_row}
 
 -- the wish of the one at a place
-pub place_of : (bs : List Boarder) (i : ℕ) (e : Boarder) → i < length bs → get_or (wishes_of bs) i 0 ≡ (get_or bs i e).wish
+pub place_of : (bs : List Boarder) (i : ℕ) (e : Boarder) → i < length bs
+    → get_or (wishes_of bs) i 0 ≡ (get_or bs i e).wish
 place_of bs i e lt = get_or-map (λ (b : Boarder). b.wish) bs i e 0 lt
 
 -- one who wants a bed stands in the row of their school alone, and one who wants none in no row

@@ -1,5 +1,7 @@
 -- What the walks along the call orders of the groups deal to each programme: its wishes in call order.
-use Rattle.std.proofs.Common.{ℕ, zero, suc, ◌+◌, ◌≤◌, ◌<◌, ◌≡◌, Bool, true, false, ◌&&◌, List, [], ◌∷◌, ◌++◌, map, length, take, get_or, inl, inr, refl, sym, ◌∙◌, ap, arith, nat_eq, nat_lt, filter, Some, subst}
+use Rattle.std.proofs.Common.{ℕ, zero, suc, ◌+◌, ◌≤◌, ◌<◌, ◌≡◌, Bool, true, false, ◌&&◌, List, [], ◌∷◌, ◌++◌, map}
+use Rattle.std.proofs.Common.{length, take, get_or, inl, inr, refl, sym, ◌∙◌, ap, arith, nat_eq, nat_lt, filter, Some}
+use Rattle.std.proofs.Common.{subst}
 use Rattle.std.specs.Prelude.{All, ◌==◌, Option, option_map, slice_get, unwrap_or}
 use Rattle.std.proofs.lemmas.Option.{slice_get-get_or}
 use Rattle.std.specs.List.{before_first, flat_map, range_with_len, IsDistinct}
@@ -24,9 +26,11 @@ use Rattle.linked_demand.specs.Opens.{applies_in}
 use Rattle.linked_demand.specs.Seats.{applies_at}
 use Rattle.linked_demand.proofs.Lining.{applies_claim, claim_own, filter_twice, fresh}
 
-filter_flat : {A : Type 0} (q : ℕ → Bool) (f : A → List ℕ) (xs : List A) → filter q (flat_map f xs) ≡ flat_map (λ x. filter q (f x)) xs
+filter_flat : {A : Type 0} (q : ℕ → Bool) (f : A → List ℕ) (xs : List A)
+    → filter q (flat_map f xs) ≡ flat_map (λ x. filter q (f x)) xs
 filter_flat q f [] = refl
-filter_flat q f (x ∷ xs) = filter-append q (f x) (flat_map f xs) ∙ ap (λ (l : List ℕ). filter q (f x) ++ l) (filter_flat q f xs)
+filter_flat q f (x ∷ xs) = filter-append q (f x) (flat_map f xs) ∙ ap (λ (l : List ℕ). filter q (f x) ++ l)
+    (filter_flat q f xs)
 
 pub flat_same : (f g : ℕ → List ℕ) → ((x : ℕ) → f x ≡ g x) → (xs : List ℕ) → flat_map f xs ≡ flat_map g xs
 flat_same f g same [] = refl
@@ -47,7 +51,8 @@ only_one f g a zero le lt others = absurd (omega arith)
 only_one f g a (suc n) le lt others =
     elim (cases_eq a g) [
       | inl same ↦
-          ap (λ (l : List ℕ). f a ++ l) (none_after f (a + 1) n (λ h h_le. others h (λ e. omega (arith, e, h_le, same))))
+          ap (λ (l : List ℕ). f a ++ l)
+          (none_after f (a + 1) n (λ h h_le. others h (λ e. omega (arith, e, h_le, same))))
           ∙ append-nil (f a) ∙ ap f same
       | inr other ↦ rw (others a other) (only_one f g (a + 1) n (omega (arith, le, other)) (omega arith) others)
     ]
@@ -88,13 +93,15 @@ claim_in : (d : DossierRows) (p c : ℕ) → filter (applies_at d p) (group_clai
 claim_in d p c =
     let g = group_of d p in
     filter_twice (applies_at d p) (is_of_group d g) (own_places d c)
-    ∙ filter_same (λ k. is_of_group d g k && applies_at d p k) (applies_at d p) (λ k. in_group d p g k refl) (own_places d c)
+    ∙ filter_same (λ k. is_of_group d g k && applies_at d p k) (applies_at d p) (λ k. in_group d p g k refl)
+    (own_places d c)
     ∙ claim_own d p c
 
 claim_out : (d : DossierRows) (p g c : ℕ) → (g ≡ group_of d p → ⊥) → filter (applies_at d p) (group_claim d g c) ≡ []
 claim_out d p g c differs =
     filter_twice (applies_at d p) (is_of_group d g) (own_places d c)
-    ∙ filter_none (λ k. is_of_group d g k && applies_at d p k) (own_places d c) (λ j e lt. out_of_group d p g (get_or (own_places d c) j e) differs)
+    ∙ filter_none (λ k. is_of_group d g k && applies_at d p k) (own_places d c)
+    (λ j e lt. out_of_group d p g (get_or (own_places d c) j e) differs)
 
 -- THE ROW of a programme
 pub row_called : (d : DossierRows) (orders : List CallOrder) (n p : ℕ) → group_of d p < n
@@ -109,7 +116,8 @@ row_called d orders n p lt =
     ∙ flat_none (λ c. filter q (group_claim d h c)) (λ c. claim_out d p h c differs) (order_at orders h))
     ∙ filter_flat q (group_claim d g) order
     ∙ flat_same (λ c. filter q (group_claim d g c)) (claim_of d p) (λ c. claim_in d p c) order
-    ∙ skip_empty (claim_of d p) (applies_in d p) (λ c t. none_long (claim_of d p c) (sym (applies_claim d p c) ∙ t)) order
+    ∙ skip_empty (claim_of d p) (applies_in d p)
+    (λ c t. none_long (claim_of d p c) (sym (applies_claim d p c) ∙ t)) order
 
 pub row_itself : (d : DossierRows) (orders : List CallOrder) (n p : ℕ) → group_of d p < n
     → map (λ k. k) (filter (applies_at d p) (called_all d orders n)) ≡ called_for d orders p
@@ -123,7 +131,8 @@ kept_by q k xs among =
     let parts = and_parts (q x) (nat_eq k x) passes in
     ap q (eqb-true k x parts.1) ∙ parts.0
 
-pub kept_by_both : (q p : ℕ → Bool) (k : ℕ) (xs : List ℕ) → is_among k (filter q (filter p xs)) ≡ true → (p k ≡ true) × (q k ≡ true)
+pub kept_by_both : (q p : ℕ → Bool) (k : ℕ) (xs : List ℕ) → is_among k (filter q (filter p xs)) ≡ true
+    → (p k ≡ true) × (q k ≡ true)
 kept_by_both q p k xs among =
     and_parts (p k) (q k) (kept_by (λ x. p x && q x) k xs (ap (is_among k) (sym (filter_twice q p xs)) ∙ among))
 
@@ -134,9 +143,11 @@ among_itself ks j lt = list_any_at (nat_eq (get_or ks j 0)) ks j 0 lt (eq-eqb (g
 before_there : (order : List ℕ) (i : ℕ) → IsDistinct nat_eq order → i < length order
     → length (before_first (nat_eq (get_or order i 0)) order) ≡ i
 before_there order i apart lt =
-    ap length (front_same (get_or order i 0) order i lt refl (fresh order i apart lt)) ∙ length-take-le i order (omega (arith, lt))
+    ap length (front_same (get_or order i 0) order i lt refl (fresh order i apart lt))
+    ∙ length-take-le i order (omega (arith, lt))
 
-pub before_here : (d : DossierRows) (orders : List CallOrder) (g i before : ℕ) (order claim : List ℕ) → order ≡ order_at orders g
+pub before_here : (d : DossierRows) (orders : List CallOrder) (g i before : ℕ) (order claim : List ℕ)
+    → order ≡ order_at orders g
     → IsDistinct nat_eq (order_at orders g) → i < length order → before ≡ i → claim ≡ group_claim d g (get_or order i 0)
     → All (λ k. before_at d orders k ≡ before) claim
 before_here d orders g i before order claim order_is apart lt before_is claim_is j e within =
@@ -161,21 +172,25 @@ called_more f xs i claim lt is =
     ap (flat_map f) (take_more xs i 0 lt) ∙ sym (flat_map_more f [] (take i xs) (get_or xs i 0))
     ∙ ap (λ (l : List ℕ). flat_map f (take i xs) ++ l) (sym is)
 
-pub groups_more : (f : ℕ → List ℕ) (n : ℕ) → flat_map f (range_with_len 0 (n + 1)) ≡ flat_map f (range_with_len 0 n) ++ f n
+pub groups_more : (f : ℕ → List ℕ) (n : ℕ)
+    → flat_map f (range_with_len 0 (n + 1)) ≡ flat_map f (range_with_len 0 n) ++ f n
 groups_more f n = ap (flat_map f) (range_more 0 n n (omega arith)) ∙ sym (flat_map_more f [] (range_with_len 0 n) n)
 
 -- the call order that is read is that of the group
-pub order_read : (orders read : List CallOrder) (g : ℕ) (o : CallOrder) (list : List ℕ) → read ≡ orders → g < length orders
+pub order_read : (orders read : List CallOrder) (g : ℕ) (o : CallOrder) (list : List ℕ) → read ≡ orders
+    → g < length orders
     → o ≡ get_or read g o → list ≡ o.list → list ≡ order_at orders g
 order_read orders read g o list read_is lt o_is list_is =
     let at : slice_get orders g ≡ Some o =
-    slice_get-get_or orders g o lt ∙ ap (λ (x : CallOrder). Some x) (sym (o_is ∙ ap (λ (l : List CallOrder). get_or l g o) read_is)) in
+    slice_get-get_or orders g o lt ∙ ap (λ (x : CallOrder). Some x) (sym
+    (o_is ∙ ap (λ (l : List CallOrder). get_or l g o) read_is)) in
     list_is ∙ sym (ap (λ (p : Option CallOrder). unwrap_or (option_map (λ q. q.list) p) []) at)
 
 -- the group of a programme is there
 pub group_in : (d : DossierRows) → IsValid d → (p : ℕ) → p < length d.programmes → group_of d p < length d.groups
 group_in d valid p lt =
     let none : Programme = record { id = 0; group = 0; seats = 0; limit = 0 } in
-    let read : group_of d p ≡ (get_or d.programmes p none).group = get_or-map (λ (q : Programme). q.group) d.programmes p none 0 lt in
+    let read : group_of d p ≡ (get_or d.programmes p none).group =
+    get_or-map (λ (q : Programme). q.group) d.programmes p none 0 lt in
     let P = λ (n : ℕ). n < length d.groups in
     subst P (sym read) (valid.programmes p none lt).group

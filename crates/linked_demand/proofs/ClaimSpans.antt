@@ -1,10 +1,12 @@
 -- The lists of the wishes by group, and each candidate's wishes in them.
-use Rattle.std.proofs.Common.{ℕ, ◌+◌, ◌-◌, ◌≤◌, ◌<◌, ◌≡◌, Bool, true, false, not, ◌&&◌, List, map, length, get_or, inl, inr, refl, sym, ◌∙◌, ap, arith, nat_eq, filter, subst, Some, Vec, ltb, leb}
+use Rattle.std.proofs.Common.{ℕ, ◌+◌, ◌-◌, ◌≤◌, ◌<◌, ◌≡◌, Bool, true, false, not, ◌&&◌, List, map, length, get_or, inl}
+use Rattle.std.proofs.Common.{inr, refl, sym, ◌∙◌, ap, arith, nat_eq, filter, subst, Some, Vec, ltb, leb}
 use Rattle.std.specs.Prelude.{◌==◌, ◌^◌}
 use Rattle.std.specs.declared.alloc.Global.{Global}
 use Rattle.std.specs.List.Sorted.{IsNonDecreasingBy, IsPartitionPoint}
 use Rattle.std.proofs.Math.ListN.{set}
-use Rattle.std.proofs.lemmas.Bool.{and_parts, cases_lt, eqb-true, le-leb, le-ltb, lt-leb, lt-ltb, ltb-true, ltb-false, or_cases}
+use Rattle.std.proofs.lemmas.Bool.{and_parts, cases_lt, eqb-true, le-leb, le-ltb, lt-leb, lt-ltb, ltb-true, ltb-false}
+use Rattle.std.proofs.lemmas.Bool.{or_cases}
 use Rattle.std.proofs.lemmas.List.{get_or-map, get_or_default, length-map, length-set, map-id}
 use Rattle.std.proofs.lemmas.Option.{slice_get-get_or}
 use Rattle.std.proofs.lemmas.List.Elements.{All-filter}
@@ -28,7 +30,8 @@ turn_two false true = refl
 turn_two false false = refl
 
 -- those in an order by candidate that are for a programme of a group
-pub wishes_in : (s : DossierRows) (order : List ℕ) (p : ℕ) (wishes : List ℕ) → length s.wishes < 2 ^ 32 → IsIndex s.wishes order
+pub wishes_in : (s : DossierRows) (order : List ℕ) (p : ℕ) (wishes : List ℕ) → length s.wishes < 2 ^ 32
+    → IsIndex s.wishes order
     → wishes ≡ filter (is_of_group s p) order → AreWishesIn s p wishes
 wishes_in s order p wishes few index is =
     let ws = s.wishes in
@@ -53,7 +56,8 @@ pub wishes_from : (s : DossierRows) (order : List ℕ) (rows : List (Vec ℕ Glo
     → AreRowsOf (λ k. k) (is_of_group s) (length s.groups) order rows → AreWishesFrom s 0 rows
 wishes_from s order rows few index are = record {
   one_each = are.one_each;
-  each = λ p row le at. wishes_in s order p row.items few index (are.each p row at ∙ map-id (filter (is_of_group s p) order));
+  each = λ p row le at. wishes_in s order p row.items few index (are.each p row at
+      ∙ map-id (filter (is_of_group s p) order));
 }
 
 -- the list that is taken out for a group is of the wishes for its programmes
@@ -67,7 +71,8 @@ pub wishes_later : (s : DossierRows) (n : ℕ) (rows : List (Vec ℕ Global)) (r
     → AreWishesFrom s n rows → AreWishesFrom s (n + 1) (set rows n row)
 wishes_later s n rows row are = record {
   one_each = length-set rows n row ∙ are.one_each;
-  each = λ p other le at. are.each p other (omega arith) (get_set_other rows n p row other (λ e. omega (arith, le, e)) at);
+  each = λ p other le at. are.each p other (omega arith) (get_set_other rows n p row other
+      (λ e. omega (arith, le, e)) at);
 }
 
 pub candidates_from : (s : DossierRows) (order : List ℕ) (rows candidates : List (Vec ℕ Global))
@@ -112,7 +117,12 @@ pub record IsAlike (xs : List ℕ) (c from to : ℕ) : Type 0 where
   pub alike : (k : ℕ) → from ≤ k → k < to → get_or xs k 0 ≡ c
 
 pub alike_none : (xs : List ℕ) (c from : ℕ) → from ≤ length xs → IsAlike xs c from from
-alike_none xs c from le = record { rises = omega arith; within = le; alike = λ k low high. absurd (omega (arith, low, high)) }
+alike_none xs c from le = record {
+  rises = omega arith;
+  within = le;
+  alike =
+      λ k low high. absurd (omega (arith, low, high));
+}
 
 pub alike_more : (xs : List ℕ) (c from to : ℕ) → IsAlike xs c from to → to < length xs → get_or xs to 0 ≡ c
     → IsAlike xs c from (to + 1)
@@ -169,7 +179,8 @@ begins_there xs c k rises begins =
       (
         λ j d low high. lt-ltb (get_or xs j d) c
             (omega (arith, get_or_default xs j d 0 (omega (arith, high, within)), below j high)),
-        λ j d low high. le-ltb (get_or xs j d) c (omega (arith, here, get_or_default xs j d 0 high, rises k j 0 low high)),
+        λ j d low high. le-ltb (get_or xs j d) c
+            (omega (arith, here, get_or_default xs j d 0 high, rises k j 0 low high)),
       ),
     )
 

@@ -1,11 +1,14 @@
 -- The links of the programmes stay right where one wish is closed.
-use Rattle.std.proofs.Common.{ℕ, ◌+◌, ◌≤◌, ◌<◌, ◌≡◌, Bool, true, false, ◌&&◌, ◌||◌, List, [], ◌∷◌, map, length, inl, inr, refl, sym, ◌∙◌, ap, arith, nat_eq, nat_lt, filter, zero, suc, get_or, drop, Option, Some, zip, add-one, option_map, unwrap_or, drop-cons, subst}
+use Rattle.std.proofs.Common.{ℕ, ◌+◌, ◌≤◌, ◌<◌, ◌≡◌, Bool, true, false, ◌&&◌, ◌||◌, List, [], ◌∷◌, map, length, inl}
+use Rattle.std.proofs.Common.{inr, refl, sym, ◌∙◌, ap, arith, nat_eq, nat_lt, filter, zero, suc, get_or, drop, Option}
+use Rattle.std.proofs.Common.{Some, zip, add-one, option_map, unwrap_or, drop-cons, subst}
 use Rattle.std.proofs.Math.ListN.{set}
 use Rattle.std.specs.Prelude.{slice_index, slice_get}
 use Rattle.std.specs.List.{list_any, enumerate_from, range_with_len, AllByRecursion}
 use Rattle.std.proofs.lemmas.Bool.{cases_Bool, or_cases, or_left, or_right, eqb-false, ne_eqb, eq-eqb}
 use Rattle.std.proofs.lemmas.List.{get_or_read, length-set, get_or-map, length-map}
-use Rattle.std.proofs.lemmas.List.FromFn.{get_or-map-range_with_len, length-map-range_with_len, get_or-range_with_len, length-range_with_len}
+use Rattle.std.proofs.lemmas.List.FromFn.{get_or-map-range_with_len, length-map-range_with_len, get_or-range_with_len}
+use Rattle.std.proofs.lemmas.List.FromFn.{length-range_with_len}
 use Rattle.std.proofs.lemmas.Option.{slice_get_within}
 use Rattle.admit_core.proofs.Plain.{and_false, any_same, and_true, and_assoc}
 use Rattle.admit_core.specs.declared.dossier.Wish.{Wish}
@@ -15,7 +18,8 @@ use Rattle.admit_core.specs.State.{State, entries, seats_left}
 use Rattle.admit_core.specs.Proposals.{needs_no_seat}
 use Rattle.day_state.specs.Kept.{wish_in}
 use Rattle.linked_demand.specs.Line.{LineRow, is_reached}
-use Rattle.linked_demand.specs.Opens.{flagged, is_flagged_in, wants_by, ahead_by, is_proposed_by, applies_in, line_of, seat_row}
+use Rattle.linked_demand.specs.Opens.{flagged, is_flagged_in, wants_by, ahead_by, is_proposed_by, applies_in, line_of}
+use Rattle.linked_demand.specs.Opens.{seat_row}
 use Rattle.linked_demand.specs.Links.{LinksRow, IsSeatPlace, claim_of, WaitsAt, IsLinked}
 use Rattle.linked_demand.specs.Demand.{is_proposed_at}
 use Rattle.linked_demand.proofs.Opens.{row_own, row_other, map_at, reached_in_line}
@@ -31,7 +35,8 @@ wish_of (v ∷ ws) (n ∷ ms) (suc i) w m at = wish_of ws ms i w m at
 -- an element read of a list by place
 pub read_range : {X : Type 0} (f : ℕ → X) (n p : ℕ) (xs : List X) (x : X) → xs ≡ map f (range_with_len 0 n)
     → p < n → x ≡ get_or xs p x → x ≡ f p
-read_range f n p xs x is lt read = read ∙ ap (λ ys. get_or ys p x) is ∙ get_or-map-range_with_len f 0 n p p x lt (omega arith)
+read_range f n p xs x is lt read = read ∙ ap (λ ys. get_or ys p x) is ∙ get_or-map-range_with_len f 0 n p p x lt
+    (omega arith)
 
 -- whether a wish of the claim is open
 pub any_of_claim : (t : Wish → Bool) (ws : List Wish) (ms : List Mark) (a : ℕ) (opens : List Bool)
@@ -66,7 +71,8 @@ length_entries (w ∷ ws) [] e = e
 length_entries (w ∷ ws) (m ∷ ms) e = ap suc (length_entries ws ms (omega arith))
 
 -- fewer flags find fewer
-pub fewer : {X : Type 0} (q : X × Bool → Bool) → ((x : X) → q (x, false) ≡ false) → (xs : List X) (ys : List Bool) (i : ℕ)
+pub fewer : {X : Type 0} (q : X × Bool → Bool) → ((x : X) → q (x, false) ≡ false)
+    → (xs : List X) (ys : List Bool) (i : ℕ)
     → list_any q (zip xs (set ys i false)) ≡ true → list_any q (zip xs ys) ≡ true
 fewer q h [] ys i t = t
 fewer q h (x ∷ xs) [] i t = t
@@ -143,7 +149,8 @@ module _ {s : State} {orders : List CallOrder} {opens : List Bool} {lines : List
 
   pub place_right : (x : ℕ) → x ≡ get_or places i x → IsSeatPlace s.dossier orders w x
   place_right x read =
-      let is : slice_index places i ≡ x = sym (get_or_read places i x (omega (arith, wish_within, k.links.places_each)) read 0) in
+      let is : slice_index places i ≡ x = sym (get_or_read places i x (omega (arith, wish_within, k.links.places_each))
+      read 0) in
       let P = λ (n : ℕ). IsSeatPlace s.dossier orders w n in
       subst P is (k.links.places_are i w (wish_of s.dossier.wishes s.marks i w k.mark k.at.here))
 
@@ -184,7 +191,8 @@ module _ {s : State} {orders : List CallOrder} {opens : List Bool} {lines : List
 
   -- only the line of the wish's programme may change
   pub lines_set : (new : LineRow) → new ≡ seat_row s orders (set opens i false) w.programme
-      → set lines w.programme new ≡ map (seat_row s orders (set opens i false)) (range_with_len 0 (length s.dossier.programmes))
+      → set lines w.programme new ≡ map (seat_row s orders (set opens i false))
+      (range_with_len 0 (length s.dossier.programmes))
   lines_set new is =
       let n = length s.dossier.programmes in
       let old = seat_row s orders opens in
@@ -193,7 +201,8 @@ module _ {s : State} {orders : List CallOrder} {opens : List Bool} {lines : List
       (arith, get_or-range_with_len 0 n w.programme 0 programme_within) in
       let changed : map next (range_with_len 0 n) ≡ set (map old (range_with_len 0 n)) w.programme
       (next (get_or (range_with_len 0 n) w.programme 0)) =
-      map_at old next (range_with_len 0 n) w.programme (omega (arith, programme_within, length-range_with_len 0 n)) (λ j lt ne.
+      map_at old next (range_with_len 0 n) w.programme (omega (arith, programme_within, length-range_with_len 0 n))
+      (λ j lt ne.
       let there : get_or (range_with_len 0 n) j 0 ≡ j = omega
       (arith, get_or-range_with_len 0 n j 0 (omega (arith, length-range_with_len 0 n))) in
       rw there (row_other s opens i w k.mark k.at.here orders j
@@ -213,7 +222,8 @@ module _ {s : State} {orders : List CallOrder} {opens : List Bool} {lines : List
 
   pub claims_each : length claims ≡ length s.dossier.programmes
   claims_each = ap length k.links.claims_are
-      ∙ length-map-range_with_len (λ p. map (claim_of s.dossier p) (line_of s.dossier orders p)) 0 (length s.dossier.programmes)
+      ∙ length-map-range_with_len (λ p. map (claim_of s.dossier p) (line_of s.dossier orders p)) 0
+      (length s.dossier.programmes)
 
   -- the row that is read has the place
   pub row_within : (place : ℕ) → IsSeatPlace s.dossier orders w place → (row : List (List ℕ))
@@ -263,7 +273,8 @@ module _ {s : State} {orders : List CallOrder} {opens : List Bool} {lines : List
       get_or_read sure i sure_flag (omega (arith, lt, k.links.sure_each)) sure_read false ∙ k.links.sure_are i w wish in
       let line_is = line_right k line read in
       let reach_is : reached ≡ nat_lt (ahead_by s orders opens w) (seats_left s w.programme) =
-      by ∙ ap (λ (r : LineRow). is_reached r place) line_is ∙ reached_in_line s orders opens w place applies_in_programme at in
+      by ∙ ap (λ (r : LineRow). is_reached r place) line_is
+      ∙ reached_in_line s orders opens w place applies_in_programme at in
       rw (flag_is, sure_is, reach_is, k.at.waits) refl
 
 -- the same, as the call says it
@@ -282,7 +293,8 @@ proposed_goal {s} {orders} {opens} {lines} {claims} {places} {sure} links row is
     let found = wish_there s.dossier.wishes i v (starts_within links row is i (w, m, waits)) wish_read in
     let P = λ (r : LinksRow). WaitsAt r.state i w m in
     let here : WaitsAt s i w m = subst P (sym is) waits in
-    let same : v ≡ w = ap (λ (o : Option Wish). unwrap_or o w) (sym found ∙ wish_of s.dossier.wishes s.marks i w m here.here) in
+    let same : v ≡ w = ap (λ (o : Option Wish). unwrap_or o w)
+    (sym found ∙ wish_of s.dossier.wishes s.marks i w m here.here) in
     let k : Closes s orders opens lines claims places sure i w = record { links = links; mark = m; at = here } in
     let read : line ≡ get_or lines w.programme line = rw same at line_read in
     let Q = λ (r : LinksRow). served ≡ is_proposed_by r.state r.orders r.opens w m (get_or r.opens i false) in
@@ -293,4 +305,5 @@ pub proposed_at_is : (row : LinksRow) (i : ℕ) (w : Wish) (m : Mark) → WaitsA
     → is_proposed_at row i ≡ is_proposed_by row.state row.orders row.opens w m (get_or row.opens i false)
 proposed_at_is row i w m waits =
     ap (λ (o : Option (Wish × Mark)). unwrap_or
-    (option_map (λ e. is_proposed_by row.state row.orders row.opens e.0 e.1 (get_or row.opens i false)) o) false) waits.here
+    (option_map (λ e. is_proposed_by row.state row.orders row.opens e.0 e.1 (get_or row.opens i false)) o) false)
+    waits.here

@@ -1,5 +1,6 @@
 -- Counts over a claim are counts over all wishes.
-use Rattle.std.proofs.Common.{false, ℕ, ◌+◌, ◌≡◌, Bool, ◌&&◌, List, [], ◌∷◌, map, length, inl, inr, refl, ap, arith, filter, suc, Some, count_by, subst, cond, zip}
+use Rattle.std.proofs.Common.{false, ℕ, ◌+◌, ◌≡◌, Bool, ◌&&◌, List, [], ◌∷◌, map, length, inl, inr, refl, ap, arith}
+use Rattle.std.proofs.Common.{filter, suc, Some, count_by, subst, cond, zip}
 use Rattle.std.specs.Prelude.{slice_get}
 use Rattle.std.specs.List.{enumerate_from}
 use Rattle.std.proofs.lemmas.Bool.{cases_Bool}
@@ -49,21 +50,24 @@ count_claim {X} t q p es h =
 filter_entries : {X Y : Type 0} (r : ℕ → X → Bool) (p : ℕ × (X × Y) → Bool) (xs : List X) (ys : List Y)
     (a : ℕ) → length ys ≡ length xs
     → ((j : ℕ) (e : X × Y) → slice_get (zip xs ys) j ≡ Some e → p (a + j, e) ≡ r (a + j) e.0)
-    → length (filter (λ (x : ℕ × X). r x.0 x.1) (enumerate_from a xs)) ≡ length (filter p (enumerate_from a (zip xs ys)))
+    → length (filter (λ (x : ℕ × X). r x.0 x.1) (enumerate_from a xs))
+    ≡ length (filter p (enumerate_from a (zip xs ys)))
 filter_entries r p [] ys a long h = refl
 filter_entries r p (x ∷ xs) [] a long h = absurd (omega arith)
 filter_entries {X} {Y} r p (x ∷ xs) (y ∷ ys) a long h =
     let P = λ (n : ℕ). p (n, (x, y)) ≡ r n x in
     let first : p (a, (x, y)) ≡ r a x = subst P (let z : a + 0 ≡ a = omega arith in z) (h 0 (x, y) refl) in
     let rest = filter_entries r p xs ys (a + 1) (omega arith) (λ j e at.
-    let Q = λ (n : ℕ). p (n, e) ≡ r n e.0 in subst Q (let z : a + suc j ≡ a + 1 + j = omega arith in z) (h (suc j) e at)) in
+    let Q = λ (n : ℕ). p (n, e) ≡ r n e.0 in
+    subst Q (let z : a + suc j ≡ a + 1 + j = omega arith in z) (h (suc j) e at)) in
     elim (cases_Bool (r a x)) [
       | inl counts ↦ rw (first, counts) (ap suc rest)
       | inr none ↦ rw (first, none) rest
     ]
 
 -- what a test of entries says by their first parts alone is counted over these
-pub count_entries : {X Y : Type 0} (r : ℕ → X → Bool) (p : ℕ × (X × Y) → Bool) (xs : List X) (ys : List Y) → length ys ≡ length xs
+pub count_entries : {X Y : Type 0} (r : ℕ → X → Bool) (p : ℕ × (X × Y) → Bool) (xs : List X) (ys : List Y)
+    → length ys ≡ length xs
     → ((j : ℕ) (e : X × Y) → slice_get (zip xs ys) j ≡ Some e → p (j, e) ≡ r j e.0)
     → count_by (λ (x : ℕ × X). r x.0 x.1) (enumerate_from 0 xs) ≡ count_by p (enumerate_from 0 (zip xs ys))
 count_entries {X} {Y} r p xs ys long h =
@@ -112,12 +116,15 @@ count_places t es a = omega
 
 one_more : {X : Type 0} (p : ℕ × X → Bool) (e : X) (xs : List (ℕ × X)) (a : ℕ)
     → length (filter p ((a, e) ∷ xs)) ≡ cond (p (a, e)) 1 0 + length (filter p xs)
-one_more p e xs a = elim (cases_Bool (p (a, e))) [ inl passes ↦ rw passes (omega arith) | inr fails ↦ rw fails (omega arith) ]
+one_more p e xs a = elim (cases_Bool (p (a, e)))
+    [ inl passes ↦ rw passes (omega arith) | inr fails ↦ rw fails (omega arith) ]
 
 -- two counts that add up at each place
 sums : {X : Type 0} (p q r : ℕ × X → Bool) (es : List X) (a : ℕ)
-    → ((j : ℕ) (e : X) → slice_get es j ≡ Some e → cond (p (a + j, e)) 1 0 + cond (q (a + j, e)) 1 0 ≡ cond (r (a + j, e)) 1 0)
-    → length (filter p (enumerate_from a es)) + length (filter q (enumerate_from a es)) ≡ length (filter r (enumerate_from a es))
+    → ((j : ℕ) (e : X) → slice_get es j ≡ Some e
+    → cond (p (a + j, e)) 1 0 + cond (q (a + j, e)) 1 0 ≡ cond (r (a + j, e)) 1 0)
+    → length (filter p (enumerate_from a es)) + length (filter q (enumerate_from a es))
+    ≡ length (filter r (enumerate_from a es))
 sums p q r [] a h = omega arith
 sums p q r (e ∷ es) a h =
     let P = λ (n : ℕ). cond (p (n, e)) 1 0 + cond (q (n, e)) 1 0 ≡ cond (r (n, e)) 1 0 in

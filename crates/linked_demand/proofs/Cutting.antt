@@ -1,5 +1,6 @@
 -- The wishes of a row that rank past a number are closed one after another.
-use Rattle.std.proofs.Common.{ℕ, ◌-◌, ◌≤◌, ◌<◌, ◌≡◌, Bool, false, List, [], ◌∷◌, length, inl, inr, refl, sym, ◌∙◌, ap, arith, zero, suc, get_or, take, drop, Option, Some, subst, unwrap_or}
+use Rattle.std.proofs.Common.{ℕ, ◌-◌, ◌≤◌, ◌<◌, ◌≡◌, Bool, false, List, [], ◌∷◌, length, inl, inr, refl, sym, ◌∙◌, ap}
+use Rattle.std.proofs.Common.{arith, zero, suc, get_or, take, drop, Option, Some, subst, unwrap_or}
 use Rattle.std.specs.Prelude.{slice_set, slice_get}
 use Rattle.std.proofs.lemmas.Bool.{cases_eq}
 use Rattle.std.proofs.lemmas.Option.{slice_get_within, slice_get_read}
@@ -18,7 +19,8 @@ closed_none (x ∷ row) (suc n) opens e = closed_none row n opens (omega arith)
 closed_one : (row : List RowWish) (n : ℕ) (x : RowWish) (opens : List Bool) → slice_get row n ≡ Some x
     → closed (drop n row) opens ≡ slice_set (closed (drop (suc n) row) opens) x.wish false
 closed_one [] n x opens at = absurd (omega (arith, slice_get_within [] n x at))
-closed_one (y ∷ row) zero x opens at = ap (λ (o : Option RowWish). slice_set (closed row opens) (unwrap_or o y).wish false) at
+closed_one (y ∷ row) zero x opens at = ap (λ (o : Option RowWish). slice_set (closed row opens)
+    (unwrap_or o y).wish false) at
 closed_one (y ∷ row) (suc n) x opens at = closed_one row n x opens at
 
 -- what holds while the end of the row falls
@@ -27,7 +29,8 @@ pub record SoFar (to : ℕ) (row : List RowWish) (start now : LinksRow) (end : �
   pub now_is : now ≡ record start { opens = closed (drop end row) start.opens }
   pub past : (k : ℕ) (x : RowWish) → end ≤ k → slice_get row k ≡ Some x → to < x.rank
 
-pub so_far_start : (to : ℕ) (row : List RowWish) (start : LinksRow) (end : ℕ) → end ≡ length row → SoFar to row start start end
+pub so_far_start : (to : ℕ) (row : List RowWish) (start : LinksRow) (end : ℕ) → end ≡ length row
+    → SoFar to row start start end
 so_far_start to row start end is =
     record {
       within = omega arith;
@@ -53,7 +56,8 @@ so_far_step to row start now new end n x y far is read past read_again new_is =
     record {
       within = omega (arith, far.within);
       now_is = new_is ∙ ap (λ (os : List Bool). let r : LinksRow = record now { opens = os } in r) opens
-          ∙ ap (λ (r : LinksRow). let q : LinksRow = record r { opens = closed (drop n row) start.opens } in q) far.now_is;
+          ∙ ap (λ (r : LinksRow). let q : LinksRow = record r { opens = closed (drop n row) start.opens } in q)
+          far.now_is;
       past = λ k z le found. elim (cases_eq k n) [
         | inl here ↦ rw (← same_at row n x z at (rw here at found)) past
         | inr other ↦ far.past k z (omega (arith, other)) found
@@ -77,7 +81,8 @@ item_still to row start now end n y far is read all =
 
 pub so_far_cuts : (to : ℕ) (row : List RowWish) (start now : LinksRow) (end : ℕ) (kept : List RowWish)
     → SoFar to row start now end → kept ≡ take end row
-    → ((x : RowWish) → 0 < end → slice_get row (end - 1) ≡ Some x → x.rank ≤ to) → CutsAt to row start.opens kept now.opens
+    → ((x : RowWish) → 0 < end → slice_get row (end - 1) ≡ Some x → x.rank ≤ to)
+    → CutsAt to row start.opens kept now.opens
 so_far_cuts to row start now end kept far is last =
     record {
       end = end;

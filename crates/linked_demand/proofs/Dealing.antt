@@ -1,5 +1,6 @@
 -- Items that are put at the end of rows, those of one place after another.
-use Rattle.std.proofs.Common.{ℕ, ◌+◌, ◌≤◌, ◌<◌, ◌≡◌, Bool, List, [], ◌∷◌, ◌++◌, map, length, take, get_or, inl, inr, refl, sym, ◌∙◌, ap, arith, filter, Some, Vec, subst}
+use Rattle.std.proofs.Common.{ℕ, ◌+◌, ◌≤◌, ◌<◌, ◌≡◌, Bool, List, [], ◌∷◌, ◌++◌, map, length, take, get_or, inl, inr}
+use Rattle.std.proofs.Common.{refl, sym, ◌∙◌, ap, arith, filter, Some, Vec, subst}
 use Rattle.std.specs.Prelude.{if◌then◌else◌}
 use Rattle.std.specs.declared.alloc.Global.{Global}
 use Rattle.std.proofs.Math.ListN.{set}
@@ -13,7 +14,8 @@ use Rattle.linked_demand.specs.Called.{AreRowsFrom}
 use Rattle.linked_demand.specs.Keyed.{AreEmpty, ArePutIn, IsPutIn}
 use Rattle.linked_demand.proofs.Keeping.{add_none}
 
-pub puts_none : {X : Type 0} (item : ℕ → X) (belongs : ℕ → ℕ → Bool) (rows : List (Vec X Global)) → ArePutIn item belongs [] rows rows
+pub puts_none : {X : Type 0} (item : ℕ → X) (belongs : ℕ → ℕ → Bool) (rows : List (Vec X Global))
+    → ArePutIn item belongs [] rows rows
 puts_none item belongs rows = record { as_many = refl; each = λ h row at. (row, at, add_none row.items) }
 
 pub puts_more : {X : Type 0} (item : ℕ → X) (belongs : ℕ → ℕ → Bool) (places : List ℕ) (i : ℕ) (here : ℕ → Bool) (x : X)
@@ -43,15 +45,18 @@ puts_more {X} item belongs places i here x old now new lt here_is x_is so_far pu
       );
 }
 
-pub puts_all : {X : Type 0} (item : ℕ → X) (belongs : ℕ → ℕ → Bool) (places : List ℕ) (i : ℕ) (old new : List (Vec X Global))
+pub puts_all : {X : Type 0} (item : ℕ → X) (belongs : ℕ → ℕ → Bool) (places : List ℕ) (i : ℕ)
+    (old new : List (Vec X Global))
     → length places ≤ i → ArePutIn item belongs (take i places) old new → ArePutIn item belongs places old new
 puts_all item belongs places i old new le are =
     let P = λ (ks : List ℕ). ArePutIn item belongs ks old new in
     subst P (take_all i places le) are
 
 -- those of some places, and then those of others
-pub puts_on : {X : Type 0} (item : ℕ → X) (belongs : ℕ → ℕ → Bool) (xs ys zs : List ℕ) (old mid new : List (Vec X Global))
-    → zs ≡ xs ++ ys → ArePutIn item belongs xs old mid → ArePutIn item belongs ys mid new → ArePutIn item belongs zs old new
+pub puts_on : {X : Type 0} (item : ℕ → X) (belongs : ℕ → ℕ → Bool) (xs ys zs : List ℕ)
+    (old mid new : List (Vec X Global))
+    → zs ≡ xs ++ ys → ArePutIn item belongs xs old mid → ArePutIn item belongs ys mid new
+    → ArePutIn item belongs zs old new
 puts_on {X} item belongs xs ys zs old mid new zs_is first second = record {
   as_many = second.as_many ∙ first.as_many;
   each = λ h row at.
@@ -90,5 +95,6 @@ pub rows_later : {X : Type 0} (n count : ℕ) (f : ℕ → List X) (rows : List 
     → AreRowsFrom n count f rows → AreRowsFrom (n + 1) count f (set rows n row)
 rows_later n count f rows row are = record {
   one_each = length-set rows n row ∙ are.one_each;
-  each = λ p other le at. are.each p other (omega arith) (get_set_other rows n p row other (λ e. omega (arith, le, e)) at);
+  each = λ p other le at. are.each p other (omega arith) (get_set_other rows n p row other
+      (λ e. omega (arith, le, e)) at);
 }

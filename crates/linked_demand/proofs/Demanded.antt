@@ -1,14 +1,17 @@
 -- The ranks that a row tells are the demanded ranks of its school.
-use Rattle.std.proofs.Common.{ℕ, ◌≤◌, ◌<◌, ◌≡◌, Bool, true, false, not, ◌&&◌, ◌||◌, List, [], ◌∷◌, map, inl, inr, refl, sym, ◌∙◌, arith, nat_eq, nat_lt, suc, get_or, filter, Some, subst, ap}
+use Rattle.std.proofs.Common.{ℕ, ◌≤◌, ◌<◌, ◌≡◌, Bool, true, false, not, ◌&&◌, ◌||◌, List, [], ◌∷◌, map, inl, inr, refl}
+use Rattle.std.proofs.Common.{sym, ◌∙◌, arith, nat_eq, nat_lt, suc, get_or, filter, Some, subst, ap}
 use Rattle.std.specs.Prelude.{slice_get}
 use Rattle.std.specs.List.{list_any, AllByRecursion}
-use Rattle.std.proofs.lemmas.Bool.{cases_Bool, false≢true, cases_lt, and_parts, and_from, and_right, or_cases, eqb-true, eq-eqb, eqb-false, ne_eqb, ltb-true, lt-ltb}
+use Rattle.std.proofs.lemmas.Bool.{cases_Bool, false≢true, cases_lt, and_parts, and_from, and_right, or_cases, eqb-true}
+use Rattle.std.proofs.lemmas.Bool.{eq-eqb, eqb-false, ne_eqb, ltb-true, lt-ltb}
 use Rattle.admit_core.specs.declared.dossier.Wish.{Wish}
 use Rattle.admit_core.specs.declared.state.Mark.{Mark}
 use Rattle.admit_core.specs.declared.ranking.CallOrder.{CallOrder}
 use Rattle.admit_core.specs.Lists.{is_among}
 use Rattle.admit_core.specs.State.{State, entries, is_waiting, holds_bed, has_school, seats_left}
-use Rattle.admit_core.specs.Proposals.{is_open, is_barred, is_proposed, needs_no_seat, ahead, demands_bed, demanded_ranks}
+use Rattle.admit_core.specs.Proposals.{is_open, is_barred, is_proposed, needs_no_seat, ahead, demands_bed}
+use Rattle.admit_core.specs.Proposals.{demanded_ranks}
 use Rattle.admit_core.proofs.Tests.{Ascends, same_members, ascends_ascending}
 use Rattle.admit_core.proofs.DemandLaws.{demanded}
 use Rattle.admit_core.proofs.Plain.{same_test}
@@ -32,7 +35,8 @@ at_least x [] h = tt
 at_least x (y ∷ xs) h = (h 0 y refl, at_least x xs (λ k z at. h (suc k) z at))
 
 rises_row : (xs : List RowWish)
-    → ((j k : ℕ) (x y : RowWish) → j ≤ k → slice_get xs j ≡ Some x → slice_get xs k ≡ Some y → x.rank ≤ y.rank) → Rises xs
+    → ((j k : ℕ) (x y : RowWish) → j ≤ k → slice_get xs j ≡ Some x → slice_get xs k ≡ Some y → x.rank ≤ y.rank)
+    → Rises xs
 rises_row [] h = tt
 rises_row (x ∷ xs) h = (
   at_least x xs (λ k y at. h 0 (suc k) x y (omega arith) refl at),
@@ -41,7 +45,8 @@ rises_row (x ∷ xs) h = (
 )
 
 -- what is counted lies above the last one, and rises
-above_counted : (p : ℕ → Bool) (low last : ℕ) (xs : List RowWish) → low ≤ last → AllByRecursion (λ m. low < m) (counted p last xs)
+above_counted : (p : ℕ → Bool) (low last : ℕ) (xs : List RowWish) → low ≤ last
+    → AllByRecursion (λ m. low < m) (counted p last xs)
 above_counted p low last [] le = tt
 above_counted p low last (x ∷ xs) le =
     elim (cases_Bool (nat_lt last x.rank && p x.wish)) [
@@ -99,7 +104,8 @@ among_counted p r last (x ∷ xs) rises =
             ])
           ])
       | inr not_so ↦ rw not_so
-          (among_counted p r last xs rises.1 ∙ skip (nat_lt last r) (list_any (passes p r) xs) (passes p r x) (λ above t.
+          (among_counted p r last xs rises.1 ∙ skip (nat_lt last r) (list_any (passes p r) xs) (passes p r x)
+          (λ above t.
           let parts = and_parts (p x.wish) (nat_eq r x.rank) t in
           let same = eqb-true r x.rank parts.1 in
           false≢true (sym not_so ∙ and_from (nat_lt last x.rank) (p x.wish)
@@ -125,13 +131,15 @@ module _ (l : LinksRow) (bars : List ℕ) (h : ℕ) (row : List RowWish) (right 
       → is_proposed_at l i ≡ is_proposed l.state l.orders bars w m
   proposed_at_bars i w m waits =
       let flag : get_or l.opens i false ≡ is_open l.state bars w m =
-      rw opens_are (flag_map (λ (e : Wish × Mark). is_open l.state bars e.0 e.1) (entries l.state) i (w, m) waits.here) in
+      rw opens_are (flag_map (λ (e : Wish × Mark). is_open l.state bars e.0 e.1) (entries l.state) i
+      (w, m) waits.here) in
       proposed_at_is l i w m waits ∙ rw (flag, opens_are) (proposed_by_bars l.state l.orders bars w m)
 
   -- who demands a rank stands in the row, and passes there
   pub demander : (r k : ℕ) (e : Wish × Mark) → slice_get (entries l.state) k ≡ Some e
       → demands_at l.state l.orders bars h r e ≡ true
-      → (j : ℕ) × (y : RowWish) × (slice_get row j ≡ Some y) × (y.rank ≡ r) × (y.wish ≡ k) × (is_proposed_at l k ≡ true) × (0 < r)
+      → (j : ℕ) × (y : RowWish) × (slice_get row j ≡ Some y) × (y.rank ≡ r) × (y.wish ≡ k) × (is_proposed_at l k ≡ true)
+      × (0 < r)
   demander r k e at both =
       let w = e.0 in
       let m = e.1 in
@@ -139,7 +147,8 @@ module _ (l : LinksRow) (bars : List ℕ) (h : ℕ) (row : List RowWish) (right 
       let demand = and_parts (demands_bed l.state l.orders bars h w m) (nat_eq r w.board_rank) both in
       let outer = and_parts
       ((has_school w h && nat_lt 0 w.board_rank) && not (holds_bed l.state w.candidate h)) proposed demand.0 in
-      let middle = and_parts (has_school w h && nat_lt 0 w.board_rank) (not (holds_bed l.state w.candidate h)) outer.0 in
+      let middle = and_parts (has_school w h && nat_lt 0 w.board_rank)
+      (not (holds_bed l.state w.candidate h)) outer.0 in
       let inner = and_parts (has_school w h) (nat_lt 0 w.board_rank) middle.0 in
       let opens = (and_parts (is_open l.state bars w m)
       (needs_no_seat l.state l.orders w || nat_lt (ahead l.state l.orders bars w)
@@ -150,8 +159,16 @@ module _ (l : LinksRow) (bars : List ℕ) (h : ℕ) (row : List RowWish) (right 
       let x : RowWish = record { rank = r; wish = k; programme = 0; place = 0; sure = false } in
       let low = open_below l.state bars w m w.school h inner.0 middle.1 opens in
       let (j, y, found, rank, wish) = right.all x w m
-      (record { waits = waits; has = inner.0; no_bed = middle.1; rank = same }) (omega (arith, same, low)) in
-      (j, y, found, rank, wish, proposed_at_bars k w m waits ∙ outer.1, omega (arith, same, ltb-true 0 w.board_rank inner.1))
+      (record { waits = waits; has = inner.0; no_bed = middle.1; rank = same }) (omega (arith, same, low)) in (
+        j,
+        y,
+        found,
+        rank,
+        wish,
+        proposed_at_bars k w m waits
+            ∙ outer.1,
+        omega (arith, same, ltb-true 0 w.board_rank inner.1),
+      )
 
   told : (r : ℕ) → list_any (demands_at l.state l.orders bars h r) (entries l.state) ≡ true
       → (nat_lt 0 r && list_any (passes (is_proposed_at l) r) row) ≡ true
@@ -160,17 +177,26 @@ module _ (l : LinksRow) (bars : List ℕ) (h : ℕ) (row : List RowWish) (right 
       let (j, y, found, rank, wish, passed, some) = demander r k e at both in
       and_from (nat_lt 0 r) (list_any (passes (is_proposed_at l) r) row) (lt-ltb 0 r some)
       (any_at (passes (is_proposed_at l) r) row j y found
-      (and_from (is_proposed_at l y.wish) (nat_eq r y.rank) (ap (is_proposed_at l) wish ∙ passed) (eq-eqb r y.rank (sym rank))))
+      (and_from (is_proposed_at l y.wish) (nat_eq r y.rank) (ap (is_proposed_at l) wish ∙ passed)
+      (eq-eqb r y.rank (sym rank))))
 
   -- who passes in the row demands the rank
   pub demands_back : (j : ℕ) (x : RowWish) → slice_get row j ≡ Some x → is_proposed_at l x.wish ≡ true → 0 < x.rank
-      → (e : Wish × Mark) × (slice_get (entries l.state) x.wish ≡ Some e) × (demands_at l.state l.orders bars h x.rank e ≡ true)
+      → (e : Wish × Mark) × (slice_get (entries l.state) x.wish ≡ Some e)
+      × (demands_at l.state l.orders bars h x.rank e ≡ true)
   demands_back j x at passed some =
       let (w, m, waits) = right.each j x at in
       let proposed = sym (proposed_at_bars x.wish w m waits.waits) ∙ passed in (
         (w, m),
         waits.waits.here,
-        rw (waits.has, waits.no_bed, proposed, eq-eqb x.rank w.board_rank waits.rank, ← waits.rank, lt-ltb 0 x.rank some) refl,
+        rw (
+          waits.has,
+          waits.no_bed,
+          proposed,
+          eq-eqb x.rank w.board_rank waits.rank,
+          ← waits.rank,
+          lt-ltb 0 x.rank some,
+        ) refl,
       )
 
   untold : (r : ℕ) → (nat_lt 0 r && list_any (passes (is_proposed_at l) r) row) ≡ true

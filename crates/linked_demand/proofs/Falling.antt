@@ -1,7 +1,10 @@
 -- Where the wishes past a new bar are closed, the flags and the rows are those of the new bars.
-use Rattle.std.proofs.Common.{ℕ, ◌-◌, ◌≤◌, ◌<◌, ◌≡◌, Bool, true, false, not, ◌&&◌, ◌||◌, List, [], ◌∷◌, map, length, inl, inr, refl, sym, ◌∙◌, ap, arith, nat_eq, nat_lt, zero, suc, get_or, take, drop, Option, Some, None, subst, unwrap_or, ◌≢◌}
+use Rattle.std.proofs.Common.{ℕ, ◌-◌, ◌≤◌, ◌<◌, ◌≡◌, Bool, true, false, not, ◌&&◌, ◌||◌, List, [], ◌∷◌, map, length}
+use Rattle.std.proofs.Common.{inl, inr, refl, sym, ◌∙◌, ap, arith, nat_eq, nat_lt, zero, suc, get_or, take, drop}
+use Rattle.std.proofs.Common.{Option, Some, None, subst, unwrap_or, ◌≢◌}
 use Rattle.std.specs.Prelude.{slice_index, slice_set, slice_get}
-use Rattle.std.proofs.lemmas.Bool.{cases_Bool, false≢true, cases_lt, and_parts, and_from, or_cases, or_left, or_right, eqb-true, eq-eqb, eqb-false, ltb-true, ltb-false, lt-ltb}
+use Rattle.std.proofs.lemmas.Bool.{cases_Bool, false≢true, cases_lt, and_parts, and_from, or_cases, or_left, or_right}
+use Rattle.std.proofs.lemmas.Bool.{eqb-true, eq-eqb, eqb-false, ltb-true, ltb-false, lt-ltb}
 use Rattle.std.proofs.lemmas.List.{get_or-set_same, get_or-set_other, length-set, length-map}
 use Rattle.std.proofs.lemmas.Option.{slice_get_within, slice_get_cases}
 use Rattle.admit_core.proofs.Plain.{and_false, is_and_true}
@@ -46,7 +49,8 @@ flag_closed (x ∷ xs) opens i lt =
                 (omega (arith, length_closed xs opens)),
           ) (sym (and_false (get_or opens x.wish false)))
       | inr other ↦ rw other
-          (get_or-set_other (closed xs opens) x.wish i false false (eqb-false i x.wish other) ∙ flag_closed xs opens i lt)
+          (get_or-set_other (closed xs opens) x.wish i false false (eqb-false i x.wish other)
+          ∙ flag_closed xs opens i lt)
     ]
 
 pub flag_map : (f : Wish × Mark → Bool) (es : List (Wish × Mark)) (i : ℕ) (e : Wish × Mark)
@@ -65,7 +69,8 @@ found_behind (x ∷ row) zero i t =
       | inl here ↦ (0, x, omega arith, refl, eqb-true i x.wish here)
       | inr later ↦ let (k, y, le, at, same) = found_behind row 0 i later in (suc k, y, omega arith, at, same)
     ]
-found_behind (x ∷ row) (suc end) i t = let (k, y, le, at, same) = found_behind row end i t in (suc k, y, omega arith, at, same)
+found_behind (x ∷ row) (suc end) i t = let (k, y, le, at, same) = found_behind row end i t in
+    (suc k, y, omega arith, at, same)
 
 behind_found : (row : List RowWish) (end k : ℕ) (x : RowWish) → end ≤ k → slice_get row k ≡ Some x
     → is_wish_of x.wish (drop end row) ≡ true
@@ -108,7 +113,8 @@ same_bits true false true a b = sym (b refl refl)
 same_bits true false false a b = refl
 
 -- an open wish with a school where its candidate has no bed ranks at most at the bar
-pub open_below : (s : State) (bars : List ℕ) (w : Wish) (m : Mark) (school : Option ℕ) (h : ℕ) → is_school school h ≡ true
+pub open_below : (s : State) (bars : List ℕ) (w : Wish) (m : Mark) (school : Option ℕ) (h : ℕ)
+    → is_school school h ≡ true
     → not (holds_bed s w.candidate h) ≡ true
     → (is_waiting m && not (is_waiting m && is_behind_bar s bars w school)) ≡ true → w.board_rank ≤ slice_index bars h
 open_below s bars w m None h has no_bed t = absurd (false≢true has)
@@ -120,7 +126,8 @@ open_below s bars w m (Some g) h has no_bed t =
     (rw (← same) (below_bit (is_waiting m) (not (holds_bed s w.candidate g))
     (nat_lt (slice_index bars g) w.board_rank) waits free t))
 
-module _ (s : State) (bars : List ℕ) (h to : ℕ) (row kept : List RowWish) (after : List Bool) (right : IsRow s bars h row)
+module _ (s : State) (bars : List ℕ) (h to : ℕ) (row kept : List RowWish) (after : List Bool)
+    (right : IsRow s bars h row)
     (cut : CutsAt to row (opens_of s bars) kept after) (within : h < length bars) (le : to ≤ slice_index bars h) where
   -- a wish that is closed is past the bar
   closed_past : (i : ℕ) (w : Wish) (m : Mark) → slice_get (entries s) i ≡ Some (w, m)
@@ -128,7 +135,8 @@ module _ (s : State) (bars : List ℕ) (h to : ℕ) (row kept : List RowWish) (a
   closed_past i w m at t =
       let (k, x, far, found, same) = found_behind row cut.end i t in
       let (v, n, waits) = right.each k x found in
-      let entry : Some (v, n) ≡ Some (w, m) = sym waits.waits.here ∙ ap (λ j. slice_get (entries s) j) (sym same) ∙ at in
+      let entry : Some (v, n) ≡ Some (w, m) = sym waits.waits.here ∙ ap (λ j. slice_get (entries s) j) (sym same)
+      ∙ at in
       let wish : v ≡ w = ap (λ (o : Option (Wish × Mark)). (unwrap_or o (w, m)).0) entry in
       let P = λ (u : Wish). is_past s h to u ≡ true in
       subst P wish
@@ -159,7 +167,14 @@ module _ (s : State) (bars : List ℕ) (h to : ℕ) (row kept : List RowWish) (a
             elim (slice_get_cases row (cut.end - 1)).1 [
               | inl there ↦
                   let last = cut.last there.0 (omega arith) there.2 in
-                  absurd (omega (arith, last, behind, rank, right.rises k (cut.end - 1) y there.0 (omega arith) found there.2))
+                  absurd (omega (
+                    arith,
+                    last,
+                    behind,
+                    rank,
+                    right.rises k (cut.end - 1) y there.0
+                        (omega arith) found there.2,
+                  ))
               | inr past_end ↦ absurd (omega (arith, past_end.0, cut.within, slice_get_within row k y found))
             ]
         | inr far ↦
@@ -187,7 +202,8 @@ module _ (s : State) (bars : List ℕ) (h to : ℕ) (row kept : List RowWish) (a
             ∙ ap (λ b. b && not (is_wish_of i xs)) (flag_map f (entries s) i there.0 there.2)
             ∙ one_flag i there.0.0 there.0.1 there.2
             ∙ sym (flag_map g (entries s) i there.0 there.2)
-        | inr past_end ↦ absurd (omega (arith, past_end.0, length_closed xs (opens_of s bars), length-map (entries s) f))
+        | inr past_end ↦ absurd
+            (omega (arith, past_end.0, length_closed xs (opens_of s bars), length-map (entries s) f))
       ] in
       cut.after_is
       ∙ same_flags (closed xs (opens_of s bars)) (map g (entries s))

@@ -1,10 +1,13 @@
 -- The rows that are filled along the boarders by rank are those of the schools.
-use Rattle.std.proofs.Common.{ℕ, zero, suc, ◌≤◌, ◌<◌, ◌≡◌, Bool, true, false, not, ◌&&◌, List, [], ◌∷◌, map, length, get_or, inl, inr, refl, sym, ◌∙◌, ap, arith, nat_eq, nat_lt, filter, Option, Some, None, unwrap_or, zip, subst, Vec}
+use Rattle.std.proofs.Common.{ℕ, zero, suc, ◌≤◌, ◌<◌, ◌≡◌, Bool, true, false, not, ◌&&◌, List, [], ◌∷◌, map, length}
+use Rattle.std.proofs.Common.{get_or, inl, inr, refl, sym, ◌∙◌, ap, arith, nat_eq, nat_lt, filter, Option, Some, None}
+use Rattle.std.proofs.Common.{unwrap_or, zip, subst, Vec}
 use Rattle.std.specs.Prelude.{slice_get, slice_index, All, is_some}
 use Rattle.std.specs.List.{list_any, range_with_len}
 use Rattle.std.specs.List.Sorted.{IsNonDecreasingBy}
 use Rattle.std.specs.declared.alloc.Global.{Global}
-use Rattle.std.proofs.lemmas.Bool.{cases_Bool, false≢true, eqb-true, eq-eqb, and_parts, and_from, ltb-false, le-ltb, or_cases, or_left, or_right}
+use Rattle.std.proofs.lemmas.Bool.{cases_Bool, false≢true, eqb-true, eq-eqb, and_parts, and_from, ltb-false, le-ltb}
+use Rattle.std.proofs.lemmas.Bool.{or_cases, or_left, or_right}
 use Rattle.std.proofs.lemmas.List.{get_or_default, get_or-map, length-map}
 use Rattle.std.proofs.lemmas.List.Elements.{All-filter, filter_passes}
 use Rattle.std.proofs.lemmas.List.Kept.{IsNonDecreasingBy-filter}
@@ -32,7 +35,8 @@ use Rattle.linked_demand.proofs.Falling.{flag_map}
 use Rattle.linked_demand.proofs.Lining.{filter_twice}
 use Rattle.linked_demand.proofs.PlaceOrder.{InPlaceOrder, in_order_from, in_place_order, ascends-filter, ascends-range}
 
--- a wish stands in the row of a school where it waits for it, its candidate has no bed there, and it ranks at most at the bar
+-- a wish stands in the row of a school where it waits for it, its candidate has no bed there, and it ranks at most at
+-- the bar
 record StandsIn (s : State) (bars : List ℕ) (h : ℕ) (w : Wish) (m : Mark) (school : Option ℕ) : Type 0 where
   waits : is_waiting m ≡ true
   has : is_school school h ≡ true
@@ -55,12 +59,14 @@ open_from false bed behind w b t = absurd (false≢true w)
 
 -- it is open, its candidate has no bed there, and it has the school
 stands_by : (s : State) (bars : List ℕ) (h : ℕ) (w : Wish) (m : Mark) (school : Option ℕ)
-    → ((is_waiting m && not (is_waiting m && is_behind_bar s bars w school)) && not (holds_bed_in s w.candidate school)) ≡ true
+    → ((is_waiting m && not (is_waiting m && is_behind_bar s bars w school)) && not (holds_bed_in s w.candidate school))
+    ≡ true
     → is_school school h ≡ true → StandsIn s bars h w m school
 stands_by s bars h w m None passes t = absurd (false≢true t)
 stands_by s bars h w m (Some g) passes t =
     let is : g ≡ h = eqb-true g h t in
-    let parts = open_parts (is_waiting m) (holds_bed s w.candidate g) (nat_lt (slice_index bars g) w.board_rank) passes in
+    let parts = open_parts (is_waiting m) (holds_bed s w.candidate g)
+    (nat_lt (slice_index bars g) w.board_rank) passes in
     let P = λ (n : ℕ). not (holds_bed s w.candidate n) ≡ true in
     let Q = λ (n : ℕ). w.board_rank ≤ slice_index bars n in
     record {
@@ -70,8 +76,10 @@ stands_by s bars h w m (Some g) passes t =
       low = subst Q is (ltb-false (slice_index bars g) w.board_rank parts.2);
     }
 
-stands_back : (s : State) (bars : List ℕ) (h : ℕ) (w : Wish) (m : Mark) (school : Option ℕ) → StandsIn s bars h w m school
-    → ((is_waiting m && not (is_waiting m && is_behind_bar s bars w school)) && not (holds_bed_in s w.candidate school)) ≡ true
+stands_back : (s : State) (bars : List ℕ) (h : ℕ) (w : Wish) (m : Mark) (school : Option ℕ)
+    → StandsIn s bars h w m school
+    → ((is_waiting m && not (is_waiting m && is_behind_bar s bars w school)) && not (holds_bed_in s w.candidate school))
+    ≡ true
 stands_back s bars h w m None in_row = absurd (false≢true in_row.has)
 stands_back s bars h w m (Some g) in_row =
     let is : g ≡ h = eqb-true g h in_row.has in
@@ -113,8 +121,11 @@ pub entry_is : (ws : List Wish) (ms : List Mark) (k : ℕ) (w : Wish) (m : Mark)
     → slice_get (zip ws ms) k ≡ Some (w, m) → (wish_in ws k ≡ w) × (mark_in ms k ≡ m)
 entry_is [] ms k w m at = absurd (omega (arith, slice_get_within (zip [] ms) k (w, m) at))
 entry_is (v ∷ ws) [] k w m at = absurd (omega (arith, slice_get_within (zip (v ∷ ws) []) k (w, m) at))
-entry_is (v ∷ ws) (n ∷ ms) zero w m at =
-    (ap (λ (o : Option (Wish × Mark)). (unwrap_or o (w, m)).0) at, ap (λ (o : Option (Wish × Mark)). (unwrap_or o (w, m)).1) at)
+entry_is (v ∷ ws) (n ∷ ms) zero w m at = (
+  ap (λ (o : Option (Wish × Mark)). (unwrap_or o (w, m)).0) at,
+  ap
+      (λ (o : Option (Wish × Mark)). (unwrap_or o (w, m)).1) at,
+)
 entry_is (v ∷ ws) (n ∷ ms) (suc k) w m at = entry_is ws ms k w m at
 
 -- what holds of each item of the row of a school
@@ -201,7 +212,12 @@ row_all s orders bars opens places h x w m long are by_rank waits low =
     let (wish, mark) = entry_is ws ms p w m waits.waits.here in
     let p_in : p < n = slice_get_within ws p w (wish_of ws ms p w m waits.waits.here) in
     let open_now = stands_back s bars h w m w.school
-    (record { waits = waits.waits.waits; has = waits.has; no_bed = waits.no_bed; low = omega (arith, waits.rank, low) }) in
+    (record {
+      waits = waits.waits.waits;
+      has = waits.has;
+      no_bed = waits.no_bed;
+      low = omega (arith, waits.rank, low);
+    }) in
     let P = λ (v : Wish). ((is_waiting m && not (is_waiting m && is_behind_bar s bars v v.school))
     && not (holds_bed_in s v.candidate v.school)) ≡ true in
     let Q = λ (o : Mark). (is_open s bars (wish_in ws p) o && not (has_bed_there s p)) ≡ true in
@@ -230,7 +246,8 @@ places_kept f q (k ∷ ks) own =
     ]
 
 -- each item of the row of a school is that of its wish
-own_items : (f : ℕ → RowWish) → ((k : ℕ) → (f k).wish ≡ k) → (ks : List ℕ) → All (λ (x : RowWish). x ≡ f x.wish) (map f ks)
+own_items : (f : ℕ → RowWish) → ((k : ℕ) → (f k).wish ≡ k) → (ks : List ℕ)
+    → All (λ (x : RowWish). x ≡ f x.wish) (map f ks)
 own_items f own ks i e lt =
     let k_in : i < length ks = omega (arith, lt, length-map ks f) in
     let is : get_or (map f ks) i e ≡ f (get_or ks i 0) = get_or-map f ks i 0 e k_in in

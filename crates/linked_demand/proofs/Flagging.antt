@@ -1,5 +1,6 @@
 -- Who wants a seat and who needs none, by place.
-use Rattle.std.proofs.Common.{ℕ, suc, ◌+◌, ◌<◌, ◌≡◌, Bool, true, false, not, ◌&&◌, ◌||◌, List, [], ◌∷◌, ◌++◌, map, length, get_or, take, inl, inr, refl, sym, ◌∙◌, ap, arith, nat_eq, filter, Some, subst}
+use Rattle.std.proofs.Common.{ℕ, suc, ◌+◌, ◌<◌, ◌≡◌, Bool, true, false, not, ◌&&◌, ◌||◌, List, [], ◌∷◌, ◌++◌, map}
+use Rattle.std.proofs.Common.{length, get_or, take, inl, inr, refl, sym, ◌∙◌, ap, arith, nat_eq, filter, Some, subst}
 use Rattle.std.specs.Prelude.{slice_get, All}
 use Rattle.std.specs.List.{list_any, enumerate_from, range_with_len, AllByRecursion}
 use Rattle.std.proofs.lemmas.Bool.{cases_Bool, and_parts, eqb-true}
@@ -67,7 +68,8 @@ module _ (s : State) (orders : List CallOrder) (opens : List Bool)
       let ws = s.dossier.wishes in
       let t = λ (w : Wish). (nat_eq w.candidate c) && (nat_eq w.programme p) in
       any_scaled (wanting_at s opens) (λ k. get_or opens k false) (not (holds_seat s c p)) (claim_of s.dossier p c)
-      (all_placed (λ k. wanting_at s opens k ≡ (get_or opens k false && not (holds_seat s c p))) t ws 0 (λ j w at passes.
+      (all_placed (λ k. wanting_at s opens k ≡ (get_or opens k false && not (holds_seat s c p))) t ws 0
+      (λ j w at passes.
       let parts = and_parts (nat_eq w.candidate c) (nat_eq w.programme p) passes in
       let j_is : 0 + j ≡ j = omega arith in
       let P = λ (k : ℕ). wanting_at s opens k ≡ (get_or opens k false && not (holds_seat s c p)) in
@@ -132,7 +134,8 @@ linked s orders opens lines claims places early sure n marks long lineup n_is li
       sure_each = ap length sure_are ∙ length-map-range_with_len (sure_at s early) 0 (length ws);
       sure_are = λ i w at.
           ap (λ (fs : List Bool). get_or fs i false) sure_are
-          ∙ get_or-map-range_with_len (sure_at s early) 0 (length ws) i i false (slice_get_within ws i w at) (omega arith)
+          ∙ get_or-map-range_with_len (sure_at s early) 0 (length ws) i i false (slice_get_within ws i w at)
+          (omega arith)
           ∙ ap (λ (v : Wish). holds_seat s v.candidate v.programme || get_or early i false) (wish_in_is ws i w at)
           ∙ ap (λ b. holds_seat s w.candidate w.programme || b) (lineup.early_are i w at);
     }

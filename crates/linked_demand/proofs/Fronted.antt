@@ -1,5 +1,6 @@
 -- The proposed wishes, where it is known how far the seats reach.
-use Rattle.std.proofs.Common.{ℕ, zero, suc, ◌+◌, ◌≤◌, ◌<◌, ◌≡◌, Bool, true, false, ◌&&◌, ◌||◌, List, [], map, length, get_or, inl, inr, refl, sym, ◌∙◌, ap, arith, nat_eq, nat_lt, filter, subst}
+use Rattle.std.proofs.Common.{ℕ, zero, suc, ◌+◌, ◌≤◌, ◌<◌, ◌≡◌, Bool, true, false, ◌&&◌, ◌||◌, List, [], map, length}
+use Rattle.std.proofs.Common.{get_or, inl, inr, refl, sym, ◌∙◌, ap, arith, nat_eq, nat_lt, filter, subst}
 use Rattle.std.specs.Prelude.{slice_index}
 use Rattle.std.specs.List.{list_any, range_with_len}
 use Rattle.std.proofs.lemmas.Bool.{cases_Bool, false≢true, ltb-false, ltb-true, ne_eqb}
@@ -58,7 +59,8 @@ module _ {s : State} {orders : List CallOrder} {opens : List Bool} {reached : Li
   many : length claims ≡ length s.dossier.programmes
   many =
       ap length right.links.claims_are
-      ∙ length-map-range_with_len (λ q. map (claim_of s.dossier q) (line_of s.dossier orders q)) 0 (length s.dossier.programmes)
+      ∙ length-map-range_with_len (λ q. map (claim_of s.dossier q) (line_of s.dossier orders q)) 0
+      (length s.dossier.programmes)
 
   number_at : (p : ℕ) → p < length s.dossier.programmes → slice_index reached p ≡ reach_in (seat_row s orders opens p)
   number_at p lt =

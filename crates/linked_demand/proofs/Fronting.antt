@@ -1,5 +1,7 @@
 -- The proposed wishes, by the claims at the fronts of the lines.
-use Rattle.std.proofs.Common.{ℕ, zero, suc, ◌+◌, ◌≤◌, ◌<◌, ◌≡◌, Bool, true, false, ◌&&◌, ◌||◌, List, [], ◌∷◌, map, length, take, get_or, inl, inr, refl, sym, ◌∙◌, ap, arith, nat_eq, nat_lt, Option, Some, None, option_map, unwrap_or, subst}
+use Rattle.std.proofs.Common.{ℕ, zero, suc, ◌+◌, ◌≤◌, ◌<◌, ◌≡◌, Bool, true, false, ◌&&◌, ◌||◌, List, [], ◌∷◌, map}
+use Rattle.std.proofs.Common.{length, take, get_or, inl, inr, refl, sym, ◌∙◌, ap, arith, nat_eq, nat_lt, Option, Some}
+use Rattle.std.proofs.Common.{None, option_map, unwrap_or, subst}
 use Rattle.std.specs.Prelude.{slice_get, slice_index}
 use Rattle.std.specs.List.{list_any, range_with_len}
 use Rattle.std.proofs.lemmas.Bool.{cases_Bool, cases_lt, eq-eqb, eqb-true, ne_eqb, lt-ltb, le-ltb, false≢true}
@@ -33,7 +35,8 @@ claimed_more opens claims i claim k lt read =
     ∙ ap (λ (ks : List ℕ). (list_any (is_among k) (take i claims) || is_among k ks) && get_or opens k false) read
     ∙ ap (λ b. b && get_or opens k false) (sym (list_any_more (is_among k) claims i [] lt))
 
-any_range_more : (g : ℕ → Bool) (n : ℕ) → list_any g (range_with_len 0 (n + 1)) ≡ (list_any g (range_with_len 0 n) || g n)
+any_range_more : (g : ℕ → Bool) (n : ℕ) → list_any g (range_with_len 0 (n + 1))
+    ≡ (list_any g (range_with_len 0 n) || g n)
 any_range_more g n =
     ap (list_any g) (range_more 0 n n (omega arith))
     ∙ list_any-append g (range_with_len 0 n) (n ∷ [])
@@ -106,8 +109,10 @@ module _ (d : DossierRows) (orders : List CallOrder) (i : ℕ) (w : Wish) (at : 
 
   -- the wish is in one of the first claims of a line where that is of its programme and it stands there
   any_taken : (p j : ℕ) → j ≤ length (line_of d orders p)
-      → list_any (is_among i) (take j (map (claim_of d p) (line_of d orders p))) ≡ (nat_eq w.programme p && nat_lt place j)
-  any_taken p zero le = sym (ap (λ b. nat_eq w.programme p && b) (le-ltb place 0 (omega arith)) ∙ and_false (nat_eq w.programme p))
+      → list_any (is_among i) (take j (map (claim_of d p) (line_of d orders p)))
+      ≡ (nat_eq w.programme p && nat_lt place j)
+  any_taken p zero le = sym (ap (λ b. nat_eq w.programme p && b) (le-ltb place 0 (omega arith))
+      ∙ and_false (nat_eq w.programme p))
   any_taken p (suc j) le =
       let line = line_of d orders p in
       let claims = map (claim_of d p) line in
@@ -124,7 +129,8 @@ module _ (d : DossierRows) (orders : List CallOrder) (i : ℕ) (w : Wish) (at : 
         | inl same ↦
             own_line (nat_eq w.programme p) (nat_lt place j) (nat_eq w.candidate x) (nat_lt place (suc j)) same
             (ap (λ b. nat_lt place j || b) (candidate_at p j (eqb-true w.programme p same) lt) ∙ next_lt place j)
-        | inr other ↦ other_line (nat_eq w.programme p) (nat_lt place j) (nat_eq w.candidate x) (nat_lt place (suc j)) other
+        | inr other ↦ other_line (nat_eq w.programme p) (nat_lt place j) (nat_eq w.candidate x)
+            (nat_lt place (suc j)) other
       ]
 
   module _ (lines : List (List (List ℕ))) (reached : List ℕ) (count : ℕ)
@@ -134,7 +140,8 @@ module _ (d : DossierRows) (orders : List CallOrder) (i : ℕ) (w : Wish) (at : 
     any_front : (n : ℕ) → n ≤ count
         → list_any (λ p. list_any (is_among i) (front_of lines reached p))
         (range_with_len 0 n) ≡ (nat_lt w.programme n && nat_lt place (slice_index reached w.programme))
-    any_front zero le = sym (ap (λ b. b && nat_lt place (slice_index reached w.programme)) (le-ltb w.programme 0 (omega arith)))
+    any_front zero le = sym (ap (λ b. b && nat_lt place (slice_index reached w.programme))
+        (le-ltb w.programme 0 (omega arith)))
     any_front (suc n) le =
         let g = λ (p : ℕ). list_any (is_among i) (front_of lines reached p) in
         let last = nat_lt place (slice_index reached w.programme) in
@@ -175,13 +182,15 @@ none_open : (waits served : Bool) → ((waits && false) && served) ≡ false
 none_open true served = refl
 none_open false served = refl
 
-unproposed : (s : State) (orders : List CallOrder) (opens : List Bool) (flag : Bool) (entry : Option (Wish × Mark)) → flag ≡ false
+unproposed : (s : State) (orders : List CallOrder) (opens : List Bool) (flag : Bool) (entry : Option (Wish × Mark))
+    → flag ≡ false
     → unwrap_or (option_map (λ e. is_proposed_by s orders opens e.0 e.1 flag) entry) false ≡ false
 unproposed s orders opens flag None closed = refl
 unproposed s orders opens flag (Some (w, m)) closed =
     ap (λ b. (is_waiting m && b) && (needs_no_seat s orders w || nat_lt (ahead_by s orders opens w)
     (seats_left s w.programme))) closed
-    ∙ none_open (is_waiting m) (needs_no_seat s orders w || nat_lt (ahead_by s orders opens w) (seats_left s w.programme))
+    ∙ none_open (is_waiting m) (needs_no_seat s orders w || nat_lt (ahead_by s orders opens w)
+    (seats_left s w.programme))
 
 -- a wish that is not open is not proposed
 pub closed_at : (row : LinksRow) (k : ℕ) → get_or row.opens k false ≡ false → is_proposed_at row k ≡ false

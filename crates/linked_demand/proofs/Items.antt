@@ -1,5 +1,6 @@
 -- What an item of a row keeps of its wish: the place of its candidate in the line, and whether they need a seat.
-use Rattle.std.proofs.Common.{ℕ, ◌<◌, ◌≡◌, Bool, true, false, ◌&&◌, ◌||◌, List, [], length, get_or, refl, sym, ◌∙◌, ap, arith, nat_eq, nat_lt, subst}
+use Rattle.std.proofs.Common.{ℕ, ◌<◌, ◌≡◌, Bool, true, false, ◌&&◌, ◌||◌, List, [], length, get_or, refl, sym, ◌∙◌, ap}
+use Rattle.std.proofs.Common.{arith, nat_eq, nat_lt, subst}
 use Rattle.std.proofs.Math.ListN.{set}
 use Rattle.std.specs.Prelude.{slice_index, All}
 use Rattle.std.specs.List.{position_or_len}
@@ -23,7 +24,8 @@ use Rattle.linked_demand.specs.Links.{IsLinked, IsPlaceOf, IsSeatPlace, LinksRow
 use Rattle.linked_demand.specs.Opens.{line_of}
 use Rattle.linked_demand.specs.Rows.{is_sure, line_place, row_item}
 use Rattle.linked_demand.specs.Wants.{IsReached, stops_wanting, wants_with}
-use Rattle.linked_demand.proofs.Closing.{Closes, claim_right, closes_read, proposed_at_is, proposed_right, wish_of, wish_there, wish_within}
+use Rattle.linked_demand.proofs.Closing.{Closes, claim_right, closes_read, proposed_at_is, proposed_right, wish_of}
+use Rattle.linked_demand.proofs.Closing.{wish_there, wish_within}
 use Rattle.linked_demand.proofs.Leaving.{Reads}
 use Rattle.linked_demand.proofs.Ticking.{claim_fits}
 
@@ -54,7 +56,8 @@ module _ {s : State} {orders : List CallOrder} {opens : List Bool} {lines : List
       let at = wish_there s.dossier.wishes b.wish w here.within refl in
       let place_now : place ≡ line_place s.dossier orders w =
       place_read
-      ∙ sym (place_is w.candidate (line_of s.dossier orders w.programme) (slice_index places b.wish) (links.places_are b.wish w at)) in
+      ∙ sym (place_is w.candidate (line_of s.dossier orders w.programme) (slice_index places b.wish)
+      (links.places_are b.wish w at)) in
       let flag_now : flag ≡ needs_no_seat s orders w =
       flag_read ∙ ap (λ (r : LinksRow). is_sure r.state r.orders b.wish) (sym is) in
       let made : record { rank = b.rank; wish = b.wish; programme = b.programme; place = place; sure = flag }
@@ -75,7 +78,8 @@ module _ {s : State} {orders : List CallOrder} {opens : List Bool} {lines : List
 
     kept : wish_of_item s.dossier x ≡ wish_in s.dossier.wishes x.wish
     kept =
-        ap (λ (y : RowWish). let w : Wish = record (wish_in s.dossier.wishes x.wish) { programme = y.programme } in w) item_here
+        ap (λ (y : RowWish). let w : Wish = record (wish_in s.dossier.wishes x.wish) { programme = y.programme } in w)
+        item_here
 
     pub closes_item : Closes s orders opens lines claims places sure x.wish (wish_of_item s.dossier x)
     closes_item = closes_read links row is x.wish waits (wish_of_item s.dossier x) kept
@@ -115,7 +119,8 @@ module _ {s : State} {orders : List CallOrder} {opens : List Bool} {lines : List
         let found = wish_of s.dossier.wishes s.marks x.wish w k.mark k.at.here in
         let lt : x.wish < length s.dossier.wishes = wish_within k in
         let flag : Bool = get_or opens x.wish false in
-        let set : flag ≡ true = let P = λ (r : LinksRow). get_or r.opens x.wish false ≡ true in subst P (sym is) opened in
+        let set : flag ≡ true = let P = λ (r : LinksRow). get_or r.opens x.wish false ≡ true in
+        subst P (sym is) opened in
         let sure_is : x.sure ≡ get_or sure x.wish x.sure =
         ap (λ (y : RowWish). y.sure) item_here
         ∙ ap (needs_no_seat s orders) (sym kept)

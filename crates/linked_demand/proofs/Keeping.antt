@@ -1,5 +1,6 @@
 -- What a filter keeps of one more.
-use Rattle.std.proofs.Common.{ℕ, ◌+◌, ◌<◌, ◌≡◌, Bool, true, false, List, [], ◌∷◌, ◌++◌, refl, sym, ◌∙◌, ap, arith, filter, subst}
+use Rattle.std.proofs.Common.{ℕ, ◌+◌, ◌<◌, ◌≡◌, Bool, true, false, List, [], ◌∷◌, ◌++◌, refl, sym, ◌∙◌, ap, arith}
+use Rattle.std.proofs.Common.{filter, subst}
 use Rattle.std.specs.Prelude.{All}
 use Rattle.std.specs.List.{range_with_len}
 use Rattle.std.proofs.lemmas.List.Elements.{All-filter, filter-append}
@@ -28,7 +29,8 @@ pub range_kept : (p : ℕ → Bool) (n : ℕ) → p n ≡ true
     → filter p (range_with_len 0 (n + 1)) ≡ filter p (range_with_len 0 n) ++ n ∷ []
 range_kept p n passes = ap (filter p) (range_more 0 n n (omega arith)) ∙ push_kept p (range_with_len 0 n) n passes
 
-pub range_left : (p : ℕ → Bool) (n : ℕ) → p n ≡ false → filter p (range_with_len 0 (n + 1)) ≡ filter p (range_with_len 0 n)
+pub range_left : (p : ℕ → Bool) (n : ℕ) → p n ≡ false
+    → filter p (range_with_len 0 (n + 1)) ≡ filter p (range_with_len 0 n)
 range_left p n fails = ap (filter p) (range_more 0 n n (omega arith)) ∙ push_left p (range_with_len 0 n) n fails
 
 -- places below a count that pass a test are below it

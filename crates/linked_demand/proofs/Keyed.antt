@@ -1,5 +1,6 @@
 -- Rows that are filled place by place.
-use Rattle.std.proofs.Common.{ℕ, ◌+◌, ◌<◌, ◌≡◌, Bool, false, List, [], ◌∷◌, ◌++◌, map, length, take, get_or, inl, inr, refl, sym, ◌∙◌, ap, arith, nat_eq, filter, Some, Vec, subst}
+use Rattle.std.proofs.Common.{ℕ, ◌+◌, ◌<◌, ◌≡◌, Bool, false, List, [], ◌∷◌, ◌++◌, map, length, take, get_or, inl, inr}
+use Rattle.std.proofs.Common.{refl, sym, ◌∙◌, ap, arith, nat_eq, filter, Some, Vec, subst}
 use Rattle.std.specs.Prelude.{slice_get, if◌then◌else◌}
 use Rattle.std.specs.declared.alloc.Global.{Global}
 use Rattle.std.proofs.Math.ListN.{set}
@@ -44,7 +45,8 @@ put_somewhere {X} g x rows before after lt read pushed = record {
   each = λ h row at. elim (cases_eq h g) [
     | inl here ↦
         let is : after ≡ row = get_set_here rows g after row (rw here at at) in
-        let found : slice_get rows h ≡ Some before = rw here (slice_get_read rows (length rows) g before refl lt read) in
+        let found : slice_get rows h ≡ Some before =
+        rw here (slice_get_read rows (length rows) g before refl lt read) in
         let items : row.items ≡ before.items ++ (if nat_eq g h then x ∷ [] else []) =
         rw (eq-eqb g h (sym here)) (ap (λ (v : Vec X Global). v.items) (sym is) ∙ pushed) in
         (before, found, items)
@@ -63,7 +65,8 @@ rows_none item belongs n rows none = record { one_each = none.as_many; each = no
 pub rows_more : {X : Type 0} (item : ℕ → X) (belongs : ℕ → ℕ → Bool) (n : ℕ) (places : List ℕ) (i : ℕ)
     (here : ℕ → Bool) (x : X) (rows new : List (Vec X Global)) → i < length places
     → ((h : ℕ) → here h ≡ belongs h (get_or places i 0)) → x ≡ item (get_or places i 0)
-    → AreRowsOf item belongs n (take i places) rows → IsPutIn here x rows new → AreRowsOf item belongs n (take (i + 1) places) new
+    → AreRowsOf item belongs n (take i places) rows → IsPutIn here x rows new
+    → AreRowsOf item belongs n (take (i + 1) places) new
 rows_more {X} item belongs n places i here x rows new lt here_is x_is are put = record {
   one_each = put.as_many ∙ are.one_each;
   each = λ h row at.

@@ -1,5 +1,6 @@
 -- How far the seats of a programme reach where a wish is closed.
-use Rattle.std.proofs.Common.{ℕ, ◌+◌, ◌≤◌, ◌<◌, ◌≡◌, Bool, true, false, not, ◌&&◌, List, [], map, length, inl, inr, refl, sym, ◌∙◌, ap, arith, nat_lt, get_or, drop, Option, None, subst}
+use Rattle.std.proofs.Common.{ℕ, ◌+◌, ◌≤◌, ◌<◌, ◌≡◌, Bool, true, false, not, ◌&&◌, List, [], map, length, inl, inr}
+use Rattle.std.proofs.Common.{refl, sym, ◌∙◌, ap, arith, nat_lt, get_or, drop, Option, None, subst}
 use Rattle.std.proofs.Math.Bool.{and_comm}
 use Rattle.std.proofs.Math.ListN.{set}
 use Rattle.std.specs.List.{list_any, range_with_len}
@@ -15,9 +16,11 @@ use Rattle.linked_demand.specs.Line.{LineRow, reach, next, is_reached, is_answer
 use Rattle.linked_demand.specs.Opens.{flagged, is_flagged_in, wants_by, line_of, seat_row}
 use Rattle.linked_demand.specs.Links.{IsSeatPlace, claim_of}
 use Rattle.linked_demand.specs.Wants.{wants_along, AreBelow, seat_rows, reach_in, IsReached}
-use Rattle.linked_demand.proofs.Closing.{Closes, claim_flagged, fewer, row_is, links_with, lines_set, read_range, programme_within, claim_right}
+use Rattle.linked_demand.proofs.Closing.{Closes, claim_flagged, fewer, row_is, links_with, lines_set, read_range}
+use Rattle.linked_demand.proofs.Closing.{programme_within, claim_right}
 use Rattle.linked_demand.proofs.Flagging.{wants_right, row_within}
-use Rattle.linked_demand.proofs.Reach.{reach_within, reach_behind, reach_moved, reached_by_count, fresh_none, fresh_some}
+use Rattle.linked_demand.proofs.Reach.{reach_within, reach_behind, reach_moved, reached_by_count, fresh_none}
+use Rattle.linked_demand.proofs.Reach.{fresh_some}
 
 -- one who leaves their seat wanted one, wants none any more, and was reached
 not_before : (wanted wants before : Bool) → (wanted && (not wants && before)) ≡ false → wanted ≡ true
@@ -72,7 +75,8 @@ module _ {s : State} {orders : List CallOrder} {opens : List Bool} {claims : Lis
   pub wants_there : (flags : List Bool) → length flags ≡ length s.dossier.wishes → (row : List (List ℕ))
       → row ≡ get_or claims w.programme row
       → wants_along s flags row ≡ (seat_row s orders flags w.programme).flags
-  wants_there flags long row read = wants_right s orders flags long k.links.marks_each w.programme row (claims_right row read)
+  wants_there flags long row read = wants_right s orders flags long k.links.marks_each w.programme row
+      (claims_right row read)
 
   pub reached_each : (reached : List ℕ) → reached ≡ map reach_in (seat_rows s orders opens)
       → length reached ≡ length s.dossier.programmes
@@ -110,7 +114,8 @@ module _ {s : State} {orders : List CallOrder} {opens : List Bool} {claims : Lis
   reach_kept reached are before read is =
       let lt : w.programme < length reached = omega (arith, programme_within k, reached_each reached are) in
       let same : set reached w.programme before ≡ reached =
-      ap (set reached w.programme) (get_or_read reached w.programme before lt read 0) ∙ set-get_or reached w.programme 0 in
+      ap (set reached w.programme) (get_or_read reached w.programme before lt read 0)
+      ∙ set-get_or reached w.programme 0 in
       let P = λ (ns : List ℕ). IsReached s orders (set opens i false) ns claims places sure in
       subst P same (reach_put reached are before is)
 
@@ -129,14 +134,17 @@ module _ {s : State} {orders : List CallOrder} {opens : List Bool} {claims : Lis
       at.within ∙ ap (wants_by s opens w.programme) at.here
 
   -- nobody wants a seat who wanted none
-  wanted_before : wants_by s (set opens i false) w.programme w.candidate ≡ true → wants_by s opens w.programme w.candidate ≡ true
+  wanted_before : wants_by s (set opens i false) w.programme w.candidate ≡ true
+      → wants_by s opens w.programme w.candidate ≡ true
   wanted_before t =
       let q = is_flagged_in w.programme w.candidate in
-      let parts = and_parts (list_any q (flagged s (set opens i false))) (not (holds_seat s w.candidate w.programme)) t in
+      let parts = and_parts (list_any q (flagged s (set opens i false)))
+      (not (holds_seat s w.candidate w.programme)) t in
       let before = fewer q (λ e. refl) (entries s) opens i parts.0 in
       rw (before, parts.1) refl
 
-  same_row : wants_by s (set opens i false) w.programme w.candidate ≡ wants_by s opens w.programme w.candidate → new k ≡ old k
+  same_row : wants_by s (set opens i false) w.programme w.candidate ≡ wants_by s opens w.programme w.candidate
+      → new k ≡ old k
   same_row same =
       let flags : set (old k).flags place (wants_by s (set opens i false) w.programme w.candidate) ≡ (old k).flags =
       ap (set (old k).flags place) (same ∙ sym flag_was) ∙ set-get_or (old k).flags place false in
@@ -181,7 +189,8 @@ module _ {s : State} {orders : List CallOrder} {opens : List Bool} {claims : Lis
         | inl still ↦ let now = sym wants_is ∙ still in stays_same before is (same_row (now ∙ sym (wanted_before now)))
         | inr stopped ↦ elim (cases_Bool wanted) [
           | inl had ↦ stays_behind before is
-              (ltb-false place before (not_before wanted wants (nat_lt place before) stays had stopped)) (sym wants_is ∙ stopped)
+              (ltb-false place before (not_before wanted wants (nat_lt place before) stays had stopped))
+              (sym wants_is ∙ stopped)
           | inr never ↦ stays_same before is (same_row ((sym wants_is ∙ stopped) ∙ sym (sym wanted_is ∙ never)))
         ]
       ]
@@ -191,7 +200,8 @@ module _ {s : State} {orders : List CallOrder} {opens : List Bool} {claims : Lis
       → wanted ≡ wants_by s opens w.programme w.candidate
       → wants ≡ wants_by s (set opens i false) w.programme w.candidate → before ≡ reach_in (old k)
       → (wanted && (not wants && nat_lt place before)) ≡ true
-      → after ≡ (new k).flags → now ≡ before + next (drop before after) → answer ≡ last_new after before now → Moves now answer
+      → after ≡ (new k).flags → now ≡ before + next (drop before after) → answer ≡ last_new after before now
+      → Moves now answer
   one_leaves wanted wants before now after answer wanted_is wants_is is leaves after_is now_is answer_is =
       let quota = seats_left s w.programme in
       let parts = and_parts wanted (not wants && nat_lt place before) leaves in
@@ -215,7 +225,8 @@ module _ {s : State} {orders : List CallOrder} {opens : List Bool} {claims : Lis
 pub record Reads {s : State} {orders : List CallOrder} {opens : List Bool} {claims : List (List (List ℕ))}
     {places : List ℕ} {sure : List Bool} {i : ℕ} {w : Wish}
     (k : Closes s orders opens (seat_rows s orders opens) claims places sure i w) (place : ℕ)
-    (row : List (List ℕ)) (claim : List ℕ) (reached : List ℕ) (before : ℕ) (live wanted wants leaves : Bool) : Type 0 where
+    (row : List (List ℕ)) (claim : List ℕ) (reached : List ℕ) (before : ℕ) (live wanted wants leaves : Bool) :
+    Type 0 where
   pub stands : IsSeatPlace s.dossier orders w place
   pub row_read : row ≡ get_or claims w.programme row
   pub claim_read : claim ≡ get_or row place []

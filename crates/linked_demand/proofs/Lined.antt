@@ -1,10 +1,14 @@
 -- The line of a programme, of the wishes for it in call order: each candidate's stand together, and are their claim.
-use Rattle.std.proofs.Common.{ℕ, zero, suc, ◌+◌, ◌-◌, ◌≤◌, ◌<◌, ◌≡◌, Bool, true, false, ◌&&◌, List, [], ◌∷◌, ◌++◌, map, length, take, drop, get_or, inl, inr, refl, sym, ◌∙◌, ap, arith, nat_eq, nat_lt, filter, subst, cond}
+use Rattle.std.proofs.Common.{ℕ, zero, suc, ◌+◌, ◌-◌, ◌≤◌, ◌<◌, ◌≡◌, Bool, true, false, ◌&&◌, List, [], ◌∷◌, ◌++◌, map}
+use Rattle.std.proofs.Common.{length, take, drop, get_or, inl, inr, refl, sym, ◌∙◌, ap, arith, nat_eq, nat_lt, filter}
+use Rattle.std.proofs.Common.{subst, cond}
 use Rattle.std.specs.Prelude.{All, ◌==◌}
 use Rattle.std.specs.List.{before_first, enumerate_from, flat_map, range_with_len, IsDistinct}
 use Rattle.std.proofs.Math.Seq.{drop-append_seam, get_or-append_right, take-append_seam}
-use Rattle.std.proofs.lemmas.Bool.{and_parts, cases_Bool, cases_lt, cases_order, eqb-true, eq-eqb, false≢true, lt-ltb, ltb-true, ne_eqb, or_left}
-use Rattle.std.proofs.lemmas.List.{get_or-drop, get_or-map, get_or_append_left, length-append, length-drop, length-map, map-append, drop_more, flat_map_more, take-append-drop, take_all, take_more}
+use Rattle.std.proofs.lemmas.Bool.{and_parts, cases_Bool, cases_lt, cases_order, eqb-true, eq-eqb, false≢true, lt-ltb}
+use Rattle.std.proofs.lemmas.Bool.{ltb-true, ne_eqb, or_left}
+use Rattle.std.proofs.lemmas.List.{get_or-drop, get_or-map, get_or_append_left, length-append, length-drop, length-map}
+use Rattle.std.proofs.lemmas.List.{map-append, drop_more, flat_map_more, take-append-drop, take_all, take_more}
 use Rattle.std.proofs.lemmas.List.Concat.{flat_map-append}
 use Rattle.std.proofs.lemmas.List.Elements.{All-nil, All-push}
 use Rattle.admit_core.proofs.Counting.{distinct_kept, pass_at_most}
@@ -33,10 +37,12 @@ run_ends : (A B C : List ℕ) (v from to : ℕ) (xs : List ℕ) → xs ≡ A ++ 
     → ((j : ℕ) → j < length B → get_or B j 0 ≡ v) → (0 < length C → get_or C 0 0 ≡ v → ⊥)
     → from < to → to ≤ length xs → HoldsOneKey (λ k. k) xs from to → to ≡ from + length B
 run_ends A B C v from to xs xs_is from_is some alike head further within run =
-    let rest : drop from xs ≡ B ++ C = ap (λ n. drop n xs) from_is ∙ ap (drop (length A)) xs_is ∙ drop-append_seam A (B ++ C) in
+    let rest : drop from xs ≡ B ++ C = ap (λ n. drop n xs) from_is ∙ ap (drop (length A)) xs_is
+    ∙ drop-append_seam A (B ++ C) in
     let read : (j : ℕ) → get_or xs (from + j) 0 ≡ get_or (B ++ C) j 0 =
     λ j. sym (get_or-drop from xs j 0) ∙ ap (λ (l : List ℕ). get_or l j 0) rest in
-    let in_stretch : (j : ℕ) → j < length B → get_or xs (from + j) 0 ≡ v = λ j lt. read j ∙ get_or_append_left B C 0 j lt ∙ alike j lt in
+    let in_stretch : (j : ℕ) → j < length B → get_or xs (from + j) 0 ≡ v =
+    λ j lt. read j ∙ get_or_append_left B C 0 j lt ∙ alike j lt in
     let no_shift : from + 0 ≡ from = omega arith in
     let first : get_or xs from 0 ≡ v = ap (λ j. get_or xs j 0) (sym no_shift) ∙ in_stretch 0 some in
     let long : length xs ≡ from + (length B + length C) = omega
@@ -47,7 +53,8 @@ run_ends A B C v from to xs xs_is from_is some alike head further within run =
         | inl less ↦
             let j = to - from in
             let at : from + j ≡ to = omega (arith, further) in
-            let here : get_or xs to 0 ≡ v = ap (λ n. get_or xs n 0) (sym at) ∙ in_stretch j (omega (arith, less, further)) in
+            let here : get_or xs to 0 ≡ v = ap (λ n. get_or xs n 0) (sym at)
+            ∙ in_stretch j (omega (arith, less, further)) in
             absurd (run.ends (omega (arith, less, long)) (here ∙ sym first))
         | inr more ↦
             let c_some : 0 < length C = omega (arith, more, within, long) in
@@ -73,7 +80,8 @@ found_there c xs among = ap (λ (l : List ℕ). get_or xs (length l) 0) (before_
 
 among_filtered : (q : ℕ → Bool) (c : ℕ) (xs : List ℕ) → is_among c (filter q xs) ≡ true → is_among c xs ≡ true
 among_filtered q c xs among =
-    any_implied (λ x. q x && nat_eq c x) (nat_eq c) (λ x t. second (q x) (nat_eq c x) t) xs (sym (any-filter (nat_eq c) q xs) ∙ among)
+    any_implied (λ x. q x && nat_eq c x) (nat_eq c) (λ x t. second (q x) (nat_eq c x) t) xs
+    (sym (any-filter (nat_eq c) q xs) ∙ among)
   where
     second : (a b : Bool) → (a && b) ≡ true → b ≡ true
     second true b t = t
@@ -99,8 +107,11 @@ in_claim : (d : DossierRows) (p c k : ℕ) → is_among k (claim_of d p c) ≡ t
     → ((wish_in d.wishes k).candidate ≡ c) × ((wish_in d.wishes k).programme ≡ p)
 in_claim d p c k among =
     let kept = kept_by_both (applies_at d p) (λ n. candidate_of d n == c) k (range_with_len 0 (length d.wishes))
-    (ap (is_among k) (claim_own d p c) ∙ among) in
-    (sym (candidate_in d.wishes k) ∙ eqb-true (candidate_of d k) c kept.0, eqb-true (wish_in d.wishes k).programme p kept.1)
+    (ap (is_among k) (claim_own d p c) ∙ among) in (
+      sym (candidate_in d.wishes k) ∙ eqb-true (candidate_of d k) c kept.0,
+      eqb-true
+          (wish_in d.wishes k).programme p kept.1,
+    )
 
 abbrev pub before_of : DossierRows → List CallOrder → ℕ → ℕ → ℕ
 before_of d orders p c = length (before_first (nat_eq c) (order_of d orders p))
@@ -130,9 +141,11 @@ pub record IsLined (d : DossierRows) (orders : List CallOrder) (p : ℕ) (wishes
   pub at : from ≡ length (flat_map (claim_of d p) (take (length spans) (line_of d orders p)))
   pub seated : AreSeated d orders (is_passed p (take (length spans) (line_of d orders p))) places early
 
-module _ (d : DossierRows) (orders : List CallOrder) (p : ℕ) (wishes before : List ℕ) (wishes_are : wishes ≡ called_for d orders p)
+module _ (d : DossierRows) (orders : List CallOrder) (p : ℕ) (wishes before : List ℕ)
+    (wishes_are : wishes ≡ called_for d orders p)
     (before_is : before ≡ map (before_at d orders) wishes) (once : IsDistinct nat_eq (line_of d orders p))
-    (from : ℕ) (spans : List Span) (places : List ℕ) (early : List Bool) (lined : IsLined d orders p wishes from spans places early)
+    (from : ℕ) (spans : List Span) (places : List ℕ) (early : List Bool)
+    (lined : IsLined d orders p wishes from spans places early)
     (lt : from < length wishes) where
   abbrev line : List ℕ
   line = line_of d orders p
@@ -167,7 +180,8 @@ module _ (d : DossierRows) (orders : List CallOrder) (p : ℕ) (wishes before : 
   parted : wishes ≡ front ++ (claim x ++ back)
   parted =
       wishes_are
-      ∙ ap (flat_map claim) (sym (take-append-drop m line) ∙ ap (λ (l : List ℕ). take m line ++ l) (drop_more line m 0 next_in_line))
+      ∙ ap (flat_map claim) (sym (take-append-drop m line) ∙ ap (λ (l : List ℕ). take m line ++ l)
+      (drop_more line m 0 next_in_line))
       ∙ flat_map-append claim (take m line) (x ∷ drop (m + 1) line)
 
   some : 0 < length (claim x)
@@ -185,13 +199,16 @@ module _ (d : DossierRows) (orders : List CallOrder) (p : ℕ) (wishes before : 
       let in_line : m + 1 + i < length line = omega (arith, i_lt, length-drop (m + 1) line) in
       let called : (j : ℕ) → j < length line → is_among (get_or line j 0) order ≡ true =
       λ j j_lt. among_filtered (applies_in d p) (get_or line j 0) order (among_itself line j j_lt) in
-      let y_there = ap (λ c. get_or order (before_of d orders p c) 0) y_at ∙ found_there (get_or line (m + 1 + i) 0) order (called (m + 1 + i) in_line) in
+      let y_there = ap (λ c. get_or order (before_of d orders p c) 0) y_at
+      ∙ found_there (get_or line (m + 1 + i) 0) order (called (m + 1 + i) in_line) in
       let x_there = found_there x order (called m next_in_line) in
       let both : get_or line (m + 1 + i) 0 ≡ x = sym y_there ∙ ap (λ n. get_or order n 0) same ∙ x_there in
-      let other = (place_at line m once next_in_line).once (m + 1 + i) in_line (ne_eqb (m + 1 + i) m (λ e. omega (arith, e))) in
+      let other = (place_at line m once next_in_line).once (m + 1 + i) in_line
+      (ne_eqb (m + 1 + i) m (λ e. omega (arith, e))) in
       false≢true (sym other ∙ eq-eqb x (get_or line (m + 1 + i) 0) (sym both))
 
-  pub run_is_claim : (to : ℕ) → from < to → to ≤ length before → HoldsOneKey (λ k. k) before from to → to ≡ from + length (claim x)
+  pub run_is_claim : (to : ℕ) → from < to → to ≤ length before → HoldsOneKey (λ k. k) before from to
+      → to ≡ from + length (claim x)
   run_is_claim to further within run =
       let pos = before_at d orders in
       let parts : before ≡ map pos front ++ (map pos (claim x) ++ map pos back) =
@@ -203,18 +220,21 @@ module _ (d : DossierRows) (orders : List CallOrder) (p : ℕ) (wishes before : 
       (omega (arith, some, length-map (claim x) pos))
       (λ j j_lt.
       let j_in : j < length (claim x) = omega (arith, j_lt, length-map (claim x) pos) in
-      get_or-map pos (claim x) j 0 0 j_in ∙ claim_before d orders p x (get_or (claim x) j 0) (among_itself (claim x) j j_in))
+      get_or-map pos (claim x) j 0 0 j_in ∙ claim_before d orders p x (get_or (claim x) j 0)
+      (among_itself (claim x) j j_in))
       (λ c_some same.
       let b_some : 0 < length back = omega (arith, c_some, length-map back pos) in
       all_flat (λ k. pos k ≡ value → ⊥) claim (drop (m + 1) line)
       (λ i i_lt j j_lt e. differs i i_lt
-      (sym (claim_before d orders p (get_or (drop (m + 1) line) i 0) (get_or (claim (get_or (drop (m + 1) line) i 0)) j 0)
+      (sym (claim_before d orders p (get_or (drop (m + 1) line) i 0)
+      (get_or (claim (get_or (drop (m + 1) line) i 0)) j 0)
       (among_itself (claim (get_or (drop (m + 1) line) i 0)) j j_lt)) ∙ e))
       0 b_some (sym (get_or-map pos back 0 0 0 b_some) ∙ same))
       further within run in
       omega (arith, own, length-map (claim x) pos)
 
-  pub part_is_claim : (span : Span) → span.from ≡ from → span.to ≡ from + length (claim x) → part_of wishes span ≡ claim x
+  pub part_is_claim : (span : Span) → span.from ≡ from → span.to ≡ from + length (claim x)
+      → part_of wishes span ≡ claim x
   part_is_claim span from_is to_is =
       let n = length (claim x) in
       let rest : drop from wishes ≡ claim x ++ back = ap (λ k. drop k wishes) lined.at ∙ ap (drop (length front)) parted
@@ -234,13 +254,15 @@ module _ (d : DossierRows) (orders : List CallOrder) (p : ℕ) (wishes before : 
       let rest : drop from wishes ≡ claim x ++ back = ap (λ j. drop j wishes) lined.at ∙ ap (drop (length front)) parted
       ∙ drop-append_seam front (claim x ++ back) in
       let first : k ≡ get_or (claim x) 0 0 =
-      ap (λ j. get_or wishes j 0) (sym none) ∙ sym (get_or-drop from wishes 0 0) ∙ ap (λ (l : List ℕ). get_or l 0 0) rest
+      ap (λ j. get_or wishes j 0) (sym none) ∙ sym (get_or-drop from wishes 0 0)
+      ∙ ap (λ (l : List ℕ). get_or l 0 0) rest
       ∙ get_or_append_left (claim x) back 0 0 some in
       ap (λ (l : List ℕ). get_or l from 0) before_is ∙ get_or-map pos wishes from 0 0 lt ∙ ap pos first
       ∙ claim_before d orders p x (get_or (claim x) 0 0) (among_itself (claim x) 0 some)
 
 -- THE WALK begins, goes on by a claim, and ends
-pub lined_none : (d : DossierRows) (orders : List CallOrder) (p : ℕ) (wishes : List ℕ) (spans : List Span) (places : List ℕ)
+pub lined_none : (d : DossierRows) (orders : List CallOrder) (p : ℕ) (wishes : List ℕ) (spans : List Span)
+    (places : List ℕ)
     (early : List Bool) → spans ≡ [] → AreSeated d orders (is_below p) places early
     → IsLined d orders p wishes 0 spans places early
 lined_none d orders p wishes spans places early none seated =
@@ -252,27 +274,39 @@ lined_none d orders p wishes spans places early none seated =
       seated = seated_start d orders p (line_of d orders p) places early seated;
     })
 
-pub lined_more : (d : DossierRows) (orders : List CallOrder) (p : ℕ) (wishes before : List ℕ) → wishes ≡ called_for d orders p
+pub lined_more : (d : DossierRows) (orders : List CallOrder) (p : ℕ) (wishes before : List ℕ)
+    → wishes ≡ called_for d orders p
     → before ≡ map (before_at d orders) wishes → IsDistinct nat_eq (line_of d orders p)
     → (from to : ℕ) (span : Span) (spans next : List Span) (places new_places : List ℕ) (early new_early : List Bool)
     (place : ℕ) (is_early : Bool) → IsLined d orders p wishes from spans places early → from < length wishes → from < to
-    → to ≤ length before → HoldsOneKey (λ k. k) before from to → span.from ≡ from → span.to ≡ to → next ≡ spans ++ span ∷ []
+    → to ≤ length before → HoldsOneKey (λ k. k) before from to → span.from ≡ from → span.to ≡ to
+    → next ≡ spans ++ span ∷ []
     → place ≡ length spans → is_early ≡ nat_lt (get_or before from 0) (limit_of d p)
-    → PutAt ℕ 0 (part_of wishes span) place places new_places → PutAt Bool false (part_of wishes span) is_early early new_early
+    → PutAt ℕ 0 (part_of wishes span) place places new_places
+    → PutAt Bool false (part_of wishes span) is_early early new_early
     → IsLined d orders p wishes to next new_places new_early
-lined_more d orders p wishes before wishes_are before_is once from to span spans next places new_places early new_early place is_early
+lined_more d orders p wishes before wishes_are before_is once from to span spans next places new_places early new_early
+    place is_early
     lined lt further within run from_is to_is next_is place_is early_is put put_early =
     let line = line_of d orders p in
     let m = length spans in
     let x = get_or line m 0 in
     let claim = claim_of d p in
     let in_line = next_in_line d orders p wishes before wishes_are before_is once from spans places early lined lt in
-    let end = run_is_claim d orders p wishes before wishes_are before_is once from spans places early lined lt to further within run in
-    let part = part_is_claim d orders p wishes before wishes_are before_is once from spans places early lined lt span from_is
+    let end = run_is_claim d orders p wishes before wishes_are before_is once from spans places early lined lt to
+    further within run in
+    let part = part_is_claim d orders p wishes before wishes_are before_is once from spans places early lined lt span
+    from_is
     (to_is ∙ end) in
     let some = claim_is_some d orders p wishes before wishes_are before_is once from spans places early lined lt in
     let long : length next ≡ m + 1 = ap (λ (l : List Span). length l) next_is ∙ length-append spans (span ∷ []) in
-    let ends : to ≤ length wishes = omega (arith, within, ap (λ (l : List ℕ). length l) before_is, length-map wishes (before_at d orders)) in
+    let ends : to ≤ length wishes = omega (
+      arith,
+      within,
+      ap (λ (l : List ℕ). length l) before_is,
+      length-map wishes
+          (before_at d orders),
+    ) in
     let front : take (m + 1) line ≡ take m line ++ x ∷ [] = take_more line m 0 in_line in
     let P = λ (n : ℕ). AreSeated d orders (is_passed p (take n line)) new_places new_early in
     let Q = λ (ks : List ℕ). PutAt ℕ 0 ks place places new_places in
@@ -291,7 +325,8 @@ lined_more d orders p wishes before wishes_are before_is once from to span spans
           end ∙ ap (λ n. n + length (claim x)) lined.at
           ∙ sym (length-append (flat_map claim (take m line)) (claim x))
           ∙ ap (λ (l : List ℕ). length l) (flat_map_more claim [] (take m line) x)
-          ∙ ap (λ (l : List ℕ). length (flat_map claim l)) (sym front) ∙ ap (λ n. length (flat_map claim (take n line))) (sym long);
+          ∙ ap (λ (l : List ℕ). length (flat_map claim l)) (sym front)
+          ∙ ap (λ n. length (flat_map claim (take n line))) (sym long);
       seated =
           subst P (sym long)
           (seated_more d orders p line m x in_line refl places early new_places new_early place is_early refl once
@@ -302,15 +337,19 @@ lined_more d orders p wishes before wishes_are before_is once from to span spans
     }
 
 -- the part that is read is a claim, and there are no more spans than wishes
-pub part_read : (d : DossierRows) (orders : List CallOrder) (p : ℕ) (wishes before : List ℕ) → wishes ≡ called_for d orders p
+pub part_read : (d : DossierRows) (orders : List CallOrder) (p : ℕ) (wishes before : List ℕ)
+    → wishes ≡ called_for d orders p
     → before ≡ map (before_at d orders) wishes → IsDistinct nat_eq (line_of d orders p)
     → (from to : ℕ) (span : Span) (spans : List Span) (places : List ℕ) (early : List Bool)
     → IsLined d orders p wishes from spans places early → from < length wishes → from < to
     → to ≤ length before → HoldsOneKey (λ k. k) before from to → span.from ≡ from → span.to ≡ to
     → part_of wishes span ≡ claim_of d p (get_or (line_of d orders p) (length spans) 0)
-part_read d orders p wishes before wishes_are before_is once from to span spans places early lined lt further within run from_is to_is =
-    let end = run_is_claim d orders p wishes before wishes_are before_is once from spans places early lined lt to further within run in
-    part_is_claim d orders p wishes before wishes_are before_is once from spans places early lined lt span from_is (to_is ∙ end)
+part_read d orders p wishes before wishes_are before_is once from to span spans places early lined lt further within run
+    from_is to_is =
+    let end = run_is_claim d orders p wishes before wishes_are before_is once from spans places early lined lt to
+    further within run in
+    part_is_claim d orders p wishes before wishes_are before_is once from spans places early lined lt span from_is
+    (to_is ∙ end)
 
 few_spans : (d : DossierRows) (orders : List CallOrder) (p n : ℕ) → n ≤ length (line_of d orders p)
     → n ≤ length (flat_map (claim_of d p) (take n (line_of d orders p)))
@@ -328,7 +367,8 @@ few_spans d orders p (suc n) le =
     ∙ length-append (flat_map claim (take n line)) (claim x) in
     omega (arith, long, few_spans d orders p n (omega (arith, le)), line_some d orders p n lt)
 
-pub spans_fit : (d : DossierRows) (orders : List CallOrder) (p : ℕ) (wishes before : List ℕ) → wishes ≡ called_for d orders p
+pub spans_fit : (d : DossierRows) (orders : List CallOrder) (p : ℕ) (wishes before : List ℕ)
+    → wishes ≡ called_for d orders p
     → before ≡ map (before_at d orders) wishes → IsDistinct nat_eq (line_of d orders p)
     → (from : ℕ) (spans : List Span) (places : List ℕ) (early : List Bool)
     → IsLined d orders p wishes from spans places early → from < length wishes → length spans ≤ from
@@ -336,9 +376,11 @@ spans_fit d orders p wishes before wishes_are before_is once from spans places e
     let in_line = next_in_line d orders p wishes before wishes_are before_is once from spans places early lined lt in
     omega (arith, lined.at, few_spans d orders p (length spans) (omega (arith, in_line)))
 
-pub lined_all : (d : DossierRows) (orders : List CallOrder) (p : ℕ) (wishes before : List ℕ) → wishes ≡ called_for d orders p
+pub lined_all : (d : DossierRows) (orders : List CallOrder) (p : ℕ) (wishes before : List ℕ)
+    → wishes ≡ called_for d orders p
     → before ≡ map (before_at d orders) wishes → IsDistinct nat_eq (line_of d orders p)
-    → (from : ℕ) (spans : List Span) (places : List ℕ) (early : List Bool) → IsLined d orders p wishes from spans places early
+    → (from : ℕ) (spans : List Span) (places : List ℕ) (early : List Bool)
+    → IsLined d orders p wishes from spans places early
     → length wishes ≤ from
     → (map (part_of wishes) spans ≡ map (claim_of d p) (line_of d orders p))
     × AreSeated d orders (is_passed p (line_of d orders p)) places early
@@ -352,7 +394,8 @@ lined_all d orders p wishes before wishes_are before_is once from spans places e
           ap (λ (l : List ℕ). length l) (wishes_are ∙ ap (flat_map claim) (sym (take-append-drop m line))
           ∙ flat_map-append claim (take m line) (drop m line))
           ∙ length-append (flat_map claim (take m line)) (flat_map claim (drop m line)) in
-          let next : length (flat_map claim (drop m line)) ≡ length (claim (get_or line m 0) ++ flat_map claim (drop (m + 1) line)) =
+          let next : length (flat_map claim (drop m line))
+          ≡ length (claim (get_or line m 0) ++ flat_map claim (drop (m + 1) line)) =
           ap (λ (l : List ℕ). length (flat_map claim l)) (drop_more line m 0 less) in
           let some = line_some d orders p m less in
           absurd (omega (
@@ -376,8 +419,10 @@ counted t a r [] = refl
 counted t a r (c ∷ cs) =
     let rest = counted t a r cs in
     let f = λ (x : ℕ). cond (t x) (a ∷ r x) (r x) in
-    let long : length (flat_map f (c ∷ cs)) ≡ length (f c) + length (flat_map f cs) = length-append (f c) (flat_map f cs) in
-    let longer : length (flat_map r (c ∷ cs)) ≡ length (r c) + length (flat_map r cs) = length-append (r c) (flat_map r cs) in
+    let long : length (flat_map f (c ∷ cs)) ≡ length (f c) + length (flat_map f cs) =
+    length-append (f c) (flat_map f cs) in
+    let longer : length (flat_map r (c ∷ cs)) ≡ length (r c) + length (flat_map r cs) =
+    length-append (r c) (flat_map r cs) in
     elim (cases_Bool (t c)) [
       | inl passes ↦
           let here : length (filter t (c ∷ cs)) ≡ suc (length (filter t cs)) = rw passes refl in
@@ -391,7 +436,8 @@ counted t a r (c ∷ cs) =
 
 few_claims : (p : ℕ) (cs : List ℕ) → IsDistinct nat_eq cs → (ws : List Wish) (a : ℕ)
     → length (flat_map (λ c. map (λ (e : ℕ × Wish). e.0)
-    (filter (λ (e : ℕ × Wish). (nat_eq e.1.candidate c) && (nat_eq e.1.programme p)) (enumerate_from a ws))) cs) ≤ length ws
+    (filter (λ (e : ℕ × Wish). (nat_eq e.1.candidate c) && (nat_eq e.1.programme p)) (enumerate_from a ws))) cs)
+    ≤ length ws
 few_claims p cs apart [] a = omega (arith, ap (λ (l : List ℕ). length l) (flat_none (λ c. []) (λ c. refl) cs))
 few_claims p cs apart (w ∷ ws) a =
     let r = λ (c : ℕ). map (λ (e : ℕ × Wish). e.0)
@@ -403,9 +449,11 @@ few_claims p cs apart (w ∷ ws) a =
       | inl passes ↦ rw passes refl
       | inr fails ↦ rw fails refl
     ] in
-    let one : length (filter t cs) ≤ length (filter t (w.candidate ∷ [])) = pass_at_most t cs (w.candidate ∷ []) apart (λ c passes.
+    let one : length (filter t cs) ≤ length (filter t (w.candidate ∷ [])) =
+    pass_at_most t cs (w.candidate ∷ []) apart (λ c passes.
     or_left (nat_eq c w.candidate) false
-    (eq-eqb c w.candidate (sym (eqb-true w.candidate c (and_parts (nat_eq w.candidate c) (nat_eq w.programme p) passes).0)))) in
+    (eq-eqb c w.candidate
+    (sym (eqb-true w.candidate c (and_parts (nat_eq w.candidate c) (nat_eq w.programme p) passes).0)))) in
     let at_most : length (filter t (w.candidate ∷ [])) ≤ 1 = elim (cases_Bool (t w.candidate)) [
       | inl passes ↦ rw passes (omega arith)
       | inr fails ↦ rw fails (omega arith)

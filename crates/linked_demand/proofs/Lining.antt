@@ -1,8 +1,11 @@
 -- A candidate's claim in a programme, and their place in its line.
-use Rattle.std.proofs.Common.{ℕ, zero, suc, ◌+◌, ◌<◌, ◌≡◌, Bool, true, false, ◌&&◌, List, [], ◌∷◌, map, length, take, get_or, inl, inr, refl, sym, ◌∙◌, ap, arith, nat_eq, nat_lt, nat_le, filter, Option, Some, unwrap_or}
+use Rattle.std.proofs.Common.{ℕ, zero, suc, ◌+◌, ◌<◌, ◌≡◌, Bool, true, false, ◌&&◌, List, [], ◌∷◌, map, length, take}
+use Rattle.std.proofs.Common.{get_or, inl, inr, refl, sym, ◌∙◌, ap, arith, nat_eq, nat_lt, nat_le, filter, Option, Some}
+use Rattle.std.proofs.Common.{unwrap_or}
 use Rattle.std.specs.Prelude.{slice_get, All, ◌==◌}
 use Rattle.std.specs.List.{list_any, enumerate_from, range_with_len, IsDistinct, AllByRecursion}
-use Rattle.std.proofs.lemmas.Bool.{cases_Bool, cases_lt, false≢true, eq-eqb, ne_eqb, eqb-false, lt-ltb, le-ltb, le-leb, lt-leb}
+use Rattle.std.proofs.lemmas.Bool.{cases_Bool, cases_lt, false≢true, eq-eqb, ne_eqb, eqb-false, lt-ltb, le-ltb, le-leb}
+use Rattle.std.proofs.lemmas.Bool.{lt-leb}
 use Rattle.std.proofs.lemmas.List.FromFn.{fill_by_all}
 use Rattle.std.proofs.lemmas.List.Elements.{All-from_recursion}
 use Rattle.std.proofs.lemmas.Option.{slice_get_within, unwrap_or-slice_get}
@@ -130,13 +133,18 @@ once_first c x ys all (suc j) lt ne = all_at c ys all j (omega arith)
 once_later : (c x k : ℕ) (ys : List ℕ) → nat_eq c x ≡ false → IsPlaceOf c ys k → (j : ℕ)
     → j < length (x ∷ ys) → nat_eq j (suc k) ≡ false → nat_eq c (get_or (x ∷ ys) j 0) ≡ false
 once_later c x k ys not_x at zero lt ne = not_x
-once_later c x k ys not_x at (suc j) lt ne = at.once j (omega arith) (ne_eqb j k (λ e. eqb-false (suc j) (suc k) ne (ap suc e)))
+once_later c x k ys not_x at (suc j) lt ne =
+    at.once j (omega arith) (ne_eqb j k (λ e. eqb-false (suc j) (suc k) ne (ap suc e)))
 
 first_place : (c x : ℕ) (ys : List ℕ) → x ≡ c → AllByRecursion (λ y. nat_eq c y ≡ false) ys → IsPlaceOf c (x ∷ ys) 0
 first_place c x ys is all = record { within = omega arith; here = is; once = once_first c x ys all }
 
 next_place : (c x k : ℕ) (ys : List ℕ) → nat_eq c x ≡ false → IsPlaceOf c ys k → IsPlaceOf c (x ∷ ys) (suc k)
-next_place c x k ys not_x at = record { within = omega (arith, at.within); here = at.here; once = once_later c x k ys not_x at }
+next_place c x k ys not_x at = record {
+  within = omega (arith, at.within);
+  here = at.here;
+  once = once_later c x k ys not_x at;
+}
 
 -- in a list where none stands twice each stands at their place, and nowhere else
 pub place_at : (xs : List ℕ) (i : ℕ) → IsDistinct nat_eq xs → i < length xs → IsPlaceOf (get_or xs i 0) xs i
@@ -168,4 +176,5 @@ le_next i limit =
 pub claim_within : (d : DossierRows) (p c n : ℕ) → n ≡ length d.wishes → All (λ v. v < n) (claim_of d p c)
 claim_within d p c n n_is =
     All-from_recursion (λ v. v < n) (claim_of d p c)
-    (places_below (λ (x : ℕ × Wish). (nat_eq x.1.candidate c) && (nat_eq x.1.programme p)) d.wishes 0 n (omega (arith, n_is)))
+    (places_below (λ (x : ℕ × Wish). (nat_eq x.1.candidate c) && (nat_eq x.1.programme p)) d.wishes 0 n
+    (omega (arith, n_is)))

@@ -1,5 +1,6 @@
 -- A round after one of its bars fell, and a round that is built.
-use Rattle.std.proofs.Common.{ℕ, ◌+◌, ◌≤◌, ◌<◌, ◌≡◌, ◌≢◌, Bool, true, false, not, ◌&&◌, List, map, length, refl, sym, ◌∙◌, ap, arith, get_or, nat_lt, Option, Some, None, count_by, subst, Vec, unwrap_or}
+use Rattle.std.proofs.Common.{ℕ, ◌+◌, ◌≤◌, ◌<◌, ◌≡◌, ◌≢◌, Bool, true, false, not, ◌&&◌, List, map, length, refl, sym}
+use Rattle.std.proofs.Common.{◌∙◌, ap, arith, get_or, nat_lt, Option, Some, None, count_by, subst, Vec, unwrap_or}
 use Rattle.std.specs.Prelude.{slice_get, slice_index, replicate}
 use Rattle.std.specs.List.{enumerate_from, range_with_len}
 use Rattle.std.specs.declared.alloc.Global.{Global}

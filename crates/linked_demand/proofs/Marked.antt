@@ -1,9 +1,11 @@
 -- Marks of places and the list of those that are marked.
-use Rattle.std.proofs.Common.{ℕ, zero, suc, ◌+◌, ◌-◌, ◌≤◌, ◌<◌, ◌≡◌, Bool, true, false, cond, List, [], ◌∷◌, ◌++◌, length, reverse, get_or, refl, sym, ◌∙◌, ap, arith, count_by, subst}
+use Rattle.std.proofs.Common.{ℕ, zero, suc, ◌+◌, ◌-◌, ◌≤◌, ◌<◌, ◌≡◌, Bool, true, false, cond, List, [], ◌∷◌, ◌++◌}
+use Rattle.std.proofs.Common.{length, reverse, get_or, refl, sym, ◌∙◌, ap, arith, count_by, subst}
 use Rattle.std.specs.Prelude.{replicate}
 use Rattle.std.proofs.Math.ListN.{set}
 use Rattle.std.proofs.lemmas.Bool.{false≢true}
-use Rattle.std.proofs.lemmas.List.{length-append, length-replicate, length-set, get_or-set_same, reverse-append, length-reverse}
+use Rattle.std.proofs.lemmas.List.{length-append, length-replicate, length-set, get_or-set_same, reverse-append}
+use Rattle.std.proofs.lemmas.List.{length-reverse}
 use Rattle.std.proofs.lemmas.List.Sums.{count_by-le-length, sum_by-set}
 use Rattle.linked_demand.specs.Listed.{AreMarked, MarksAreListed}
 use Rattle.linked_demand.proofs.Keeping.{add_none}
@@ -35,7 +37,8 @@ none_counted (suc n) = omega (arith, none_counted n)
 -- as many are listed as are marked
 listed_count : (hs : List ℕ) (flags : List Bool) → AreMarked hs flags → length hs ≡ count_by (λ b. b) flags
 listed_count [] flags none = sym (ap (count_by (λ b. b)) none ∙ none_counted (length flags))
-listed_count (h ∷ hs) flags (marked, rest) = omega (arith, listed_count hs (set flags h false) rest, count_cleared flags h marked)
+listed_count (h ∷ hs) flags (marked, rest) =
+    omega (arith, listed_count hs (set flags h false) rest, count_cleared flags h marked)
 
 module _ (flags : List Bool) (places : List ℕ) (room : ℕ) (right : MarksAreListed flags places room) where
   -- there is room for a place that is not marked

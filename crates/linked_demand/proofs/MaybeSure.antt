@@ -1,8 +1,10 @@
 -- Which wishes may need no seat while they wait.
-use Rattle.std.proofs.Common.{ℕ, ◌<◌, ◌≡◌, Bool, true, false, not, ◌&&◌, List, [], ◌∷◌, length, get_or, filter, nat_eq, nat_lt, Some, inl, inr, refl, sym, ◌∙◌, ap, arith, subst}
+use Rattle.std.proofs.Common.{ℕ, ◌<◌, ◌≡◌, Bool, true, false, not, ◌&&◌, List, [], ◌∷◌, length, get_or, filter, nat_eq}
+use Rattle.std.proofs.Common.{nat_lt, Some, inl, inr, refl, sym, ◌∙◌, ap, arith, subst}
 use Rattle.std.specs.Prelude.{slice_get, ◌==◌}
 use Rattle.std.specs.List.{list_any, range_with_len}
-use Rattle.std.proofs.lemmas.Bool.{and_from, cases_Bool, eq-eqb, eqb-true, false≢true, le-ltb, lt-ltb, ne_eqb, or_cases, or_from, or_parts}
+use Rattle.std.proofs.lemmas.Bool.{and_from, cases_Bool, eq-eqb, eqb-true, false≢true, le-ltb, lt-ltb, ne_eqb, or_cases}
+use Rattle.std.proofs.lemmas.Bool.{or_from, or_parts}
 use Rattle.std.proofs.lemmas.List.{get_or-map, length-map}
 use Rattle.std.proofs.lemmas.List.FromFn.{get_or-map-range_with_len}
 use Rattle.admit_core.specs.declared.dossier.Wish.{Wish}
@@ -42,7 +44,8 @@ needs_seat s long early k w m at unsure =
     let parts = or_parts (get_or early k false) (is_doubled s.dossier k) unsure in
     or_from (has_seat_there s k) (get_or early k false) (no_seat s long k w m at parts.1) parts.0
 
-kept : (test opened sure : Bool) → (opened ≡ true → test ≡ false → sure ≡ false) → (test && (opened && sure)) ≡ (opened && sure)
+kept : (test opened sure : Bool) → (opened ≡ true → test ≡ false → sure ≡ false)
+    → (test && (opened && sure)) ≡ (opened && sure)
 kept true opened sure h = refl
 kept false true sure h = sym (h refl refl)
 kept false false sure h = refl
@@ -94,13 +97,15 @@ doubled_claim d k w at =
     let claim = claim_of d p c in
     let other = λ (j : ℕ). not (nat_eq j k) in
     let rises : Ascends (filter (applies_at d p) own) =
-    ascends-filter (applies_at d p) own (ascends-filter (λ j. candidate_of d j == c) (range_with_len 0 (length d.wishes))
+    ascends-filter (applies_at d p) own (ascends-filter (λ j. candidate_of d j == c)
+    (range_with_len 0 (length d.wishes))
     (ascends-range 0 (length d.wishes))) in
     let P = λ (ks : List ℕ). Ascends ks in
     let among : is_among k claim ≡ true =
     among_claim d p c k w at ∙ and_from (nat_eq w.candidate c) (nat_eq w.programme p)
     (eq-eqb w.candidate c (sym c_is)) (eq-eqb w.programme p (sym p_is)) in
-    any_same (λ j. other j && applies_at d p j) (λ j. applies_at d p j && other j) (λ j. turn_two (other j) (applies_at d p j)) own
+    any_same (λ j. other j && applies_at d p j) (λ j. applies_at d p j && other j)
+    (λ j. turn_two (other j) (applies_at d p j)) own
     ∙ sym (any-filter other (applies_at d p) own)
     ∙ ap (list_any other) (claim_own d p c)
     ∙ any_other k claim (subst P (claim_own d p c) rises) among
@@ -108,15 +113,18 @@ doubled_claim d k w at =
     ∙ ap (λ e. nat_lt 1 (length (claim_of d w.programme e))) c_is
 
 -- the claim of a wish, as it is read in the line of its programme
-module _ {d : DossierRows} {orders : List CallOrder} {claims : List (List (List ℕ))} {places : List ℕ} {early : List Bool}
-    (lineup : IsLineup d orders claims places early) (k : ℕ) (lt : k < length d.wishes) (v : Wish) (v_is : v ≡ wish_in d.wishes k) where
+module _ {d : DossierRows} {orders : List CallOrder} {claims : List (List (List ℕ))} {places : List ℕ}
+    {early : List Bool}
+    (lineup : IsLineup d orders claims places early) (k : ℕ) (lt : k < length d.wishes) (v : Wish)
+    (v_is : v ≡ wish_in d.wishes k) where
   here : slice_get d.wishes k ≡ Some v
   here = wish_there d.wishes k v lt v_is
 
   pub programme_in : v.programme < length claims
   programme_in = omega (arith, lineup.programmes_are k v here, claims_each lineup)
 
-  pub place_in : (line : List (List ℕ)) → line ≡ get_or claims v.programme line → (place : ℕ) → place ≡ get_or places k 0
+  pub place_in : (line : List (List ℕ)) → line ≡ get_or claims v.programme line → (place : ℕ)
+      → place ≡ get_or places k 0
       → place < length line
   place_in line read place place_is =
       let at = lineup.places_are k v here in
@@ -128,14 +136,16 @@ module _ {d : DossierRows} {orders : List CallOrder} {claims : List (List (List 
         length-map (line_of d orders v.programme) (claim_of d v.programme),
       )
 
-  pub doubled_here : (line : List (List ℕ)) → line ≡ get_or claims v.programme line → (place : ℕ) → place ≡ get_or places k 0
+  pub doubled_here : (line : List (List ℕ)) → line ≡ get_or claims v.programme line → (place : ℕ)
+      → place ≡ get_or places k 0
       → (claim : List ℕ) → claim ≡ get_or line place [] → nat_lt 1 (length claim) ≡ is_doubled d k
   doubled_here line read place place_is claim claim_is =
       let at = lineup.places_are k v here in
       let p = v.programme in
       let is : claim ≡ claim_of d p v.candidate =
       claim_is ∙ ap (λ j. get_or line j []) place_is
-      ∙ ap (λ (r : List (List ℕ)). get_or r (get_or places k 0) []) (row_right lineup p (lineup.programmes_are k v here) line read)
+      ∙ ap (λ (r : List (List ℕ)). get_or r (get_or places k 0) [])
+      (row_right lineup p (lineup.programmes_are k v here) line read)
       ∙ get_or-map (claim_of d p) (line_of d orders p) (get_or places k 0) 0 [] at.within
       ∙ ap (claim_of d p) at.here in
       ap (λ (ks : List ℕ). nat_lt 1 (length ks)) is ∙ sym (doubled_claim d k v here)

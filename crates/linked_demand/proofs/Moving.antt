@@ -1,5 +1,7 @@
 -- Which wishes become proposed where one wish is closed.
-use Rattle.std.proofs.Common.{ℕ, ◌<◌, ◌≡◌, Bool, true, false, not, ◌&&◌, ◌||◌, List, [], ◌∷◌, length, refl, sym, ◌∙◌, ap, arith, nat_eq, nat_le, zero, suc, get_or, Option, Some, None, zip, unwrap_or, option_map, nat_lt, inl, inr}
+use Rattle.std.proofs.Common.{ℕ, ◌<◌, ◌≡◌, Bool, true, false, not, ◌&&◌, ◌||◌, List, [], ◌∷◌, length, refl, sym, ◌∙◌}
+use Rattle.std.proofs.Common.{ap, arith, nat_eq, nat_le, zero, suc, get_or, Option, Some, None, zip, unwrap_or}
+use Rattle.std.proofs.Common.{option_map, nat_lt, inl, inr}
 use Rattle.std.proofs.Math.ListN.{set}
 use Rattle.std.specs.Prelude.{slice_get, slice_index}
 use Rattle.std.specs.List.{list_any}
@@ -14,7 +16,8 @@ use Rattle.admit_core.specs.State.{State, entries, is_waiting, holds_seat, seats
 use Rattle.admit_core.specs.DossierRows.{limit_of}
 use Rattle.admit_core.specs.Proposals.{needs_no_seat, position_of}
 use Rattle.linked_demand.specs.Line.{LineRow, is_reached, is_answer}
-use Rattle.linked_demand.specs.Opens.{flagged, is_flagged_in, wants_by, ahead_by, is_proposed_by, applies_in, line_of, seat_row}
+use Rattle.linked_demand.specs.Opens.{flagged, is_flagged_in, wants_by, ahead_by, is_proposed_by, applies_in, line_of}
+use Rattle.linked_demand.specs.Opens.{seat_row}
 use Rattle.linked_demand.specs.Links.{LinksRow, IsSeatPlace, WaitsAt}
 use Rattle.linked_demand.specs.Demand.{is_proposed_at}
 use Rattle.linked_demand.proofs.Opens.{row_other, reached_in_line}
@@ -39,7 +42,8 @@ flag_found s opens j v n waits lt t =
     (at_zip (entries s) opens j (v, n) true waits.here (slice_get-get_or opens j false lt ∙ ap Some t))
     (rw (eq-eqb v.candidate v.candidate refl, eq-eqb v.programme v.programme refl) refl)
 
-waits_here : (s : State) (j : ℕ) (v : Wish) (n : Mark) → WaitsAt s j v n → applies_in s.dossier v.programme v.candidate ≡ true
+waits_here : (s : State) (j : ℕ) (v : Wish) (n : Mark) → WaitsAt s j v n
+    → applies_in s.dossier v.programme v.candidate ≡ true
 waits_here s j v n waits =
     any_at (λ (w : Wish). (nat_eq w.candidate v.candidate) && (nat_eq w.programme v.programme))
     s.dossier.wishes j v (wish_of s.dossier.wishes s.marks j v n waits.here)
@@ -69,9 +73,11 @@ module _ {s : State} {orders : List CallOrder} {opens : List Bool} {lines : List
       let found : list_any (is_flagged_in v.programme v.candidate) (flagged s (set opens i false)) ≡ true =
       flag_found s (set opens i false) j v n waits (omega (arith, lt, length-set opens i false)) (flag_same ∙ t) in
       let no_seat : holds_seat s v.candidate v.programme ≡ false = no_left
-      (holds_seat s v.candidate v.programme) (nat_le (position_of s orders v) (limit_of s.dossier v.programme)) unsure in
+      (holds_seat s v.candidate v.programme) (nat_le (position_of s orders v) (limit_of s.dossier v.programme))
+      unsure in
       let wants : wants_by s (set opens i false) v.programme v.candidate ≡ true = rw (found, no_seat) refl in
-      get_or-map (wants_by s (set opens i false) v.programme) (line_of s.dossier orders v.programme) place 0 false at.within
+      get_or-map (wants_by s (set opens i false) v.programme)
+      (line_of s.dossier orders v.programme) place 0 false at.within
       ∙ ap (wants_by s (set opens i false) v.programme) at.here ∙ wants
 
   -- in another programme nothing becomes proposed
@@ -102,7 +108,8 @@ closed_bits true seat old false = refl
 closed_bits false seat old place = refl
 
 newly_bits : (waits flag sure old new answer : Bool) → (sure ≡ false → flag ≡ true → (new && not old) ≡ answer)
-    → (((waits && flag) && (sure || new)) && not ((waits && flag) && (sure || old))) ≡ (waits && (answer && (flag && not sure)))
+    → (((waits && flag) && (sure || new)) && not ((waits && flag) && (sure || old)))
+    ≡ (waits && (answer && (flag && not sure)))
 newly_bits false flag sure old new answer h = refl
 newly_bits true false sure old new answer h = sym (and_false answer)
 newly_bits true true true old new answer h = sym (and_false answer)
@@ -166,7 +173,8 @@ module _ {s : State} {orders : List CallOrder} {opens : List Bool} {lines : List
   newly_all j v n here =
       let l0 : LinksRow = record { state = s; orders = orders; opens = opens } in
       let l1 : LinksRow = record { state = s; orders = orders; opens = set opens i false } in
-      let new_is : is_proposed_at l1 j ≡ is_proposed_by s orders (set opens i false) v n (get_or (set opens i false) j false) =
+      let new_is : is_proposed_at l1 j ≡ is_proposed_by s orders (set opens i false) v n
+      (get_or (set opens i false) j false) =
       ap (λ (o : Option (Wish × Mark)). unwrap_or
       (option_map (λ e. is_proposed_by s orders (set opens i false) e.0 e.1
       (get_or (set opens i false) j false)) o) false) here in
@@ -230,6 +238,7 @@ module _ {s : State} {orders : List CallOrder} {opens : List Bool} {lines : List
       let at = k.links.places_are j e.0 (wish_of s.dossier.wishes s.marks j e.0 e.1 here) in
       let same : e.0.programme ≡ w.programme = eqb-true e.0.programme w.programme own in
       elim (cases_Bool (nat_eq next (slice_index places j))) [
-        | inl it ↦ it ∙ sym (eq-eqb e.0.candidate c (sym at.here ∙ rw (same, eqb-true next (slice_index places j) it) refl))
+        | inl it ↦ it ∙ sym (eq-eqb e.0.candidate c
+            (sym at.here ∙ rw (same, eqb-true next (slice_index places j) it) refl))
         | inr apart ↦ apart ∙ sym (rw same at (at.once next (rw same lt) apart))
       ]))

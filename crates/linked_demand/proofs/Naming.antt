@@ -1,8 +1,11 @@
 -- The demands that a row tells are the demanded ranks with their names.
-use Rattle.std.proofs.Common.{ℕ, ◌+◌, ◌≤◌, ◌<◌, ◌≡◌, Bool, true, false, ◌&&◌, List, [], ◌∷◌, map, inl, inr, refl, sym, ◌∙◌, ap, arith, nat_eq, nat_lt, zero, suc, Option, Some, option_map, unwrap_or, find, subst, zero-add}
+use Rattle.std.proofs.Common.{ℕ, ◌+◌, ◌≤◌, ◌<◌, ◌≡◌, Bool, true, false, ◌&&◌, List, [], ◌∷◌, map, inl, inr, refl, sym}
+use Rattle.std.proofs.Common.{◌∙◌, ap, arith, nat_eq, nat_lt, zero, suc, Option, Some, option_map, unwrap_or, find}
+use Rattle.std.proofs.Common.{subst, zero-add}
 use Rattle.std.specs.Prelude.{slice_get}
 use Rattle.std.specs.List.{enumerate_from}
-use Rattle.std.proofs.lemmas.Bool.{cases_Bool, cases_order, false≢true, and_parts, and_from, eqb-true, eq-eqb, ltb-true, lt-ltb}
+use Rattle.std.proofs.lemmas.Bool.{cases_Bool, cases_order, false≢true, and_parts, and_from, eqb-true, eq-eqb, ltb-true}
+use Rattle.std.proofs.lemmas.Bool.{lt-ltb}
 use Rattle.std.proofs.lemmas.Option.{slice_get_within}
 use Rattle.admit_core.specs.declared.dossier.Wish.{Wish}
 use Rattle.admit_core.specs.declared.state.Mark.{Mark}
@@ -22,7 +25,8 @@ abbrev demand_of : RowWish → Demand
 demand_of x = record { rank = x.rank; wish = x.wish }
 
 -- the ranks of the firsts are those that are counted
-ranks_first : (p : ℕ → Bool) (last : ℕ) (xs : List RowWish) → map (λ (y : Demand). y.rank) (firsts p last xs) ≡ counted p last xs
+ranks_first : (p : ℕ → Bool) (last : ℕ) (xs : List RowWish)
+    → map (λ (y : Demand). y.rank) (firsts p last xs) ≡ counted p last xs
 ranks_first p last [] = refl
 ranks_first p last (x ∷ xs) =
     elim (cases_Bool (nat_lt last x.rank && p x.wish)) [
@@ -69,7 +73,8 @@ further p last x xs y low le first (z, is, leads) = (
 )
 
 leads_counted : (p : ℕ → Bool) (last : ℕ) (x : RowWish) (xs : List RowWish) → (nat_lt last x.rank && p x.wish) ≡ true
-    → ((i : ℕ) (y : Demand) → slice_get (firsts p x.rank xs) i ≡ Some y → (z : RowWish) × (demand_of z ≡ y) × Leads p x.rank xs z)
+    → ((i : ℕ) (y : Demand) → slice_get (firsts p x.rank xs) i ≡ Some y
+    → (z : RowWish) × (demand_of z ≡ y) × Leads p x.rank xs z)
     → (i : ℕ) (y : Demand) → slice_get (demand_of x ∷ firsts p x.rank xs) i ≡ Some y
     → (z : RowWish) × (demand_of z ≡ y) × Leads p last (x ∷ xs) z
 leads_counted p last x xs counts later zero y at =
@@ -86,9 +91,11 @@ leads_counted p last x xs counts later zero y at =
     )
 leads_counted p last x xs counts later (suc i) y at =
     let above = ltb-true last x.rank (and_parts (nat_lt last x.rank) (p x.wish) counts).0 in
-    further p last x xs y x.rank (omega (arith, above)) (λ z high same. absurd (omega (arith, high, same))) (later i y at)
+    further p last x xs y x.rank (omega (arith, above)) (λ z high same. absurd (omega (arith, high, same)))
+    (later i y at)
 
-leads_first : (p : ℕ → Bool) (last : ℕ) (xs : List RowWish) (i : ℕ) (y : Demand) → slice_get (firsts p last xs) i ≡ Some y
+leads_first : (p : ℕ → Bool) (last : ℕ) (xs : List RowWish) (i : ℕ) (y : Demand)
+    → slice_get (firsts p last xs) i ≡ Some y
     → (x : RowWish) × (demand_of x ≡ y) × Leads p last xs x
 leads_first p last [] i y at = absurd (omega (arith, slice_get_within {A = Demand} [] i y at))
 leads_first p last (x ∷ xs) i y at =
@@ -96,12 +103,14 @@ leads_first p last (x ∷ xs) i y at =
       | inl counts ↦ leads_counted p last x xs counts (leads_first p x.rank xs) i y (rw counts at at)
       | inr not_so ↦
           further p last x xs y last (omega arith)
-          (λ z high same. second (nat_lt last x.rank) (p x.wish) (lt-ltb last x.rank (omega (arith, high, same))) not_so)
+          (λ z high same. second (nat_lt last x.rank) (p x.wish)
+          (lt-ltb last x.rank (omega (arith, high, same))) not_so)
           (leads_first p last xs i y (rw not_so at at))
     ]
 
 -- what is found first is what passes, and nothing before it does
-found_first : {X : Type 0} (t : ℕ × X → Bool) (xs : List X) (a k : ℕ) (x : X) → slice_get xs k ≡ Some x → t (a + k, x) ≡ true
+found_first : {X : Type 0} (t : ℕ × X → Bool) (xs : List X) (a k : ℕ) (x : X) → slice_get xs k ≡ Some x
+    → t (a + k, x) ≡ true
     → ((j : ℕ) (y : X) → j < k → slice_get xs j ≡ Some y → t (a + j, y) ≡ false)
     → unwrap_or (option_map (λ z. z.0) (find t (enumerate_from a xs))) 0 ≡ a + k
 found_first {X} t [] a k x at passes none = absurd (omega (arith, slice_get_within {A = X} [] k x at))
@@ -154,7 +163,8 @@ module _ (l : LinksRow) (bars : List ℕ) (h : ℕ) (row : List RowWish) (right 
       elim (cases_order i leads.place) [
         | inl equal ↦
             let P = λ (n : ℕ). slice_get row n ≡ Some y in
-            let same : y.wish ≡ x.wish = ap (λ (o : Option RowWish). (unwrap_or o x).wish) (sym (subst P equal found) ∙ leads.here) in
+            let same : y.wish ≡ x.wish = ap (λ (o : Option RowWish). (unwrap_or o x).wish)
+            (sym (subst P equal found) ∙ leads.here) in
             omega (arith, lt, wish, same)
         | inr differ ↦ elim differ [
           | inl below ↦ false≢true (sym (leads.alone i y below found rank) ∙ ap (is_proposed_at l) wish ∙ passed)
@@ -168,20 +178,23 @@ module _ (l : LinksRow) (bars : List ℕ) (h : ℕ) (row : List RowWish) (right 
       → name_of l.state l.orders bars h y.rank ≡ y.wish
   name_right i y at =
       let (x, is, leads) = leads_first (is_proposed_at l) 0 row i y at in
-      let (e, there, both) = demands_back l bars h row right opens_are leads.place x leads.here leads.passes leads.above in
+      let (e, there, both) = demands_back l bars h row right opens_are leads.place x leads.here leads.passes
+      leads.above in
       let t = named_by x.rank in
       let parts = and_parts (demands_bed l.state l.orders bars h e.0 e.1) (nat_eq x.rank e.0.board_rank) both in
       let here : t (x.wish, e) ≡ true =
       and_from (demands_bed l.state l.orders bars h e.0 e.1) (nat_eq e.0.board_rank x.rank) parts.0
       (eq-eqb e.0.board_rank x.rank (sym (eqb-true x.rank e.0.board_rank parts.1))) in
       let P = λ (n : ℕ). t (n, e) ≡ true in
-      let none : (j : ℕ) (f : Wish × Mark) → j < x.wish → slice_get (entries l.state) j ≡ Some f → t (0 + j, f) ≡ false =
+      let none : (j : ℕ) (f : Wish × Mark) → j < x.wish → slice_get (entries l.state) j ≡ Some f
+      → t (0 + j, f) ≡ false =
       λ j f lt at_j. elim (cases_Bool (t (0 + j, f))) [
         | inl asks ↦ absurd (none_less x leads j f lt at_j (turned x.rank f (0 + j) asks))
         | inr asks_not ↦ asks_not
       ] in
       let Q = λ (d : Demand). name_of l.state l.orders bars h d.rank ≡ d.wish in
-      subst Q is (found_first t (entries l.state) 0 x.wish e there (subst P (sym (zero-add x.wish)) here) none ∙ zero-add x.wish)
+      subst Q is (found_first t (entries l.state) 0 x.wish e there (subst P (sym (zero-add x.wish)) here) none
+      ∙ zero-add x.wish)
 
   -- the demands that the row tells are the demanded ranks with their names
   pub demands_told : firsts (is_proposed_at l) 0 row ≡ demands_of l.state l.orders bars h

@@ -1,5 +1,6 @@
 -- What the fall of one bar changes for a wish.
-use Rattle.std.proofs.Common.{ℕ, ◌≤◌, ◌<◌, ◌≡◌, ◌≢◌, Bool, true, false, not, ◌&&◌, refl, sym, ◌∙◌, ap, Option, Some, None, List, length, nat_lt, ◌||◌}
+use Rattle.std.proofs.Common.{ℕ, ◌≤◌, ◌<◌, ◌≡◌, ◌≢◌, Bool, true, false, not, ◌&&◌, refl, sym, ◌∙◌, ap, Option, Some}
+use Rattle.std.proofs.Common.{None, List, length, nat_lt, ◌||◌}
 use Rattle.std.specs.Prelude.{slice_index, slice_set}
 use Rattle.std.proofs.lemmas.Bool.{false≢true, and_parts, eqb-true, ne_eqb}
 use Rattle.admit_core.specs.declared.dossier.Wish.{Wish}
@@ -35,7 +36,8 @@ same_demand true low high false false true true opens seat none is_low is_high =
 module _ (s : State) (bars : List ℕ) (i to : ℕ) (within : i < length bars) (le : to ≤ slice_index bars i) where
   pub open_before : (w : Wish) (m : Mark) → is_open s (slice_set bars i to) w m ≡ true → is_open s bars w m ≡ true
   open_before w m t =
-      (and_parts (is_open s bars w m) (not (is_past s i to w)) (sym (fallen_open s bars i to w m w.school within le) ∙ t)).0
+      (and_parts (is_open s bars w m) (not (is_past s i to w))
+      (sym (fallen_open s bars i to w m w.school within le) ∙ t)).0
 
   pub past_is_closed : (w : Wish) (m : Mark) → is_past s i to w ≡ true → is_open s (slice_set bars i to) w m ≡ false
   past_is_closed w m past = fallen_open s bars i to w m w.school within le

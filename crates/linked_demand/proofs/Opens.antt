@@ -1,9 +1,12 @@
 -- What the flags of open wishes say is what the bars say, and how it changes where a bar falls or one wish is closed.
-use Rattle.std.proofs.Common.{ℕ, ◌≤◌, ◌<◌, ◌≡◌, Bool, true, false, not, ◌&&◌, ◌||◌, List, [], ◌∷◌, map, length, inl, inr, refl, sym, ◌∙◌, ap, arith, nat_eq, nat_lt, filter, zero, suc, get_or, take, Option, Some, None, zip}
+use Rattle.std.proofs.Common.{ℕ, ◌≤◌, ◌<◌, ◌≡◌, Bool, true, false, not, ◌&&◌, ◌||◌, List, [], ◌∷◌, map, length, inl}
+use Rattle.std.proofs.Common.{inr, refl, sym, ◌∙◌, ap, arith, nat_eq, nat_lt, filter, zero, suc, get_or, take, Option}
+use Rattle.std.proofs.Common.{Some, None, zip}
 use Rattle.std.proofs.Math.ListN.{set}
 use Rattle.std.specs.Prelude.{slice_index, slice_set, slice_get}
 use Rattle.std.specs.List.{list_any, before_first}
-use Rattle.std.proofs.lemmas.Bool.{cases_Bool, and_parts, and_left, and_right, or_cases, or_left, or_right, false≢true, ltb-true, lt-ltb, eqb-true, eqb-false, ne_eqb, eq-eqb}
+use Rattle.std.proofs.lemmas.Bool.{cases_Bool, and_parts, and_left, and_right, or_cases, or_left, or_right, false≢true}
+use Rattle.std.proofs.lemmas.Bool.{ltb-true, lt-ltb, eqb-true, eqb-false, ne_eqb, eq-eqb}
 use Rattle.std.proofs.lemmas.List.Sums.{length-filter}
 use Rattle.std.proofs.lemmas.List.{get_or-set_same, get_or-set_other}
 use Rattle.admit_core.specs.declared.dossier.Wish.{Wish}
@@ -16,7 +19,8 @@ use Rattle.admit_core.proofs.Plain.{map_same, is_and_true, count_same}
 use Rattle.proposals.proofs.Front.{up_to, before_is}
 use Rattle.linked_demand.specs.Line.{LineRow, set_count, is_reached}
 use Rattle.linked_demand.specs.Links.{IsPlaceOf, IsSeatPlace}
-use Rattle.linked_demand.specs.Opens.{opens_of, flagged, is_flagged_in, wants_by, ahead_by, is_proposed_by, applies_in, line_of, seat_row, is_past}
+use Rattle.linked_demand.specs.Opens.{opens_of, flagged, is_flagged_in, wants_by, ahead_by, is_proposed_by, applies_in}
+use Rattle.linked_demand.specs.Opens.{line_of, seat_row, is_past}
 
 -- bits
 open_twice : (waits behind : Bool) → (waits && (waits && not (waits && behind))) ≡ (waits && not (waits && behind))
@@ -62,7 +66,8 @@ any_zip_first q r h (x ∷ xs) (y ∷ ys) t =
       | inr later ↦ or_right (r x) (list_any r xs) (any_zip_first q r h xs ys later)
     ]
 
-pub wants_applies : (s : State) (opens : List Bool) (p c : ℕ) → wants_by s opens p c ≡ true → applies_in s.dossier p c ≡ true
+pub wants_applies : (s : State) (opens : List Bool) (p c : ℕ) → wants_by s opens p c ≡ true
+    → applies_in s.dossier p c ≡ true
 wants_applies s opens p c t =
     let r = λ (w : Wish). (nat_eq w.candidate c) && (nat_eq w.programme p) in
     any_zip_first (λ (e : Wish × Mark). r e.0) r (λ w m u. u) s.dossier.wishes s.marks
@@ -80,7 +85,8 @@ filter_up_to q f c h pass (x ∷ order) =
       | inr other ↦ elim (cases_Bool (f x)) [
         | inl kept ↦
             let same = filter_up_to q f c h pass order in
-            rw (kept, other) (elim (cases_Bool (q x)) [ inl counts ↦ rw counts (ap suc same) | inr none ↦ rw none same ])
+            rw (kept, other) (elim (cases_Bool (q x))
+            [ inl counts ↦ rw counts (ap suc same) | inr none ↦ rw none same ])
         | inr left ↦ elim (cases_Bool (q x)) [
           | inl counts ↦ absurd (false≢true (sym left ∙ h x counts))
           | inr none ↦ rw (left, other, none) (filter_up_to q f c h pass order)
@@ -96,7 +102,8 @@ up_to_take c (x ∷ xs) (suc k) at =
     (ap (λ (ys : List ℕ). x ∷ ys) (up_to_take c xs k (record {
       within = omega (arith, at.within);
       here = at.here;
-      once = λ j lt ne. at.once (suc j) (omega arith) (ne_eqb (suc j) (suc k) (λ e. omega (arith, e, eqb-false j k ne)));
+      once = λ j lt ne. at.once (suc j) (omega arith)
+          (ne_eqb (suc j) (suc k) (λ e. omega (arith, e, eqb-false j k ne)));
     })))
 
 -- the set places of a front are those of the front who pass
@@ -176,7 +183,8 @@ map_at f g (x ∷ xs) (suc k) lt h =
     (map_at f g xs k (omega arith)
     (λ j within ne. h (suc j) (omega arith) (ne_eqb (suc j) (suc k) (λ e. omega (arith, e, eqb-false j k ne))))))
 
-module _ (s : State) (opens : List Bool) (i : ℕ) (w : Wish) (m : Mark) (at : slice_get (entries s) i ≡ Some (w, m)) where
+module _ (s : State) (opens : List Bool) (i : ℕ) (w : Wish) (m : Mark)
+    (at : slice_get (entries s) i ≡ Some (w, m)) where
   pub wants_other : (p c : ℕ) → (nat_eq w.candidate c && nat_eq w.programme p) ≡ false
       → wants_by s (set opens i false) p c ≡ wants_by s opens p c
   wants_other p c t =
@@ -207,7 +215,8 @@ module _ (s : State) (opens : List Bool) (i : ℕ) (w : Wish) (m : Mark) (at : s
 
 -- a bar falls: the open wishes that are past the new bar, and no others, are barred
 no_longer_open : (waits held low high past : Bool) → (high ≡ true → low ≡ true) → low ≡ past
-    → (waits && not (waits && (not held && low))) ≡ ((waits && not (waits && (not held && high))) && not (not held && past))
+    → (waits && not (waits && (not held && low)))
+    ≡ ((waits && not (waits && (not held && high))) && not (not held && past))
 no_longer_open false held low high past h e = refl
 no_longer_open true true low high past h e = refl
 no_longer_open true false true true past h e = refl

@@ -1,5 +1,6 @@
 -- Items of which those of one key ascend.
-use Rattle.std.proofs.Common.{ℕ, ◌+◌, ◌<◌, ◌≡◌, Bool, true, List, [], ◌∷◌, map, inl, inr, refl, sym, ap, arith, filter, zero, suc, nat_eq, Some, unwrap_or, subst}
+use Rattle.std.proofs.Common.{ℕ, ◌+◌, ◌<◌, ◌≡◌, Bool, true, List, [], ◌∷◌, map, inl, inr, refl, sym, ap, arith, filter}
+use Rattle.std.proofs.Common.{zero, suc, nat_eq, Some, unwrap_or, subst}
 use Rattle.std.specs.Prelude.{slice_get}
 use Rattle.std.specs.List.{range_with_len, AllByRecursion}
 use Rattle.std.proofs.lemmas.Bool.{cases_Bool, eq-eqb, both_ways}
@@ -13,8 +14,10 @@ InPlaceOrder key place [] = Unit {0}
 InPlaceOrder key place (x ∷ xs) = AllByRecursion (λ y. key x ≡ key y → place x < place y) xs × InPlaceOrder key place xs
 
 -- the later ones that pass a test are above, where their places are
-above_later : {X : Type 0} (key place : X → ℕ) (t : X → Bool) (x : X) (xs : List X) → ((y : X) → key x ≡ key y → t y ≡ true)
-    → AllByRecursion (λ m. place x < m) (map place (filter t xs)) → AllByRecursion (λ y. key x ≡ key y → place x < place y) xs
+above_later : {X : Type 0} (key place : X → ℕ) (t : X → Bool) (x : X) (xs : List X)
+    → ((y : X) → key x ≡ key y → t y ≡ true)
+    → AllByRecursion (λ m. place x < m) (map place (filter t xs))
+    → AllByRecursion (λ y. key x ≡ key y → place x < place y) xs
 above_later key place t x [] own all = tt
 above_later key place t x (y ∷ ys) own all =
     elim (cases_Bool (t y)) [
@@ -55,7 +58,8 @@ in_order_from key place (x ∷ xs) rises =
       ]),
     )
 
-all_read : {X : Type 0} (P : X → Type 0) (xs : List X) → AllByRecursion P xs → (j : ℕ) (y : X) → slice_get xs j ≡ Some y → P y
+all_read : {X : Type 0} (P : X → Type 0) (xs : List X) → AllByRecursion P xs → (j : ℕ) (y : X) → slice_get xs j ≡ Some y
+    → P y
 all_read P [] all j y at = absurd (omega (arith, slice_get_within [] j y at))
 all_read P (x ∷ xs) all zero y at = subst P (ap (λ o. unwrap_or o x) at) all.0
 all_read P (x ∷ xs) all (suc j) y at = all_read P xs all.1 j y at

@@ -1,5 +1,6 @@
 -- A value is put at the places of a list, one after another.
-use Rattle.std.proofs.Common.{ℕ, ◌+◌, ◌≤◌, ◌<◌, ◌≡◌, Bool, true, false, ◌||◌, List, length, take, get_or, inl, inr, refl, sym, ◌∙◌, ap, arith, nat_eq, subst}
+use Rattle.std.proofs.Common.{ℕ, ◌+◌, ◌≤◌, ◌<◌, ◌≡◌, Bool, true, false, ◌||◌, List, length, take, get_or, inl, inr}
+use Rattle.std.proofs.Common.{refl, sym, ◌∙◌, ap, arith, nat_eq, subst}
 use Rattle.std.specs.Prelude.{if◌then◌else◌}
 use Rattle.std.proofs.Math.ListN.{set}
 use Rattle.std.proofs.lemmas.Bool.{cases_Bool, eqb-true, eqb-false, or_right}
@@ -30,12 +31,14 @@ put_more X d ks i x old now new lt within put is =
                 ap (λ (ys : List X). get_or ys k d) is
                 ∙ ap (λ j. get_or (set now p x) j d) same
                 ∙ get_or-set_same now p x d (omega (arith, within, put.as_long))
-                ∙ sym (ap (λ b. if b then x else get_or old k d) (more ∙ or_right (is_among k (take i ks)) (nat_eq k p) here))
+                ∙ sym (ap (λ b. if b then x else get_or old k d)
+                (more ∙ or_right (is_among k (take i ks)) (nat_eq k p) here))
             | inr other ↦
                 ap (λ (ys : List X). get_or ys k d) is
                 ∙ get_or-set_other now p k x d (eqb-false k p other)
                 ∙ put.each k k_in
-                ∙ sym (ap (λ b. if b then x else get_or old k d) (more ∙ or_false (is_among k (take i ks)) (nat_eq k p) other))
+                ∙ sym (ap (λ b. if b then x else get_or old k d)
+                (more ∙ or_false (is_among k (take i ks)) (nat_eq k p) other))
           ];
     }
 

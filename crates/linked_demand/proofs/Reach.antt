@@ -1,7 +1,10 @@
 -- How the reach of a line changes with one place.
-use Rattle.std.proofs.Common.{ℕ, ◌+◌, ◌≤◌, ◌<◌, ◌≡◌, Bool, true, false, not, ◌&&◌, ◌-◌, List, [], ◌∷◌, length, refl, sym, ◌∙◌, ap, arith, nat_lt, zero, suc, get_or, take, drop, inl, inr, Option, drop-cons, add-one}
+use Rattle.std.proofs.Common.{ℕ, ◌+◌, ◌≤◌, ◌<◌, ◌≡◌, Bool, true, false, not, ◌&&◌, ◌-◌, List, [], ◌∷◌, length, refl}
+use Rattle.std.proofs.Common.{sym, ◌∙◌, ap, arith, nat_lt, zero, suc, get_or, take, drop, inl, inr, Option, drop-cons}
+use Rattle.std.proofs.Common.{add-one}
 use Rattle.std.proofs.Math.ListN.{set}
-use Rattle.std.proofs.lemmas.Bool.{cases_Bool, cases_lt, false≢true, ltb-true, ltb-false, lt-ltb, le-ltb, ne_eqb, eq-eqb}
+use Rattle.std.proofs.lemmas.Bool.{cases_Bool, cases_lt, false≢true, ltb-true, ltb-false, lt-ltb, le-ltb, ne_eqb}
+use Rattle.std.proofs.lemmas.Bool.{eq-eqb}
 use Rattle.std.proofs.lemmas.List.{length-set}
 use Rattle.std.proofs.lemmas.List.Sums.{length-filter}
 use Rattle.admit_core.proofs.Plain.{and_false, and_not}
@@ -54,13 +57,19 @@ pub count_true : (flags : List Bool) → set_count (true ∷ flags) ≡ 1 + set_
 count_true flags = omega (arith, length-filter (λ (b : Bool). b) (true ∷ flags), length-filter (λ (b : Bool). b) flags)
 
 pub count_false : (flags : List Bool) → set_count (false ∷ flags) ≡ 0 + set_count flags
-count_false flags = omega (arith, length-filter (λ (b : Bool). b) (false ∷ flags), length-filter (λ (b : Bool). b) flags)
+count_false flags = omega (
+  arith,
+  length-filter (λ (b : Bool). b) (false ∷ flags),
+  length-filter
+      (λ (b : Bool). b) flags,
+)
 
 few_before : (quota : ℕ) (flags : List Bool) (k : ℕ) → k < reach quota flags → set_count (take k flags) < quota
 few_before zero flags k h = absurd (omega arith)
 few_before (suc quota) [] k h = absurd (omega arith)
 few_before (suc quota) (true ∷ flags) zero h = omega arith
-few_before (suc quota) (true ∷ flags) (suc k) h = omega (arith, count_true (take k flags), few_before quota flags k (omega arith))
+few_before (suc quota) (true ∷ flags) (suc k) h =
+    omega (arith, count_true (take k flags), few_before quota flags k (omega arith))
 few_before (suc quota) (false ∷ flags) zero h = omega arith
 few_before (suc quota) (false ∷ flags) (suc k) h = omega
     (arith, count_false (take k flags), few_before (suc quota) flags k (omega arith))
@@ -90,7 +99,8 @@ reached_by_count quota flags k within =
     ]
 
 -- the same, for the fields of a line
-is_reached_by : (row : LineRow) (quota : ℕ) (flags : List Bool) (reached k : ℕ) → record { flags = flags; quota = quota } ≡ row
+is_reached_by : (row : LineRow) (quota : ℕ) (flags : List Bool) (reached k : ℕ)
+    → record { flags = flags; quota = quota } ≡ row
     → reached ≡ reach quota flags → k < length row.flags → nat_lt k reached ≡ is_reached row k
 is_reached_by row quota flags reached k same by within =
     rw (← same, by) (reached_by_count quota flags k (rw (← same) at within))
@@ -127,7 +137,8 @@ answer_other flags before reached j h =
     ]
 
 -- of the set places the last one alone is reached anew
-fresh_one : (flags : List Bool) (before reached j : ℕ) → reached ≡ before + next (drop before flags) → get_or flags j false ≡ true
+fresh_one : (flags : List Bool) (before reached j : ℕ) → reached ≡ before + next (drop before flags)
+    → get_or flags j false ≡ true
     → (nat_lt j reached && not (nat_lt j before)) ≡ is_answer (last_new flags before reached) j
 fresh_one flags before reached j is t =
     elim (cases_lt j before) [
@@ -136,7 +147,8 @@ fresh_one flags before reached j is t =
       | inr far ↦ elim (cases_lt j reached) [
         | inl here ↦
             let at : get_or (drop before flags) (j - before) false ≡ true = drop_flag flags before
-            (j - before) ∙ ap (λ k. get_or flags k false) (let e : before + (j - before) ≡ j = omega (arith, far) in e) ∙ t in
+            (j - before) ∙ ap (λ k. get_or flags k false) (let e : before + (j - before) ≡ j = omega (arith, far) in e)
+            ∙ t in
             let last : suc (j - before) ≡ next (drop before flags) = next_flag (drop before flags)
             (j - before) (omega (arith, far, here, is)) at in
             let place : reached - 1 ≡ j = omega (arith, far, here, is, last) in
@@ -175,7 +187,8 @@ module _ (row : LineRow) (quota : ℕ) (flags : List Bool) (k reached : ℕ)
       → now ≡ reach quota (set flags k false) → (after : List Bool) → after ≡ set flags k false
       → (answer : Option ℕ) → answer ≡ last_new after reached now → (j : ℕ) → j < length row.flags
       → get_or (set flags k false) j false ≡ true
-      → (is_reached (record { flags = set flags k false; quota = quota }) j && not (is_reached row j)) ≡ is_answer answer j
+      → (is_reached (record { flags = set flags k false; quota = quota }) j && not (is_reached row j))
+      ≡ is_answer answer j
   fresh_some now step now_by after after_is answer answer_is j within t =
       rw (answer_is, after_is, old_reached j within, new_reached j now within now_by)
       (fresh_one (set flags k false) reached now j step t)
@@ -208,13 +221,15 @@ pub walked_set : (quota : ℕ) (flags : List Bool) (i left next : ℕ) → i < l
 walked_set quota flags i left next lt at is so_far =
     omega (arith, so_far, ap (reach left) (split_at flags i true lt at), walk_set left next (drop (i + 1) flags) is)
 
-pub walked_unset : (quota : ℕ) (flags : List Bool) (i left : ℕ) → i < length flags → get_or flags i false ≡ false → 0 < left
+pub walked_unset : (quota : ℕ) (flags : List Bool) (i left : ℕ) → i < length flags → get_or flags i false ≡ false
+    → 0 < left
     → reach quota flags ≡ i + reach left (drop i flags) → reach quota flags ≡ (i + 1) + reach left (drop (i + 1) flags)
 walked_unset quota flags i left lt at some so_far =
     omega (arith, so_far, ap (reach left) (split_at flags i false lt at), walk_unset left (drop (i + 1) flags) some)
 
 -- the next that is set, from a place that is set, and from one that is not
-pub next_found : (flags : List Bool) (i : ℕ) → i < length flags → get_or flags i false ≡ true → i + next (drop i flags) ≡ i + 1
+pub next_found : (flags : List Bool) (i : ℕ) → i < length flags → get_or flags i false ≡ true
+    → i + next (drop i flags) ≡ i + 1
 next_found flags i lt at = omega (arith, ap next (split_at flags i true lt at))
 
 pub next_passed : (flags : List Bool) (i : ℕ) → i < length flags → get_or flags i false ≡ false

@@ -1,5 +1,6 @@
 -- A round stays right where a bar falls.
-use Rattle.std.proofs.Common.{ℕ, ◌≤◌, ◌<◌, ◌≡◌, Bool, true, false, not, ◌&&◌, Option, None, List, length, inl, inr, refl, sym, ◌∙◌, ap, arith, get_or, Some, subst, Vec}
+use Rattle.std.proofs.Common.{ℕ, ◌≤◌, ◌<◌, ◌≡◌, Bool, true, false, not, ◌&&◌, Option, None, List, length, inl, inr}
+use Rattle.std.proofs.Common.{refl, sym, ◌∙◌, ap, arith, get_or, Some, subst, Vec}
 use Rattle.std.specs.declared.alloc.Global.{Global}
 use Rattle.std.specs.Prelude.{slice_index, slice_set, slice_get}
 use Rattle.std.proofs.lemmas.Bool.{cases_eq, eqb-true, le-ltb}
@@ -35,7 +36,8 @@ module _ (links : LinksRow) (bars free : List ℕ) (h to : ℕ) (rows : List (Ve
   pub items_own : AreItems links.state links.orders row.items
   items_own = right.items_are h row found
 
-  pub round_fallen : (le : to ≤ slice_index bars h) (after : LinksRow) (kept : Vec RowWish Global) → after.state ≡ links.state
+  pub round_fallen : (le : to ≤ slice_index bars h) (after : LinksRow) (kept : Vec RowWish Global)
+      → after.state ≡ links.state
       → after.orders ≡ links.orders → CutsAt to row.items links.opens kept.items after.opens
       → IsRound after (slice_set bars h to) free (slice_set rows h kept)
   round_fallen le after kept same orders cut =
@@ -88,7 +90,8 @@ not_behind s bars h w (Some g) t low =
     and_false false = refl
 
 -- an item that is read of a row of open ones is open
-pub item_open : (links : LinksRow) (row : List RowWish) → AreOpen links row → (i : ℕ) → i < length row → (other : RowWish)
+pub item_open : (links : LinksRow) (row : List RowWish) → AreOpen links row → (i : ℕ) → i < length row
+    → (other : RowWish)
     → IsOpenItem links (get_or row i other)
 item_open links row open_are i lt other =
     let x = get_or row i other in
@@ -126,7 +129,8 @@ scan_open links bars free rows ceilings seen right is h lt row read items items_
     (slice_get_read rows (length rows) h row refl (omega (arith, within, right.rows_each)) read))
 
 -- what the row tells are the demands of its school
-pub demands_right : (links : LinksRow) (bars free : List ℕ) (rows : List (Vec RowWish Global)) → IsRound links bars free rows
+pub demands_right : (links : LinksRow) (bars free : List ℕ) (rows : List (Vec RowWish Global))
+    → IsRound links bars free rows
     → (h : ℕ) → h < length bars → (row : Vec RowWish Global) → row ≡ get_or rows h row
     → (items : List RowWish) → items ≡ row.items
     → firsts (is_proposed_at links) 0 items ≡ demands_of links.state links.orders bars h

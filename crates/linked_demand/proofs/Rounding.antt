@@ -1,5 +1,6 @@
 -- A round as a system of falling bars.
-use Rattle.std.proofs.Common.{ℕ, ◌<◌, ◌≡◌, Bool, true, false, not, List, [], ◌∷◌, Some, None, map, filter, length, get_or, inl, inr, refl, sym, ◌∙◌, ap, arith, subst, zero-add, Vec}
+use Rattle.std.proofs.Common.{ℕ, ◌<◌, ◌≡◌, Bool, true, false, not, List, [], ◌∷◌, Some, None, map, filter, length}
+use Rattle.std.proofs.Common.{get_or, inl, inr, refl, sym, ◌∙◌, ap, arith, subst, zero-add, Vec}
 use Rattle.std.specs.Prelude.{slice_get, slice_index, slice_set, Option, is_some}
 use Rattle.std.specs.List.{enumerate_from, range_with_len}
 use Rattle.std.specs.declared.alloc.Global.{Global}
@@ -80,9 +81,11 @@ module _ (links : LinksRow) (ceilings bars free : List ℕ) (rows : List (Vec Ro
   seen_within_bars i lt = omega (arith, bar_within i lt, ap (λ (r : Round). length r.bars) is)
 
   bar_seen : (i x : ℕ) → x ≡ slice_index bars i → x ≡ slice_index (bar_each seen.ceilings seen.bars) i
-  bar_seen i x read = read ∙ ap (λ (r : Round). slice_index r.bars i) is ∙ ap (λ (bs : List ℕ). slice_index bs i) (sym bars_seen)
+  bar_seen i x read = read ∙ ap (λ (r : Round). slice_index r.bars i) is
+      ∙ ap (λ (bs : List ℕ). slice_index bs i) (sym bars_seen)
 
-  pub bar_read : (i x : ℕ) → i < length seen.ceilings → x ≡ get_or bars i x → x ≡ slice_index (bar_each seen.ceilings seen.bars) i
+  pub bar_read : (i x : ℕ) → i < length seen.ceilings → x ≡ get_or bars i x
+      → x ≡ slice_index (bar_each seen.ceilings seen.bars) i
   bar_read i x lt read = bar_seen i x (get_or_read bars i x (bar_within i lt) read 0)
 
   pub falls_seen : (i to : ℕ) → to < slice_index (bar_each seen.ceilings seen.bars) i → to < slice_index bars i
@@ -129,7 +132,8 @@ module _ (links : LinksRow) (ceilings bars free : List ℕ) (rows : List (Vec Ro
       (range_with_len 0 (length r.state.dossier.wishes)) ≡ proposed r.state r.orders r.bars in
       subst P is (proposed_by_place links.state links.orders bars right.round.marks_each)
 
-  pub offers_seen : proposed seen.state seen.orders seen.bars ≡ proposed seen.state seen.orders (bar_each seen.ceilings seen.bars)
+  pub offers_seen : proposed seen.state seen.orders seen.bars
+      ≡ proposed seen.state seen.orders (bar_each seen.ceilings seen.bars)
   offers_seen = ap (proposed seen.state seen.orders) (sym bars_seen)
 
   -- the schools that have an answer are those that are overfilled
@@ -155,7 +159,8 @@ module _ (links : LinksRow) (ceilings bars free : List ℕ) (rows : List (Vec Ro
       ∙ sym (overfilled_by_rank sys low h lt))
 
   -- after a fall
-  pub bars_fallen : (i to : ℕ) → bar_each ceilings (slice_set bars i to) ≡ slice_set (bar_each seen.ceilings seen.bars) i to
+  pub bars_fallen : (i to : ℕ) → bar_each ceilings (slice_set bars i to)
+      ≡ slice_set (bar_each seen.ceilings seen.bars) i to
   bars_fallen i to =
       let P = λ (r : Round). bar_each ceilings (slice_set bars i to) ≡ slice_set (bar_each r.ceilings r.bars) i to in
       subst P is (bar_each_set ceilings bars i to as_long)

@@ -1,5 +1,6 @@
 -- The demands of a row up to a rank are told by its first wishes.
-use Rattle.std.proofs.Common.{ℕ, ◌≤◌, ◌<◌, ◌≡◌, Bool, false, ◌&&◌, List, [], ◌∷◌, take, inl, inr, refl, sym, ◌∙◌, ap, arith, nat_le, nat_lt, filter, zero, suc, Some}
+use Rattle.std.proofs.Common.{ℕ, ◌≤◌, ◌<◌, ◌≡◌, Bool, false, ◌&&◌, List, [], ◌∷◌, take, inl, inr, refl, sym, ◌∙◌, ap}
+use Rattle.std.proofs.Common.{arith, nat_le, nat_lt, filter, zero, suc, Some}
 use Rattle.std.specs.Prelude.{slice_get}
 use Rattle.std.proofs.lemmas.Bool.{cases_Bool, lt-leb}
 use Rattle.std.proofs.lemmas.Option.{slice_get_within}
@@ -65,6 +66,7 @@ told_in_front p upto s bars h row front own is =
     item_before (y ∷ xs) (suc j) zero x le at = absurd (omega arith)
     item_before (y ∷ xs) (suc j) (suc k) x le at = item_before xs j k x (omega arith) at
 
-pub front_open : (l : LinksRow) (upto : ℕ) (row front : List RowWish) → IsFront upto row front → AreOpen l row → AreOpen l front
+pub front_open : (l : LinksRow) (upto : ℕ) (row front : List RowWish) → IsFront upto row front → AreOpen l row
+    → AreOpen l front
 front_open l upto row front is opens k x at =
     opens k x (in_front row is.end k x (rw is.front_is at at)).1

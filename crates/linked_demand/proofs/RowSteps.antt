@@ -1,5 +1,6 @@
 -- A row is gone along item by item.
-use Rattle.std.proofs.Common.{ℕ, ◌+◌, ◌-◌, ◌<◌, ◌≤◌, ◌≡◌, Bool, true, false, ◌&&◌, List, ◌∷◌, ◌++◌, [], length, drop, get_or, sym, ◌∙◌, ap, arith, nat_lt, Some, None, suc}
+use Rattle.std.proofs.Common.{ℕ, ◌+◌, ◌-◌, ◌<◌, ◌≤◌, ◌≡◌, Bool, true, false, ◌&&◌, List, ◌∷◌, ◌++◌, [], length, drop}
+use Rattle.std.proofs.Common.{get_or, sym, ◌∙◌, ap, arith, nat_lt, Some, None, suc}
 use Rattle.std.specs.Prelude.{slice_get, if◌then◌else◌}
 use Rattle.std.proofs.lemmas.Bool.{and_from, le-ltb, lt-ltb, and_right}
 use Rattle.std.proofs.lemmas.List.{append_assoc, append-nil, at_drop_more, at_drop_all}
@@ -22,7 +23,8 @@ module _ (p : ℕ → Bool) (row : List RowWish) where
 
   module _ (i : ℕ) (d : RowWish) (lt : i < length row) (last : ℕ) where
     -- one who passes is the next demand
-    pub firsts_more : (found new : List Demand) (named : ℕ) → last < (get_or row i d).rank → p (get_or row i d).wish ≡ true
+    pub firsts_more : (found new : List Demand) (named : ℕ) → last < (get_or row i d).rank
+        → p (get_or row i d).wish ≡ true
         → new ≡ found ++ record { rank = (get_or row i d).rank; wish = (get_or row i d).wish } ∷ []
         → named ≡ (get_or row i d).rank → firsts p 0 row ≡ found ++ firsts p last (drop i row)
         → firsts p 0 row ≡ new ++ firsts p named (drop (i + 1) row)
@@ -96,7 +98,8 @@ module _ (p : ℕ → Bool) (row : List RowWish) where
         so_far ∙ ap (λ (ks : List ℕ). slice_get ks (free - found)) (counted_more above passes)
         ∙ ap (λ (n : ℕ). slice_get (x.rank ∷ rest) n) less
 
-    pub not_above : (get_or row i d).rank ≤ last → (nat_lt last (get_or row i d).rank && p (get_or row i d).wish) ≡ false
+    pub not_above : (get_or row i d).rank ≤ last
+        → (nat_lt last (get_or row i d).rank && p (get_or row i d).wish) ≡ false
     not_above le = ap (λ b. b && p (get_or row i d).wish) (le-ltb last (get_or row i d).rank le)
 
     pub not_proposed : p (get_or row i d).wish ≡ false

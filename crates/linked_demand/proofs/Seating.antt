@@ -1,8 +1,11 @@
 -- What is known of the wishes of a dossier, programme by programme and candidate by candidate.
-use Rattle.std.proofs.Common.{ℕ, zero, suc, ◌+◌, ◌≤◌, ◌<◌, ◌≡◌, Bool, true, false, ◌&&◌, ◌||◌, List, [], ◌∷◌, ◌++◌, map, length, take, get_or, inl, inr, refl, sym, ◌∙◌, ap, arith, nat_eq, nat_lt, Option, Some, unwrap_or, subst}
+use Rattle.std.proofs.Common.{ℕ, zero, suc, ◌+◌, ◌≤◌, ◌<◌, ◌≡◌, Bool, true, false, ◌&&◌, ◌||◌, List, [], ◌∷◌, ◌++◌, map}
+use Rattle.std.proofs.Common.{length, take, get_or, inl, inr, refl, sym, ◌∙◌, ap, arith, nat_eq, nat_lt, Option, Some}
+use Rattle.std.proofs.Common.{unwrap_or, subst}
 use Rattle.std.specs.Prelude.{slice_get, All, if◌then◌else◌}
 use Rattle.std.specs.List.{before_first, list_any, range_with_len, IsDistinct}
-use Rattle.std.proofs.lemmas.Bool.{cases_Bool, cases_lt, false≢true, eqb-true, eq-eqb, ltb-true, lt-ltb, or_left, or_right, or_cases, and_parts, and_from}
+use Rattle.std.proofs.lemmas.Bool.{cases_Bool, cases_lt, false≢true, eqb-true, eq-eqb, ltb-true, lt-ltb, or_left}
+use Rattle.std.proofs.lemmas.Bool.{or_right, or_cases, and_parts, and_from}
 use Rattle.std.proofs.lemmas.List.FromFn.{map-range_with_len_more}
 use Rattle.std.proofs.lemmas.Map.Steps.{length-le_from_distinct_below}
 use Rattle.std.proofs.lemmas.Option.{slice_get_within}
@@ -26,7 +29,8 @@ use Rattle.linked_demand.specs.Seats.{PutAt, AreSeated, IsLineup, is_below, is_p
 use Rattle.linked_demand.proofs.Lining.{among_claim, among_some, applies_claim, le_next, place_at}
 
 -- what holds of those who are done holds of fewer
-pub seated_by : (s : DossierRows) (orders : List CallOrder) (old new : ℕ → ℕ → Bool) (places : List ℕ) (early : List Bool)
+pub seated_by : (s : DossierRows) (orders : List CallOrder) (old new : ℕ → ℕ → Bool) (places : List ℕ)
+    (early : List Bool)
     → ((i : ℕ) (w : Wish) → slice_get s.wishes i ≡ Some w → new w.programme w.candidate ≡ true
     → old w.programme w.candidate ≡ true)
     → AreSeated s orders old places early → AreSeated s orders new places early
@@ -52,9 +56,12 @@ module _ (s : DossierRows) (orders : List CallOrder) (n : ℕ) (order : List ℕ
       → (nat_eq w.candidate x && nat_eq w.programme n) ≡ false
       → is_passed n (take i order) w.programme w.candidate ≡ true
   was_done w t differs =
-      let more : is_among w.candidate (take (i + 1) order) ≡ (is_among w.candidate (take i order) || nat_eq w.candidate x) =
-      among_more w.candidate order i lt ∙ ap (λ y. is_among w.candidate (take i order) || nat_eq w.candidate y) (sym x_is) in
-      still_passed (nat_lt w.programme n) (nat_eq w.programme n) (is_among w.candidate (take i order)) (nat_eq w.candidate x)
+      let more : is_among w.candidate (take (i + 1) order)
+      ≡ (is_among w.candidate (take i order) || nat_eq w.candidate x) =
+      among_more w.candidate order i lt ∙ ap (λ y. is_among w.candidate (take i order) || nat_eq w.candidate y)
+      (sym x_is) in
+      still_passed (nat_lt w.programme n) (nat_eq w.programme n) (is_among w.candidate (take i order))
+      (nat_eq w.candidate x)
       (sym (ap (λ b. nat_lt w.programme n || (nat_eq w.programme n && b)) more) ∙ t) differs
 
   -- for one who has a claim their place is noted
@@ -89,12 +96,14 @@ module _ (s : DossierRows) (orders : List CallOrder) (n : ℕ) (order : List ℕ
         place = λ j w at t. elim (cases_Bool (nat_eq w.candidate x && nat_eq w.programme n)) [
           | inl own ↦
               let parts = and_parts (nat_eq w.candidate x) (nat_eq w.programme n) own in
-              let value : get_or new_places j 0 ≡ place = put j w at ∙ ap (λ b. if b then place else get_or places j 0) own in
+              let value : get_or new_places j 0 ≡ place =
+              put j w at ∙ ap (λ b. if b then place else get_or places j 0) own in
               let P = λ (c : ℕ). IsPlaceOf c (line_of s orders n) place in
               let Q = λ (p : ℕ). IsPlaceOf w.candidate (line_of s orders p) place in
               let R = λ (k : ℕ). IsPlaceOf w.candidate (line_of s orders w.programme) k in
               subst R (sym value)
-              (subst Q (sym (eqb-true w.programme n parts.1)) (subst P (sym (eqb-true w.candidate x parts.0)) line_place))
+              (subst Q (sym (eqb-true w.programme n parts.1))
+              (subst P (sym (eqb-true w.candidate x parts.0)) line_place))
           | inr other ↦
               let value : get_or new_places j 0 ≡ get_or places j 0 = put j w at
               ∙ ap (λ b. if b then place else get_or places j 0) other in
@@ -109,16 +118,19 @@ module _ (s : DossierRows) (orders : List CallOrder) (n : ℕ) (order : List ℕ
               put_early j w at ∙ ap (λ b. if b then is_early else get_or early j false) own
               ∙ early_is
               ∙ ap (λ p. nat_lt (length (before_first (nat_eq x) (order_of s orders p))) (limit_of s p)) (sym programme)
-              ∙ ap (λ c. nat_lt (length (before_first (nat_eq c) (order_of s orders w.programme))) (limit_of s w.programme))
+              ∙ ap (λ c. nat_lt (length (before_first (nat_eq c) (order_of s orders w.programme)))
+              (limit_of s w.programme))
               (sym candidate)
-              ∙ sym (le_next (length (before_first (nat_eq w.candidate) (order_of s orders w.programme))) (limit_of s w.programme))
+              ∙ sym (le_next (length (before_first (nat_eq w.candidate) (order_of s orders w.programme)))
+              (limit_of s w.programme))
           | inr other ↦ put_early j w at ∙ ap (λ b. if b then is_early else get_or early j false) other
               ∙ are.called j w at (was_done w t other)
         ];
       }
 
 -- at the front of a call order the programmes before it are done
-pub seated_start : (s : DossierRows) (orders : List CallOrder) (n : ℕ) (order : List ℕ) (places : List ℕ) (early : List Bool)
+pub seated_start : (s : DossierRows) (orders : List CallOrder) (n : ℕ) (order : List ℕ) (places : List ℕ)
+    (early : List Bool)
     → AreSeated s orders (is_below n) places early → AreSeated s orders (is_passed n (take 0 order)) places early
 seated_start s orders n order places early are =
     seated_by s orders (is_below n) (is_passed n (take 0 order)) places early
@@ -178,7 +190,8 @@ built_more s orders n claims places early own new_places new_early called built 
     record {
       claims_are =
           ap (λ (cs : List (List (List ℕ))). cs ++ own ∷ []) built.claims_are
-          ∙ ap (λ (r : List (List ℕ)). map (λ p. map (claim_of s p) (line_of s orders p)) (range_with_len 0 n) ++ r ∷ []) own_are
+          ∙ ap (λ (r : List (List ℕ)). map (λ p. map (claim_of s p) (line_of s orders p)) (range_with_len 0 n)
+          ++ r ∷ []) own_are
           ∙ sym (map-range_with_len_more (λ p. map (claim_of s p) (line_of s orders p)) 0 n n (omega arith));
       seated =
           seated_by s orders (is_passed n (line_of s orders n)) (is_below (n + 1)) new_places new_early
@@ -189,7 +202,8 @@ built_more s orders n claims places early own new_places new_early called built 
           subst P is (called.each i (slice_get_within s.wishes i w at)) in
           let own : is_among i (claim_of s w.programme w.candidate) ≡ true =
           among_claim s w.programme w.candidate i w at
-          ∙ and_from (nat_eq w.candidate w.candidate) (nat_eq w.programme w.programme) (eq-eqb w.candidate w.candidate refl)
+          ∙ and_from (nat_eq w.candidate w.candidate) (nat_eq w.programme w.programme)
+          (eq-eqb w.candidate w.candidate refl)
           (eq-eqb w.programme w.programme refl) in
           let applies : applies_in s w.programme w.candidate ≡ true =
           applies_claim s w.programme w.candidate ∙ among_some i (claim_of s w.programme w.candidate) own in
@@ -221,7 +235,8 @@ built_all s orders n claims places early n_is programmes built =
     λ i w at. lt-ltb w.programme n (omega (arith, n_is, programme i w at)) in
     record {
       programmes_are = programme;
-      claims_are = built.claims_are ∙ ap (λ k. map (λ p. map (claim_of s p) (line_of s orders p)) (range_with_len 0 k)) n_is;
+      claims_are = built.claims_are ∙ ap (λ k. map (λ p. map (claim_of s p) (line_of s orders p)) (range_with_len 0 k))
+          n_is;
       places_each = built.seated.places_each;
       places_are = λ i w at. built.seated.place i w at (done i w at);
       early_each = built.seated.early_each;
@@ -229,7 +244,8 @@ built_all s orders n claims places early n_is programmes built =
     }
 
 -- in the order at a place no candidate stands twice
-pub once_at : (groups : List RankGroup) (orders : List CallOrder) → All IsValidGroup groups → AreCallOrders groups orders → (j : ℕ)
+pub once_at : (groups : List RankGroup) (orders : List CallOrder) → All IsValidGroup groups
+    → AreCallOrders groups orders → (j : ℕ)
     → IsDistinct nat_eq (order_at orders j)
 unfolding IsDistinct
 once_at [] [] valid are j = tt

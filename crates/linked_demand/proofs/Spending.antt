@@ -1,5 +1,7 @@
 -- The steps of a fall: one for each wish that becomes barred, and one for each that becomes proposed.
-use Rattle.std.proofs.Common.{ℕ, ◌+◌, ◌≤◌, ◌<◌, ◌≡◌, Bool, true, false, not, ◌&&◌, ◌||◌, List, [], ◌∷◌, map, length, filter, inl, inr, refl, sym, ◌∙◌, ap, arith, nat_lt, zero, suc, get_or, drop, Option, Some, cond, count_by, subst, unwrap_or}
+use Rattle.std.proofs.Common.{ℕ, ◌+◌, ◌≤◌, ◌<◌, ◌≡◌, Bool, true, false, not, ◌&&◌, ◌||◌, List, [], ◌∷◌, map, length}
+use Rattle.std.proofs.Common.{filter, inl, inr, refl, sym, ◌∙◌, ap, arith, nat_lt, zero, suc, get_or, drop, Option}
+use Rattle.std.proofs.Common.{Some, cond, count_by, subst, unwrap_or}
 use Rattle.std.specs.Prelude.{slice_get, slice_index, slice_set}
 use Rattle.std.specs.List.{enumerate_from}
 use Rattle.std.proofs.Math.ListN.{set}
@@ -30,7 +32,8 @@ use Rattle.linked_demand.proofs.TickLaw.{fall_at_most}
 use Rattle.linked_demand.proofs.RoundFalls.{not_behind}
 
 -- one flag that is taken away
-set_one : (opens : List Bool) (i : ℕ) → get_or opens i false ≡ true → set_count (set opens i false) + 1 ≡ set_count opens
+set_one : (opens : List Bool) (i : ℕ) → get_or opens i false ≡ true
+    → set_count (set opens i false) + 1 ≡ set_count opens
 set_one [] i t = absurd (false≢true t)
 set_one (true ∷ opens) zero t = omega (arith, count_true opens, count_false opens)
 set_one (false ∷ opens) zero t = absurd (false≢true t)
@@ -63,8 +66,11 @@ are_set (x ∷ xs) opens each apart =
         | inr once ↦ flag_closed xs opens x.wish within ∙ rw (flag, once) refl
       ]
       | inr past ↦ absurd (false≢true (sym (get_or_past opens x.wish false past) ∙ flag))
-    ] in
-    (here, are_set xs opens (λ k y at. each (suc k) y at) (λ j k y z lt a b. apart (suc j) (suc k) y z (omega arith) a b))
+    ] in (
+      here,
+      are_set xs opens (λ k y at. each (suc k) y at)
+          (λ j k y z lt a b. apart (suc j) (suc k) y z (omega arith) a b),
+    )
 
 behind_at : (row : List RowWish) (end k n : ℕ) (x : RowWish) → n ≡ end + k
     → slice_get (drop end row) k ≡ Some x → slice_get row n ≡ Some x
@@ -76,7 +82,8 @@ behind_at [] (suc end) k n x is at = absurd (omega (arith, slice_get_within {A =
 behind_at (y ∷ row) (suc end) k zero x is at = absurd (omega (arith, is))
 behind_at (y ∷ row) (suc end) k (suc n) x is at = behind_at row end k n x (omega (arith, is)) at
 
-filter_map : {X : Type 0} (f : X → Bool) (xs : List X) → length (filter (λ (b : Bool). b) (map f xs)) ≡ length (filter f xs)
+filter_map : {X : Type 0} (f : X → Bool) (xs : List X)
+    → length (filter (λ (b : Bool). b) (map f xs)) ≡ length (filter f xs)
 filter_map f [] = refl
 filter_map f (x ∷ xs) =
     let rest = filter_map f xs in
@@ -130,7 +137,8 @@ module _ (s : State) (bars : List ℕ) (h to : ℕ) (within : h < length bars) (
         ∙ waits_open (is_waiting m) (is_behind_bar s bars w w.school) waits.waits.waits
         (not_behind s bars h w w.school waits.has (omega (arith, right.below k x at, waits.rank)))
 
-    row_apart : (j k : ℕ) (x y : RowWish) → j < k → slice_get row j ≡ Some x → slice_get row k ≡ Some y → x.wish ≡ y.wish → ⊥
+    row_apart : (j k : ℕ) (x y : RowWish) → j < k → slice_get row j ≡ Some x → slice_get row k ≡ Some y
+        → x.wish ≡ y.wish → ⊥
     row_apart j k x y lt a b same =
         let (v, n, early) = right.each j x a in
         let (w, m, late) = right.each k y b in
@@ -146,7 +154,8 @@ module _ (s : State) (bars : List ℕ) (h to : ℕ) (within : h < length bars) (
     dropped_are_barred end within_row is =
         let count =
         closed_count (drop end row) (opens_of s bars)
-        (are_set (drop end row) (opens_of s bars) (λ k x at. row_open (end + k) x (behind_at row end k (end + k) x refl at))
+        (are_set (drop end row) (opens_of s bars)
+        (λ k x at. row_open (end + k) x (behind_at row end k (end + k) x refl at))
         (λ j k x y lt a b. row_apart (end + j) (end + k) x y (omega (arith, lt))
         (behind_at row end j (end + j) x refl a) (behind_at row end k (end + k) y refl b))) in
         omega (
@@ -169,16 +178,19 @@ new_between old new bars low state orders old_opens new_opens =
     let s = old.state in
     let os = old.orders in
     let now_opens : new.opens ≡ opens_of new.state low = new_opens ∙ ap (λ (t : State). opens_of t low) (sym state) in
-    let now : (j : ℕ) (e : Wish × Mark) → slice_get (entries s) j ≡ Some e → is_proposed_at new j ≡ is_proposed s os low e.0 e.1 =
+    let now : (j : ℕ) (e : Wish × Mark) → slice_get (entries s) j ≡ Some e
+    → is_proposed_at new j ≡ is_proposed s os low e.0 e.1 =
     λ j e at.
     let P = λ (t : State). slice_get (entries t) j ≡ Some e in
     proposed_entry new low now_opens j e (subst P (sym state) at)
     ∙ ap (λ (t : State). is_proposed t new.orders low e.0 e.1) state
     ∙ ap (λ (o : List CallOrder). is_proposed s o low e.0 e.1) orders in
-    count_alike (is_new s low old new) (λ (x : ℕ × (Wish × Mark)). becomes_proposed s os bars low x.1) (entries s) (λ j e at.
+    count_alike (is_new s low old new) (λ (x : ℕ × (Wish × Mark)). becomes_proposed s os bars low x.1) (entries s)
+    (λ j e at.
     rw (now j e at, proposed_entry old bars old_opens j e at)
     (new_bits (is_open s low e.0 e.1)
-    (needs_no_seat s os e.0 || nat_lt (ahead s os low e.0) (seats_left s e.0.programme)) (is_proposed s os bars e.0 e.1)))
+    (needs_no_seat s os e.0 || nat_lt (ahead s os low e.0) (seats_left s e.0.programme))
+    (is_proposed s os bars e.0 e.1)))
     ∙ count_places (becomes_proposed s os bars low) (entries s) 0
 
 -- the steps of a fall are its changes

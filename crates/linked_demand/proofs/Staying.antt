@@ -1,5 +1,7 @@
 -- Where wishes are closed one after another, what is open stays proposed, and what becomes proposed adds up.
-use Rattle.std.proofs.Common.{ℕ, ◌+◌, ◌≤◌, ◌≡◌, Bool, true, false, not, ◌&&◌, ◌||◌, List, [], ◌∷◌, length, inl, inr, refl, sym, ◌∙◌, ap, arith, nat_lt, suc, get_or, Option, Some, zip, cond, count_by, option_map, unwrap_or}
+use Rattle.std.proofs.Common.{ℕ, ◌+◌, ◌≤◌, ◌≡◌, Bool, true, false, not, ◌&&◌, ◌||◌, List, [], ◌∷◌, length, inl, inr}
+use Rattle.std.proofs.Common.{refl, sym, ◌∙◌, ap, arith, nat_lt, suc, get_or, Option, Some, zip, cond, count_by}
+use Rattle.std.proofs.Common.{option_map, unwrap_or}
 use Rattle.std.specs.Prelude.{slice_get}
 use Rattle.std.specs.List.{list_any, enumerate_from}
 use Rattle.std.proofs.lemmas.Bool.{false≢true, and_parts, and_from, or_cases, or_left, or_right, ltb-true, lt-ltb}
@@ -107,7 +109,8 @@ module _ (start : LinksRow) (bars : List ℕ) where
   places = enumerate_from 0 (entries start.state)
 
   proposed_there : (opens : List Bool) (j : ℕ) (e : Wish × Mark) → slice_get (entries start.state) j ≡ Some e
-      → is_proposed_at (with_opens opens) j ≡ is_proposed_by start.state start.orders opens e.0 e.1 (get_or opens j false)
+      → is_proposed_at (with_opens opens) j ≡ is_proposed_by start.state start.orders opens e.0 e.1
+      (get_or opens j false)
   proposed_there opens j e at =
       ap (λ (o : Option (Wish × Mark)). unwrap_or
       (option_map (λ f. is_proposed_by start.state start.orders opens f.0 f.1 (get_or opens j false)) o) false) at
@@ -117,7 +120,8 @@ module _ (start : LinksRow) (bars : List ℕ) where
       → is_proposed_at (with_opens more) j ≡ true → is_proposed_at (with_opens fewer) j ≡ true
   stays fewer more less j e at flag t =
       let before : is_proposed_by start.state start.orders more e.0 e.1 true ≡ true =
-      ap (is_proposed_by start.state start.orders more e.0 e.1) (sym (less.each j flag)) ∙ sym (proposed_there more j e at) ∙ t in
+      ap (is_proposed_by start.state start.orders more e.0 e.1) (sym (less.each j flag))
+      ∙ sym (proposed_there more j e at) ∙ t in
       proposed_there fewer j e at ∙ ap (is_proposed_by start.state start.orders fewer e.0 e.1) flag
       ∙ stays_by start.state start.orders fewer more less e.0 e.1 before
 

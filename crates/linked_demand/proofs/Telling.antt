@@ -1,5 +1,6 @@
 -- What is counted and marked while the end of a row falls.
-use Rattle.std.proofs.Common.{ℕ, ◌+◌, ◌≤◌, ◌<◌, ◌≡◌, Bool, true, false, List, [], ◌∷◌, length, inl, inr, refl, sym, ◌∙◌, ap, arith, suc, get_or, Some, count_by, drop, take, subst}
+use Rattle.std.proofs.Common.{ℕ, ◌+◌, ◌≤◌, ◌<◌, ◌≡◌, Bool, true, false, List, [], ◌∷◌, length, inl, inr, refl, sym, ◌∙◌}
+use Rattle.std.proofs.Common.{ap, arith, suc, get_or, Some, count_by, drop, take, subst}
 use Rattle.std.specs.Prelude.{slice_get}
 use Rattle.std.specs.List.{enumerate_from}
 use Rattle.std.proofs.Math.ListN.{set}
@@ -23,7 +24,8 @@ set_fewer opens i = record {
   each = λ j t. elim (cases_eq j i) [
     | inl here ↦ elim (cases_lt i (length opens)) [
       | inl within ↦
-          let unset : get_or (set opens i false) j false ≡ false = rw here (get_or-set_same opens i false false within) in
+          let unset : get_or (set opens i false) j false ≡ false =
+          rw here (get_or-set_same opens i false false within) in
           absurd (false≢true (sym unset ∙ t))
       | inr past ↦
           let unset : get_or (set opens i false) j false ≡ false = get_or_past (set opens i false) j false
@@ -42,7 +44,8 @@ closed_fewer (x ∷ xs) opens =
     record { as_long = first.as_long ∙ rest.as_long; each = λ i t. rest.each i (first.each i t) }
 
 -- the flag of a wish that stays open is set all the while
-open_all_along : (start : LinksRow) (bars : List ℕ) (to : ℕ) (row : List RowWish) → StayOpen start bars to row → (end : ℕ)
+open_all_along : (start : LinksRow) (bars : List ℕ) (to : ℕ) (row : List RowWish) → StayOpen start bars to row
+    → (end : ℕ)
     → ((k : ℕ) (x : RowWish) → end ≤ k → slice_get row k ≡ Some x → to < x.rank)
     → (j : ℕ) (e : Wish × Mark) → slice_get (entries start.state) j ≡ Some e
     → is_open start.state bars e.0 e.1 ≡ true → get_or (closed (drop end row) start.opens) j false ≡ true
@@ -79,14 +82,17 @@ module _ (start : LinksRow) (bars : List ℕ) (to : ℕ) (row : List RowWish)
       → before + end ≡ first + length row + count_by (is_new start.state bars start now)
       (enumerate_from 0 (entries start.state)) → tick ≡ before + 1
       → after ≡ tick + count_by (is_new now.state bars now new) (enumerate_from 0 (entries now.state))
-      → after + n ≡ first + length row + count_by (is_new start.state bars start new) (enumerate_from 0 (entries start.state))
+      → after + n ≡ first + length row + count_by (is_new start.state bars start new)
+      (enumerate_from 0 (entries start.state))
   steps_told first before tick after is so_far ticked more =
-      let P = λ (r : LinksRow). after ≡ tick + count_by (is_new r.state bars r new) (enumerate_from 0 (entries r.state)) in
+      let P = λ (r : LinksRow). after ≡ tick + count_by (is_new r.state bars r new)
+      (enumerate_from 0 (entries r.state)) in
       let Q = λ (r : LinksRow). after ≡ tick + count_by
       (is_new start.state bars (with_opens start bars opens) r) (places start bars) in
       let R = λ (r : LinksRow). before + end ≡ first + length row + count_by
       (is_new start.state bars start r) (places start bars) in
-      let S = λ (r : LinksRow). after + n ≡ first + length row + count_by (is_new start.state bars start r) (places start bars) in
+      let S = λ (r : LinksRow). after + n ≡ first + length row + count_by (is_new start.state bars start r)
+      (places start bars) in
       let step = subst Q new_opens (subst P far.now_is more) in
       let done = subst R far.now_is so_far in
       let adds =
@@ -96,7 +102,8 @@ module _ (start : LinksRow) (bars : List ℕ) (to : ℕ) (row : List RowWish)
       subst S (sym new_opens) (omega (arith, step, done, adds, ticked, is))
 
   -- and the marks
-  pub marks_told : (marked then after : List Bool) → MarksSchools start.state (is_new start.state bars start now) marked then
+  pub marks_told : (marked then after : List Bool)
+      → MarksSchools start.state (is_new start.state bars start now) marked then
       → MarksSchools now.state (is_new now.state bars now new) then after
       → MarksSchools start.state (is_new start.state bars start new) marked after
   marks_told marked then after so_far more =

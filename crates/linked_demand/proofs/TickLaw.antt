@@ -1,5 +1,6 @@
 -- A list of falls changes no more than twice the waiting wishes.
-use Rattle.std.proofs.Common.{ℕ, ◌+◌, ◌*◌, ◌≤◌, ◌<◌, ◌≡◌, Bool, true, false, not, ◌&&◌, ◌||◌, List, [], ◌∷◌, length, inl, inr, refl, arith, nat_lt, count_by, filter, cond}
+use Rattle.std.proofs.Common.{ℕ, ◌+◌, ◌*◌, ◌≤◌, ◌<◌, ◌≡◌, Bool, true, false, not, ◌&&◌, ◌||◌, List, [], ◌∷◌, length}
+use Rattle.std.proofs.Common.{inl, inr, refl, arith, nat_lt, count_by, filter, cond}
 use Rattle.std.specs.Prelude.{slice_index, slice_set}
 use Rattle.std.proofs.lemmas.Bool.{cases_Bool, and_parts, false≢true}
 use Rattle.std.proofs.lemmas.List.Sums.{length-filter}
@@ -13,7 +14,8 @@ use Rattle.admit_core.specs.State.{State, entries, is_waiting, seats_left}
 use Rattle.admit_core.specs.Proposals.{is_behind_bar, is_barred, is_open, is_proposed, needs_no_seat, ahead}
 use Rattle.admit_core.specs.Falls.{IsAtMost, fallen}
 use Rattle.admit_core.proofs.DemandLaws.{behind_lower, seat_stays}
-use Rattle.linked_demand.specs.Ticks.{becomes_barred, becomes_proposed, changes_between, rest_under, changes_over, AllLower, FallsSpendTheRest, TheRestIsSmall, ChangesAreFew}
+use Rattle.linked_demand.specs.Ticks.{becomes_barred, becomes_proposed, changes_between, rest_under, changes_over}
+use Rattle.linked_demand.specs.Ticks.{AllLower, FallsSpendTheRest, TheRestIsSmall, ChangesAreFew}
 
 -- a sum over a list
 abbrev pub total : {X : Type 0} → (X → ℕ) → List X → ℕ
@@ -80,7 +82,8 @@ module _ (s : State) (orders : List CallOrder) (lower upper : List ℕ) (at_most
         count_total (becomes_proposed s orders upper lower) (entries s),
       )
 
-pub fall_at_most : (bars : List ℕ) (i to : ℕ) → i < length bars → to ≤ slice_index bars i → IsAtMost (slice_set bars i to) bars
+pub fall_at_most : (bars : List ℕ) (i to : ℕ) → i < length bars → to ≤ slice_index bars i
+    → IsAtMost (slice_set bars i to) bars
 fall_at_most bars i to within le =
     record {
       as_many = length-set bars i to;
@@ -100,7 +103,8 @@ falls_spent s orders bars (f ∷ fs) all =
       falls_spent s orders (fallen bars f) fs all.2,
     )
 
-cost_bits : (opens proposed waits : Bool) → (opens ≡ true → waits ≡ true) → cond opens (cond proposed 1 2) 0 ≤ 2 * cond waits 1 0
+cost_bits : (opens proposed waits : Bool) → (opens ≡ true → waits ≡ true)
+    → cond opens (cond proposed 1 2) 0 ≤ 2 * cond waits 1 0
 cost_bits true true true h = omega arith
 cost_bits true false true h = omega arith
 cost_bits true proposed false h = absurd (false≢true (h refl))

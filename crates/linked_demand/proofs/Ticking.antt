@@ -1,5 +1,6 @@
 -- What one closing counts and marks.
-use Rattle.std.proofs.Common.{ℕ, ◌+◌, ◌<◌, ◌≡◌, Bool, true, false, not, ◌&&◌, List, length, refl, sym, ◌∙◌, ap, arith, get_or, Some, count_by, subst, nat_eq}
+use Rattle.std.proofs.Common.{ℕ, ◌+◌, ◌<◌, ◌≡◌, Bool, true, false, not, ◌&&◌, List, length, refl, sym, ◌∙◌, ap, arith}
+use Rattle.std.proofs.Common.{get_or, Some, count_by, subst, nat_eq}
 use Rattle.std.specs.Prelude.{slice_get, All}
 use Rattle.std.proofs.Math.ListN.{set}
 use Rattle.std.specs.List.{enumerate_from}
@@ -45,7 +46,8 @@ pub record Told (seen new : LinksRow) (bars : List ℕ) (count after : ℕ) (old
   pub marked : MarksSchools seen.state (is_new seen.state bars seen new) old now
 
 -- nothing, where nothing becomes proposed
-pub told_none : (s : State) (orders : List CallOrder) (opens : List Bool) (i : ℕ) (seen : LinksRow) → before s orders opens ≡ seen
+pub told_none : (s : State) (orders : List CallOrder) (opens : List Bool) (i : ℕ) (seen : LinksRow)
+    → before s orders opens ≡ seen
     → ((j : ℕ) (e : Wish × Mark) → slice_get (entries s) j ≡ Some e → newly s orders opens i j ≡ false)
     → (bars : List ℕ) (count : ℕ) (marked : List Bool)
     → Told seen (before s orders (set opens i false)) bars count count marked marked
@@ -60,7 +62,8 @@ told_none s orders opens i seen is none bars count marked =
         count_nothing
             (is_new s bars (before s orders opens) (before s orders (set opens i false))) (entries s) quiet,
       );
-      marked = marks_nothing s (is_new s bars (before s orders opens) (before s orders (set opens i false))) marked quiet;
+      marked = marks_nothing s (is_new s bars (before s orders opens) (before s orders (set opens i false))) marked
+          quiet;
     })
 
 fresh_bits : (waits cand own flags behind : Bool)
@@ -113,5 +116,6 @@ told_some s orders opens sure i p c seen is each marks_each bars claim claim_is 
       );
       marked = marks_weaker s (λ x. is_among x.0 (claim_of s.dossier p c) && q x.0) new old now (λ j e at passes.
           let parts = and_parts (t e.0) (q j) (sym (here j e at) ∙ passes) in
-          rw (among_claim s.dossier p c j e.0 (wish_of s.dossier.wishes s.marks j e.0 e.1 at), parts.0, parts.1) refl) own_marks;
+          rw (among_claim s.dossier p c j e.0 (wish_of s.dossier.wishes s.marks j e.0 e.1 at), parts.0, parts.1) refl)
+          own_marks;
     })

@@ -1,9 +1,11 @@
 -- What is open waits, and needs a seat where it is its candidate's only wish in its programme.
-use Rattle.std.proofs.Common.{ℕ, zero, suc, ◌<◌, ◌≡◌, Bool, true, false, not, ◌&&◌, ◌||◌, List, [], ◌∷◌, map, length, get_or, inl, inr, refl, sym, ◌∙◌, ap, arith, nat_eq, Some, subst}
+use Rattle.std.proofs.Common.{ℕ, zero, suc, ◌<◌, ◌≡◌, Bool, true, false, not, ◌&&◌, ◌||◌, List, [], ◌∷◌, map, length}
+use Rattle.std.proofs.Common.{get_or, inl, inr, refl, sym, ◌∙◌, ap, arith, nat_eq, Some, subst}
 use Rattle.std.specs.Prelude.{◌==◌, slice_get}
 use Rattle.std.specs.List.{list_any, range_with_len}
 use Rattle.std.proofs.Math.Bool.{or-false}
-use Rattle.std.proofs.lemmas.Bool.{cases_Bool, and_parts, and_from, eqb-true, eq-eqb, or_from, or_parts, false≢true, and_left}
+use Rattle.std.proofs.lemmas.Bool.{cases_Bool, and_parts, and_from, eqb-true, eq-eqb, or_from, or_parts, false≢true}
+use Rattle.std.proofs.lemmas.Bool.{and_left}
 use Rattle.std.proofs.lemmas.List.{get_or-map, length-map}
 use Rattle.std.proofs.lemmas.List.Folds.{list_any_none}
 use Rattle.std.proofs.lemmas.List.FromFn.{get_or-range_with_len, length-range_with_len}
@@ -11,7 +13,8 @@ use Rattle.admit_core.proofs.Plain.{any-filter}
 use Rattle.admit_core.specs.declared.dossier.Wish.{Wish}
 use Rattle.admit_core.specs.declared.state.Mark.{Mark}
 use Rattle.admit_core.specs.declared.state.Status.{Status}
-use Rattle.admit_core.specs.declared.state.Status.TheVariants.{Waiting, Offered, Accepted, Refused, Withdrawn, Quit, AutoRefused, AutoWithdrawn, Lapsed}
+use Rattle.admit_core.specs.declared.state.Status.TheVariants.{Waiting, Offered, Accepted, Refused, Withdrawn, Quit}
+use Rattle.admit_core.specs.declared.state.Status.TheVariants.{AutoRefused, AutoWithdrawn, Lapsed}
 use Rattle.admit_core.specs.declared.ranking.CallOrder.{CallOrder}
 use Rattle.admit_core.specs.DossierRows.{DossierRows, candidate_of}
 use Rattle.admit_core.specs.Lists.{is_among}
@@ -58,7 +61,8 @@ none_lives d ms k not_live (x ∷ xs) none =
     let parts = or_parts (is_beside d k x) (list_any (is_beside d k) xs) none in
     let first : (is_live (mark_in ms x) && own) ≡ false =
     elim (cases_Bool (nat_eq x k)) [
-      | inl here ↦ and_left (is_live (mark_in ms x)) own (ap (λ (j : ℕ). is_live (mark_in ms j)) (eqb-true x k here) ∙ not_live)
+      | inl here ↦ and_left (is_live (mark_in ms x)) own
+          (ap (λ (j : ℕ). is_live (mark_in ms j)) (eqb-true x k here) ∙ not_live)
       | inr other ↦ elsewhere (is_live (mark_in ms x)) own (not (nat_eq x k)) (ap not other) parts.0
     ] in
     or_from (is_live (mark_in ms x) && own)
@@ -161,10 +165,23 @@ all_open_wait s long bars opens is k opened =
     let ws = s.dossier.wishes in
     let f = λ (e : Wish × Mark). is_open s bars e.0 e.1 in
     let lt : k < length ws =
-    omega (arith, marked_within opens k opened, ap length is, length-map (entries s) f, length_entries ws s.marks long) in
+    omega (
+      arith,
+      marked_within opens k opened,
+      ap length is,
+      length-map
+          (entries s) f,
+      length_entries ws s.marks long,
+    ) in
     let w = wish_in ws k in
     let m = mark_in s.marks k in
     let here = entry_there ws s.marks k long lt in
     let flag : get_or opens k false ≡ is_open s bars w m =
-    ap (λ (os : List Bool). get_or os k false) is ∙ flag_map f (entries s) k (w, m) here in
-    (w, m, record { here = here; waits = (and_parts (is_waiting m) (not (is_barred s bars w m)) (sym flag ∙ opened)).0 })
+    ap (λ (os : List Bool). get_or os k false) is ∙ flag_map f (entries s) k (w, m) here in (
+      w,
+      m,
+      record {
+        here = here;
+        waits = (and_parts (is_waiting m) (not (is_barred s bars w m)) (sym flag ∙ opened)).0;
+      },
+    )

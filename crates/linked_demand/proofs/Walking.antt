@@ -7,7 +7,8 @@ use Rattle.admit_core.specs.State.{State}
 use Rattle.linked_demand.specs.Opens.{wanting_at}
 use Rattle.linked_demand.specs.Wants.{wants_along, AreBelow}
 
-pub length-wants : (s : State) (opens : List Bool) (claims : List (List ℕ)) → length (wants_along s opens claims) ≡ length claims
+pub length-wants : (s : State) (opens : List Bool) (claims : List (List ℕ))
+    → length (wants_along s opens claims) ≡ length claims
 length-wants s opens claims = length-map claims (list_any (wanting_at s opens))
 
 -- what a claim that is read tells of its place

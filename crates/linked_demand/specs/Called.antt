@@ -1,5 +1,6 @@
 -- The wishes for the programmes in call order.
-use Rattle.std.specs.Prelude.{◌≡◌, ℕ, ◌≤◌, Bool, List, [], length, filter, nat_eq, ◌==◌, Some, option_map, slice_get, unwrap_or, Vec}
+use Rattle.std.specs.Prelude.{◌≡◌, ℕ, ◌≤◌, Bool, List, [], length, filter, nat_eq, ◌==◌, Some, option_map, slice_get}
+use Rattle.std.specs.Prelude.{unwrap_or, Vec}
 use Rattle.std.specs.declared.alloc.Global.{Global}
 use Rattle.std.specs.List.{before_first, flat_map, range_with_len}
 use Rattle.admit_core.specs.declared.ranking.CallOrder.{CallOrder}

@@ -1,5 +1,6 @@
 -- Where a candidate's wishes stand in a list by candidate.
-use Rattle.std.specs.Prelude.{◌≡◌, ℕ, ◌-◌, ◌≤◌, ◌<◌, ◌^◌, Bool, true, false, ◌&&◌, ◌||◌, ◌==◌, List, length, map, filter, nat_eq, nat_lt, nat_le, Some, slice_get, slice_index, All, Vec}
+use Rattle.std.specs.Prelude.{◌≡◌, ℕ, ◌-◌, ◌≤◌, ◌<◌, ◌^◌, Bool, true, false, ◌&&◌, ◌||◌, ◌==◌, List, length, map}
+use Rattle.std.specs.Prelude.{filter, nat_eq, nat_lt, nat_le, Some, slice_get, slice_index, All, Vec}
 use Rattle.std.specs.declared.alloc.Global.{Global}
 use Rattle.std.specs.List.Sorted.{IsNonDecreasingBy, IsPartitionPoint}
 use Rattle.admit_core.specs.DossierRows.{DossierRows}

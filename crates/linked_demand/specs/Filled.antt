@@ -1,5 +1,6 @@
 -- The rows of the schools, filled boarder by boarder.
-use Rattle.std.specs.Prelude.{ℕ, Bool, false, not, ◌&&◌, List, length, map, filter, slice_index_or, Option, Some, None, if◌then◌else◌, Vec}
+use Rattle.std.specs.Prelude.{ℕ, Bool, false, not, ◌&&◌, List, length, map, filter, slice_index_or, Option, Some, None}
+use Rattle.std.specs.Prelude.{if◌then◌else◌, Vec}
 use Rattle.std.specs.declared.alloc.Global.{Global}
 use Rattle.day_state.specs.Kept.{has_bed_there, wish_in}
 use Rattle.admit_core.specs.declared.ranking.CallOrder.{CallOrder}

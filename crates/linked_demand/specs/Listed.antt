@@ -1,6 +1,7 @@
 -- Lists that are kept beside what is known of each place: the places that are marked, and those
 -- that have an answer.
-use Rattle.std.specs.Prelude.{◌≡◌, ℕ, ◌≤◌, Bool, true, false, List, [], ◌∷◌, length, reverse, replicate, filter, Option, None, is_some, slice_index_or, slice_set}
+use Rattle.std.specs.Prelude.{◌≡◌, ℕ, ◌≤◌, Bool, true, false, List, [], ◌∷◌, length, reverse, replicate, filter, Option}
+use Rattle.std.specs.Prelude.{None, is_some, slice_index_or, slice_set}
 use Rattle.std.specs.List.{range_with_len}
 
 -- places whose marks are taken away one after another: each was marked, and in the end no mark is

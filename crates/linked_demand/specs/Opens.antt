@@ -1,6 +1,7 @@
 -- Which wishes are open, as a list of flags, and what the rules say by it. A fall closes one wish
 -- after another; between two of them no bars belong to the flags.
-use Rattle.std.specs.Prelude.{ℕ, Bool, not, ◌&&◌, ◌||◌, List, length, map, nat_lt, ◌==◌, filter, zip, count_by, slice_index_or, false}
+use Rattle.std.specs.Prelude.{ℕ, Bool, not, ◌&&◌, ◌||◌, List, length, map, nat_lt, ◌==◌, filter, zip, count_by}
+use Rattle.std.specs.Prelude.{slice_index_or, false}
 use Rattle.std.specs.List.{list_any, range_with_len}
 use Rattle.admit_core.specs.declared.dossier.Wish.{Wish}
 use Rattle.admit_core.specs.declared.state.Mark.{Mark}

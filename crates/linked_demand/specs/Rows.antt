@@ -1,5 +1,6 @@
 -- The waiting wishes of a school, by boarding rank, up to its bar.
-use Rattle.std.specs.Prelude.{◌≡◌, ℕ, nat_eq, ◌-◌, ◌≤◌, ◌<◌, Bool, true, false, not, List, [], ◌∷◌, length, take, drop, Some, slice_get, slice_index, slice_index_or, slice_set, Vec}
+use Rattle.std.specs.Prelude.{◌≡◌, ℕ, nat_eq, ◌-◌, ◌≤◌, ◌<◌, Bool, true, false, not, List, [], ◌∷◌, length, take, drop}
+use Rattle.std.specs.Prelude.{Some, slice_get, slice_index, slice_index_or, slice_set, Vec}
 use Rattle.std.specs.List.{position_or_len}
 use Rattle.std.specs.declared.alloc.Global.{Global}
 use Rattle.admit_core.specs.declared.ranking.CallOrder.{CallOrder}

@@ -1,4 +1,5 @@
-use Rattle.std.proofs.Common.{ℕ, ◌<◌, ◌≡◌, true, false, List, [], ◌∷◌, ◌++◌, filter, sym, ◌∙◌, ap, arith, length, subst, Option}
+use Rattle.std.proofs.Common.{ℕ, ◌<◌, ◌≡◌, true, false, List, [], ◌∷◌, ◌++◌, filter, sym, ◌∙◌, ap, arith, length, subst}
+use Rattle.std.proofs.Common.{Option}
 use Rattle.std.specs.Prelude.{All, is_some}
 use Rattle.std.specs.List.{range_with_len}
 use Rattle.std.proofs.lemmas.List.{map-append}

@@ -18,7 +18,8 @@ use Rattle.linked_demand.proofs.calling.call_group.Goals as goal
 pub loop-before-init : goal.loop-before-init
 loop-before-init c = record {
   wishes = puts_none (λ k. k) (applies_at c.args.state.now.dossier) c.args.called.now.wishes.items;
-  befores = puts_none (before_at c.args.state.now.dossier c.args.orders.now.orders) (applies_at c.args.state.now.dossier)
+  befores = puts_none (before_at c.args.state.now.dossier c.args.orders.now.orders)
+      (applies_at c.args.state.now.dossier)
       c.args.called.now.before.items;
 }
 
@@ -38,7 +39,8 @@ pub overflow_cast-before : goal.overflow_cast-before
 overflow_cast-before c =
     let orders = c.args.orders.now.orders in
     let order = c.as_slice-order.result.now in
-    let order_is = order_read orders c.as_slice.result.now c.args.group c.index-as_slice-group.result order c.as_slice.ensures
+    let order_is = order_read orders c.as_slice.result.now c.args.group c.index-as_slice-group.result order
+    c.as_slice.ensures
     c.requires.group c.index-as_slice-group.is
     (c.as_slice-order.ensures ∙ ap (λ (o : CallOrder). o.list) (sym c.index-as_slice-group.is)) in
     let P = λ (o : List ℕ). IsDistinct nat_eq o in
@@ -50,13 +52,15 @@ pub deal-requires-clause-before : goal.deal-requires-clause-before
 deal-requires-clause-before c =
     let orders = c.args.orders.now.orders in
     let order = c.as_slice-order.result.now in
-    let order_is = order_read orders c.as_slice.result.now c.args.group c.index-as_slice-group.result order c.as_slice.ensures
+    let order_is = order_read orders c.as_slice.result.now c.args.group c.index-as_slice-group.result order
+    c.as_slice.ensures
     c.requires.group c.index-as_slice-group.is
     (c.as_slice-order.ensures ∙ ap (λ (o : CallOrder). o.list) (sym c.index-as_slice-group.is)) in
     let x = get_or order c.loop-before.before 0 in
     let claimed = claim_there c.requires.of_group x c.args.candidates.now c.requires.candidates c.span_of-span.result
     c.span_of-span.ensures c.args.wishes.now c.part.result.now refl c.part.ensures in
-    before_here c.args.state.now.dossier orders c.args.group c.loop-before.before c.loop-before.before order c.part.result.now order_is
+    before_here c.args.state.now.dossier orders c.args.group c.loop-before.before c.loop-before.before order
+    c.part.result.now order_is
     c.requires.once c.loop-before-test.true refl claimed.is
 
 pub loop-before-preserved : goal.loop-before-preserved
@@ -71,7 +75,8 @@ loop-before-preserved c =
     let f = group_claim d c.args.group in
     let more = called_more f order i c.part.result.now c.loop-before-test.true claimed.is in
     record {
-      wishes = puts_on (λ k. k) (applies_at d) (flat_map f (take i order)) c.part.result.now (flat_map f (take (i + 1) order))
+      wishes = puts_on (λ k. k) (applies_at d) (flat_map f (take i order)) c.part.result.now
+          (flat_map f (take (i + 1) order))
           c.args.called.now.wishes.items c.loop-before.called.wishes.items c.deal.new.called.wishes.items more
           c.loop-before.invariant.wishes c.in_ok-deal.ensures.wishes;
       befores = puts_on (before_at d orders) (applies_at d) (flat_map f (take i order)) c.part.result.now
@@ -84,11 +89,13 @@ returns-clause-wishes c =
     let d = c.args.state.now.dossier in
     let orders = c.args.orders.now.orders in
     let order = c.as_slice-order.result.now in
-    let order_is = order_read orders c.as_slice.result.now c.args.group c.index-as_slice-group.result order c.as_slice.ensures
+    let order_is = order_read orders c.as_slice.result.now c.args.group c.index-as_slice-group.result order
+    c.as_slice.ensures
     c.requires.group c.index-as_slice-group.is
     (c.as_slice-order.ensures ∙ ap (λ (o : CallOrder). o.list) (sym c.index-as_slice-group.is)) in
     let all = take_all c.loop-before.before order c.loop-before-test.false ∙ order_is in
-    let P = λ (o : List ℕ). ArePutIn (λ k. k) (applies_at d) (flat_map (group_claim d c.args.group) o) c.args.called.now.wishes.items
+    let P = λ (o : List ℕ). ArePutIn (λ k. k) (applies_at d) (flat_map (group_claim d c.args.group) o)
+    c.args.called.now.wishes.items
     c.loop-before.called.wishes.items in
     subst P all c.loop-before.invariant.wishes
 
@@ -97,7 +104,8 @@ returns-clause-befores c =
     let d = c.args.state.now.dossier in
     let orders = c.args.orders.now.orders in
     let order = c.as_slice-order.result.now in
-    let order_is = order_read orders c.as_slice.result.now c.args.group c.index-as_slice-group.result order c.as_slice.ensures
+    let order_is = order_read orders c.as_slice.result.now c.args.group c.index-as_slice-group.result order
+    c.as_slice.ensures
     c.requires.group c.index-as_slice-group.is
     (c.as_slice-order.ensures ∙ ap (λ (o : CallOrder). o.list) (sym c.index-as_slice-group.is)) in
     let all = take_all c.loop-before.before order c.loop-before-test.false ∙ order_is in

@@ -7,8 +7,10 @@ use Rattle.linked_demand.proofs.calling.call_group.Given as goal
 
 abbrev pub invariant-loop-before : goal.invariant-loop-before
 invariant-loop-before l = record {
-  wishes : ArePutIn (λ k. k) (applies_at l.state.dossier) (flat_map (group_claim l.state.dossier l.group) (take l.before l.order))
+  wishes : ArePutIn (λ k. k) (applies_at l.state.dossier)
+      (flat_map (group_claim l.state.dossier l.group) (take l.before l.order))
       l.fn.called.wishes.items l.called.wishes.items;
   befores : ArePutIn (before_at l.state.dossier l.orders.orders) (applies_at l.state.dossier)
-      (flat_map (group_claim l.state.dossier l.group) (take l.before l.order)) l.fn.called.before.items l.called.before.items;
+      (flat_map (group_claim l.state.dossier l.group) (take l.before l.order)) l.fn.called.before.items
+      l.called.before.items;
 }

@@ -16,13 +16,16 @@ loop-group-preserved c =
     let g = c.loop-group.group in
     let more = groups_more (called_by d orders) g in
     record {
-      wishes = puts_on (λ k. k) (applies_at d) (called_all d orders g) (called_by d orders g) (called_all d orders (g + 1))
+      wishes = puts_on (λ k. k) (applies_at d) (called_all d orders g) (called_by d orders g)
+          (called_all d orders (g + 1))
           c.in_ok-wishes.wishes.items c.loop-group.called.wishes.items c.call_group.new.called.wishes.items more
           c.loop-group.invariant.wishes c.in_ok-call_group.ensures.wishes;
-      befores = puts_on (before_at d orders) (applies_at d) (called_all d orders g) (called_by d orders g) (called_all d orders (g + 1))
+      befores = puts_on (before_at d orders) (applies_at d) (called_all d orders g) (called_by d orders g)
+          (called_all d orders (g + 1))
           c.in_ok-before.before.items c.loop-group.called.before.items c.call_group.new.called.before.items more
           c.loop-group.invariant.befores c.in_ok-call_group.ensures.befores;
-      of_groups = wishes_later d g c.loop-group.rows.wishes.items c.replace-wishes.new.dest c.loop-group.invariant.of_groups;
+      of_groups = wishes_later d g c.loop-group.rows.wishes.items c.replace-wishes.new.dest
+          c.loop-group.invariant.of_groups;
       candidates = candidates_later d g c.loop-group.rows.wishes.items c.loop-group.rows.candidates.items
           c.replace-wishes.new.dest c.replace-candidates.new.dest c.loop-group.invariant.candidates;
     }
@@ -37,7 +40,8 @@ returns-clause-wishes c =
     let Q = λ (count : ℕ). AreEmpty count c.in_ok-wishes.wishes.items in
     puts_begun (λ k. k) (applies_at d) (called_all d orders n) (length d.programmes) (called_for d orders)
     c.in_ok-wishes.wishes.items c.loop-group.called.wishes.items
-    (subst Q (ap length c.deref.ensures.value ∙ c.in_ok-counts.ensures) c.in_ok-wishes.ensures) c.loop-group.invariant.wishes
+    (subst Q (ap length c.deref.ensures.value ∙ c.in_ok-counts.ensures) c.in_ok-wishes.ensures)
+    c.loop-group.invariant.wishes
     (λ p lt. row_itself d orders n p
     (omega (arith, group_in d valid p lt, c.loop-group-test.false, c.group_count-group-end.ensures)))
 
@@ -52,6 +56,7 @@ returns-clause-before c =
     puts_begun (before_at d orders) (applies_at d) (called_all d orders n) (length d.programmes)
     (λ p. map (before_at d orders) (called_for d orders p))
     c.in_ok-before.before.items c.loop-group.called.before.items
-    (subst Q (ap length c.deref-2.ensures.value ∙ c.in_ok-counts.ensures) c.in_ok-before.ensures) c.loop-group.invariant.befores
+    (subst Q (ap length c.deref-2.ensures.value ∙ c.in_ok-counts.ensures) c.in_ok-before.ensures)
+    c.loop-group.invariant.befores
     (λ p lt. ap (map (before_at d orders)) (row_called d orders n p
     (omega (arith, group_in d valid p lt, c.loop-group-test.false, c.group_count-group-end.ensures))))

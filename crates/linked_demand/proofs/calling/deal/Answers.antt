@@ -11,18 +11,21 @@ use Rattle.linked_demand.proofs.calling.deal.Goals as goal
 pub loop-place-init : goal.loop-place-init
 loop-place-init c = record {
   wishes = puts_none (λ k. k) (applies_at c.args.state.now.dossier) c.args.called.now.wishes.items;
-  befores = puts_none (before_at c.args.state.now.dossier c.args.orders.now.orders) (applies_at c.args.state.now.dossier)
+  befores = puts_none (before_at c.args.state.now.dossier c.args.orders.now.orders)
+      (applies_at c.args.state.now.dossier)
       c.args.called.now.before.items;
 }
 
 pub returns-clause-wishes : goal.returns-clause-wishes
 returns-clause-wishes c =
-    puts_all (λ k. k) (applies_at c.args.state.now.dossier) c.args.claim.now c.loop-place.place-index c.args.called.now.wishes.items
+    puts_all (λ k. k) (applies_at c.args.state.now.dossier) c.args.claim.now c.loop-place.place-index
+    c.args.called.now.wishes.items
     c.loop-place.called.wishes.items c.loop-place-test.false c.loop-place.invariant.wishes
 
 pub returns-clause-befores : goal.returns-clause-befores
 returns-clause-befores c =
-    puts_all (before_at c.args.state.now.dossier c.args.orders.now.orders) (applies_at c.args.state.now.dossier) c.args.claim.now
+    puts_all (before_at c.args.state.now.dossier c.args.orders.now.orders)
+    (applies_at c.args.state.now.dossier) c.args.claim.now
     c.loop-place.place-index c.args.called.now.before.items
     c.loop-place.called.before.items c.loop-place-test.false c.loop-place.invariant.befores
 
@@ -35,10 +38,12 @@ loop-place-preserved c =
     let lt = c.loop-place-test.true in
     let here = λ (h : ℕ). ap (λ (v : Wish). nat_eq v.programme h) c.wish_at-programme.ensures.wish in
     record {
-      wishes = puts_more (λ k. k) (applies_at d) claim i (λ h. nat_eq c.wish_at-programme.result.programme h) (get_or claim i 0)
+      wishes = puts_more (λ k. k) (applies_at d) claim i (λ h. nat_eq c.wish_at-programme.result.programme h)
+          (get_or claim i 0)
           c.args.called.now.wishes.items c.loop-place.called.wishes.items c.put_in.new.rows.items lt here refl
           c.loop-place.invariant.wishes c.in_ok-put_in.ensures;
-      befores = puts_more (before_at d orders) (applies_at d) claim i (λ h. nat_eq c.wish_at-programme.result.programme h) c.args.before
+      befores = puts_more (before_at d orders) (applies_at d) claim i
+          (λ h. nat_eq c.wish_at-programme.result.programme h) c.args.before
           c.args.called.now.before.items c.loop-place.called.before.items c.put_in-in-loop-place.new.rows.items lt here
           (sym (c.requires.before i 0 lt)) c.loop-place.invariant.befores c.in_ok-put_in-2.ensures;
     }
@@ -51,7 +56,8 @@ put_in-requires c =
     let Q = λ (n : ℕ). c.wish_at-programme.result.programme < n in
     let i = c.loop-place.place-index in
     subst Q (sym (c.loop-place.invariant.wishes.as_many ∙ c.requires.wishes))
-    (programme_at d valid (get_or c.args.claim.now i 0) (c.requires.claim i 0 c.loop-place-test.true) c.wish_at-programme.result c.wish_at-programme.ensures.wish)
+    (programme_at d valid (get_or c.args.claim.now i 0)
+    (c.requires.claim i 0 c.loop-place-test.true) c.wish_at-programme.result c.wish_at-programme.ensures.wish)
 
 pub put_in-requires-in-loop-place : goal.put_in-requires-in-loop-place
 put_in-requires-in-loop-place c =
@@ -61,4 +67,5 @@ put_in-requires-in-loop-place c =
     let Q = λ (n : ℕ). c.wish_at-programme.result.programme < n in
     let i = c.loop-place.place-index in
     subst Q (sym (c.loop-place.invariant.befores.as_many ∙ c.requires.befores))
-    (programme_at d valid (get_or c.args.claim.now i 0) (c.requires.claim i 0 c.loop-place-test.true) c.wish_at-programme.result c.wish_at-programme.ensures.wish)
+    (programme_at d valid (get_or c.args.claim.now i 0)
+    (c.requires.claim i 0 c.loop-place-test.true) c.wish_at-programme.result c.wish_at-programme.ensures.wish)

@@ -6,7 +6,9 @@ use Rattle.linked_demand.proofs.calling.deal.Given as goal
 
 abbrev pub invariant-loop-place : goal.invariant-loop-place
 invariant-loop-place l = record {
-  wishes : ArePutIn (λ k. k) (applies_at l.state.dossier) (take l.place-index l.claim) l.fn.called.wishes.items l.called.wishes.items;
-  befores : ArePutIn (before_at l.state.dossier l.orders.orders) (applies_at l.state.dossier) (take l.place-index l.claim)
+  wishes : ArePutIn (λ k. k) (applies_at l.state.dossier)
+      (take l.place-index l.claim) l.fn.called.wishes.items l.called.wishes.items;
+  befores : ArePutIn (before_at l.state.dossier l.orders.orders) (applies_at l.state.dossier)
+      (take l.place-index l.claim)
       l.fn.called.before.items l.called.before.items;
 }

@@ -22,7 +22,8 @@ loop-end-preserved g c =
     let far = c.loop-end.invariant.cut in
     let n : ℕ = c.loop-end.end - 1 in
     let further =
-    so_far_step c.args.to row start c.loop-end.links c.close.new.self c.loop-end.end n c.index.result.now c.index-last.result.now
+    so_far_step c.args.to row start c.loop-end.links c.close.new.self c.loop-end.end n c.index.result.now
+    c.index-last.result.now
     far (omega arith) c.index.ensures c.if-index-to.true c.index-last.ensures c.close.ensures.value in
     record {
       cut = further;

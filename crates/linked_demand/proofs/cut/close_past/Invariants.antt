@@ -10,7 +10,8 @@ invariant-loop-end g l =
     record {
       cut : SoFar l.to l.row.items l.initial.links l.links l.end;
       steps : l.steps + l.end ≡ l.initial.steps + length l.row.items + count_by
-          (is_new l.initial.links.state l.bars l.initial.links l.links) (enumerate_from 0 (entries l.initial.links.state));
+          (is_new l.initial.links.state l.bars l.initial.links l.links)
+          (enumerate_from 0 (entries l.initial.links.state));
       marked : MarksSchools l.initial.links.state
           (is_new l.initial.links.state l.bars l.initial.links l.links) l.initial.marked l.marked;
     }

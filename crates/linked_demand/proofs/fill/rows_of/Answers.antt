@@ -1,4 +1,5 @@
-use Rattle.std.proofs.Common.{ℕ, ◌<◌, ◌≡◌, List, length, get_or, nat_eq, map, Bool, Option, refl, sym, ◌∙◌, ap, arith, subst}
+use Rattle.std.proofs.Common.{ℕ, ◌<◌, ◌≡◌, List, length, get_or, nat_eq, map, Bool, Option, refl, sym, ◌∙◌, ap, arith}
+use Rattle.std.proofs.Common.{subst}
 use Rattle.std.proofs.lemmas.List.{length-map, take_all}
 use Rattle.std.specs.List.{range_with_len}
 use Rattle.std.proofs.lemmas.List.FromFn.{length-map-range_with_len}
@@ -44,7 +45,8 @@ loop-boarder-preserved c =
     let rows = c.loop-boarder.rows.items in
     elim c.match-bed_wish_by.branch [
       | in-Some+in_ok-put_in w ↦
-          let parts = wanted_bed wants (is_sure s links.orders b.wish) w.in-Some.sure (sym c.bed_wish_by.ensures ∙ w.in-Some.is) in
+          let parts = wanted_bed wants (is_sure s links.orders b.wish) w.in-Some.sure
+          (sym c.bed_wish_by.ensures ∙ w.in-Some.is) in
           rw w.rows-is
           (rows_more item belongs n places i (λ h. nat_eq b.school h) w.row_wish.result rows
           w.put_in.new.rows.items lt_place
@@ -72,7 +74,8 @@ bed_wish_by-requires c =
     let P = λ (xs : List (Option Bool)). xs ≡ map f (range_with_len 0 (length xs)) in
     record {
       wish = right.within;
-      first = subst P (sym c.deref-in-loop-boarder.ensures.value) (c.in_ok-first.ensures ∙ ap (λ n. map f (range_with_len 0 n)) long);
+      first = subst P (sym c.deref-in-loop-boarder.ensures.value)
+          (c.in_ok-first.ensures ∙ ap (λ n. map f (range_with_len 0 n)) long);
     }
 
 pub row_wish-requires : goal.row_wish-requires

@@ -18,11 +18,13 @@ loop-wish-preserved c =
     elim c.if-get.branch [
       | then-get+in_ok-push w ↦
           rw w.found-is
-          (lists_some q ks i x old now w.push.new.self.items c.loop-wish-test.true refl (sym c.get.ensures ∙ w.if-get.true)
+          (lists_some q ks i x old now w.push.new.self.items c.loop-wish-test.true refl
+          (sym c.get.ensures ∙ w.if-get.true)
           w.in_ok-push.ensures.items c.loop-wish.invariant)
       | else-get w ↦
           rw w.found-is
-          (lists_left q ks i x old now c.loop-wish-test.true refl (sym c.get.ensures ∙ w.if-get.false) c.loop-wish.invariant)
+          (lists_left q ks i x old now c.loop-wish-test.true refl
+          (sym c.get.ensures ∙ w.if-get.false) c.loop-wish.invariant)
     ]
 
 pub returns : goal.returns

@@ -7,7 +7,8 @@ use Rattle.linked_demand.proofs.Walking.{below_read}
 use Rattle.linked_demand.proofs.fronts.list_front.Goals as goal
 
 pub loop-place-init : goal.loop-place-init
-loop-place-init c = lists_none (claimed_open c.args.opens.now (take 0 c.args.claims.now)) c.args.found.now.items (λ k. refl)
+loop-place-init c = lists_none (claimed_open c.args.opens.now (take 0 c.args.claims.now)) c.args.found.now.items
+    (λ k. refl)
 
 pub list_claim-requires : goal.list_claim-requires
 list_claim-requires c =
@@ -21,15 +22,22 @@ loop-place-preserved c =
     let opens = c.args.opens.now in
     let claims = c.args.claims.now in
     let i : ℕ = c.loop-place.place in
-    let lt : i < length claims = omega (arith, c.loop-place-test.true, c.loop-place.auto.place-end, c.requires.reached) in
+    let lt : i < length claims = omega (
+      arith,
+      c.loop-place-test.true,
+      c.loop-place.auto.place-end,
+      c.requires.reached,
+    ) in
     lists_then (claimed_open opens (take i claims)) (λ k. is_among k c.at.result.now && get_or opens k false)
     (claimed_open opens (take (i + 1) claims))
-    c.args.found.now.items c.loop-place.found.items c.list_claim.new.found.items c.loop-place.invariant c.in_ok-list_claim.ensures
+    c.args.found.now.items c.loop-place.found.items c.list_claim.new.found.items c.loop-place.invariant
+    c.in_ok-list_claim.ensures
     (λ k. claimed_more opens claims i c.at.result.now k lt c.at.ensures)
 
 pub returns : goal.returns
 returns c =
-    let all : c.loop-place.place ≡ c.args.reached = omega (arith, c.loop-place-test.false, c.loop-place.auto.place-end) in
+    let all : c.loop-place.place ≡ c.args.reached =
+    omega (arith, c.loop-place-test.false, c.loop-place.auto.place-end) in
     let P = λ (j : ℕ). ListsAlso (claimed_open c.args.opens.now (take j c.args.claims.now))
     c.args.found.now.items c.loop-place.found.items in
     subst P all c.loop-place.invariant

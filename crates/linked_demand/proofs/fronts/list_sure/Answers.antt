@@ -31,5 +31,6 @@ loop-wish-preserved c =
 
 pub returns : goal.returns
 returns c =
-    lists_all (sure_open c.args.opens.now (all_sure c.args.state.now c.args.early.now)) c.args.wishes.now c.loop-wish.wish-index
+    lists_all (sure_open c.args.opens.now (all_sure c.args.state.now c.args.early.now)) c.args.wishes.now
+    c.loop-wish.wish-index
     c.args.found.now.items c.loop-wish.found.items c.loop-wish-test.false c.loop-wish.invariant

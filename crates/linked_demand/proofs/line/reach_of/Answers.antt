@@ -29,7 +29,12 @@ loop-place-preserved c =
     let row = wants_along s opens claims in
     let i = c.loop-place.place in
     let left = c.loop-place.left in
-    let within : i < length claims = omega (arith, c.loop-place-test.true, c.loop-place.auto.place-end, c.count-count.ensures) in
+    let within : i < length claims = omega (
+      arith,
+      c.loop-place-test.true,
+      c.loop-place.auto.place-end,
+      c.count-count.ensures,
+    ) in
     let lt : i < length row = omega (arith, within, length-wants s opens claims) in
     elim c.if-wants_alone.branch [
       | then-wants_alone w ↦

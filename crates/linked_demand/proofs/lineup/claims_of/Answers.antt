@@ -36,9 +36,11 @@ line_up-requires-clause-few c =
     let n = c.loop-programme.programme in
     let P = λ (count : ℕ). n < count in
     let Q = λ (ks : List ℕ). length ks < 2 ^ 32 in
-    subst Q (sym (row_taken n (length d.programmes) (called_for d c.args.orders.now.orders) c.loop-programme.called.wishes.items
+    subst Q (sym (row_taken n (length d.programmes)
+    (called_for d c.args.orders.now.orders) c.loop-programme.called.wishes.items
     c.replace-wishes.result _ (subst P c.programme_count-programmes.ensures.count c.loop-programme-test.true)
-    (c.replace-wishes.ensures.value ∙ c.index_mut.ensures.value) c.loop-programme.invariant.wishes)) (c.line_once.ensures.few n)
+    (c.replace-wishes.ensures.value ∙ c.index_mut.ensures.value) c.loop-programme.invariant.wishes))
+    (c.line_once.ensures.few n)
 
 pub line_up-requires-clause-before : goal.line_up-requires-clause-before
 line_up-requires-clause-before c =
@@ -48,11 +50,14 @@ line_up-requires-clause-before c =
     let P = λ (count : ℕ). n < count in
     let lt = subst P c.programme_count-programmes.ensures.count c.loop-programme-test.true in
     c.deref.ensures.value
-    ∙ row_taken n (length d.programmes) (λ p. map (before_at d orders) (called_for d orders p)) c.loop-programme.called.before.items
+    ∙ row_taken n (length d.programmes) (λ p. map (before_at d orders) (called_for d orders p))
+    c.loop-programme.called.before.items
     c.replace-before.result _ lt (c.replace-before.ensures.value ∙ c.index_mut-in-loop-programme.ensures.value)
     c.loop-programme.invariant.before
-    ∙ sym (ap (map (before_at d orders)) (row_taken n (length d.programmes) (called_for d orders) c.loop-programme.called.wishes.items
-    c.replace-wishes.result _ lt (c.replace-wishes.ensures.value ∙ c.index_mut.ensures.value) c.loop-programme.invariant.wishes))
+    ∙ sym (ap (map (before_at d orders)) (row_taken n (length d.programmes)
+    (called_for d orders) c.loop-programme.called.wishes.items
+    c.replace-wishes.result _ lt (c.replace-wishes.ensures.value ∙ c.index_mut.ensures.value)
+    c.loop-programme.invariant.wishes))
 
 pub line_up-requires-clause-seated : goal.line_up-requires-clause-seated
 line_up-requires-clause-seated c = c.loop-programme.invariant.built.seated
@@ -72,7 +77,8 @@ loop-programme-preserved c =
     c.call_everyone.ensures c.loop-programme.invariant.built c.in_ok-own.ensures.claims c.in_ok-own.ensures.seated) in
     record {
       built = built;
-      wishes = rows_later n (length d.programmes) (called_for d orders) c.loop-programme.called.wishes.items c.replace-wishes.new.dest
+      wishes = rows_later n (length d.programmes)
+          (called_for d orders) c.loop-programme.called.wishes.items c.replace-wishes.new.dest
           c.loop-programme.invariant.wishes;
       before = rows_later n (length d.programmes) (λ p. map (before_at d orders) (called_for d orders p))
           c.loop-programme.called.before.items c.replace-before.new.dest c.loop-programme.invariant.before;

@@ -19,4 +19,9 @@ returns-clause-few c =
     let d = c.args.state.now.dossier in
     let orders = c.args.orders.now.orders in
     let valid = subst P (c.dossier.view_is ∙ c.dossier-dossier.ensures) c.dossier.invariant in
-    λ p. omega (arith, few_called d orders p (line_once d orders p (called_once d valid orders c.requires p)), valid.size.wishes)
+    λ p. omega (
+      arith,
+      few_called d orders p
+          (line_once d orders p (called_once d valid orders c.requires p)),
+      valid.size.wishes,
+    )

@@ -1,4 +1,5 @@
-use Rattle.std.proofs.Common.{ℕ, ◌≡◌, ◌≤◌, ◌<◌, Bool, false, List, length, get_or, nat_lt, refl, sym, ◌∙◌, ap, arith, subst}
+use Rattle.std.proofs.Common.{ℕ, ◌≡◌, ◌≤◌, ◌<◌, Bool, false, List, length, get_or, nat_lt, refl, sym, ◌∙◌, ap, arith}
+use Rattle.std.proofs.Common.{subst}
 use Rattle.std.specs.Prelude.{All}
 use Rattle.std.proofs.lemmas.List.{length-map}
 use Rattle.day_state.specs.declared.spans.Span.{Span}
@@ -12,7 +13,8 @@ use Rattle.linked_demand.proofs.lineup.line_up.Goals as goal
 
 pub loop-from-init : goal.loop-from-init
 loop-from-init c =
-    lined_none c.args.state.now.dossier c.args.orders.now.orders c.args.programme c.args.wishes.items c.in_ok-spans.spans.items
+    lined_none c.args.state.now.dossier c.args.orders.now.orders c.args.programme c.args.wishes.items
+    c.in_ok-spans.spans.items
     c.args.places.now.items c.args.early.now.items c.in_ok-spans.ensures.items c.requires.seated
 
 pub overflow_cast-len : goal.overflow_cast-len
@@ -23,9 +25,11 @@ overflow_cast-len c =
       ap (λ (l : List ℕ). length l) c.requires.before,
       length-map c.args.wishes.items (before_at c.args.state.now.dossier c.args.orders.now.orders),
     ) in
-    let few = spans_fit c.args.state.now.dossier c.args.orders.now.orders c.args.programme c.args.wishes.items c.args.before.now
+    let few = spans_fit c.args.state.now.dossier c.args.orders.now.orders c.args.programme c.args.wishes.items
+    c.args.before.now
     c.requires.wishes c.requires.before c.requires.once
-    c.loop-from.from c.loop-from.spans.items c.loop-from.places.items c.loop-from.early.items c.loop-from.invariant lt in
+    c.loop-from.from c.loop-from.spans.items c.loop-from.places.items c.loop-from.early.items c.loop-from.invariant
+    lt in
     omega (arith, c.len-in-loop-from.ensures, few, lt, c.requires.few)
 
 pub note-requires-clause-places : goal.note-requires-clause-places
@@ -40,11 +44,15 @@ note-requires-clause-places c =
       ap (λ (l : List ℕ). length l) c.requires.before,
       length-map c.args.wishes.items (before_at c.args.state.now.dossier c.args.orders.now.orders),
     ) in
-    let part = part_read c.args.state.now.dossier c.args.orders.now.orders c.args.programme c.args.wishes.items c.args.before.now
+    let part = part_read c.args.state.now.dossier c.args.orders.now.orders c.args.programme c.args.wishes.items
+    c.args.before.now
     c.requires.wishes c.requires.before c.requires.once
-    c.loop-from.from c.end_of_claim-to.result span c.loop-from.spans.items c.loop-from.places.items c.loop-from.early.items
-    c.loop-from.invariant lt c.end_of_claim-to.ensures.further c.end_of_claim-to.ensures.within c.end_of_claim-to.ensures.run refl refl in
-    let read : c.part.result.now ≡ part_of wishes span = c.part.ensures ∙ ap (λ (l : List ℕ). part_of l span) c.deref.ensures.value in
+    c.loop-from.from c.end_of_claim-to.result span c.loop-from.spans.items c.loop-from.places.items
+    c.loop-from.early.items
+    c.loop-from.invariant lt c.end_of_claim-to.ensures.further c.end_of_claim-to.ensures.within
+    c.end_of_claim-to.ensures.run refl refl in
+    let read : c.part.result.now ≡ part_of wishes span =
+    c.part.ensures ∙ ap (λ (l : List ℕ). part_of l span) c.deref.ensures.value in
     let n = length c.loop-from.places.items in
     let P = λ (ks : List ℕ). All (λ k. k < n) ks in
     subst P (sym (read ∙ part))
@@ -62,14 +70,19 @@ loop-from-preserved c =
       ap (λ (l : List ℕ). length l) c.requires.before,
       length-map c.args.wishes.items (before_at c.args.state.now.dossier c.args.orders.now.orders),
     ) in
-    let read : c.part.result.now ≡ part_of wishes span = c.part.ensures ∙ ap (λ (l : List ℕ). part_of l span) c.deref.ensures.value in
+    let read : c.part.result.now ≡ part_of wishes span =
+    c.part.ensures ∙ ap (λ (l : List ℕ). part_of l span) c.deref.ensures.value in
     let Q = λ (ks : List ℕ). PutAt ℕ 0 ks c.len-in-loop-from.result c.loop-from.places.items c.note.new.places.items in
-    let R = λ (ks : List ℕ). PutAt Bool false ks c.is_early-is_early.result c.loop-from.early.items c.note.new.early.items in
+    let R = λ (ks : List ℕ). PutAt Bool false ks c.is_early-is_early.result c.loop-from.early.items
+    c.note.new.early.items in
     lined_more c.args.state.now.dossier c.args.orders.now.orders c.args.programme c.args.wishes.items c.args.before.now
     c.requires.wishes c.requires.before c.requires.once
-    c.loop-from.from c.end_of_claim-to.result span c.loop-from.spans.items c.push.new.self.items c.loop-from.places.items
-    c.note.new.places.items c.loop-from.early.items c.note.new.early.items c.len-in-loop-from.result c.is_early-is_early.result
-    c.loop-from.invariant lt c.end_of_claim-to.ensures.further c.end_of_claim-to.ensures.within c.end_of_claim-to.ensures.run refl refl
+    c.loop-from.from c.end_of_claim-to.result span c.loop-from.spans.items c.push.new.self.items
+    c.loop-from.places.items
+    c.note.new.places.items c.loop-from.early.items c.note.new.early.items c.len-in-loop-from.result
+    c.is_early-is_early.result
+    c.loop-from.invariant lt c.end_of_claim-to.ensures.further c.end_of_claim-to.ensures.within
+    c.end_of_claim-to.ensures.run refl refl
     c.in_ok-push.ensures.items (omega (arith, c.len-in-loop-from.ensures))
     (c.is_early-is_early.ensures ∙ ap (nat_lt (get_or c.args.before.now c.loop-from.from 0)) c.limit_of-limit.ensures)
     (subst Q read c.note.ensures.places) (subst R read c.note.ensures.early)
@@ -83,9 +96,11 @@ returns-clause-claims c =
       length-map c.args.wishes.items (before_at c.args.state.now.dossier c.args.orders.now.orders),
     ) in
     c.new-claims.ensures
-    ∙ (lined_all c.args.state.now.dossier c.args.orders.now.orders c.args.programme c.args.wishes.items c.args.before.now
+    ∙ (lined_all c.args.state.now.dossier c.args.orders.now.orders c.args.programme c.args.wishes.items
+    c.args.before.now
     c.requires.wishes c.requires.before c.requires.once
-    c.loop-from.from c.loop-from.spans.items c.loop-from.places.items c.loop-from.early.items c.loop-from.invariant le).0
+    c.loop-from.from c.loop-from.spans.items c.loop-from.places.items c.loop-from.early.items c.loop-from.invariant
+    le).0
 
 pub returns-clause-seated : goal.returns-clause-seated
 returns-clause-seated c =
@@ -97,4 +112,5 @@ returns-clause-seated c =
     ) in
     (lined_all c.args.state.now.dossier c.args.orders.now.orders c.args.programme c.args.wishes.items c.args.before.now
     c.requires.wishes c.requires.before c.requires.once
-    c.loop-from.from c.loop-from.spans.items c.loop-from.places.items c.loop-from.early.items c.loop-from.invariant le).1
+    c.loop-from.from c.loop-from.spans.items c.loop-from.places.items c.loop-from.early.items c.loop-from.invariant
+    le).1

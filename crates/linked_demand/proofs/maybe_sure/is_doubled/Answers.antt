@@ -3,7 +3,8 @@ use Rattle.linked_demand.proofs.MaybeSure.{doubled_here, place_in, programme_in}
 use Rattle.linked_demand.proofs.maybe_sure.is_doubled.Goals as goal
 
 pub bounds-claims-wish : goal.bounds-claims-wish
-bounds-claims-wish c = programme_in c.requires.lineup c.args.place c.requires.place c.wish_at-wish.result c.wish_at-wish.ensures.wish
+bounds-claims-wish c = programme_in c.requires.lineup c.args.place c.requires.place c.wish_at-wish.result
+    c.wish_at-wish.ensures.wish
 
 pub at-claim-requires : goal.at-claim-requires
 at-claim-requires c =

@@ -16,7 +16,8 @@ loop-place-preserved c =
           ∙ ap (λ (xs : List ℕ). xs ++ k ∷ []) c.loop-place.invariant
           ∙ sym (range_kept q k (sym c.may_be_sure.ensures ∙ w.if-may_be_sure.true)))
       | else-may_be_sure w ↦
-          rw w.sure-is (c.loop-place.invariant ∙ sym (range_left q k (sym c.may_be_sure.ensures ∙ w.if-may_be_sure.false)))
+          rw w.sure-is (c.loop-place.invariant
+          ∙ sym (range_left q k (sym c.may_be_sure.ensures ∙ w.if-may_be_sure.false)))
     ]
 
 pub returns : goal.returns

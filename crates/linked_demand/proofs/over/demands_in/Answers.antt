@@ -5,10 +5,13 @@ use Rattle.linked_demand.specs.Demand.{firsts, is_proposed_at}
 use Rattle.linked_demand.proofs.RoundFalls.{item_open}
 use Rattle.linked_demand.proofs.RowSteps.{firsts_all, firsts_more, firsts_same, not_above, not_proposed}
 use Rattle.linked_demand.proofs.over.demands_in.Goals as goal
-use Rattle.linked_demand.proofs.over.demands_in.Goals.{then-named-item+then-proposes+in_ok-push, else-named-item, else-named-item-via-then-named-item+else-proposes, else-named-item-via-else-named-item}
+use Rattle.linked_demand.proofs.over.demands_in.Goals.{then-named-item+then-proposes+in_ok-push, else-named-item}
+use Rattle.linked_demand.proofs.over.demands_in.Goals.{else-named-item-via-then-named-item+else-proposes}
+use Rattle.linked_demand.proofs.over.demands_in.Goals.{else-named-item-via-else-named-item}
 
 pub proposes-requires : goal.proposes-requires
-proposes-requires c = item_open c.args.links.now c.args.row.now c.requires c.loop-item.item-index c.loop-item-test.true _
+proposes-requires c = item_open c.args.links.now c.args.row.now c.requires c.loop-item.item-index c.loop-item-test.true
+    _
 
 pub loop-item-init : goal.loop-item-init
 loop-item-init c =

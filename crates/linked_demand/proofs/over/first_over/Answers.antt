@@ -4,14 +4,18 @@ use Rattle.linked_demand.specs.Demand.{is_proposed_at}
 use Rattle.linked_demand.proofs.RoundFalls.{item_open}
 use Rattle.linked_demand.proofs.RowSteps.{counted_same, not_above, not_proposed, over_here, over_later, over_none}
 use Rattle.linked_demand.proofs.over.first_over.Goals as goal
-use Rattle.linked_demand.proofs.over.first_over.Goals.{then-last-item+then-proposes+else-found-free, else-last-item, else-last-item-via-then-last-item+else-proposes, else-last-item-via-else-last-item}
+use Rattle.linked_demand.proofs.over.first_over.Goals.{then-last-item+then-proposes+else-found-free, else-last-item}
+use Rattle.linked_demand.proofs.over.first_over.Goals.{else-last-item-via-then-last-item+else-proposes}
+use Rattle.linked_demand.proofs.over.first_over.Goals.{else-last-item-via-else-last-item}
 
 pub proposes-requires : goal.proposes-requires
-proposes-requires c = item_open c.args.links.now c.args.row.now c.requires c.loop-item.item-index c.loop-item-test.true _
+proposes-requires c = item_open c.args.links.now c.args.row.now c.requires c.loop-item.item-index c.loop-item-test.true
+    _
 
 pub returns-then-found-free : goal.returns-then-found-free
 returns-then-found-free c =
-    over_here (is_proposed_at c.args.links.now) c.args.row.now c.loop-item.item-index _ c.loop-item-test.true c.loop-item.last
+    over_here (is_proposed_at c.args.links.now) c.args.row.now c.loop-item.item-index _ c.loop-item-test.true
+    c.loop-item.last
     c.args.free c.loop-item.found c.if-found-free.true c.if-last-item.true
     (sym c.proposes.ensures ∙ c.if-proposes.true) c.loop-item.invariant.rest
 

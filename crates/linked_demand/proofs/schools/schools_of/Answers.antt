@@ -35,7 +35,8 @@ ask_marked-requires c =
       marked = ap length c.in_ok-marked.ensures ∙ length-replicate c.school_count-count.result true
           ∙ count ∙ ap length (sym c.deref.ensures.value);
       overfilled = ap length c.in_ok-overfilled.ensures
-          ∙ length-replicate {A = Option ℕ} c.school_count-count.result None ∙ count ∙ ap length (sym c.deref.ensures.value);
+          ∙ length-replicate {A = Option ℕ} c.school_count-count.result None ∙ count
+          ∙ ap length (sym c.deref.ensures.value);
     }
 
 pub returns : goal.returns
@@ -51,7 +52,8 @@ returns c =
     (subst P c.state-state.ensures (rw c.marks.ensures.marks at c.marks.ensures.one_each)) c.requires.bars
     (subst Q c.state-state.ensures c.in_ok-free.ensures) c.in_ok-rows.ensures.rows c.in_ok-rows.ensures.items in
     let count : c.school_count-count.result ≡ length bars =
-    c.school_count-count.ensures ∙ ap (λ (s : State). length s.dossier.schools) c.state-state.ensures ∙ sym c.requires.bars in
+    c.school_count-count.ensures ∙ ap (λ (s : State). length s.dossier.schools) c.state-state.ensures
+    ∙ sym c.requires.bars in
     answers_built links bars free rows round c.in_ok-overfilled.overfilled c.in_ok-marked.marked
     (ap length c.in_ok-overfilled.ensures ∙ length-replicate c.school_count-count.result None ∙ count)
     (c.in_ok-marked.ensures ∙ ap (λ n. replicate n true) count)

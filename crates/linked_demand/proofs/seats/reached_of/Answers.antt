@@ -21,8 +21,12 @@ reach_of-requires c =
     let s = c.args.state.now in
     let orders = c.args.orders.now.orders in
     let p = c.loop-programme.programme in
-    let lt : p < length s.dossier.programmes = omega
-    (arith, c.loop-programme-test.true, c.loop-programme.auto.programme-end, c.programme_count-programmes.ensures.count) in
+    let lt : p < length s.dossier.programmes = omega (
+      arith,
+      c.loop-programme-test.true,
+      c.loop-programme.auto.programme-end,
+      c.programme_count-programmes.ensures.count,
+    ) in
     let row = row_right c.requires.lineup.lines p lt c.index-claims.result.now c.index-claims.ensures in
     record {
       claims = row_within s.dossier orders p (length s.dossier.wishes) c.index-claims.result.now row
@@ -39,8 +43,12 @@ loop-programme-preserved c =
     let orders = c.args.orders.now.orders in
     let opens = c.args.opens.now in
     let p = c.loop-programme.programme in
-    let lt : p < length s.dossier.programmes = omega
-    (arith, c.loop-programme-test.true, c.loop-programme.auto.programme-end, c.programme_count-programmes.ensures.count) in
+    let lt : p < length s.dossier.programmes = omega (
+      arith,
+      c.loop-programme-test.true,
+      c.loop-programme.auto.programme-end,
+      c.programme_count-programmes.ensures.count,
+    ) in
     let claims = c.index-claims.result.now in
     let row = row_right c.requires.lineup.lines p lt claims c.index-claims.ensures in
     let reached : c.reach_of.result ≡ reach_in (seat_row s orders opens p) =
@@ -58,5 +66,10 @@ returns c =
     c.args.lineup.now.claims.items c.args.lineup.now.places.items early (all_sure c.args.state.now early)
     c.loop-programme.programme (rw c.marks.ensures.marks at c.marks.ensures.one_each) c.requires.opens
     c.requires.lineup.lines
-    (omega (arith, c.loop-programme-test.false, c.loop-programme.auto.programme-end, c.programme_count-programmes.ensures.count))
+    (omega (
+      arith,
+      c.loop-programme-test.false,
+      c.loop-programme.auto.programme-end,
+      c.programme_count-programmes.ensures.count,
+    ))
     c.loop-programme.invariant refl

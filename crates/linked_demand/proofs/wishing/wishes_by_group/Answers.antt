@@ -72,7 +72,8 @@ group_of-group-requires c =
     let P : DossierRows → Type 0 = IsValid in
     let valid = subst P (c.dossier.view_is ∙ c.dossier-dossier.ensures) c.dossier.invariant in
     let k = get_or c.places_by_candidate-places.result.now c.loop-place.place-index 0 in
-    programme_at d valid k (c.places_by_candidate-places.ensures.within c.loop-place.place-index 0 c.loop-place-test.true)
+    programme_at d valid k (c.places_by_candidate-places.ensures.within c.loop-place.place-index 0
+    c.loop-place-test.true)
     c.wish_at-wish.result c.wish_at-wish.ensures.wish
 
 pub put_in-requires : goal.put_in-requires

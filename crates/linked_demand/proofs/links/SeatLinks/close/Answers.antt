@@ -1,4 +1,5 @@
-use Rattle.std.proofs.Common.{◌≡◌, ℕ, ◌+◌, ◌<◌, Bool, List, [], arith, ap, length, drop, refl, sym, ◌∙◌, get_or, false, slice_set, None, subst}
+use Rattle.std.proofs.Common.{◌≡◌, ℕ, ◌+◌, ◌<◌, Bool, List, [], arith, ap, length, drop, refl, sym, ◌∙◌, get_or, false}
+use Rattle.std.proofs.Common.{slice_set, None, subst}
 use Rattle.std.specs.Prelude.{All}
 use Rattle.std.proofs.lemmas.List.{length-set}
 use Rattle.linked_demand.specs.Line.{next, last_new}
@@ -7,7 +8,8 @@ use Rattle.linked_demand.specs.Opens.{all_sure, line_of}
 use Rattle.linked_demand.specs.Wants.{wants_along}
 use Rattle.linked_demand.proofs.Closing.{wish_within, programme_within, claims_each, row_within}
 use Rattle.linked_demand.proofs.Items.{closes_item, item_claim, item_reads, item_stands}
-use Rattle.linked_demand.proofs.Leaving.{before_within, row_below, stays_closed, moves_closed, reached_each, reach_put, reach_kept, in_claims, claim_there}
+use Rattle.linked_demand.proofs.Leaving.{before_within, row_below, stays_closed, moves_closed, reached_each, reach_put}
+use Rattle.linked_demand.proofs.Leaving.{reach_kept, in_claims, claim_there}
 use Rattle.linked_demand.proofs.Moving.{newly_none, newly_some}
 use Rattle.linked_demand.proofs.Ticking.{claim_fits, told_none, told_some}
 use Rattle.linked_demand.proofs.links.SeatLinks.close.Goals as goal
@@ -53,7 +55,8 @@ next_wanting-now-requires-clause-from g c =
     let s = r.state.now in
     let k = closes_item c.self.invariant.reach.links c.args.self.now c.self.view_is c.args.item
     c.requires.waits c.requires.item in
-    let reads = item_reads c.self.invariant.reach c.args.self.now c.self.view_is c.args.item c.requires.waits c.requires.item
+    let reads = item_reads c.self.invariant.reach c.args.self.now c.self.view_is c.args.item c.requires.waits
+    c.requires.item
     c.index-claims.result.now c.index-claims.ensures c.index-before.result.now c.index-before.ensures
     c.leaves_by_closing-leaves.new.opens c.leaves_by_closing-leaves.ensures.opens
     c.leaves_by_closing-leaves.result c.leaves_by_closing-leaves.ensures.leaves in
@@ -65,7 +68,8 @@ next_wanting-now-requires-clause-claims g c =
     let s = r.state.now in
     let k = closes_item c.self.invariant.reach.links c.args.self.now c.self.view_is c.args.item
     c.requires.waits c.requires.item in
-    let reads = item_reads c.self.invariant.reach c.args.self.now c.self.view_is c.args.item c.requires.waits c.requires.item
+    let reads = item_reads c.self.invariant.reach c.args.self.now c.self.view_is c.args.item c.requires.waits
+    c.requires.item
     c.index-claims.result.now c.index-claims.ensures c.index-before.result.now c.index-before.ensures
     c.leaves_by_closing-leaves.new.opens c.leaves_by_closing-leaves.ensures.opens
     c.leaves_by_closing-leaves.result c.leaves_by_closing-leaves.ensures.leaves in
@@ -77,7 +81,8 @@ last_wanting-requires-clause-claims g c =
     let s = r.state.now in
     let k = closes_item c.self.invariant.reach.links c.args.self.now c.self.view_is c.args.item
     c.requires.waits c.requires.item in
-    let reads = item_reads c.self.invariant.reach c.args.self.now c.self.view_is c.args.item c.requires.waits c.requires.item
+    let reads = item_reads c.self.invariant.reach c.args.self.now c.self.view_is c.args.item c.requires.waits
+    c.requires.item
     c.index-claims.result.now c.index-claims.ensures c.index-before.result.now c.index-before.ensures
     c.leaves_by_closing-leaves.new.opens c.leaves_by_closing-leaves.ensures.opens
     c.leaves_by_closing-leaves.result c.leaves_by_closing-leaves.ensures.leaves in
@@ -89,7 +94,8 @@ invariant_of-self-else-leaves g c =
     let s = r.state.now in
     let k = closes_item c.self.invariant.reach.links c.args.self.now c.self.view_is c.args.item
     c.requires.waits c.requires.item in
-    let reads = item_reads c.self.invariant.reach c.args.self.now c.self.view_is c.args.item c.requires.waits c.requires.item
+    let reads = item_reads c.self.invariant.reach c.args.self.now c.self.view_is c.args.item c.requires.waits
+    c.requires.item
     c.index-claims.result.now c.index-claims.ensures c.index-before.result.now c.index-before.ensures
     c.leaves_by_closing-leaves.new.opens c.leaves_by_closing-leaves.ensures.opens
     c.leaves_by_closing-leaves.result c.leaves_by_closing-leaves.ensures.leaves in
@@ -108,7 +114,8 @@ invariant_of-self g c =
     let s = r.state.now in
     let k = closes_item c.self.invariant.reach.links c.args.self.now c.self.view_is c.args.item
     c.requires.waits c.requires.item in
-    let reads = item_reads c.self.invariant.reach c.args.self.now c.self.view_is c.args.item c.requires.waits c.requires.item
+    let reads = item_reads c.self.invariant.reach c.args.self.now c.self.view_is c.args.item c.requires.waits
+    c.requires.item
     c.index-claims.result.now c.index-claims.ensures c.index-before.result.now c.index-before.ensures
     c.leaves_by_closing-leaves.new.opens c.leaves_by_closing-leaves.ensures.opens
     c.leaves_by_closing-leaves.result c.leaves_by_closing-leaves.ensures.leaves in
@@ -118,7 +125,8 @@ invariant_of-self g c =
     let moved =
     moves_closed reads c.if-leaves.true now c.last_wanting.result
     (c.next_wanting-now.ensures.place
-    ∙ ap (λ (fs : List Bool). before + next (drop before (wants_along s fs row))) c.leaves_by_closing-leaves.ensures.opens)
+    ∙ ap (λ (fs : List Bool). before + next (drop before (wants_along s fs row)))
+    c.leaves_by_closing-leaves.ensures.opens)
     (c.last_wanting.ensures.answer
     ∙ ap (λ (fs : List Bool). last_new (wants_along s fs row) before now) c.leaves_by_closing-leaves.ensures.opens) in
     rw c.leaves_by_closing-leaves.ensures.opens (record {
@@ -133,7 +141,8 @@ invariant_of-self-in_default g c =
     let s = r.state.now in
     let k = closes_item c.self.invariant.reach.links c.args.self.now c.self.view_is c.args.item
     c.requires.waits c.requires.item in
-    let reads = item_reads c.self.invariant.reach c.args.self.now c.self.view_is c.args.item c.requires.waits c.requires.item
+    let reads = item_reads c.self.invariant.reach c.args.self.now c.self.view_is c.args.item c.requires.waits
+    c.requires.item
     c.index-claims.result.now c.index-claims.ensures c.index-before.result.now c.index-before.ensures
     c.leaves_by_closing-leaves.new.opens c.leaves_by_closing-leaves.ensures.opens
     c.leaves_by_closing-leaves.result c.leaves_by_closing-leaves.ensures.leaves in
@@ -143,7 +152,8 @@ invariant_of-self-in_default g c =
     let moved =
     moves_closed reads c.if-leaves.true now c.last_wanting.result
     (c.next_wanting-now.ensures.place
-    ∙ ap (λ (fs : List Bool). before + next (drop before (wants_along s fs row))) c.leaves_by_closing-leaves.ensures.opens)
+    ∙ ap (λ (fs : List Bool). before + next (drop before (wants_along s fs row)))
+    c.leaves_by_closing-leaves.ensures.opens)
     (c.last_wanting.ensures.answer
     ∙ ap (λ (fs : List Bool). last_new (wants_along s fs row) before now) c.leaves_by_closing-leaves.ensures.opens) in
     rw c.leaves_by_closing-leaves.ensures.opens (record {
@@ -160,7 +170,8 @@ note_fresh-requires g c =
     let fresh_claim = claim_there k c.index-claims.result.now c.index-claims.ensures c.in-Some.next within
     c.at.result.now c.at.ensures in
     let schools : length c.args.self.now.state.dossier.schools ≡ length
-    c.self.inside.state.now.dossier.schools = ap (λ (r : LinksRow). length r.state.dossier.schools) (sym c.self.view_is) in
+    c.self.inside.state.now.dossier.schools =
+    ap (λ (r : LinksRow). length r.state.dossier.schools) (sym c.self.view_is) in
     record {
       claim = claim_fits k _ _ c.at.result.now fresh_claim (length c.self.inside.state.now.dossier.wishes) refl;
       bars = c.requires.bars ∙ schools;
@@ -180,7 +191,8 @@ returns-else-leaves g c =
     let s = r.state.now in
     let k = closes_item c.self.invariant.reach.links c.args.self.now c.self.view_is c.args.item
     c.requires.waits c.requires.item in
-    let reads = item_reads c.self.invariant.reach c.args.self.now c.self.view_is c.args.item c.requires.waits c.requires.item
+    let reads = item_reads c.self.invariant.reach c.args.self.now c.self.view_is c.args.item c.requires.waits
+    c.requires.item
     c.index-claims.result.now c.index-claims.ensures c.index-before.result.now c.index-before.ensures
     c.leaves_by_closing-leaves.new.opens c.leaves_by_closing-leaves.ensures.opens
     c.leaves_by_closing-leaves.result c.leaves_by_closing-leaves.ensures.leaves in
@@ -188,7 +200,8 @@ returns-else-leaves g c =
     let closed = λ (l : LinksRow). record l { opens = slice_set l.opens c.args.item.wish false } in
     let told = told_none s r.orders.now.orders r.opens c.args.item.wish c.args.self.now c.self.view_is
     (newly_none k None stays.fresh refl) c.args.bars.now c.args.steps.now c.args.marked.now in
-    rw c.leaves_by_closing-leaves.ensures.opens (record { value = ap closed c.self.view_is; steps = told.steps; marked = told.marked })
+    rw c.leaves_by_closing-leaves.ensures.opens
+    (record { value = ap closed c.self.view_is; steps = told.steps; marked = told.marked })
 
 pub returns-in_default : goal.returns-in_default
 returns-in_default g c =
@@ -196,7 +209,8 @@ returns-in_default g c =
     let s = r.state.now in
     let k = closes_item c.self.invariant.reach.links c.args.self.now c.self.view_is c.args.item
     c.requires.waits c.requires.item in
-    let reads = item_reads c.self.invariant.reach c.args.self.now c.self.view_is c.args.item c.requires.waits c.requires.item
+    let reads = item_reads c.self.invariant.reach c.args.self.now c.self.view_is c.args.item c.requires.waits
+    c.requires.item
     c.index-claims.result.now c.index-claims.ensures c.index-before.result.now c.index-before.ensures
     c.leaves_by_closing-leaves.new.opens c.leaves_by_closing-leaves.ensures.opens
     c.leaves_by_closing-leaves.result c.leaves_by_closing-leaves.ensures.leaves in
@@ -206,14 +220,17 @@ returns-in_default g c =
     let moved =
     moves_closed reads c.if-leaves.true now c.last_wanting.result
     (c.next_wanting-now.ensures.place
-    ∙ ap (λ (fs : List Bool). before + next (drop before (wants_along s fs row))) c.leaves_by_closing-leaves.ensures.opens)
+    ∙ ap (λ (fs : List Bool). before + next (drop before (wants_along s fs row)))
+    c.leaves_by_closing-leaves.ensures.opens)
     (c.last_wanting.ensures.answer
     ∙ ap (λ (fs : List Bool). last_new (wants_along s fs row) before now) c.leaves_by_closing-leaves.ensures.opens) in
     let closed = λ (l : LinksRow). record l { opens = slice_set l.opens c.args.item.wish false } in
     let told =
     told_none s r.orders.now.orders r.opens c.args.item.wish c.args.self.now c.self.view_is
-    (newly_none k c.last_wanting.result moved.fresh c.in_default.is) c.args.bars.now c.args.steps.now c.args.marked.now in
-    rw c.leaves_by_closing-leaves.ensures.opens (record { value = ap closed c.self.view_is; steps = told.steps; marked = told.marked })
+    (newly_none k c.last_wanting.result moved.fresh c.in_default.is) c.args.bars.now c.args.steps.now
+    c.args.marked.now in
+    rw c.leaves_by_closing-leaves.ensures.opens
+    (record { value = ap closed c.self.view_is; steps = told.steps; marked = told.marked })
 
 pub returns-in-Some : goal.returns-in-Some
 returns-in-Some g c =
@@ -221,7 +238,8 @@ returns-in-Some g c =
     let s = r.state.now in
     let k = closes_item c.self.invariant.reach.links c.args.self.now c.self.view_is c.args.item
     c.requires.waits c.requires.item in
-    let reads = item_reads c.self.invariant.reach c.args.self.now c.self.view_is c.args.item c.requires.waits c.requires.item
+    let reads = item_reads c.self.invariant.reach c.args.self.now c.self.view_is c.args.item c.requires.waits
+    c.requires.item
     c.index-claims.result.now c.index-claims.ensures c.index-before.result.now c.index-before.ensures
     c.leaves_by_closing-leaves.new.opens c.leaves_by_closing-leaves.ensures.opens
     c.leaves_by_closing-leaves.result c.leaves_by_closing-leaves.ensures.leaves in
@@ -231,7 +249,8 @@ returns-in-Some g c =
     let moved =
     moves_closed reads c.if-leaves.true now c.last_wanting.result
     (c.next_wanting-now.ensures.place
-    ∙ ap (λ (fs : List Bool). before + next (drop before (wants_along s fs row))) c.leaves_by_closing-leaves.ensures.opens)
+    ∙ ap (λ (fs : List Bool). before + next (drop before (wants_along s fs row)))
+    c.leaves_by_closing-leaves.ensures.opens)
     (c.last_wanting.ensures.answer
     ∙ ap (λ (fs : List Bool). last_new (wants_along s fs row) before now) c.leaves_by_closing-leaves.ensures.opens) in
     let within = c.in-Some.ensures.within in
@@ -249,4 +268,5 @@ returns-in-Some g c =
     c.leaves_by_closing-leaves.new.opens (all_sure s c.deref.result.now) c.leaves_by_closing-leaves.ensures.opens
     (ap (all_sure s) c.deref.ensures.value) c.args.steps.now c.note_fresh.new.steps
     c.args.marked.now c.note_fresh.new.marked c.note_fresh.ensures.steps c.note_fresh.ensures.marked in
-    rw c.leaves_by_closing-leaves.ensures.opens (record { value = ap closed c.self.view_is; steps = told.steps; marked = told.marked })
+    rw c.leaves_by_closing-leaves.ensures.opens
+    (record { value = ap closed c.self.view_is; steps = told.steps; marked = told.marked })

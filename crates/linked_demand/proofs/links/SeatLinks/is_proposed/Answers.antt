@@ -2,7 +2,8 @@ use Rattle.std.proofs.Common.{ℕ, ◌≡◌, Bool, ◌&&◌, ◌||◌, List, fa
 use Rattle.std.proofs.Math.Bool.{or_comm}
 use Rattle.std.proofs.lemmas.List.{get_or_default}
 use Rattle.linked_demand.specs.Opens.{all_sure, seat_row}
-use Rattle.linked_demand.proofs.Closing.{starts_within, closes_read, wish_within, programme_within, place_right, sure_each, proposed_goal, proposed_at_is}
+use Rattle.linked_demand.proofs.Closing.{starts_within, closes_read, wish_within, programme_within, place_right}
+use Rattle.linked_demand.proofs.Closing.{sure_each, proposed_goal, proposed_at_is}
 use Rattle.linked_demand.proofs.Leaving.{reach_right, reached_each, reached_is, row_there}
 use Rattle.linked_demand.proofs.links.SeatLinks.is_proposed.Goals as goal
 

@@ -42,7 +42,8 @@ returns c =
     let row = c.args.self.now in
     let P = λ (none : List ℕ). ListsAlso (listed_open opens sure listed) none now in
     let first : ListsAlso (listed_open opens sure listed) [] now =
-    subst P c.new-found.ensures.items (rw (c.deref.ensures.value, c.deref-2.ensures.value) at c.in_ok-list_sure.ensures) in
+    subst P c.new-found.ensures.items
+    (rw (c.deref.ensures.value, c.deref-2.ensures.value) at c.in_ok-list_sure.ensures) in
     let second : ListsAlso (reached_open opens lines r.reached.items (length lines)) now found =
     rw (c.deref-3.ensures.value, c.deref-4.ensures.value) at c.in_ok-list_fronts.ensures in
     in_order_once (is_proposed_at row) (length row.state.dossier.wishes) found c.sort_unstable.new.self.items

@@ -9,7 +9,13 @@ loop-left-init c = record { marks = c.in_ok-marks.ensures ∙ none_more c.args.c
 pub set-requires : goal.set-requires
 set-requires c =
     let held = c.loop-left.invariant in
-    omega (arith, c.loop-left-test.true, held.left, ap length held.marks, all_long c.args.count c.loop-left.left held.left)
+    omega (
+      arith,
+      c.loop-left-test.true,
+      held.left,
+      ap length held.marks,
+      all_long c.args.count c.loop-left.left held.left,
+    )
 
 pub loop-left-preserved : goal.loop-left-preserved
 loop-left-preserved c =

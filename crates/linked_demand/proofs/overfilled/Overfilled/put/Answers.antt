@@ -2,9 +2,12 @@ use Rattle.std.proofs.Common.{ℕ, ◌<◌, not, List, length, arith, sym, ◌�
 use Rattle.std.specs.List.Sorted.{IsNonDecreasing}
 use Rattle.admit_core.proofs.Plain.{unlike, alike}
 use Rattle.place_queue.specs.Queues.{Queue}
-use Rattle.linked_demand.proofs.Answered.{was_answered, listed_rises, still_listed, room_for_one, one_listed, listed_within, one_dropped}
+use Rattle.linked_demand.proofs.Answered.{was_answered, listed_rises, still_listed, room_for_one, one_listed}
+use Rattle.linked_demand.proofs.Answered.{listed_within, one_dropped}
 use Rattle.linked_demand.proofs.overfilled.Overfilled.put.Goals as goal
-use Rattle.linked_demand.proofs.overfilled.Overfilled.put.Goals.{then-is_over-was_over+then-is_over, then-is_over-was_over+else-is_over, else-is_over-was_over}
+use Rattle.linked_demand.proofs.overfilled.Overfilled.put.Goals.{then-is_over-was_over+then-is_over}
+use Rattle.linked_demand.proofs.overfilled.Overfilled.put.Goals.{then-is_over-was_over+else-is_over}
+use Rattle.linked_demand.proofs.overfilled.Overfilled.put.Goals.{else-is_over-was_over}
 
 pub first_not_below-at-requires : goal.first_not_below-at-requires
 first_not_below-at-requires c =

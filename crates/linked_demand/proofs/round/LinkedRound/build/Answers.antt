@@ -14,7 +14,8 @@ schools_of-requires c =
     let P = λ (l : LinksRow). AreBoarders l.state.dossier c.deref.result.now in
     let Q = λ (l : LinksRow). l.opens ≡ opens_of l.state c.args.ceilings.now in
     let R = λ (l : LinksRow). length c.args.ceilings.now ≡ length l.state.dossier.schools in
-    let right : AreBoarders c.args.state.now.dossier c.deref.result.now = rw c.deref.ensures.value c.requires.lineup.boarders in
+    let right : AreBoarders c.args.state.now.dossier c.deref.result.now =
+    rw c.deref.ensures.value c.requires.lineup.boarders in
     record {
       boarders = subst P (sym c.in_ok-links.ensures) right;
       opens = subst Q (sym c.in_ok-links.ensures) refl;

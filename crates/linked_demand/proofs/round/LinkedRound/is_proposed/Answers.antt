@@ -6,7 +6,8 @@ pub returns-then-not-is_open : goal.returns-then-not-is_open
 returns-then-not-is_open c =
     let r = c.self.inside in
     closed_seen r.links r.ceilings.items r.bars.items r.free.items r.rows.items r.overfilled r.marked
-    c.args.self.now c.self.invariant c.self.view_is c.args.wish c.requires (sym c.is_open.ensures ∙ c.if-not-is_open.true)
+    c.args.self.now c.self.invariant c.self.view_is c.args.wish c.requires
+    (sym c.is_open.ensures ∙ c.if-not-is_open.true)
 
 pub is_proposed-requires : goal.is_proposed-requires
 is_proposed-requires c =

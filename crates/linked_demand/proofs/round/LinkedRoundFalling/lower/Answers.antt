@@ -6,7 +6,8 @@ use Rattle.linked_demand.specs.declared.rows.RowWish.{RowWish}
 use Rattle.linked_demand.specs.Rows.{AreOpen}
 use Rattle.linked_demand.proofs.RoundFalls.{all_wait, items_own, rows_open}
 use Rattle.linked_demand.proofs.Rounding.{bar_within, bars_fallen}
-use Rattle.linked_demand.proofs.Lowered.{one_free_each, within, stay, round_now, system_now, offers_now, seen_now, steps_now, marks_long, overs_long, lowered}
+use Rattle.linked_demand.proofs.Lowered.{one_free_each, within, stay, round_now, system_now, offers_now, seen_now}
+use Rattle.linked_demand.proofs.Lowered.{steps_now, marks_long, overs_long, lowered}
 use Rattle.linked_demand.proofs.round.LinkedRoundFalling.lower.Goals as goal
 
 pub index_mut-requires : goal.index_mut-requires
@@ -42,7 +43,8 @@ close_past-requires g c =
       marked = c.self.invariant.marked_each;
       stay = stay r.links r.ceilings.items r.bars.items r.free.items r.rows.items r.overfilled r.marked
           c.args.self.now c.self.invariant c.self.view_is c.args.i c.args.to c.requires.in_range
-          c.requires.lower c.index_mut-2.result.now c.index_mut-2.ensures.value c.deref.result.now c.deref.ensures.value;
+          c.requires.lower c.index_mut-2.result.now c.index_mut-2.ensures.value c.deref.result.now
+          c.deref.ensures.value;
     }
 
 pub set-requires : goal.set-requires
@@ -50,7 +52,13 @@ set-requires g c =
     let r = c.self.inside in
     let lt : c.args.i < length r.bars.items = bar_within r.links r.ceilings.items r.bars.items r.free.items
     r.rows.items r.overfilled r.marked c.args.self.now c.self.invariant c.self.view_is c.args.i c.requires.in_range in
-    omega (arith, lt, c.self.invariant.round.bars_each, c.self.invariant.marked_each, c.close_past.ensures.marked.as_long)
+    omega (
+      arith,
+      lt,
+      c.self.invariant.round.bars_each,
+      c.self.invariant.marked_each,
+      c.close_past.ensures.marked.as_long,
+    )
 
 pub ask_marked-requires : goal.ask_marked-requires
 ask_marked-requires g c =
@@ -65,7 +73,8 @@ ask_marked-requires g c =
     → slice_get rows h ≡ Some row → AreOpen c.close_past.new.links row.items in
     record {
       rows = subst P (sym rows_are) (rows_open c.close_past.new.links _ r.free.items _ round);
-      free = ap length c.deref-3.ensures.value ∙ one_free_each c.close_past.new.links _ r.free.items _ round ∙ sym rows_long;
+      free = ap length c.deref-3.ensures.value ∙ one_free_each c.close_past.new.links _ r.free.items _ round
+          ∙ sym rows_long;
       marked = ap length c.set.ensures
           ∙ marks_long r.links r.ceilings.items r.bars.items r.free.items r.rows.items r.overfilled r.marked
           c.args.self.now c.self.invariant c.self.view_is c.args.i c.args.to c.requires.in_range

@@ -36,7 +36,8 @@ returns c =
     let row = c.index.result.now in
     let found : slice_get r.rows.items i ≡ Some row = slice_get_read r.rows.items (length r.rows.items) i row refl
     (omega (arith, within, c.self.invariant.round.rows_each)) c.index.ensures in
-    let front : IsFront upto row.items c.front_of-front.result.now = rw c.deref.ensures.value at c.front_of-front.ensures in
+    let front : IsFront upto row.items c.front_of-front.result.now =
+    rw c.deref.ensures.value at c.front_of-front.ensures in
     let up : List Demand → List Demand = λ xs. filter (λ (x : Demand). nat_le x.rank upto) xs in
     let demands : up c.deref-2.result.now ≡ up (demands_of seen.state seen.orders bars i) =
     ap up (c.deref-2.ensures.value ∙ c.in_ok-demands.ensures)
