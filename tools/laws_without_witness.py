@@ -6,12 +6,14 @@ specs that such a law's conclusion names. The witness of the law NAME is a defin
 names too; of a further shape, NAMEOtherWitness, and of a field of a record NAME, NAMEFieldWitness. It has a value
 (`let x : T = .. in`) for each variable of the law, and then the law's own text with a product for each arrow: so its
 theorem says that all premises hold of these values, and the conclusion too. With --list, all laws with their
-witnesses. Status: 0 each law that has a premise has a witness, 1 some have none, or one with another text."""
+witnesses. Status: 0 each law that has a premise has a witness, 1 some have none, or one with another text,
+2 bad words."""
 import collections
 import glob
 import os
 import re
 import sys
+import textwrap
 
 ROOT = os.path.dirname(os.path.dirname(os.path.realpath(__file__)))
 LAWS = re.compile(r"laws?_of_\w+|candidates_stand_apart")
@@ -210,6 +212,12 @@ class Book:
 
 
 def main(words):
+    if set(words) & {"--help", "-h", "help"}:
+        print("usage: laws_without_witness.py [--list]\n" + textwrap.fill(" ".join(__doc__.split()), 80))
+        return 0
+    if words not in ([], ["--list"]):
+        print("usage: laws_without_witness.py [--list]", file=sys.stderr)
+        return 2
     book = Book()
     book.read()
     without = wrong = met = 0

@@ -1,7 +1,7 @@
 #!/usr/bin/env python3
 """same_lemmas.py: prints the lemmas of the crates' proofs whose statements are the same but for the names of
 their variables, each with its files and names. A lemma is stated once: one that two crates cite stands beside what
-it speaks of, or in admit_core/proofs/Plain.antt. Status: 0 there are none, 1 there are some."""
+it speaks of, or in admit_core/proofs/Plain.antt. Status: 0 there are none, 1 there are some, 2 bad words."""
 import collections
 import glob
 import os
@@ -39,6 +39,9 @@ def main():
     if set(sys.argv[1:]) & {"--help", "-h", "help"}:
         print("usage: same_lemmas.py\n" + textwrap.fill(" ".join(__doc__.split()), 80))
         return 0
+    if sys.argv[1:]:
+        print("usage: same_lemmas.py", file=sys.stderr)
+        return 2
     found = collections.defaultdict(list)
     for path in sorted(glob.glob(f"{ROOT}/crates/*/proofs/**/*.antt", recursive=True)):
         with open(path) as file:

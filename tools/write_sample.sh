@@ -26,7 +26,9 @@ case ${1-} in
         echo "usage: write_sample.sh NUMBER FOLDER [QUITS]"
         sed -n '2,5s/^# //p' "$0"
         exit 0 ;;
-    --version) exec "$(dirname -- "$(readlink -f -- "$0")")/in_words" --version ;;
+    --version)
+        "$(dirname -- "$(readlink -f -- "$0")")/in_words" --version | sed '1s/^in_words/write_sample.sh/'
+        exit 0 ;;
 esac
 if [ $# -lt 2 ] || [ $# -gt 3 ]; then
     echo "usage: $0 NUMBER FOLDER [QUITS]" >&2

@@ -7,6 +7,7 @@ import signal
 import subprocess
 import sys
 import tempfile
+import time
 import traceback
 from collections.abc import Callable, Iterator
 from contextlib import contextmanager, suppress
@@ -106,6 +107,21 @@ def run(*words: str | Path, folder: Path = TOP, given: bytes = b"", environment:
                 os.killpg(call.pid, signal.SIGKILL)
             raise
     return Ended(call.returncode, told or b"", complained.decode(errors="replace"))
+
+
+def stopped_once_begun(number: signal.Signals, wait: float, folder: Path, tool: str, *words: str,
+                       **environment: str) -> Ended:
+    """Sends the signal to a check so many seconds after it has something in this temporary folder."""
+    with subprocess.Popen([TOOLS / tool, *words], cwd=folder, stdout=subprocess.PIPE, stderr=subprocess.PIPE,
+                          env={**os.environ, **environment, "TMPDIR": str(folder)},
+                          # A shell that runs this beside others has its interrupts passed over.
+                          preexec_fn=lambda: signal.signal(signal.SIGINT, signal.SIG_DFL)) as call:
+        while call.poll() is None and not list(folder.iterdir()):
+            time.sleep(0.01)
+        time.sleep(wait)
+        call.send_signal(number)
+        output, complaint = call.communicate(timeout=60)
+    return Ended(call.returncode, output, complaint.decode())
 
 
 @contextmanager

@@ -31,7 +31,7 @@ BAD_WORDS = (
     ("shapes.sh", "round"), ("shapes.sh", "quits", "--runs", "0"), ("shapes.sh", "--beside"),
     ("measure.sh", "fly"), ("measure.sh", "--runs", "0"), ("measure.sh", "--candidates", "1000"),
     ("check_pages.sh", "README.md"), ("check_pages.sh", "--link"), ("edit_clauses", "--tried"),
-    ("edit_clauses", "none"),
+    ("edit_clauses", "none"), ("same_lemmas.py", "--what"), ("laws_without_witness.py", "--lists"),
 )
 
 
@@ -54,7 +54,7 @@ def check_help(tally: Tally) -> None:
     tally.begin("help and versions of all tools")
     tools = [path for path in sorted(TOOLS.iterdir())
              if path.is_file() and os.access(path, os.X_OK) and path.suffix != ".py"]
-    tools += [TOOLS / name for name in ("prove.py", "same_lemmas.py")]
+    tools += [TOOLS / name for name in ("prove.py", "same_lemmas.py", "laws_without_witness.py")]
     tally.check("there are many", len(tools) > 10, tools)
     for tool in tools:
         with scratch() as folder:
@@ -62,11 +62,12 @@ def check_help(tally: Tally) -> None:
                 ended = run(*([sys.executable] if tool.suffix == ".py" else []), tool, word, folder=folder)
                 told = ended.output.decode().splitlines()
                 is_page = ended.status == 0 and ended.complaint == "" and tool.name in ended.output.decode()
-                is_narrow = tool.name in ALONE or max(map(len, told), default=0) <= 80
+                is_narrow = max(map(len, told), default=0) <= 80
                 tally.check(f"{tool.name} {word}", is_page and is_narrow, ended)
             if tool.suffix != ".py" and tool.name not in ALONE:
                 ended = run(tool, "--version", folder=folder)
-                tally.check(f"{tool.name} --version", ended.status == 0 and b"commit" in ended.output, ended)
+                is_told = ended.output.startswith(b"%s, parcours " % tool.name.encode()) and b"commit" in ended.output
+                tally.check(f"{tool.name} --version", ended.status == 0 and is_told, ended)
             tally.equal(f"{tool.name}: nothing is written", list(folder.iterdir()), [])
 
 

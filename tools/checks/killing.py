@@ -11,7 +11,7 @@ from pathlib import Path
 from dossier import preparing
 
 from .days import stopped_at
-from .harness import EXAMPLES, TOOLS, Ended, Tally, contents, run, scratch
+from .harness import EXAMPLES, TOOLS, Ended, Tally, contents, run, scratch, stopped_once_begun
 from .samples import sample_slots
 
 MOMENTS = 12
@@ -127,20 +127,6 @@ def check_checks(tally: Tally) -> None:
                     tally.check(f"{name}: how it ends", (ended.status, ended.complaint) == (128 + number, "stopped\n"),
                                 ended)
                     tally.equal(f"{name}: what is left", list(folder.iterdir()), [])
-
-
-def stopped_once_begun(number: signal.Signals, wait: float, folder: Path, tool: str, *words: str) -> Ended:
-    """Sends the signal to a check so many seconds after it has something in this temporary folder."""
-    with subprocess.Popen([TOOLS / tool, *words], env={**os.environ, "TMPDIR": str(folder)},
-                          stdout=subprocess.PIPE, stderr=subprocess.PIPE,
-                          # A shell that runs this beside others has its interrupts passed over.
-                          preexec_fn=lambda: signal.signal(signal.SIGINT, signal.SIG_DFL)) as call:
-        while call.poll() is None and not list(folder.iterdir()):
-            time.sleep(0.01)
-        time.sleep(wait)
-        call.send_signal(number)
-        output, complaint = call.communicate(timeout=60)
-    return Ended(call.returncode, output, complaint.decode())
 
 
 CHECKS = (check_steps, check_prepare, check_next_day, check_sample, check_checks)

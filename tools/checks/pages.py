@@ -1,6 +1,6 @@
 """The runs in the pages: what stands behind `$` is run, and must give the bytes that stand below it.
 
-What a page links to, and what it names as a path of the repository, must be there.
+What a page links to, file and heading, and what it names as a path of the repository, must be there.
 
 A run stands in a fenced or an indented block. Each page has a copy of the repository to itself. A block begins at the
 page's own folder under `examples/`, else at the top; its lines go to one shell. Of an output, a last line `..` stands
@@ -25,8 +25,11 @@ BEFORE_COMMAND = "\x1e"
 REST = ".."
 INDENT = "    "
 SHELL = ("sh", "-c")
-LINK = re.compile(r"\]\(([^)#:]+)\)")
+LINK = re.compile(r"\]\(([^)#:]*)(?:#([^)]+))?\)")
+HEADING = re.compile(r"^#+ (.*)$", re.M)
 PATH = re.compile(r"`((?:crates|docs|examples|tools)/[\w./-]+)`")
+CRATE_PATH = re.compile(r"`(\w+/(?:src|specs|proofs|must-fail|data)/[\w./-]+)`")
+ANY_NAME = "NAME"
 
 
 @dataclass(frozen=True)
@@ -95,6 +98,7 @@ def check_links(tally: Tally, name: Path) -> str:
     tally.begin(str(name))
     page = (TOP / name).read_text()
     check_paths(tally, page, (TOP / name).parent)
+    check_anchors(tally, page, TOP / name)
     return page
 
 
@@ -119,10 +123,24 @@ def check_page(tally: Tally, name: Path) -> None:
 
 
 def check_paths(tally: Tally, page: str, folder: Path) -> None:
-    """What the page links to, from its own folder, and the paths that it names, from the top."""
-    paths = {folder / link for link in LINK.findall(page)} | {TOP / path for path in PATH.findall(page)}
+    """What the page links to, from its own folder, and the paths that it names, from the top or below `crates`."""
+    paths = {folder / link for link, _ in LINK.findall(page) if link} | {TOP / path for path in PATH.findall(page)}
+    paths |= {TOP / "crates" / path for path in CRATE_PATH.findall(page) if ANY_NAME not in path}
     for path in sorted(paths):
         tally.check(f"{os.path.relpath(path, TOP)} is there", path.exists())
+
+
+def check_anchors(tally: Tally, page: str, path: Path) -> None:
+    """A link to a part of a page leads to a heading of it."""
+    for link, anchor in sorted(set(LINK.findall(page))):
+        target = path.parent / link if link else path
+        if anchor and target.exists():
+            tally.check(f"{link}#{anchor} is a heading", anchor in anchors_of(target.read_text()))
+
+
+def anchors_of(page: str) -> set[str]:
+    """What links to the headings of a page: small letters, without signs, and lines for blanks."""
+    return {re.sub(r"[^\w -]", "", heading.lower()).replace(" ", "-") for heading in HEADING.findall(page)}
 
 
 def copy_repository(top: Path) -> dict[str, str]:

@@ -1,14 +1,12 @@
 """The hostile rounds themselves: what they try on a right program, and whether they find what is wrong with others."""
 
-import os
 import re
 import shutil
 import signal
 import subprocess
-import time
 from pathlib import Path
 
-from .harness import TOOLS, Ended, Tally, run, scratch
+from .harness import TOOLS, Ended, Tally, run, scratch, stopped_once_begun
 
 WRONG = """#!/bin/sh
 # A program of which each mode is wrong in its own way on most dossiers.
@@ -119,13 +117,9 @@ def check_stopped(tally: Tally, program: str) -> None:
     """Told to stop, a round leaves no folder of its own, and nothing running."""
     tally.begin("mutate.sh, told to stop")
     with scratch() as folder:
-        environment = {**os.environ, "PARCOURS": program, "TMPDIR": str(folder)}
-        with subprocess.Popen([TOOLS / "mutate.sh", "order", "--number", "100000"], cwd=folder, env=environment,
-                              stdout=subprocess.DEVNULL, stderr=subprocess.PIPE) as call:
-            time.sleep(3)
-            call.send_signal(signal.SIGTERM)
-            complaint = call.communicate(timeout=60)[1]
-        tally.equal("how it ends", (call.returncode, complaint), (143, b"stopped\n"))
+        ended = stopped_once_begun(signal.SIGTERM, 2, folder, "mutate.sh", "order", "--number", "100000",
+                                   PARCOURS=program)
+        tally.equal("how it ends", (ended.status, ended.complaint), (143, "stopped\n"))
         tally.equal("what is left", list(folder.iterdir()), [])
 
 
