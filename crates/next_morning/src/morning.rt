@@ -2,6 +2,7 @@
 ghost use Rattle.std.specs.Prelude.{◌≡◌, IfOk, IfSome, OnOk, option_copied};
 ghost use Rattle.admit_core.specs.Days.{ceilings_of};
 ghost use Rattle.admit_core.specs.Standing.{dossier_of};
+ghost use Rattle.next_morning.specs.Laws.{IsAccepted};
 ghost use Rattle.next_morning.specs.Morning.{HaveDates, morning_tables};
 
 use crate::rows::{later_answers, later_ceilings, school_rows, told_rows};
@@ -45,8 +46,8 @@ fn turn(
 /// The tables with which a campaign is begun again on the morning after a day: each school comes in
 /// with its ceiling of that day, each wish with its status in the evening, and what is given for
 /// later days is dated as many days earlier. Where offers have deadlines, each open offer has its
-/// date, as the final lines of the day have it. `laws_of_next_mornings` says what a run over them
-/// is.
+/// date, as the final lines of the day have it. A check accepts them where it accepted the tables
+/// of the day. `laws_of_next_mornings` says what a run over them is.
 pub fn next_morning(
     alloc: Global,
     tables: Tables,
@@ -60,7 +61,10 @@ pub fn next_morning(
     requires dates { IfSome (option_copied dated) (HaveDates evening.now) }
     ensures tables { IfOk result (λ next. next
         ≡ morning_tables day tables evening.now (option_copied dated.entry)) }
+    ensures accepted { IsAccepted tables → IfOk result IsAccepted }
 {
+    evening.accepts_once();
+    let _ = evening.marks(); // learns that there is one for each wish
     let mut tables = tables;
     turn(alloc, &mut tables, evening, ceilings, day, dated)?;
     Ok(tables)
