@@ -1,10 +1,14 @@
 //! The tables of the next morning.
-ghost use Rattle.std.specs.Prelude.{◌≡◌, IfOk, IfSome, OnOk, option_copied};
+ghost use Rattle.std.specs.Prelude.{◌≡◌, IfOk, IfSome, None, OnOk, option_copied};
 ghost use Rattle.admit_core.specs.Days.{ceilings_of};
+ghost use Rattle.admit_core.specs.Relations.{first_fault};
 ghost use Rattle.admit_core.specs.Standing.{dossier_of};
+ghost use Rattle.admit_core.specs.declared.tables.Tables.{Tables as Rows};
 ghost use Rattle.next_morning.specs.Laws.{IsAccepted};
 ghost use Rattle.next_morning.specs.Morning.{HaveDates, morning_tables};
+ghost use Rattle.next_morning.specs.RowsBack.{daily_rows};
 
+use crate::back::rows_back;
 use crate::rows::{later_answers, later_ceilings, school_rows, told_rows};
 use admit_core::{OutOfMemory, Sequence, Tables};
 use day_state::DayState;
@@ -68,4 +72,25 @@ pub fn next_morning(
     let mut tables = tables;
     turn(alloc, &mut tables, evening, ceilings, day, dated)?;
     Ok(tables)
+}
+
+/// Of the same tables the slots that a day changes: the schools, the state, the ceilings and the
+/// answers. They are made of the evening alone, whose dossier has no rows of the others; beside
+/// them are the wishes, and the other lists are empty.
+pub fn next_rows(
+    alloc: Global,
+    evening: &DayState<'_>,
+    ceilings: &[u32],
+    day: u32,
+    dated: Option<&DatedTerms>,
+) -> Result<Tables, OutOfMemory>
+    requires ceilings { ceilings.now ≡ ceilings_of evening.now.dossier day }
+    requires dates { IfSome (option_copied dated) (HaveDates evening.now) }
+    ensures { (t : Rows) → evening.now.dossier ≡ dossier_of t → first_fault t ≡ None
+        → IfOk result (λ rows. rows
+        ≡ daily_rows (morning_tables day t evening.now (option_copied dated.entry))) }
+{
+    let mut rows = rows_back(alloc, evening.dossier())?;
+    turn(alloc, &mut rows, evening, ceilings, day, dated)?;
+    Ok(rows)
 }
