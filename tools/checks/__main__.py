@@ -50,7 +50,7 @@ def topics(program: str) -> dict[str, list[Checks]]:
                  days.check_days_anew, days.check_each_day_anew, days.check_told_changes,
                  days.check_rights, days.check_killed_while_running, days.check_full_disk],
         "cutting": [partial(cutting.check_two_days, program=program), partial(cutting.check_random, program=program),
-                    partial(cutting.check_finds, program=program)],
+                    partial(cutting.check_finds, program=program), partial(cutting.check_written, program=program)],
         "installing": [installing.check_installed],
         "workbooks": [workbooks.check_workbooks],
         "answered": [answered.check_taken, answered.check_faults, partial(answered.check_random, program=program)],

@@ -11,6 +11,11 @@ days after the evening, of a folder that has
 
 The text of the second must be that of the first without the days before the evening, and with the others numbered so
 many days earlier. Where an answer does not fit, both are refused at it, after the same days.
+
+The proved program `next_slot` writes the four slots of a morning that a day changes. Where it is built, or NEXT_SLOT
+names it, these are compared with the slots by the rule, byte for byte, and with those that `next_day` keeps: the state
+and the answers byte for byte, and of the schools and ceilings what they come to, since `next_day` leaves each school's
+own ceiling as it is and keeps that of the coming day as a change of day 1.
 """
 
 import argparse
@@ -34,13 +39,15 @@ from dossier.slots import ANSWERS, SLOTS
 
 from .crowded import CEILINGS, crowded_dossier, give_answers
 from .dossiers import FIRST_DAY, Cell, Dossier
-from .harness import EXAMPLES, Tally, scratch, until_told
+from .harness import EXAMPLES, TOP, Tally, scratch, until_told
 from .runs import Files
 
 MOST_DAYS = 7
 CAMPAIGNS = 40
 BY_NEXT_DAY = 20
 SEED = 50
+DAILY = ("schools", "state", "ceilings", "answers")
+WRITER = TOP / "crates/next_slot/out/next_slot"
 # What the other two pickers pick depends on how many days and passes came before.
 PICKERS = ("first", "last")
 DAY = re.compile(rb"(?m)^day ([0-9]+)$")
@@ -85,6 +92,10 @@ def row_after(row: int, evening: int, days: list[int]) -> int:
     return 1 + sum(day > evening for day in days[:row - 1])
 
 
+def rows_in(files: Files, slot: str) -> list[list[str]]:
+    return [line.split(",") for line in files[f"{slot}.csv"].decode().splitlines()[1:]]
+
+
 @dataclass(frozen=True)
 class Campaign:
     """The slots of its first morning, its deadlines, and what the program tells of its first days and of all."""
@@ -97,7 +108,7 @@ class Campaign:
     whole: Told
 
     def rows(self, slot: str) -> list[list[str]]:
-        return [line.split(",") for line in self.files[f"{slot}.csv"].decode().splitlines()[1:]]
+        return rows_in(self.files, slot)
 
     def after(self, evening: int) -> Told:
         return self.whole.after(evening, [int(day) for day, *_ in self.rows("answers")])
@@ -238,6 +249,69 @@ def kept_everywhere(tally: Tally, program: str, campaign: Campaign, name: str, f
         tally.equal(f"{name}: next_day, the days after evening {evening}", text, campaign.after(evening).to_bytes())
 
 
+def writer_named() -> str | None:
+    """The program that writes a slot of the next morning: the one that NEXT_SLOT names, else the one built here."""
+    named = os.environ.get("NEXT_SLOT")
+    if named:
+        return os.path.abspath(shutil.which(named) or named)
+    return str(WRITER) if WRITER.exists() else None
+
+
+def ended(program: str, folder: Path, words: list[str]) -> tuple[int, bytes]:
+    """The status of a run, and its text."""
+    done = subprocess.run([program, *words], cwd=folder, stdin=subprocess.DEVNULL, stdout=subprocess.PIPE, check=False)
+    return done.returncode, done.stdout
+
+
+def coming(files: Files) -> tuple[dict[str, str], list[list[str]]]:
+    """What the ceilings of slots come to: those of the schools on day 1, and the later changes."""
+    changes = rows_in(files, "ceilings")
+    first = {school: ceiling for school, _, ceiling in rows_in(files, "schools")}
+    first |= {school: ceiling for day, school, ceiling in changes if int(day) == 1}
+    return first, [change for change in changes if int(change[0]) > 1]
+
+
+def written_everywhere(tally: Tally, program: str, writer: str, campaign: Campaign, name: str, place: Path) -> None:
+    """What is written at each evening of a campaign: the slots by the rule, and those of a folder of `next_day`."""
+    shutil.rmtree(place, ignore_errors=True)
+    for folder in (place, place / "first", place / "kept"):
+        write_over(folder, campaign.files)
+    for evening, told in enumerate(campaign.evenings, start=1):
+        words = words_of(campaign.first, campaign.picker, evening)
+        found = {slot: ended(writer, place / "first", [slot, *words]) for slot in DAILY}
+        if told.state is None:
+            refused = ended(program, place / "first", words)
+            tally.check(f"{name}: refused as the run is", all(each == refused for each in found.values()), found)
+            return
+        tally.check(f"{name}: evening {evening} is written", all(status == 0 for status, _ in found.values()), found)
+        files = {f"{slot}.csv": text for slot, (_, text) in found.items()}
+        ruled = {**campaign.ruled(evening), "state.csv": told.state}
+        for file, text in files.items():
+            tally.equal(f"{name}: {file} of evening {evening}, by the rule", text, ruled[file])
+        next_day(place / "kept", campaign.first if evening == 1 else Calendar())
+        kept = {file: (place / "kept" / file).read_bytes() for file in files}
+        for file in ("state.csv", "answers.csv"):
+            tally.equal(f"{name}: {file} of evening {evening}, as next_day keeps it", files[file], kept[file])
+        tally.equal(f"{name}: ceilings after evening {evening}", coming(files), coming(kept))
+
+
+def check_written(tally: Tally, program: str, number: int = CAMPAIGNS) -> None:
+    """What `next_slot` writes, at each evening of `examples/two-days` and of random campaigns."""
+    writer = writer_named()
+    tally.begin(f"slots of next mornings, as next_slot writes them, {number} random campaigns")
+    if writer is None:
+        print("skipped: next_slot is not built")
+        return
+    with scratch() as place:
+        for each, campaign in enumerate(two_days(program, place / "slots")):
+            written_everywhere(tally, program, writer, campaign, f"two-days {each}", place / "written")
+        for each in range(number):
+            campaign = grown(Random(SEED + each), program, place / "slots", each % 2 == 1)
+            written_everywhere(tally, program, writer, campaign, f"campaign {SEED + each}", place / "written")
+        other = ended(writer, place / "slots", ["wishes", "replay"]), ended(writer, place / "slots", ["state", "order"])
+        tally.equal("a slot that no day changes, and a run without a morning", other, ((2, b"bad words\n"),) * 2)
+
+
 def check_random(tally: Tally, program: str, number: int = CAMPAIGNS, seed: int = SEED) -> Counter:
     """Random campaigns, each cut at every evening, every second one with deadlines; one in ten by `next_day` too."""
     tally.begin(f"{number} random campaigns of up to {MOST_DAYS} days, cut at every evening")
@@ -291,26 +365,32 @@ def check_finds(tally: Tally, program: str, number: int = CAMPAIGNS) -> None:
         tally.check(way, times > 0)
 
 
+def two_days(program: str, folder: Path) -> Iterator[Campaign]:
+    """`examples/two-days`, of two days and of five, without deadlines and with each of some."""
+    files = {slot.file: (EXAMPLES / "two-days" / slot.file).read_bytes() for slot in SLOTS}
+    for days in (2, 5):
+        for term in (None, 0, 1, 2):
+            write_over(folder, files)
+            first = Calendar(1, None if term is None else FIRST_DAY, term)
+            evenings = tuple(Told.of(replayed(program, folder, words_of(first, "first", day)))
+                             for day in range(1, days + 1))
+            yield Campaign(files, first, "first", days, evenings, evenings[-1])
+
+
 def check_two_days(tally: Tally, program: str) -> None:
     """`examples/two-days`, of two days and of five, cut at each evening, without deadlines and with each of some."""
     tally.begin("examples/two-days, cut at each evening")
-    files = {slot.file: (EXAMPLES / "two-days" / slot.file).read_bytes() for slot in SLOTS}
     stored = (EXAMPLES / "two-days/replay.txt").read_bytes()
     with scratch() as place:
-        write_over(place / "slots", files)
-        for days in (2, 5):
-            for term in (None, 0, 1, 2):
-                first = Calendar(1, None if term is None else FIRST_DAY, term)
-                evenings = tuple(Told.of(replayed(program, place / "slots", words_of(first, "first", day)))
-                                 for day in range(1, days + 1))
-                campaign = Campaign(files, first, "first", days, evenings, evenings[-1])
-                name = f"{days} days, term {term}"
-                if days == 2 and term is None:
-                    tally.equal(f"{name}: as it is stored", campaign.whole.to_bytes(), stored)
-                runs = cut_everywhere(tally, program, campaign, name, place / "cut")
-                # Under a term of 0 the answers of day 2 come too late.
-                tally.equal(f"{name}: the evenings", runs, 1 if term == 0 else days - 1)
-                kept_everywhere(tally, program, campaign, name, place / "kept")
+        for campaign in two_days(program, place / "slots"):
+            days, term = campaign.days, campaign.first.term
+            name = f"{days} days, term {term}"
+            if days == 2 and term is None:
+                tally.equal(f"{name}: as it is stored", campaign.whole.to_bytes(), stored)
+            runs = cut_everywhere(tally, program, campaign, name, place / "cut")
+            # Under a term of 0 the answers of day 2 come too late.
+            tally.equal(f"{name}: the evenings", runs, 1 if term == 0 else days - 1)
+            kept_everywhere(tally, program, campaign, name, place / "kept")
 
 
 def main() -> int:

@@ -1,5 +1,5 @@
 -- A check accepts the tables with dates as it does those without.
-use Rattle.std.proofs.Common.{ℕ, ◌+◌, ◌<◌, ◌≡◌, true, false, ◌&&◌, List, All, AllPairs, get_or, length, map, nat_eq, Some, None, refl, sym, ◌∙◌, ap, subst, arith}
+use Rattle.std.proofs.Common.{ℕ, ◌+◌, ◌<◌, ◌≡◌, true, false, ◌&&◌, List, All, AllPairs, get_or, length, map, nat_eq, Option, Some, None, refl, sym, ◌∙◌, ap, subst, arith}
 use Rattle.std.specs.List.{IsDistinct, enumerate_from}
 use Rattle.std.proofs.lemmas.List.{ext_get_or, get_or-map, length-map}
 use Rattle.std.proofs.lemmas.List.FromFn.{get_or-enumerate_from, length-enumerate_from}
@@ -28,7 +28,7 @@ use Rattle.dossier_check.proofs.Valid.{is_valid}
 use Rattle.intake.specs.declared.terms.DatedTerms.{DatedTerms}
 use Rattle.text_laws.specs.ReadBack.{dated_rows, since_when}
 use Rattle.next_morning.specs.DatedLaws.{DatedTablesAreAccepted}
-use Rattle.next_morning.specs.Laws.{IsEveningOf}
+use Rattle.next_morning.specs.Laws.{IsAccepted, IsEveningOf}
 use Rattle.next_morning.specs.Morning.{morning_tables, tables_after}
 use Rattle.next_morning.proofs.DatedRows.{marks_long}
 use Rattle.next_morning.proofs.Faultless.{apart_by, as_many, no_fault_with, no_wish, one_accepted, row_at, state_ids, state_known}
@@ -155,3 +155,13 @@ dated_tables_are_accepted a t evening (Some dated) of ranges none accepted =
       in_range a t evening.marks long dated (tables_are_accepted a t there of_there ranges none one).0,
       no_fault_dated a t evening.marks long dated none one valid,
     )
+
+-- the same for a state that keeps a mark for each wish, and one accepted wish of each candidate at most
+module _ (a : ℕ) (t : Tables) (evening : State) (same : evening.dossier ≡ dossier_of t)
+    (long : length evening.marks ≡ length evening.dossier.wishes) (one : IsOneAccepted evening) where
+  pub next_is_accepted : (dated : Option DatedTerms) → IsAccepted t → IsAccepted (morning_tables a t evening dated)
+  next_is_accepted dated is =
+      let of : IsEveningOf t evening =
+      record { dossier = same; marks = long; ids = wish_ids_apart t (no_fault t is.faultless) } in
+      let both = dated_tables_are_accepted a t evening dated of is.ranges is.faultless one in
+      record { ranges = both.0; faultless = both.1 }

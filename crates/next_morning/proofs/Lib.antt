@@ -8,6 +8,7 @@ pub mod Faultless
 pub mod InRange
 pub mod Mornings
 pub mod ReadStates
+pub mod RowsBack
 pub mod RowsMore
 pub mod SameDossier
 pub mod WorkedDates

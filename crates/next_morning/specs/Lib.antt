@@ -4,5 +4,6 @@ pub mod Laws
 pub mod Morning
 pub mod ReadLaws
 pub mod ReadWitnesses
+pub mod RowsBack
 pub mod Witnesses
 pub mod WorkedMorning

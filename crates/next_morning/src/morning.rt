@@ -1,9 +1,14 @@
 //! The tables of the next morning.
-ghost use Rattle.std.specs.Prelude.{◌≡◌, IfOk, IfSome, OnOk, option_copied};
+ghost use Rattle.std.specs.Prelude.{◌≡◌, IfOk, IfSome, None, OnOk, option_copied};
 ghost use Rattle.admit_core.specs.Days.{ceilings_of};
+ghost use Rattle.admit_core.specs.Relations.{first_fault};
 ghost use Rattle.admit_core.specs.Standing.{dossier_of};
+ghost use Rattle.admit_core.specs.declared.tables.Tables.{Tables as Rows};
+ghost use Rattle.next_morning.specs.Laws.{IsAccepted};
 ghost use Rattle.next_morning.specs.Morning.{HaveDates, morning_tables};
+ghost use Rattle.next_morning.specs.RowsBack.{daily_rows};
 
+use crate::back::rows_back;
 use crate::rows::{later_answers, later_ceilings, school_rows, told_rows};
 use admit_core::{OutOfMemory, Sequence, Tables};
 use day_state::DayState;
@@ -45,8 +50,8 @@ fn turn(
 /// The tables with which a campaign is begun again on the morning after a day: each school comes in
 /// with its ceiling of that day, each wish with its status in the evening, and what is given for
 /// later days is dated as many days earlier. Where offers have deadlines, each open offer has its
-/// date, as the final lines of the day have it. `laws_of_next_mornings` says what a run over them
-/// is.
+/// date, as the final lines of the day have it. A check accepts them where it accepted the tables
+/// of the day. `laws_of_next_mornings` says what a run over them is.
 pub fn next_morning(
     alloc: Global,
     tables: Tables,
@@ -60,8 +65,32 @@ pub fn next_morning(
     requires dates { IfSome (option_copied dated) (HaveDates evening.now) }
     ensures tables { IfOk result (λ next. next
         ≡ morning_tables day tables evening.now (option_copied dated.entry)) }
+    ensures accepted { IsAccepted tables → IfOk result IsAccepted }
 {
+    evening.accepts_once();
+    let _ = evening.marks(); // learns that there is one for each wish
     let mut tables = tables;
     turn(alloc, &mut tables, evening, ceilings, day, dated)?;
     Ok(tables)
+}
+
+/// Of the same tables the slots that a day changes: the schools, the state, the ceilings and the
+/// answers. They are made of the evening alone, whose dossier has no rows of the others; beside
+/// them are the wishes, and the other lists are empty.
+pub fn next_rows(
+    alloc: Global,
+    evening: &DayState<'_>,
+    ceilings: &[u32],
+    day: u32,
+    dated: Option<&DatedTerms>,
+) -> Result<Tables, OutOfMemory>
+    requires ceilings { ceilings.now ≡ ceilings_of evening.now.dossier day }
+    requires dates { IfSome (option_copied dated) (HaveDates evening.now) }
+    ensures { (t : Rows) → evening.now.dossier ≡ dossier_of t → first_fault t ≡ None
+        → IfOk result (λ rows. rows
+        ≡ daily_rows (morning_tables day t evening.now (option_copied dated.entry))) }
+{
+    let mut rows = rows_back(alloc, evening.dossier())?;
+    turn(alloc, &mut rows, evening, ceilings, day, dated)?;
+    Ok(rows)
 }

@@ -1,0 +1,4 @@
+pub mod Mornings
+pub mod SlotTexts
+pub mod Taking
+pub mod Told

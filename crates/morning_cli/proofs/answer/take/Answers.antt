@@ -1,0 +1,17 @@
+use Rattle.morning_cli.proofs.Taking.{takes_input, takes_stop, takes_unread}
+use Rattle.morning_cli.proofs.answer.take.Goals as goal
+
+pub returns-in_err-asked : goal.returns-in_err-asked
+returns-in_err-asked g c =
+    takes_unread _ _ c.in_err-asked.field-0.0 c.from_residual.result c.in_err-asked.ensures.value
+    c.from_residual.ensures.1
+
+pub returns-in_err-input : goal.returns-in_err-input
+returns-in_err-input g c =
+    takes_stop _ c.in_ok-asked.asked _ _ c.in_ok-asked.ensures.value c.in_err-input.field-0.0
+    c.from_residual-in_err-input.result c.in_err-input.ensures c.from_residual-in_err-input.ensures.1
+
+pub returns : goal.returns
+returns g c =
+    takes_input _ c.in_ok-asked.asked _ _ c.in_ok-asked.ensures.value c.in_ok-input.input c.in_ok-asked.ensures.known
+    c.in_ok-input.ensures

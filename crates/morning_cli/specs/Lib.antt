@@ -1,0 +1,4 @@
+pub mod Answering
+pub mod Asked
+pub mod Morning
+pub mod Run

@@ -1,0 +1,121 @@
+//! What a run answers, before anything is written.
+ghost use Rattle.std.specs.Prelude.{◌≡◌, IfOk, IsOk, IsTrue, None, Ok, map, option_copied, string_bytes};
+ghost use Rattle.admit_core.specs.Relations.{first_fault};
+ghost use Rattle.admit_core.specs.Standing.{dossier_of};
+ghost use Rattle.admit_core.specs.declared.tables.Tables.{Tables};
+ghost use Rattle.certificate.specs.Checked.{ids_in};
+ghost use Rattle.desk_day.specs.DeskStates.{DeskStates};
+ghost use Rattle.intake.specs.Input.{IsInputOf, IsJobOf, Job};
+ghost use Rattle.intake.specs.Shelves.{on_shelf};
+ghost use Rattle.modes.specs.Endings.{IsDoneWith};
+ghost use Rattle.modes.specs.Replay.{CanBeDated};
+ghost use Rattle.played.specs.Lent.{AreBack, AreThere, standing};
+ghost use Rattle.morning_cli.specs.Asked.{IsAsked, is_daily};
+ghost use Rattle.morning_cli.specs.Answering.{RepliesSlot, TakesAsked};
+ghost use Rattle.morning_cli.specs.Morning.{IsSlotEnding, morning_text};
+
+use crate::asked::{Asked, read_asked};
+use crate::morning::slot_reply;
+use admit_core::{OutOfMemory, Slot};
+use intake::{DatedTerms, Input, Stop, dated_terms, take_in};
+use modes::{Reply, days_of, deadlines_of, ending, stopped, terms_in};
+use played::{Pickers, Played, play};
+use slot_io::Shelf;
+use std::alloc::Global;
+
+/// Reads the words, and takes in what they ask for.
+fn take<S: Shelf>(alloc: Global, words: &[String], shelf: &mut S) -> Result<(Asked, Input), Stop>
+    ensures { TakesAsked (map string_bytes words.now)
+        (on_shelf S.left S.taken S.faults shelf.old)
+        (on_shelf S.left S.taken S.faults shelf.new) result }
+{
+    let asked = read_asked(alloc, words)?;
+    let input = take_in(alloc, &asked.request, shelf)?;
+    Ok((asked, input))
+}
+
+/// The reply after days that have all come about.
+fn morning_after(
+    alloc: Global,
+    slot: Slot,
+    day: u32,
+    dated: Option<&DatedTerms>,
+    played: Played<'_>,
+) -> Result<Reply, OutOfMemory>
+    requires daily { IsTrue (is_daily slot) }
+    requires all { IsOk played.end }
+    requires dates { IfOk played.end (λ desk. CanBeDated (option_copied dated) desk.present) }
+    ensures { (t : Tables) (desk : DeskStates) → played.entry.end ≡ Ok desk
+        → desk.present.dossier ≡ dossier_of t → first_fault t ≡ None
+        → IfOk result (λ reply. IsDoneWith
+        (morning_text slot t desk.present day (option_copied dated.entry))
+        reply.exit reply.text.items) }
+{
+    let Played {
+        orders: _,
+        days: _,
+        end,
+    } = played;
+    let Ok(desk) = end else { unreachable!() };
+    let evening = desk.into_now();
+    slot_reply(alloc, slot, &evening, day, dated)
+}
+
+/// Runs the days that are asked for, and replies with the slot of the morning after them, or with
+/// the refusal of an answer that does not fit.
+fn play_out(
+    alloc: Global,
+    asked: &Asked,
+    input: &Input,
+    pickers: &mut Pickers,
+) -> Result<Reply, OutOfMemory>
+    requires asked { IsAsked asked.now }
+    requires indexed { input.now.index ≡ ids_in input.now.dossier }
+    requires there { AreThere pickers.old }
+
+    ensures there { AreThere pickers.new }
+    ensures back { AreBack (standing (λ p. told p) (λ p. choice p) pickers.old)
+        (standing (λ p. told p) (λ p. choice p) pickers.new) }
+    ensures ends { (job : Job) → IsJobOf asked.now.request job → IsInputOf job input.now
+        → IfOk result (λ reply. IsSlotEnding asked.now.slot job
+        (standing (λ p. told p) (λ p. choice p) pickers.old)
+        (standing (λ p. told p) (λ p. choice p) pickers.new)
+        reply.exit reply.text.items) }
+{
+    let request = &asked.request;
+    let dated = dated_terms(alloc, input, deadlines_of(request))?;
+    let dated = dated.as_ref();
+    let number = days_of(request);
+    let played = play(
+        alloc,
+        &input.dossier,
+        terms_in(dated),
+        number,
+        request.picker,
+        pickers,
+    )?;
+    if played.end.is_err() {
+        return ending(alloc, request, input, dated, played, pickers);
+    }
+    morning_after(alloc, asked.slot, number, dated, played)
+}
+
+/// What a run answers, before anything is written.
+pub(crate) fn answer<S: Shelf>(
+    alloc: Global,
+    words: &[String],
+    shelf: &mut S,
+    pickers: &mut Pickers,
+) -> Result<Reply, OutOfMemory>
+    requires { AreThere pickers.old }
+    ensures there { AreThere pickers.new }
+    ensures replies { RepliesSlot (map string_bytes words.now)
+        (on_shelf S.left S.taken S.faults shelf.old) (on_shelf S.left S.taken S.faults shelf.new)
+        (standing (λ p. told p) (λ p. choice p) pickers.old)
+        (standing (λ p. told p) (λ p. choice p) pickers.new) result }
+{
+    match take(alloc, words, shelf) {
+        Ok((asked, input)) => play_out(alloc, &asked, &input, pickers),
+        Err(stop) => stopped(alloc, stop),
+    }
+}

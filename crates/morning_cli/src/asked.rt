@@ -1,0 +1,72 @@
+//! What the words ask for: a slot, and the run after which it is written.
+ghost use Rattle.std.specs.Prelude.{◌≡◌, IfOk, IfSome, IsTrue, Some, map, string_bytes};
+ghost use Rattle.request.specs.Request.{IsRequest};
+ghost use Rattle.morning_cli.specs.Asked as Words;
+ghost use Rattle.morning_cli.specs.Asked.{IsAsked, ReadsAsked, asked_in, asked_of, asked_with, is_daily};
+
+use admit_core::Slot;
+use request::{Mode, Request, WordsRefusal, read_request};
+use std::alloc::Global;
+
+/// A slot that a day changes, and a run of `replay`.
+#[derive(Drop)]
+pub(crate) struct Asked {
+    pub(crate) slot: Slot,
+    pub(crate) request: Request,
+}
+
+/// The slot of a word, of those that a day changes.
+fn slot_named(word: &str) -> Option<Slot>
+    ensures value { result ≡ Words.slot_named word.now }
+    ensures daily { IfSome result (λ slot. IsTrue (is_daily slot)) }
+{
+    match word {
+        "schools" => Some(Slot::Schools),
+        "state" => Some(Slot::State),
+        "ceilings" => Some(Slot::Ceilings),
+        "answers" => Some(Slot::Answers),
+        _ => None,
+    }
+}
+
+/// The slot after a run of this request; only `replay` has a morning after it.
+fn asked_with(slot: Slot, request: Request) -> Result<Asked, WordsRefusal>
+    requires daily { IsTrue (is_daily slot) }
+    requires known { IsRequest request }
+    ensures value { ReadsAsked result (asked_with slot (Some request)) }
+    ensures known { IfOk result IsAsked }
+{
+    match request.mode {
+        Mode::Replay => Ok(Asked { slot, request }),
+        _ => Err(WordsRefusal::Bad),
+    }
+}
+
+/// What the words behind the program's name ask for: the first names the slot, and the others are
+/// those of a run.
+fn read_words(alloc: Global, words: &[String]) -> Result<Asked, WordsRefusal>
+    ensures value { ReadsAsked result (asked_in (map string_bytes words.now)) }
+    ensures known { IfOk result IsAsked }
+{
+    let Some((word, others)) = words.split_first() else {
+        return Err(WordsRefusal::Bad);
+    };
+    let Some(slot) = slot_named(word.as_str()) else {
+        return Err(WordsRefusal::Bad);
+    };
+    match read_request(alloc, others) {
+        Ok(request) => asked_with(slot, request),
+        Err(refusal) => Err(refusal),
+    }
+}
+
+/// What the words ask for, the first of which is the program's name.
+pub(crate) fn read_asked(alloc: Global, words: &[String]) -> Result<Asked, WordsRefusal>
+    ensures value { ReadsAsked result (asked_of (map string_bytes words.now)) }
+    ensures known { IfOk result IsAsked }
+{
+    match words.split_first() {
+        Some((_, words)) => read_words(alloc, words),
+        None => Err(WordsRefusal::Bad),
+    }
+}

@@ -1,0 +1,64 @@
+-- The rows of a dossier, with the ids that its places stand for.
+use Rattle.std.specs.Prelude.{ℕ, List, [], map, option_map, slice_get}
+use Rattle.std.specs.Option.{option_map_or}
+use Rattle.admit_core.specs.declared.dossier.Answer.{Answer}
+use Rattle.admit_core.specs.declared.dossier.AnswerKind.{AnswerKind}
+use Rattle.admit_core.specs.declared.dossier.AnswerKind.TheVariants.{Quit}
+use Rattle.admit_core.specs.declared.dossier.CeilingChange.{CeilingChange}
+use Rattle.admit_core.specs.declared.dossier.Programme.{Programme}
+use Rattle.admit_core.specs.declared.dossier.School.{School}
+use Rattle.admit_core.specs.declared.dossier.Wish.{Wish}
+use Rattle.admit_core.specs.declared.tables.AnswerRow.{AnswerRow}
+use Rattle.admit_core.specs.declared.tables.CeilingRow.{CeilingRow}
+use Rattle.admit_core.specs.declared.tables.SchoolRow.{SchoolRow}
+use Rattle.admit_core.specs.declared.tables.Tables.{Tables}
+use Rattle.admit_core.specs.declared.tables.WishRow.{WishRow}
+use Rattle.admit_core.specs.DossierRows.{DossierRows}
+
+-- the id of what stands at a place; 0 where nothing does
+abbrev pub id_at : {A : Type 0} → (A → ℕ) → List A → ℕ → ℕ
+id_at id items place = option_map_or id (slice_get items place) 0
+
+abbrev pub school_row : School → SchoolRow
+school_row h = record { id = h.id; beds = h.beds; ceiling = h.ceiling }
+
+abbrev pub wish_row : List Programme → List School → Wish → WishRow
+wish_row programmes schools w =
+    record {
+      id = w.id;
+      candidate = w.candidate;
+      programme = id_at (λ p. p.id) programmes w.programme;
+      school = option_map (id_at (λ h. h.id) schools) w.school;
+      preference = w.preference;
+    }
+
+abbrev pub ceiling_row : List School → CeilingChange → CeilingRow
+ceiling_row schools c =
+    record { day = c.day; school = id_at (λ h. h.id) schools c.school; ceiling = c.ceiling }
+
+abbrev pub target_row : List Wish → AnswerKind → ℕ → ℕ
+target_row wishes Quit target = target
+target_row wishes _ target = id_at (λ w. w.id) wishes target
+
+abbrev pub answer_row : List Wish → Answer → AnswerRow
+answer_row wishes a =
+    record { day = a.day; kind = a.kind; target = target_row wishes a.kind a.target }
+
+-- the rows of the schools, the wishes, the ceilings and the answers
+abbrev pub rows_back : DossierRows → Tables
+rows_back d =
+    record {
+      groups = [];
+      programmes = [];
+      schools = map school_row d.schools;
+      rankings = [];
+      boarding = [];
+      wishes = map (wish_row d.programmes d.schools) d.wishes;
+      state = [];
+      ceilings = map (ceiling_row d.schools) d.ceilings;
+      answers = map (answer_row d.wishes) d.answers;
+    }
+
+-- of tables the slots that a day changes, and the wishes
+abbrev pub daily_rows : Tables → Tables
+daily_rows t = record t { groups = []; programmes = []; rankings = []; boarding = [] }
