@@ -1,0 +1,10 @@
+//! What a change of a dossier does, as theorems over the definitions.
+ghost use Rattle.change_laws.specs.Kinder.{MoreSeatsAndAnswersHurtNobody};
+
+/// Without boarding: with more seats or higher call limits, and more answers of candidates who
+/// answer themselves, nobody waits in an evening who did not; who gives no answer has each live wish
+/// still, and who ranks their wishes has one that is as good.
+#[tactic(auto, using(crate::proofs::KinderDays::kindness_hurts_nobody))]
+pub fn law_of_kinder_dossiers()
+    ensures kinder { MoreSeatsAndAnswersHurtNobody }
+{}

@@ -1,0 +1,97 @@
+-- Witnesses of the laws of changed dossiers. 11, 12 and 13 are called in this order; 11 and 12 wish
+-- for the one seat of the first programme, 12 and 13 for the two of the second. 13 ranks their wish.
+-- On day 2 of the other dossier 11 quits, and 12 gets that seat too.
+use Rattle.std.specs.Prelude.{◌≡◌, ◌∷◌, ℕ, All, IsTrue, List, None, [], false, length}
+use Rattle.std.specs.List.{AllZip}
+use Rattle.admit_core.specs.declared.dossier.AnswerKind.TheVariants.{Quit}
+use Rattle.admit_core.specs.declared.ranking.CallOrder.{CallOrder}
+use Rattle.admit_core.specs.declared.records.DayRecord.{DayRecord}
+use Rattle.admit_core.specs.declared.state.Mark.{Mark}
+use Rattle.admit_core.specs.declared.state.Status.TheVariants.{Accepted, Offered, Quit as HasQuit, Waiting}
+use Rattle.admit_core.specs.CallOrder.{AreCallOrders}
+use Rattle.admit_core.specs.Days.{Days, first_evening}
+use Rattle.admit_core.specs.DossierRows.{DossierRows}
+use Rattle.admit_core.specs.State.{State, entries, is_live}
+use Rattle.admit_core.specs.Validity.{IsValid}
+use Rattle.admit_core.specs.WorkedDays.{change, day, freeing, in_order, quiet}
+use Rattle.admit_core.specs.WorkedRows.{group, marked, programme, ranked, rows, wish}
+use Rattle.campaign_laws.specs.AutomaticDay.{has_as_good}
+use Rattle.change_laws.specs.Kinder.{IsKinder, IsNotHurt, IsSilent, RanksWishes}
+
+abbrev pub all_stay : DossierRows
+all_stay =
+    let d = rows (programme 10 0 1 ∷ programme 20 0 2 ∷ []) []
+    (wish 1 11 0 0 ∷ wish 2 12 0 0 ∷ wish 3 12 1 0 ∷ wish 4 13 1 1 ∷ [])
+    (Waiting ∷ Waiting ∷ Waiting ∷ Waiting ∷ []) in
+    record d {
+      groups = group 0 0 (ranked 11 1 false false ∷ ranked 12 2 false false ∷ ranked 13 3 false
+          false ∷ []) ∷ [];
+    }
+
+abbrev pub one_quits : DossierRows
+one_quits = record all_stay { answers = record { day = 2; kind = Quit; target = 11 } ∷ [] }
+
+abbrev pub three_orders : List CallOrder
+three_orders = in_order (11 ∷ 12 ∷ 13 ∷ []) ∷ []
+
+abbrev pub shared_day : DayRecord
+shared_day =
+    day 1 (freeing [] [] (0 ∷ 2 ∷ 3 ∷ []) (change 3 Accepted ∷ []) 0 0 ∷ []) (0 ∷ 0 ∷ []) []
+
+abbrev pub stay_days : List DayRecord
+stay_days = shared_day ∷ day 2 (quiet [] [] [] ∷ []) (0 ∷ 0 ∷ []) [] ∷ []
+
+abbrev pub quit_days : List DayRecord
+quit_days = shared_day ∷ day 2 (quiet [] [] (1 ∷ []) ∷ []) (0 ∷ 0 ∷ []) [] ∷ []
+
+abbrev pub stay_marks : List Mark
+stay_marks =
+    marked Offered 1 1 ∷ marked Waiting 0 0 ∷ marked Offered 1 1 ∷ marked Accepted 1 1 ∷ []
+
+abbrev pub stay_evening : State
+stay_evening = record { dossier = all_stay; marks = stay_marks }
+
+abbrev pub quit_evening : State
+quit_evening = record {
+  dossier = one_quits;
+  marks = marked HasQuit 2 0 ∷ marked Offered 2 1 ∷ marked Offered 1 1 ∷ marked Accepted 1 1 ∷ [];
+}
+
+abbrev pub MoreSeatsAndAnswersHurtNobodyWitness : Type 0
+MoreSeatsAndAnswersHurtNobodyWitness =
+    let orders : List CallOrder = three_orders in
+    let d : DossierRows = all_stay in
+    let kinder : DossierRows = one_quits in
+    let days : List DayRecord = stay_days in
+    let others : List DayRecord = quit_days in
+    let evening : State = stay_evening in
+    let other : State = quit_evening in
+    IsValid d
+    × IsValid kinder
+    × AreCallOrders d.groups orders
+    × All (λ w. w.school ≡ None) d.wishes
+    × IsKinder d kinder
+    × (length others ≡ length days)
+    × Days None orders 1 (first_evening d) days evening
+    × Days None orders 1 (first_evening kinder) others other
+    × IsNotHurt kinder evening other
+
+-- 12 is silent and keeps the second seat; 13, who is answered for, has it too
+abbrev pub IsNotHurtSilentWitness : Type 0
+IsNotHurtSilentWitness =
+    let kinder : DossierRows = one_quits in
+    let first : State = stay_evening in
+    let other : State = quit_evening in
+    let c : ℕ = 12 in
+    IsSilent kinder c
+    × AllZip (λ e f. e.0.candidate ≡ c → IsTrue (is_live e.1) → IsTrue (is_live f.1))
+    (entries first) (entries other)
+
+abbrev pub IsNotHurtRankedWitness : Type 0
+IsNotHurtRankedWitness =
+    let kinder : DossierRows = one_quits in
+    let first : State = stay_evening in
+    let other : State = quit_evening in
+    let c : ℕ = 13 in
+    let n : ℕ = 1 in
+    RanksWishes kinder c × IsTrue (has_as_good first c n) × IsTrue (has_as_good other c n)

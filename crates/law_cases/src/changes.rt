@@ -1,0 +1,10 @@
+//! Witnesses of the laws of changed dossiers.
+ghost use Rattle.law_cases.specs.Changes.{IsNotHurtRankedWitness, IsNotHurtSilentWitness, MoreSeatsAndAnswersHurtNobodyWitness};
+
+/// Of the law of kinder dossiers.
+#[tactic(auto, using(crate::proofs::ChangeCases::kinder_here))]
+pub fn witnesses_of_kinder_dossiers()
+    ensures kinder { MoreSeatsAndAnswersHurtNobodyWitness }
+    ensures silent { IsNotHurtSilentWitness }
+    ensures ranked { IsNotHurtRankedWitness }
+{}
