@@ -66,7 +66,7 @@ set_mark ws s place m over k w at =
 abbrev refused : ℕ → Stamp → Wish → Mark → Mark
 refused c stamp w m = if is_live m && (w.candidate == c) then changed_to Refused stamp m else m
 
-after_over : (kind : AnswerKind) (ws : List Wish) (s : State) (target : ℕ) (stamp : Stamp) → IsOver ws s
+pub after_over : (kind : AnswerKind) (ws : List Wish) (s : State) (target : ℕ) (stamp : Stamp) → IsOver ws s
     → IsOver ws (after_kind kind s target stamp)
 after_over Accept ws s target stamp over =
     let c = candidate_at s target in

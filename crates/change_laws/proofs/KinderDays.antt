@@ -63,7 +63,7 @@ no_demand s orders bars h plain =
     let none : e.0.school ≡ None = ap (λ (w : Wish). w.school) place.1 ∙ plain k e.0 place.0 in
     rw none refl))
 
-ceilings_are_greatest : (s : State) (orders : List CallOrder) (ceilings : List ℕ)
+pub ceilings_are_greatest : (s : State) (orders : List CallOrder) (ceilings : List ℕ)
     → All (λ (w : Wish). w.school ≡ None) s.dossier.wishes → IsGreatest (boarding s orders ceilings) ceilings
 ceilings_are_greatest s orders ceilings plain = record {
   fits = record {

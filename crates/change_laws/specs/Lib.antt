@@ -1,1 +1,2 @@
 pub mod Kinder
+pub mod OnePlaceUp

@@ -1,5 +1,6 @@
 //! What a change of a dossier does, as theorems over the definitions.
 ghost use Rattle.change_laws.specs.Kinder.{MoreSeatsAndAnswersHurtNobody};
+ghost use Rattle.change_laws.specs.OnePlaceUp.{OnePlaceUpKeepsEachOffer};
 
 /// Without boarding: with more seats or higher call limits, and more answers of candidates who
 /// answer themselves, nobody waits in an evening who did not; who gives no answer has each live wish
@@ -7,4 +8,10 @@ ghost use Rattle.change_laws.specs.Kinder.{MoreSeatsAndAnswersHurtNobody};
 #[tactic(auto, using(crate::proofs::KinderDays::kindness_hurts_nobody))]
 pub fn law_of_kinder_dossiers()
     ensures kinder { MoreSeatsAndAnswersHurtNobody }
+{}
+
+/// Without boarding: one place up in the call order of a programme that has it to itself keeps each
+/// offer there, and brings it no later.
+pub fn law_of_better_places()
+    ensures place { OnePlaceUpKeepsEachOffer }
 {}
