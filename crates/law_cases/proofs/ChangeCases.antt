@@ -1,6 +1,8 @@
 -- The witnesses of the laws of changed dossiers, by computation and by the laws.
-use Rattle.std.proofs.Common.{◌<◌, ◌≡◌, None, refl, arith, lit≤, lit<}
+use Rattle.std.proofs.Common.{[], ◌<◌, ◌≡◌, None, refl, arith, lit≤, lit<}
 use Rattle.std.specs.Prelude.{All, ◌≢◌}
+use Rattle.admit_core.specs.declared.state.Status.TheVariants.{Offered, Quit, Waiting}
+use Rattle.admit_core.specs.WorkedRows.{marked, wish}
 use Rattle.std.proofs.lemmas.List.Elements.{All-from_recursion}
 use Rattle.admit_core.specs.declared.dossier.Answer.{Answer}
 use Rattle.admit_core.specs.declared.dossier.Wish.{Wish}
@@ -11,7 +13,10 @@ use Rattle.campaign_laws.specs.Kept.{AnswersThemself}
 use Rattle.campaign_laws.proofs.WorkedCampaign.{end_by}
 use Rattle.change_laws.specs.Kinder.{IsKinder, IsSilent, giver}
 use Rattle.change_laws.proofs.KinderDays.{kindness_hurts_nobody}
-use Rattle.law_cases.specs.Changes.{IsNotHurtRankedWitness, IsNotHurtSilentWitness, MoreSeatsAndAnswersHurtNobodyWitness, all_stay, one_quits, quit_days, quit_evening, stay_days, stay_evening, three_orders}
+use Rattle.change_laws.proofs.OnePlaceUp.{one_place_up_keeps_each_offer}
+use Rattle.fairness.specs.Exchanges.{IsMovedUp}
+use Rattle.law_cases.specs.Changes.{IsNotHurtRankedWitness, IsNotHurtSilentWitness, MoreSeatsAndAnswersHurtNobodyWitness, OnePlaceUpKeepsEachOfferWitness, all_stay, first_of_two, later_days, one_quits, quit_days, quit_evening, second_of_two, sooner_days, stay_days, stay_evening, three_orders, waits_behind, with_two}
+use Rattle.law_cases.proofs.Tested.{distinct_by}
 use Rattle.law_cases.proofs.Valid.{valid_by}
 
 called : AreCallOrders all_stay.groups three_orders
@@ -139,3 +144,89 @@ ranked_here = (
   refl,
   refl,
 )
+
+-- ---- 11 stands first, or second
+later_hold : Days None second_of_two 1 (first_evening waits_behind) later_days
+    (with_two (marked Offered 2 1) (marked Quit 2 0))
+later_hold = (
+  with_two (marked Waiting 0 0) (marked Offered 1 1),
+  refl,
+  record {
+    lapsed = refl;
+    fits = refl;
+    passes = (end_by _ _ _ _ _ _ (record { are_falls = tt; settled = refl }) refl refl refl refl, refl, refl);
+    left = refl;
+    free = refl;
+  },
+  (
+    with_two (marked Offered 2 1) (marked Quit 2 0),
+    refl,
+    record {
+      lapsed = refl;
+      fits = refl;
+      passes = (end_by _ _ _ _ _ _ (record { are_falls = tt; settled = refl }) refl refl refl refl, refl, refl);
+      left = refl;
+      free = refl;
+    },
+    refl,
+  ),
+)
+
+sooner_hold : Days None first_of_two 1 (first_evening waits_behind) sooner_days
+    (with_two (marked Offered 1 1) (marked Quit 2 0))
+sooner_hold = (
+  with_two (marked Offered 1 1) (marked Waiting 0 0),
+  refl,
+  record {
+    lapsed = refl;
+    fits = refl;
+    passes = (end_by _ _ _ _ _ _ (record { are_falls = tt; settled = refl }) refl refl refl refl, refl, refl);
+    left = refl;
+    free = refl;
+  },
+  (
+    with_two (marked Offered 1 1) (marked Quit 2 0),
+    refl,
+    record {
+      lapsed = refl;
+      fits = refl;
+      passes = (end_by _ _ _ _ _ _ (record { are_falls = tt; settled = refl }) refl refl refl refl, refl, refl);
+      left = refl;
+      free = refl;
+    },
+    refl,
+  ),
+)
+
+moved_up : IsMovedUp waits_behind second_of_two first_of_two 0 11
+moved_up = record {
+  front = [];
+  passed = 12;
+  back = [];
+  was = refl;
+  becomes = refl;
+  once = distinct_by _ refl;
+  others = λ q lt other. absurd (other (omega (arith, lt)));
+}
+
+plain_too : All (λ (w : Wish). w.school ≡ None) waits_behind.wishes
+plain_too = All-from_recursion (λ (w : Wish). w.school ≡ None) waits_behind.wishes (refl, (refl, tt))
+
+pub better_place_here : OnePlaceUpKeepsEachOfferWitness
+better_place_here =
+    let valid = valid_by waits_behind refl in (
+      valid,
+      plain_too,
+      refl,
+      tt,
+      refl,
+      moved_up,
+      refl,
+      later_hold,
+      sooner_hold,
+      refl,
+      one_place_up_keeps_each_offer None second_of_two first_of_two 1 (first_evening waits_behind) later_days
+          sooner_days (with_two (marked Offered 2 1) (marked Quit 2 0))
+          (with_two (marked Offered 1 1) (marked Quit 2 0)) 0 (wish 1 11 0 0) valid plain_too refl tt refl moved_up
+          refl later_hold sooner_hold refl,
+    )

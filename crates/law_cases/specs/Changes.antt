@@ -1,22 +1,28 @@
 -- Witnesses of the laws of changed dossiers. 11, 12 and 13 are called in this order; 11 and 12 wish
 -- for the one seat of the first programme, 12 and 13 for the two of the second. 13 ranks their wish.
--- On day 2 of the other dossier 11 quits, and 12 gets that seat too.
-use Rattle.std.specs.Prelude.{◌≡◌, ◌∷◌, ℕ, All, IsTrue, List, None, [], false, length}
+-- On day 2 of the other dossier 11 quits, and 12 gets that seat too. And 11, who waits behind 12 until
+-- these quit on day 2, is offered the seat on day 1 where they stand first.
+use Rattle.std.specs.Prelude.{◌≡◌, ◌∷◌, ℕ, All, IsTrue, List, None, Option, Some, [], false, length, slice_get}
 use Rattle.std.specs.List.{AllZip}
 use Rattle.admit_core.specs.declared.dossier.AnswerKind.TheVariants.{Quit}
+use Rattle.admit_core.specs.declared.dossier.Wish.{Wish}
 use Rattle.admit_core.specs.declared.ranking.CallOrder.{CallOrder}
 use Rattle.admit_core.specs.declared.records.DayRecord.{DayRecord}
+use Rattle.admit_core.specs.declared.records.Terms.{Terms}
 use Rattle.admit_core.specs.declared.state.Mark.{Mark}
 use Rattle.admit_core.specs.declared.state.Status.TheVariants.{Accepted, Offered, Quit as HasQuit, Waiting}
 use Rattle.admit_core.specs.CallOrder.{AreCallOrders}
 use Rattle.admit_core.specs.Days.{Days, first_evening}
 use Rattle.admit_core.specs.DossierRows.{DossierRows}
+use Rattle.admit_core.specs.Lapses.{AreTermsFor}
 use Rattle.admit_core.specs.State.{State, entries, is_live}
 use Rattle.admit_core.specs.Validity.{IsValid}
 use Rattle.admit_core.specs.WorkedDays.{change, day, freeing, in_order, quiet}
 use Rattle.admit_core.specs.WorkedRows.{group, marked, programme, ranked, rows, wish}
 use Rattle.campaign_laws.specs.AutomaticDay.{has_as_good}
 use Rattle.change_laws.specs.Kinder.{IsKinder, IsNotHurt, IsSilent, RanksWishes}
+use Rattle.change_laws.specs.OnePlaceUp.{is_ever_offered}
+use Rattle.fairness.specs.Exchanges.{IsMovedUp}
 
 abbrev pub all_stay : DossierRows
 all_stay =
@@ -95,3 +101,54 @@ IsNotHurtRankedWitness =
     let c : ℕ = 13 in
     let n : ℕ = 1 in
     RanksWishes kinder c × IsTrue (has_as_good first c n) × IsTrue (has_as_good other c n)
+
+abbrev pub waits_behind : DossierRows
+waits_behind =
+    let d = rows (programme 10 0 1 ∷ []) [] (wish 1 11 0 0 ∷ wish 2 12 0 0 ∷ [])
+    (Waiting ∷ Waiting ∷ []) in
+    record d {
+      groups = group 0 0 (ranked 12 1 false false ∷ ranked 11 2 false false ∷ []) ∷ [];
+      answers = record { day = 2; kind = Quit; target = 12 } ∷ [];
+    }
+
+abbrev pub second_of_two : List CallOrder
+second_of_two = in_order (12 ∷ 11 ∷ []) ∷ []
+
+abbrev pub first_of_two : List CallOrder
+first_of_two = in_order (11 ∷ 12 ∷ []) ∷ []
+
+abbrev pub later_days : List DayRecord
+later_days =
+    day 1 (quiet [] [] (1 ∷ []) ∷ []) (0 ∷ []) [] ∷ day 2 (quiet [] [] (0 ∷ []) ∷ []) (0 ∷ []) [] ∷ []
+
+abbrev pub sooner_days : List DayRecord
+sooner_days =
+    day 1 (quiet [] [] (0 ∷ []) ∷ []) (0 ∷ []) [] ∷ day 2 (quiet [] [] [] ∷ []) (0 ∷ []) [] ∷ []
+
+abbrev pub with_two : Mark → Mark → State
+with_two m n = record { dossier = waits_behind; marks = m ∷ n ∷ [] }
+
+abbrev pub OnePlaceUpKeepsEachOfferWitness : Type 0
+OnePlaceUpKeepsEachOfferWitness =
+    let terms : Option Terms = None in
+    let orders : List CallOrder = second_of_two in
+    let moved : List CallOrder = first_of_two in
+    let d : ℕ = 1 in
+    let old : State = first_evening waits_behind in
+    let days : List DayRecord = later_days in
+    let others : List DayRecord = sooner_days in
+    let new : State = with_two (marked Offered 2 1) (marked HasQuit 2 0) in
+    let other : State = with_two (marked Offered 1 1) (marked HasQuit 2 0) in
+    let place : ℕ = 0 in
+    let w : Wish = wish 1 11 0 0 in
+    IsValid old.dossier
+    × All (λ v. v.school ≡ None) old.dossier.wishes
+    × (length old.marks ≡ length old.dossier.wishes)
+    × AreTermsFor old.dossier terms
+    × (slice_get old.dossier.wishes place ≡ Some w)
+    × IsMovedUp old.dossier orders moved w.programme w.candidate
+    × (length others ≡ length days)
+    × Days terms orders d old days new
+    × Days terms moved d old others other
+    × IsTrue (is_ever_offered place days)
+    × IsTrue (is_ever_offered place others)

@@ -1,5 +1,5 @@
 //! Witnesses of the laws of changed dossiers.
-ghost use Rattle.law_cases.specs.Changes.{IsNotHurtRankedWitness, IsNotHurtSilentWitness, MoreSeatsAndAnswersHurtNobodyWitness};
+ghost use Rattle.law_cases.specs.Changes.{IsNotHurtRankedWitness, IsNotHurtSilentWitness, MoreSeatsAndAnswersHurtNobodyWitness, OnePlaceUpKeepsEachOfferWitness};
 
 /// Of the law of kinder dossiers.
 #[tactic(auto, using(crate::proofs::ChangeCases::kinder_here))]
@@ -7,4 +7,10 @@ pub fn witnesses_of_kinder_dossiers()
     ensures kinder { MoreSeatsAndAnswersHurtNobodyWitness }
     ensures silent { IsNotHurtSilentWitness }
     ensures ranked { IsNotHurtRankedWitness }
+{}
+
+/// Of the law of better places.
+#[tactic(auto, using(crate::proofs::ChangeCases::better_place_here))]
+pub fn witness_of_better_places()
+    ensures place { OnePlaceUpKeepsEachOfferWitness }
 {}
