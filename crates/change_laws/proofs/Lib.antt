@@ -2,6 +2,7 @@
 -- Of a kinder dossier: Places, Further (what is kept), Passing and Answering (by which steps),
 -- KinderDays.
 -- Of a better place: Neighbours, OnePlaceUp.
+-- Of what is never read: Reranked (what days read of wishes), Unread, UnreadDays.
 pub mod Answering
 pub mod Further
 pub mod KinderDays
@@ -9,3 +10,6 @@ pub mod Neighbours
 pub mod OnePlaceUp
 pub mod Passing
 pub mod Places
+pub mod Reranked
+pub mod Unread
+pub mod UnreadDays

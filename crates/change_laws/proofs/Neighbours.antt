@@ -130,4 +130,3 @@ module _ (s : State) (orders moved : List CallOrder) (p c : ℕ) (is : IsMovedUp
             || nat_lt (count_by (wants_seat s bars q) (before_first (nat_eq e) xs)) (seats_left s q))
             (is.others q there other))
       ]
-

@@ -1,2 +1,3 @@
 pub mod Kinder
 pub mod OnePlaceUp
+pub mod Unread

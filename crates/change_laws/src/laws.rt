@@ -1,6 +1,7 @@
 //! What a change of a dossier does, as theorems over the definitions.
 ghost use Rattle.change_laws.specs.Kinder.{MoreSeatsAndAnswersHurtNobody};
 ghost use Rattle.change_laws.specs.OnePlaceUp.{OnePlaceUpKeepsEachOffer};
+ghost use Rattle.change_laws.specs.Unread.{OrderAboveIsNeverRead};
 
 /// Without boarding: with more seats or higher call limits, and more answers of candidates who
 /// answer themselves, nobody waits in an evening who did not; who gives no answer has each live wish
@@ -14,4 +15,10 @@ pub fn law_of_kinder_dossiers()
 /// offer there, and brings it no later.
 pub fn law_of_better_places()
     ensures place { OnePlaceUpKeepsEachOffer }
+{}
+
+/// For who gives no answer, the order of the wishes that wait to the end, above what they have
+/// accepted then, is never read: with another one the days are the same.
+pub fn law_of_unread_orders()
+    ensures unread { OrderAboveIsNeverRead }
 {}

@@ -1,6 +1,11 @@
 -- The witnesses of the laws of changed dossiers, by computation and by the laws.
-use Rattle.std.proofs.Common.{[], ◌<◌, ◌≡◌, None, refl, arith, lit≤, lit<}
-use Rattle.std.specs.Prelude.{All, ◌≢◌}
+use Rattle.std.proofs.Common.{[], true, false, ℕ, ◌≤◌, inl, inr, ◌<◌, ◌≡◌, None, refl, arith, lit≤, lit<}
+use Rattle.std.specs.Prelude.{All, ◌≢◌, nat_le}
+use Rattle.admit_core.specs.State.{entries}
+use Rattle.admit_core.specs.declared.records.DayRecord.{DayRecord}
+use Rattle.admit_core.specs.Answers.{own}
+use Rattle.admit_core.specs.Days.{answers_of}
+use Rattle.std.proofs.lemmas.Bool.{false≢true, leb-true, or_cases}
 use Rattle.admit_core.specs.declared.state.Status.TheVariants.{Offered, Quit, Waiting}
 use Rattle.admit_core.specs.WorkedRows.{marked, wish}
 use Rattle.std.proofs.lemmas.List.Elements.{All-from_recursion}
@@ -9,13 +14,15 @@ use Rattle.admit_core.specs.declared.dossier.Wish.{Wish}
 use Rattle.admit_core.specs.CallOrder.{AreCallOrders}
 use Rattle.admit_core.specs.Days.{Days, first_evening}
 use Rattle.admit_core.proofs.ByPlaces.{by_places}
-use Rattle.campaign_laws.specs.Kept.{AnswersThemself}
+use Rattle.campaign_laws.specs.Kept.{AnswersThemself, GivesNoAnswer, has_accepted}
 use Rattle.campaign_laws.proofs.WorkedCampaign.{end_by}
 use Rattle.change_laws.specs.Kinder.{IsKinder, IsSilent, giver}
 use Rattle.change_laws.proofs.KinderDays.{kindness_hurts_nobody}
+use Rattle.change_laws.specs.Unread.{IsUnread}
+use Rattle.change_laws.proofs.UnreadDays.{order_above_is_never_read}
 use Rattle.change_laws.proofs.OnePlaceUp.{one_place_up_keeps_each_offer}
 use Rattle.fairness.specs.Exchanges.{IsMovedUp}
-use Rattle.law_cases.specs.Changes.{IsNotHurtRankedWitness, IsNotHurtSilentWitness, MoreSeatsAndAnswersHurtNobodyWitness, OnePlaceUpKeepsEachOfferWitness, all_stay, first_of_two, later_days, one_quits, quit_days, quit_evening, second_of_two, sooner_days, stay_days, stay_evening, three_orders, waits_behind, with_two}
+use Rattle.law_cases.specs.Changes.{IsNotHurtRankedWitness, IsNotHurtSilentWitness, MoreSeatsAndAnswersHurtNobodyWitness, OnePlaceUpKeepsEachOfferWitness, OrderAboveIsNeverReadWitness, all_stay, first_of_two, later_days, one_quits, quit_days, quit_evening, second_of_two, sooner_days, stay_days, stay_evening, third_choice, third_days, third_evening, three_orders, two_exchanged, one_order, waits_behind, with_two}
 use Rattle.law_cases.proofs.Tested.{distinct_by}
 use Rattle.law_cases.proofs.Valid.{valid_by}
 
@@ -230,3 +237,46 @@ better_place_here =
           (with_two (marked Offered 1 1) (marked Quit 2 0)) 0 (wish 1 11 0 0) valid plain_too refl tt refl moved_up
           refl later_hold sooner_hold refl,
     )
+
+-- ---- 11 gets their third wish
+third_hold : Days None one_order 1 (first_evening third_choice) third_days third_evening
+third_hold = (
+  third_evening,
+  refl,
+  record {
+    lapsed = refl;
+    fits = refl;
+    passes = (end_by _ _ _ _ _ _ (record { are_falls = tt; settled = refl }) refl refl refl refl, refl, refl);
+    left = refl;
+    free = refl;
+  },
+  refl,
+)
+
+silent_there : GivesNoAnswer (first_evening third_choice) 11 third_days
+silent_there = All-from_recursion
+    (λ (day : DayRecord). own (first_evening third_choice) 11 (answers_of third_choice day.day) ≡ []) third_days
+    (refl, tt)
+
+at_least_three : (n : ℕ) → has_accepted third_evening 11 n ≡ true → 3 ≤ n
+at_least_three n has =
+    elim (or_cases (nat_le 3 n) false has) [
+      | inl le ↦ leb-true 3 n le
+      | inr none ↦ absurd (false≢true none)
+    ]
+
+unread : All (IsUnread two_exchanged 11 third_evening) (entries third_evening)
+unread = All-from_recursion (IsUnread two_exchanged 11 third_evening) (entries third_evening) (
+  inr (refl, refl, λ n has. let le = at_least_three n has in omega (arith, le)),
+  (inr (refl, refl, λ n has. let le = at_least_three n has in omega (arith, le)), (inl refl, tt)),
+)
+
+pub unread_here : OrderAboveIsNeverReadWitness
+unread_here = (
+  tt,
+  third_hold,
+  silent_there,
+  unread,
+  order_above_is_never_read None one_order 1 (first_evening third_choice) third_days third_evening 11 two_exchanged
+      tt third_hold silent_there unread,
+)

@@ -1,8 +1,9 @@
 -- Witnesses of the laws of changed dossiers. 11, 12 and 13 are called in this order; 11 and 12 wish
 -- for the one seat of the first programme, 12 and 13 for the two of the second. 13 ranks their wish.
 -- On day 2 of the other dossier 11 quits, and 12 gets that seat too. And 11, who waits behind 12 until
--- these quit on day 2, is offered the seat on day 1 where they stand first.
-use Rattle.std.specs.Prelude.{◌≡◌, ◌∷◌, ℕ, All, IsTrue, List, None, Option, Some, [], false, length, slice_get}
+-- these quit on day 2, is offered the seat on day 1 where they stand first. And 11, who ranks three
+-- wishes and gets the third, gets it too if the first two change places.
+use Rattle.std.specs.Prelude.{◌≡◌, ◌∷◌, ◌==◌, ℕ, All, IsTrue, List, None, Option, Some, [], false, if◌then◌else◌, length, slice_get}
 use Rattle.std.specs.List.{AllZip}
 use Rattle.admit_core.specs.declared.dossier.AnswerKind.TheVariants.{Quit}
 use Rattle.admit_core.specs.declared.dossier.Wish.{Wish}
@@ -20,8 +21,10 @@ use Rattle.admit_core.specs.Validity.{IsValid}
 use Rattle.admit_core.specs.WorkedDays.{change, day, freeing, in_order, quiet}
 use Rattle.admit_core.specs.WorkedRows.{group, marked, programme, ranked, rows, wish}
 use Rattle.campaign_laws.specs.AutomaticDay.{has_as_good}
+use Rattle.campaign_laws.specs.Kept.{GivesNoAnswer}
 use Rattle.change_laws.specs.Kinder.{IsKinder, IsNotHurt, IsSilent, RanksWishes}
 use Rattle.change_laws.specs.OnePlaceUp.{is_ever_offered}
+use Rattle.change_laws.specs.Unread.{IsUnread, reranked}
 use Rattle.fairness.specs.Exchanges.{IsMovedUp}
 
 abbrev pub all_stay : DossierRows
@@ -152,3 +155,42 @@ OnePlaceUpKeepsEachOfferWitness =
     × Days terms moved d old others other
     × IsTrue (is_ever_offered place days)
     × IsTrue (is_ever_offered place others)
+
+abbrev pub third_choice : DossierRows
+third_choice =
+    let d = rows (programme 10 0 0 ∷ programme 20 0 0 ∷ programme 30 0 1 ∷ []) []
+    (wish 1 11 0 1 ∷ wish 2 11 1 2 ∷ wish 3 11 2 3 ∷ []) (Waiting ∷ Waiting ∷ Waiting ∷ []) in
+    record d { groups = group 0 0 (ranked 11 1 false false ∷ []) ∷ [] }
+
+abbrev pub one_order : List CallOrder
+one_order = in_order (11 ∷ []) ∷ []
+
+abbrev pub third_days : List DayRecord
+third_days =
+    day 1 (freeing [] [] (2 ∷ []) (change 2 Accepted ∷ []) 0 0 ∷ []) (0 ∷ 0 ∷ 0 ∷ []) [] ∷ []
+
+abbrev pub third_evening : State
+third_evening = record {
+  dossier = third_choice;
+  marks = marked Waiting 0 0 ∷ marked Waiting 0 0 ∷ marked Accepted 1 1 ∷ [];
+}
+
+-- the first two change places
+abbrev pub two_exchanged : Wish → ℕ
+two_exchanged w = if w.id == 1 then 2 else if w.id == 2 then 1 else w.preference
+
+abbrev pub OrderAboveIsNeverReadWitness : Type 0
+OrderAboveIsNeverReadWitness =
+    let terms : Option Terms = None in
+    let orders : List CallOrder = one_order in
+    let d : ℕ = 1 in
+    let old : State = first_evening third_choice in
+    let days : List DayRecord = third_days in
+    let new : State = third_evening in
+    let c : ℕ = 11 in
+    let rank : Wish → ℕ = two_exchanged in
+    AreTermsFor old.dossier terms
+    × Days terms orders d old days new
+    × GivesNoAnswer old c days
+    × All (IsUnread rank c new) (entries new)
+    × Days terms orders d (reranked rank old) days (reranked rank new)

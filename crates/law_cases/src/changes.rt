@@ -1,5 +1,5 @@
 //! Witnesses of the laws of changed dossiers.
-ghost use Rattle.law_cases.specs.Changes.{IsNotHurtRankedWitness, IsNotHurtSilentWitness, MoreSeatsAndAnswersHurtNobodyWitness, OnePlaceUpKeepsEachOfferWitness};
+ghost use Rattle.law_cases.specs.Changes.{IsNotHurtRankedWitness, IsNotHurtSilentWitness, MoreSeatsAndAnswersHurtNobodyWitness, OnePlaceUpKeepsEachOfferWitness, OrderAboveIsNeverReadWitness};
 
 /// Of the law of kinder dossiers.
 #[tactic(auto, using(crate::proofs::ChangeCases::kinder_here))]
@@ -13,4 +13,10 @@ pub fn witnesses_of_kinder_dossiers()
 #[tactic(auto, using(crate::proofs::ChangeCases::better_place_here))]
 pub fn witness_of_better_places()
     ensures place { OnePlaceUpKeepsEachOfferWitness }
+{}
+
+/// Of the law of unread orders.
+#[tactic(auto, using(crate::proofs::ChangeCases::unread_here))]
+pub fn witness_of_unread_orders()
+    ensures unread { OrderAboveIsNeverReadWitness }
 {}
