@@ -48,11 +48,11 @@ mark_pair T ws s t over over_too marks k w at =
     here.1
 
 -- one mark is set
-set_over : (ws : List Wish) (s : State) (place : ℕ) (m : Mark) → IsOver ws s
+pub set_over : (ws : List Wish) (s : State) (place : ℕ) (m : Mark) → IsOver ws s
     → IsOver ws (record s { marks = set s.marks place m })
 set_over ws s place m over = record { wishes = over.wishes; long = length-set s.marks place m ∙ over.long }
 
-set_mark : (ws : List Wish) (s : State) (place : ℕ) (m : Mark) → IsOver ws s → (k : ℕ) (w : Wish) → IsAt ws k w
+pub set_mark : (ws : List Wish) (s : State) (place : ℕ) (m : Mark) → IsOver ws s → (k : ℕ) (w : Wish) → IsAt ws k w
     → ((k ≡ place) × (mark_in (record s { marks = set s.marks place m }) k ≡ m))
     ⊎ ((k ≢ place) × (mark_in (record s { marks = set s.marks place m }) k ≡ mark_in s k))
 set_mark ws s place m over k w at =
@@ -308,7 +308,8 @@ module _ (d kinder : DossierRows) (orders : List CallOrder) (valid : IsValid d)
                 (now.better some (ap is_gone (sym same_here) ∙ stood) (ap is_gone (sym same_there) ∙ gone));
             first = λ waits live j v v_at v_waits same_p.
                 ap (λ (x : DossierRows). is_among w.candidate (before (record t { dossier = x }) orders v)) same
-                ∙ now.first (waited m (mark_in s1 k) w (here k w at) waits) (lived n (mark_in t1 k) w (there k w at) live)
+                ∙ now.first (waited m (mark_in s1 k) w (here k w at) waits) (lived n (mark_in t1 k) w (there k w at)
+                live)
                 j v v_at (waited (mark_in t j) (mark_in t1 j) v (there j v v_at) v_waits) same_p;
             kept = λ still gone.
                 let other : w.candidate ≡ c → ⊥ = λ own. spoke (subst (IsSilent kinder) own still) in

@@ -245,7 +245,8 @@ module _ (ws : List Wish) (orders : List CallOrder) (silent : ℕ → Type 0)
         → is_gone (mark_in answered k) ≡ true
     nothing_worse k w at has =
         let c = w.candidate in
-        let found = any_there ws answered over_answered (λ e. ranked_live c e && nat_lt e.0.preference w.preference) has in
+        let found = any_there ws answered over_answered (λ e. ranked_live c e
+        && nat_lt e.0.preference w.preference) has in
         let v = found.wish in
         let x = mark_in answered found.place in
         let outer = and_parts (ranked_live c (v, x)) (nat_lt v.preference w.preference) found.passes in

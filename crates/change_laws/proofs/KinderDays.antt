@@ -92,7 +92,8 @@ module _ (d kinder : DossierRows) (orders : List CallOrder) (valid : IsValid d) 
 
   after_pass : (s t : State) (bars : List ℕ) (stamp : Stamp) → Pair s t → Pair s (closing t orders bars stamp)
   after_pass s t bars stamp pair =
-      let offers = ahead_of_offers d kinder orders valid called plain kind s t pair.of pair.of_too pair.ahead bars stamp in
+      let offers = ahead_of_offers d kinder orders valid called plain kind s t pair.of pair.of_too pair.ahead bars
+      stamp in
       record {
         of = pair.of;
         of_too = pair.of_too;
@@ -107,7 +108,8 @@ module _ (d kinder : DossierRows) (orders : List CallOrder) (valid : IsValid d) 
   passes_there ceilings day k s t (pass ∷ []) evening pair are =
       let stamp : Stamp = record { day = day; pass = k } in
       let bars = pass.pass.bars in
-      let offers = ahead_of_offers d kinder orders valid called plain kind s t pair.of pair.of_too pair.ahead bars stamp in
+      let offers = ahead_of_offers d kinder orders valid called plain kind s t pair.of pair.of_too pair.ahead bars
+      stamp in
       record {
         pair = subst (Pair s) (sym are.2) (after_pass s t bars stamp pair);
         state = offered t orders bars stamp;

@@ -3,6 +3,7 @@
 -- KinderDays.
 -- Of a better place: Neighbours, OnePlaceUp.
 -- Of what is never read: Reranked (what days read of wishes), Unread, UnreadDays.
+-- Of a wish that may be struck out: StruckLists, Struck, StruckBars, StruckCampaign.
 pub mod Answering
 pub mod Further
 pub mod KinderDays
@@ -11,5 +12,9 @@ pub mod OnePlaceUp
 pub mod Passing
 pub mod Places
 pub mod Reranked
+pub mod Struck
+pub mod StruckBars
+pub mod StruckCampaign
+pub mod StruckLists
 pub mod Unread
 pub mod UnreadDays

@@ -59,7 +59,8 @@ map_same_there f g (w ∷ ws) (m ∷ ms) same =
 
 -- whether a place is among those that pass, from n on
 abbrev places_from : (Wish × Mark → Bool) → ℕ → List (Wish × Mark) → List ℕ
-places_from test n es = map (λ (x : ℕ × (Wish × Mark)). x.0) (filter (λ (x : ℕ × (Wish × Mark)). test x.1) (enumerate_from n es))
+places_from test n es = map (λ (x : ℕ × (Wish × Mark)). x.0) (filter (λ (x : ℕ × (Wish × Mark)). test x.1)
+    (enumerate_from n es))
 
 none_earlier : (test : Wish × Mark → Bool) (n j : ℕ) (es : List (Wish × Mark)) → j < n
     → is_among j (places_from test n es) ≡ false
@@ -92,7 +93,8 @@ among_passing test n (suc k) (x ∷ es) e lt at =
     ]
 
 -- ---- in the morning each wish has a mark still
-over_lapse : (d : DossierRows) (terms : Option Terms) (day : ℕ) (s : State) → AreTermsFor d terms → IsOver d.wishes s
+pub over_lapse : (d : DossierRows) (terms : Option Terms) (day : ℕ) (s : State) → AreTermsFor d terms
+    → IsOver d.wishes s
     → IsOver d.wishes (after_lapse terms day s)
 over_lapse d None day s fit over = over
 over_lapse d (Some t) day s fit over = record {

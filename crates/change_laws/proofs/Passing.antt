@@ -257,9 +257,11 @@ module _ (d kinder : DossierRows) (orders : List CallOrder) (valid : IsValid d)
                 (ap (λ (c : ℕ). is_among c (before s orders w)) (sym way.own)
                 ∙ ap (is_among way.wish.candidate) (sym (same_before w)) ∙ first)
             | inr waited_not ↦ elim (live_or_gone m waited_not) [
-              | inl live ↦ live_or_wanting q (lives_in s ahead_there.over p q way.place way.wish way.at way.own way.there live)
+              | inl live ↦ live_or_wanting q (lives_in s ahead_there.over p q way.place way.wish way.at way.own
+                  way.there live)
               | inr gone ↦ absurd (both_ways (is_live (mark_in t way.place))
-                  (gone_lives_not (is_live (mark_in t way.place)) (is_waiting (mark_in t way.place)) (x.goes gone)) way.live)
+                  (gone_lives_not (is_live (mark_in t way.place)) (is_waiting (mark_in t way.place)) (x.goes gone))
+                  way.live)
             ]
           ]
 

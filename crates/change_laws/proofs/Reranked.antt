@@ -129,7 +129,8 @@ module _ (rank : Wish → ℕ) where
   same_ranks s orders bars h =
       let test : Wish × Mark → Bool = λ e. demands_bed (over s) orders bars h e.0 e.1 in
       ap (λ es. ascending (map (λ (e : Wish × Mark). e.0.board_rank) (filter test es))) (ranked_entries s)
-      ∙ ap (λ es. ascending (map (λ (e : Wish × Mark). e.0.board_rank) es)) (filter_of_map test ranked_entry (entries s))
+      ∙ ap (λ es. ascending (map (λ (e : Wish × Mark). e.0.board_rank) es)) (filter_of_map test ranked_entry (entries
+      s))
       ∙ ap ascending (map-map (λ (e : Wish × Mark). e.0.board_rank) ranked_entry
       (filter (λ (e : Wish × Mark). test (ranked_entry e)) (entries s)))
       ∙ (λ i. ascending (map (λ (e : Wish × Mark). e.0.board_rank)

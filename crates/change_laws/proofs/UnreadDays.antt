@@ -32,7 +32,7 @@ last_is R s [] e walk n x long = rw (← long) walk
 last_is R s (y ∷ ys) e walk zero x long = absurd (omega (arith, long))
 last_is R s (y ∷ ys) e walk (suc n) x long = last_is R y ys e walk.1 n x (omega (arith, long))
 
-to_the_end : (T R : State → State → Type 0) (s : State) (xs : List State) (e : State) → Walk T s xs e
+pub to_the_end : (T R : State → State → Type 0) (s : State) (xs : List State) (e : State) → Walk T s xs e
     → AllPairs R (s ∷ xs) → R e e → All (λ x. R x e) (s ∷ xs)
 to_the_end T R s xs e walk pairs same k x lt =
     elim (cases_lt k (length xs)) [

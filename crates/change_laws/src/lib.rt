@@ -4,4 +4,6 @@
 
 mod laws;
 
-pub use laws::{law_of_better_places, law_of_kinder_dossiers, law_of_unread_orders};
+pub use laws::{
+    law_of_better_places, law_of_kinder_dossiers, law_of_struck_wishes, law_of_unread_orders,
+};

@@ -6,7 +6,7 @@ use Rattle.admit_core.specs.declared.records.DayRecord.{DayRecord}
 use Rattle.admit_core.specs.Answers.{own}
 use Rattle.admit_core.specs.Days.{answers_of}
 use Rattle.std.proofs.lemmas.Bool.{false≢true, leb-true, or_cases}
-use Rattle.admit_core.specs.declared.state.Status.TheVariants.{Offered, Quit, Waiting}
+use Rattle.admit_core.specs.declared.state.Status.TheVariants.{Offered, Quit, Waiting, Withdrawn}
 use Rattle.admit_core.specs.WorkedRows.{marked, wish}
 use Rattle.std.proofs.lemmas.List.Elements.{All-from_recursion}
 use Rattle.admit_core.specs.declared.dossier.Answer.{Answer}
@@ -15,14 +15,20 @@ use Rattle.admit_core.specs.CallOrder.{AreCallOrders}
 use Rattle.admit_core.specs.Days.{Days, first_evening}
 use Rattle.admit_core.proofs.ByPlaces.{by_places}
 use Rattle.campaign_laws.specs.Kept.{AnswersThemself, GivesNoAnswer, has_accepted}
-use Rattle.campaign_laws.proofs.WorkedCampaign.{end_by}
+use Rattle.campaign_laws.specs.Moments.{openings}
+use Rattle.campaign_laws.specs.PassedOver.{IsUnbarred, WaitsAt}
+use Rattle.campaign_laws.specs.WorkedCampaign.{before_summer, next_day, summer_days, summer_orders, third_night, thirteenth}
+use Rattle.campaign_laws.proofs.PassedOver.{without_school}
+use Rattle.campaign_laws.proofs.Walks.{all_of}
+use Rattle.campaign_laws.proofs.WorkedCampaign.{end_by, summer_holds}
+use Rattle.change_laws.proofs.StruckCampaign.{unbarred_wish_may_be_struck_out}
 use Rattle.change_laws.specs.Kinder.{IsKinder, IsSilent, giver}
 use Rattle.change_laws.proofs.KinderDays.{kindness_hurts_nobody}
 use Rattle.change_laws.specs.Unread.{IsUnread}
 use Rattle.change_laws.proofs.UnreadDays.{order_above_is_never_read}
 use Rattle.change_laws.proofs.OnePlaceUp.{one_place_up_keeps_each_offer}
 use Rattle.fairness.specs.Exchanges.{IsMovedUp}
-use Rattle.law_cases.specs.Changes.{IsNotHurtRankedWitness, IsNotHurtSilentWitness, MoreSeatsAndAnswersHurtNobodyWitness, OnePlaceUpKeepsEachOfferWitness, OrderAboveIsNeverReadWitness, all_stay, first_of_two, later_days, one_quits, quit_days, quit_evening, second_of_two, sooner_days, stay_days, stay_evening, third_choice, third_days, third_evening, three_orders, two_exchanged, one_order, waits_behind, with_two}
+use Rattle.law_cases.specs.Changes.{IsNotHurtRankedWitness, IsNotHurtSilentWitness, MoreSeatsAndAnswersHurtNobodyWitness, OnePlaceUpKeepsEachOfferWitness, OrderAboveIsNeverReadWitness, UnbarredWishMayBeStruckOutWitness, all_stay, first_of_two, later_days, one_quits, quit_days, quit_evening, second_of_two, sooner_days, stay_days, stay_evening, third_choice, third_days, third_evening, three_orders, two_exchanged, one_order, waits_behind, with_two}
 use Rattle.law_cases.proofs.Tested.{distinct_by}
 use Rattle.law_cases.proofs.Valid.{valid_by}
 
@@ -279,4 +285,25 @@ unread_here = (
   unread,
   order_above_is_never_read None one_order 1 (first_evening third_choice) third_days third_evening 11 two_exchanged
       tt third_hold silent_there unread,
+)
+
+-- ---- 13 might as well have withdrawn
+still_waits : WaitsAt third_night 2 thirteenth
+still_waits = record { mark = marked Waiting 0 0; there = refl; waits = refl }
+
+unbarred : All (IsUnbarred thirteenth) (openings next_day summer_orders before_summer summer_days)
+unbarred = All-from_recursion (IsUnbarred thirteenth) (openings next_day summer_orders before_summer summer_days)
+    (all_of (IsUnbarred thirteenth) (λ o. without_school thirteenth o refl)
+    (openings next_day summer_orders before_summer summer_days))
+
+pub struck_here : UnbarredWishMayBeStruckOutWitness
+struck_here = (
+  refl,
+  refl,
+  summer_holds,
+  still_waits,
+  unbarred,
+  refl,
+  unbarred_wish_may_be_struck_out next_day summer_orders 1 before_summer summer_days third_night 2 thirteenth
+      (marked Withdrawn 0 0) refl refl summer_holds still_waits unbarred refl,
 )

@@ -1,8 +1,9 @@
--- Witnesses of the laws of changed dossiers. 11, 12 and 13 are called in this order; 11 and 12 wish
--- for the one seat of the first programme, 12 and 13 for the two of the second. 13 ranks their wish.
--- On day 2 of the other dossier 11 quits, and 12 gets that seat too. And 11, who waits behind 12 until
--- these quit on day 2, is offered the seat on day 1 where they stand first. And 11, who ranks three
--- wishes and gets the third, gets it too if the first two change places.
+-- Witnesses of the laws of changed dossiers. 11, 12 and 13 are called in this order; 11 and 12
+-- wish for the one seat of the first programme, 12 and 13 for the two of the second. 13 ranks
+-- their wish. On day 2 of the other dossier 11 quits, and 12 gets that seat too. And 11, who waits
+-- behind 12 until these quit on day 2, is offered the seat on day 1 where they stand first. And
+-- 11, who ranks three wishes and gets the third, gets it too if the first two change places. In
+-- the summer of three days 13 waits to the end, and the days are the same if they withdrew before.
 use Rattle.std.specs.Prelude.{◌≡◌, ◌∷◌, ◌==◌, ℕ, All, IsTrue, List, None, Option, Some, [], false, if◌then◌else◌, length, slice_get}
 use Rattle.std.specs.List.{AllZip}
 use Rattle.admit_core.specs.declared.dossier.AnswerKind.TheVariants.{Quit}
@@ -11,17 +12,20 @@ use Rattle.admit_core.specs.declared.ranking.CallOrder.{CallOrder}
 use Rattle.admit_core.specs.declared.records.DayRecord.{DayRecord}
 use Rattle.admit_core.specs.declared.records.Terms.{Terms}
 use Rattle.admit_core.specs.declared.state.Mark.{Mark}
-use Rattle.admit_core.specs.declared.state.Status.TheVariants.{Accepted, Offered, Quit as HasQuit, Waiting}
+use Rattle.admit_core.specs.declared.state.Status.TheVariants.{Accepted, Offered, Quit as HasQuit, Waiting, Withdrawn}
 use Rattle.admit_core.specs.CallOrder.{AreCallOrders}
 use Rattle.admit_core.specs.Days.{Days, first_evening}
 use Rattle.admit_core.specs.DossierRows.{DossierRows}
 use Rattle.admit_core.specs.Lapses.{AreTermsFor}
-use Rattle.admit_core.specs.State.{State, entries, is_live}
+use Rattle.admit_core.specs.State.{State, entries, is_gone, is_live, with_mark_at}
 use Rattle.admit_core.specs.Validity.{IsValid}
 use Rattle.admit_core.specs.WorkedDays.{change, day, freeing, in_order, quiet}
 use Rattle.admit_core.specs.WorkedRows.{group, marked, programme, ranked, rows, wish}
 use Rattle.campaign_laws.specs.AutomaticDay.{has_as_good}
 use Rattle.campaign_laws.specs.Kept.{GivesNoAnswer}
+use Rattle.campaign_laws.specs.Moments.{openings}
+use Rattle.campaign_laws.specs.PassedOver.{IsUnbarred, WaitsAt}
+use Rattle.campaign_laws.specs.WorkedCampaign.{before_summer, next_day, summer_days, summer_orders, third_night, thirteenth}
 use Rattle.change_laws.specs.Kinder.{IsKinder, IsNotHurt, IsSilent, RanksWishes}
 use Rattle.change_laws.specs.OnePlaceUp.{is_ever_offered}
 use Rattle.change_laws.specs.Unread.{IsUnread, reranked}
@@ -122,7 +126,8 @@ first_of_two = in_order (11 ∷ 12 ∷ []) ∷ []
 
 abbrev pub later_days : List DayRecord
 later_days =
-    day 1 (quiet [] [] (1 ∷ []) ∷ []) (0 ∷ []) [] ∷ day 2 (quiet [] [] (0 ∷ []) ∷ []) (0 ∷ []) [] ∷ []
+    day 1 (quiet [] [] (1 ∷ []) ∷ []) (0 ∷ []) []
+    ∷ day 2 (quiet [] [] (0 ∷ []) ∷ []) (0 ∷ []) [] ∷ []
 
 abbrev pub sooner_days : List DayRecord
 sooner_days =
@@ -194,3 +199,22 @@ OrderAboveIsNeverReadWitness =
     × GivesNoAnswer old c days
     × All (IsUnread rank c new) (entries new)
     × Days terms orders d (reranked rank old) days (reranked rank new)
+
+abbrev pub UnbarredWishMayBeStruckOutWitness : Type 0
+UnbarredWishMayBeStruckOutWitness =
+    let terms : Option Terms = next_day in
+    let orders : List CallOrder = summer_orders in
+    let d : ℕ = 1 in
+    let old : State = before_summer in
+    let days : List DayRecord = summer_days in
+    let new : State = third_night in
+    let place : ℕ = 2 in
+    let w : Wish = thirteenth in
+    let gone : Mark = marked Withdrawn 0 0 in
+    AreTermsFor old.dossier terms
+    × (length old.marks ≡ length old.dossier.wishes)
+    × Days terms orders d old days new
+    × WaitsAt new place w
+    × All (IsUnbarred w) (openings terms orders old days)
+    × IsTrue (is_gone gone)
+    × Days terms orders d (with_mark_at old place gone) days (with_mark_at new place gone)

@@ -1,5 +1,5 @@
 //! Witnesses of the laws of changed dossiers.
-ghost use Rattle.law_cases.specs.Changes.{IsNotHurtRankedWitness, IsNotHurtSilentWitness, MoreSeatsAndAnswersHurtNobodyWitness, OnePlaceUpKeepsEachOfferWitness, OrderAboveIsNeverReadWitness};
+ghost use Rattle.law_cases.specs.Changes.{IsNotHurtRankedWitness, IsNotHurtSilentWitness, MoreSeatsAndAnswersHurtNobodyWitness, OnePlaceUpKeepsEachOfferWitness, OrderAboveIsNeverReadWitness, UnbarredWishMayBeStruckOutWitness};
 
 /// Of the law of kinder dossiers.
 #[tactic(auto, using(crate::proofs::ChangeCases::kinder_here))]
@@ -19,4 +19,10 @@ pub fn witness_of_better_places()
 #[tactic(auto, using(crate::proofs::ChangeCases::unread_here))]
 pub fn witness_of_unread_orders()
     ensures unread { OrderAboveIsNeverReadWitness }
+{}
+
+/// Of the law of struck wishes.
+#[tactic(auto, using(crate::proofs::ChangeCases::struck_here))]
+pub fn witness_of_struck_wishes()
+    ensures struck { UnbarredWishMayBeStruckOutWitness }
 {}
