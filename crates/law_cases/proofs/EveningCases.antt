@@ -1,5 +1,5 @@
 -- The witnesses of the laws of evenings, of nights and of those ahead, by computation and by the laws.
-use Rattle.std.proofs.Common.{ℕ, ◌≤◌, ◌≡◌, Bool, true, not, ◌&&◌, List, [], ◌∷◌, None, refl, arith, lit≤, nat_eq}
+use Rattle.std.proofs.Common.{◌≡◌, Bool, true, not, ◌&&◌, [], ◌∷◌, None, refl, arith, lit≤, nat_eq}
 use Rattle.std.specs.Prelude.{All, AllPairs, slice_index}
 use Rattle.std.proofs.lemmas.Bool.{and_from, both_ways, eq-eqb, not-true}
 use Rattle.std.proofs.lemmas.List.Elements.{All-from_recursion}
@@ -31,7 +31,7 @@ use Rattle.law_cases.specs.Explanations.{held_day, held_start, realistic_day, re
 use Rattle.law_cases.proofs.BarCases.{greatest_of}
 use Rattle.law_cases.proofs.DayCases.{held_is_day, realistic_is_day}
 use Rattle.law_cases.proofs.PassCases.{held_called, realistic_called}
-use Rattle.law_cases.proofs.Tested.{all_pairs, at_most_by, pairs_by}
+use Rattle.law_cases.proofs.Tested.{at_most_by, pairs_by}
 use Rattle.law_cases.proofs.Valid.{valid_by}
 
 pub passes_are_few_here : PassesAreFewWitness

@@ -3,6 +3,7 @@ pub mod AutomaticDays
 pub mod Bars
 pub mod Beds
 pub mod CallOrders
+pub mod Changes
 pub mod Dates
 pub mod Days
 pub mod Definitions

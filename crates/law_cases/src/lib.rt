@@ -12,6 +12,7 @@ mod bars;
 mod beds;
 mod call_orders;
 mod chains;
+mod changes;
 mod definitions;
 mod evenings;
 mod matchings;
@@ -26,6 +27,10 @@ pub use bars::{witnesses_of_bars, witnesses_of_runs};
 pub use beds::witnesses_of_beds;
 pub use call_orders::{witnesses_of_call_orders, witnesses_of_least_orders};
 pub use chains::witnesses_of_written_chains;
+pub use changes::{
+    witness_of_better_places, witness_of_struck_wishes, witness_of_unread_orders,
+    witnesses_of_kinder_dossiers,
+};
 pub use definitions::{worked_definitions, worked_relations};
 pub use evenings::{witness_of_limits, witnesses_of_campaign_bars, witnesses_of_days_and_evenings};
 pub use matchings::{

@@ -1,0 +1,4 @@
+pub mod Kinder
+pub mod OnePlaceUp
+pub mod StruckOut
+pub mod Unread
