@@ -121,7 +121,11 @@ fn play<'d>(
 {
     let _ = state.dossier().wishes.len(); // learns that the dossier is valid
     let _ = roster.orders(); // these are the dossier's
-    let lapsed = begin_day(alloc, state, terms, day, beside)?;
+    let Begun {
+        lapsed,
+        beside: touched,
+    } = begin_day(alloc, state, terms, day)?;
+    *beside = touched;
     let passes = make_passes(
         alloc,
         opening,
@@ -138,27 +142,34 @@ fn play<'d>(
     Ok(done)
 }
 
-/// Makes the lapse and the answers of a day. It lists the offers that lapsed, and wishes of those
-/// whom the lapse and the answers may have changed. A refusal may come in the midst of the answers.
-fn begin_day(
+/// What the lapse and the answers of a day did.
+#[derive(Drop)]
+pub struct Begun {
+    /// The offers that lapsed.
+    pub lapsed: Vec<Lapse>,
+    /// Wishes of those whom the lapse and the answers may have changed.
+    pub beside: Vec<u32>,
+}
+
+/// Makes the lapse and the answers of a day. A refusal may come in the midst of the answers.
+pub fn begin_day(
     alloc: Global,
     state: &mut DayState<'_>,
     terms: Option<&Terms>,
     day: u32,
-    beside: &mut Vec<u32>,
-) -> Result<Vec<Lapse>, DayRefusal>
+) -> Result<Begun, DayRefusal>
     requires before { AreTermsFor state.old.dossier (option_copied terms) }
     requires day { IsDayNumber day }
 
-    ensures lapsed { IfOk result (λ v. v.items ≡ lapsed_on (option_copied terms.entry) day
-        state.old) }
+    ensures lapsed { IfOk result (λ begun. begun.lapsed.items ≡ lapsed_on
+        (option_copied terms.entry) day state.old) }
     ensures fits { IfOk result (λ _. unfit_on (option_copied terms.entry) day state.old ≡ None) }
     ensures state { IfOk result (λ _. state.new ≡ morning (option_copied terms.entry) day
         state.old) }
-    ensures within { IfOk result (λ _. AreWishesOf state.new.dossier beside.new.items) }
-    ensures answered { IfOk result (λ _. IsAnswered state.old
-        → IsAnsweredBut beside.new.items state.new) }
-    ensures alike { IfOk result (λ _. beside.new.items ≡ [] → state.new ≡ state.old) }
+    ensures within { IfOk result (λ begun. AreWishesOf state.new.dossier begun.beside.items) }
+    ensures answered { IfOk result (λ begun. IsAnswered state.old
+        → IsAnsweredBut begun.beside.items state.new) }
+    ensures alike { IfOk result (λ begun. begun.beside.items ≡ [] → state.new ≡ state.old) }
     ensures unfit { IfErr result
         (IsUnfitOf state.old.dossier day (unfit_on (option_copied terms.entry) day state.old)) }
     ensures dossier { state.new.dossier ≡ state.old.dossier }
@@ -166,6 +177,6 @@ fn begin_day(
     let _ = state.marks(); // one for each wish
     let lapsed = lapse_offers(alloc, state, terms, day)?;
     answer(state, day)?;
-    list_touched(beside, state, lapsed.as_slice(), day)?;
-    Ok(lapsed)
+    let beside = list_touched(alloc, state, lapsed.as_slice(), day)?;
+    Ok(Begun { lapsed, beside })
 }

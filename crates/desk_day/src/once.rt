@@ -40,7 +40,7 @@ fn keep_once(places: &mut Vec<u32>, state: &DayState<'_>)
 
 /// Adds the offers of a pass to the wishes of those whom it asks. Where they are to be gone along
 /// one wish of each candidate is left.
-pub(crate) fn ask_beside(
+pub fn ask_beside(
     places: &mut Vec<u32>,
     state: &DayState<'_>,
     offers: &[u32],

@@ -204,7 +204,7 @@ fn make_pass(
 
 /// Answers for the candidates of the wishes that are asked for, where all others have been answered
 /// for, and elsewhere for all.
-fn answer_after(state: &mut DayState<'_>, is_answered: bool, asked: &[u32], stamp: Stamp) -> Freed
+pub fn answer_after(state: &mut DayState<'_>, is_answered: bool, asked: &[u32], stamp: Stamp) -> Freed
     requires asked { AreWishesOf state.old.dossier asked.now }
     requires others { is_answered ≡ true → AreAnsweredBut asked.now state.old stamp }
     ensures state { state.new ≡ auto_all state.old stamp }

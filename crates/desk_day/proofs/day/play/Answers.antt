@@ -25,13 +25,13 @@ make_passes-requires-clause-ceilings g c =
     c.requires.ceilings ∙ sym (ap (λ (d : DossierRows). length d.schools) c.begin_day.ensures.dossier)
 
 pub make_passes-requires-clause-beside : goal.make_passes-requires-clause-beside
-make_passes-requires-clause-beside g c = c.in_ok-lapsed.ensures.within
+make_passes-requires-clause-beside g c = c.in_ok-begun.ensures.within
 
 pub make_passes-requires-clause-answered : goal.make_passes-requires-clause-answered
-make_passes-requires-clause-answered g c = λ known. c.in_ok-lapsed.ensures.answered (c.requires.answered known)
+make_passes-requires-clause-answered g c = λ known. c.in_ok-begun.ensures.answered (c.requires.answered known)
 
 pub make_passes-requires-clause-alike : goal.make_passes-requires-clause-alike
-make_passes-requires-clause-alike g c = λ alike none. c.requires.alike alike ∙ sym (c.in_ok-lapsed.ensures.alike none)
+make_passes-requires-clause-alike g c = λ alike none. c.requires.alike alike ∙ sym (c.in_ok-begun.ensures.alike none)
 
 pub returns-in_err-passes-clause-done : goal.returns-in_err-passes-clause-done
 returns-in_err-passes-clause-done g c = IfOk-from_err _ _ c.from_residual-in_err-passes.ensures.0
@@ -72,15 +72,15 @@ returns-clause-done g c =
     let day = c.args.day in
     let evening = c.make_passes.new.state in
     let passes = c.in_ok-passes.passes.items in
-    let done = recorded day passes c.in_ok-lapsed.lapsed.items evening in
-    let morning = c.in_ok-lapsed.ensures.state in
+    let done = recorded day passes c.in_ok-begun.begun.lapsed.items evening in
+    let morning = c.in_ok-begun.ensures.state in
     let valid : IsValid s.dossier = subst IsValid (c.behind-state.view_is ∙ c.dossier.ensures) c.behind-state.invariant in
     let called : AreCallOrders s.dossier.groups orders =
     subst (λ (d : DossierRows). AreCallOrders d.groups orders) c.requires.roster c.orders.ensures.right in
     let first = goal.Picker-dyn g c.args.picker.now in
     let is : IsDay terms orders ceilings s done evening = record {
-      lapsed = c.in_ok-lapsed.ensures.lapsed;
-      fits = c.in_ok-lapsed.ensures.fits;
+      lapsed = c.in_ok-begun.ensures.lapsed;
+      fits = c.in_ok-begun.ensures.fits;
       passes = subst (λ (m : State). Passes orders ceilings day 1 m passes evening) morning c.in_ok-passes.ensures.passes;
       left = refl;
       free = refl;
