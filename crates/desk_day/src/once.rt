@@ -48,8 +48,9 @@ pub fn ask_beside(
 ) -> Result<(), AllocError>
     requires places { AreWishesOf state.now.dossier places.old.items }
     requires offers { AreWishesOf state.now.dossier offers.now }
-    ensures { OnOk result (NamesSame state.now.dossier (places.old.items ++ offers.now)
+    ensures names { OnOk result (NamesSame state.now.dossier (places.old.items ++ offers.now)
         places.new.items) }
+    ensures within { AreWishesOf state.now.dossier places.new.items }
 {
     places.extend_from_slice(offers)?;
     if is_answered {

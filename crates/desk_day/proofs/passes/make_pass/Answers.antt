@@ -63,7 +63,7 @@ answer_after-freed-requires g c =
     let are = c.as_slice.ensures ∙ c.in_ok-pass.ensures.pass.offers in
     let made = c.in_ok-pass.ensures.state in
     let names = names_there off.dossier off.dossier (beside ++ offers) _ c.as_slice-2.result.now refl c.as_slice-2.ensures.value
-    c.in_ok-ask_beside.ensures in
+    c.in_ok-ask_beside.ensures.names in
     record {
       asked = names.within;
       others = λ known. others_stay off (auto_all off c.args.stamp) (beside ++ offers) c.as_slice-2.result.now names
@@ -88,7 +88,7 @@ changes_after-requires g c =
     let opens = ap (λ (t : State). t.dossier) c.requires.opening in
     let same = ap (λ (t : State). t.dossier) made ∙ sym opens in
     let names = names_there c.pass_along.new.state.dossier opening.dossier (beside ++ offers) _ c.as_slice-3.result.now same
-    c.as_slice-3.ensures.value c.in_ok-ask_beside.ensures in
+    c.as_slice-3.ensures.value c.in_ok-ask_beside.ensures.names in
     record {
       same = ap (λ (t : State). t.dossier) (close ∙ ap (λ (t : State). auto_all t stamp) made) ∙ sym opens;
       asked = names.within;
@@ -181,7 +181,7 @@ pub returns-clause-asked : goal.returns-clause-asked
 returns-clause-asked g c =
     let beside = c.args.beside.now.items in
     names_of_offers c.pass_along.new.state.dossier c.args.state.now.dossier beside c.as_slice.result.now _ _
-    (ap (λ (t : State). t.dossier) c.in_ok-pass.ensures.state) c.as_slice.ensures c.in_ok-ask_beside.ensures
+    (ap (λ (t : State). t.dossier) c.in_ok-pass.ensures.state) c.as_slice.ensures c.in_ok-ask_beside.ensures.names
 
 pub returns-clause-told : goal.returns-clause-told
 returns-clause-told g c = c.in_ok-pass.ensures.picks.told
