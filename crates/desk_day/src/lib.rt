@@ -17,6 +17,7 @@ mod morning;
 mod once;
 mod passes;
 mod refusal;
+mod running;
 mod touched;
 
 pub use ceilings::{ceilings_on, own_ceilings};
