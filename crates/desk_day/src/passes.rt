@@ -23,10 +23,11 @@ use round::pass_along;
 use std::alloc::Global;
 
 impl Running<'_> {
-    /// Makes passes from the present state on, up to the first whose automatic answers free nothing.
+    /// Makes passes from the present state on, up to the first whose automatic answers free
+    /// nothing.
     ///
-    /// A pass that is not the last refuses a live wish, and none comes back to life: so there are at
-    /// most as many passes as wishes, and one more.
+    /// A pass that is not the last refuses a live wish, and none comes back to life: so there are
+    /// at most as many passes as wishes, and one more.
     pub(crate) fn make_passes(
         &mut self,
         alloc: Global,

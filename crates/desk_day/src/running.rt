@@ -11,10 +11,10 @@ use std::marker::Model;
 
 /// The present state of a dossier's wishes, and the opening of the last pass.
 ///
-/// Where `is_answered`, all have been answered for in the present state but those who have a wish in
-/// `beside`: the next pass then asks them and those with an offer, and no others. Where `is_alike`,
-/// the opening is the present state, and need not be copied from it. Neither is said while a pass
-/// is made.
+/// Where `is_answered`, all have been answered for in the present state but those who have a wish
+/// in `beside`: the next pass then asks them and those with an offer, and no others. Where
+/// `is_alike`, the opening is the present state, and need not be copied from it. Neither is said
+/// while a pass is made.
 pub(crate) struct Running<'d> {
     pub(crate) present: DayState<'d>,
     pub(crate) opening: DayState<'d>,
