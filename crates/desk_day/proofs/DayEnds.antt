@@ -1,7 +1,6 @@
 -- A day on a desk from the day that is played on its states.
-use Rattle.std.proofs.Common.{ℕ, ◌≡◌, ◌++◌, Bool, false, List, sym, subst, ◌∙◌, Option, Result, Ok, Err, IfOk, IfErr}
-use Rattle.std.specs.Prelude.{OnErr, IsErrAnd, is_err}
-use Rattle.std.proofs.lemmas.Bool.{false≢true}
+use Rattle.std.proofs.Common.{ℕ, ◌≡◌, ◌++◌, List, ap, sym, subst, Option, Result, Ok, Err, IfErr}
+use Rattle.std.specs.Prelude.{OnErr, IsErrAnd}
 use Rattle.admit_core.specs.declared.ranking.CallOrder.{CallOrder}
 use Rattle.admit_core.specs.declared.records.DayRecord.{DayRecord}
 use Rattle.admit_core.specs.declared.records.Terms.{Terms}
@@ -11,12 +10,10 @@ use Rattle.desk_day.specs.AnswersOn.{IsUnfitOf}
 use Rattle.desk_day.specs.DayPasses.{TellsMore}
 use Rattle.desk_day.specs.DeskStates.{DeskStates}
 use Rattle.desk_day.specs.RunDay.{Moment, IsDayDone, EndsDay, KeepsOpening, TellsNoneUnfit}
+use Rattle.desk_day.specs.Running.{IsUndone, RunningStates, moment_on}
+use Rattle.desk_day.proofs.PassesSoFar.{tells_still}
 use Rattle.desk_day.specs.declared.refusal.DayRefusal.{DayRefusal}
 use Rattle.desk_day.specs.declared.refusal.DayRefusal.TheVariants as refusals
-
-pub no_refusal : {T E : Type 0} (P : Type 0) (r : Result T E) {b : Bool} → b ≡ is_err r → b ≡ false → OnErr r P
-no_refusal P (Ok x) is none = tt
-no_refusal P (Err e) is none = absurd (false≢true (sym none ∙ is))
 
 -- where memory ran out, what is said of that
 pub ran_out : {T : Type 0} (P : DayRefusal → Type 0) (r : Result T DayRefusal) → IsErrAnd r (λ e. e ≡ refusals.OutOfMemory)
@@ -36,52 +33,75 @@ pub done_so : (terms : Option Terms) (orders : List CallOrder) (ceilings : List 
 done_so terms orders ceilings day before after found done same is =
     subst (λ (d : DayRecord). IsDayDone terms orders ceilings day before d after) (sym same) is
 
--- the evenings of the desk do not matter
-module _ (terms : Option Terms) (orders : List CallOrder) (ceilings : List ℕ) (day : ℕ) where
-  abbrev at : State → State → State → List ℕ → (List ℕ → List ℕ → ℕ) → Moment
-  at present evening opening told choice = record {
-    desk = record { present = present; evening = evening; opening = opening };
-    told = told;
-    choice = choice;
-  }
+-- nothing was told, and the opening is as it was
+keeps_still : (before after : State) → after ≡ before → (refusal : DayRefusal) → KeepsOpening before after refusal
+keeps_still before after same (refusals.Unfit refusal) = same
+keeps_still before after same refusals.OutOfMemory = tt
 
-  done_there : (old was new opening one other late later : State) (told told_after : List ℕ) (choice choice_after : List ℕ → List ℕ → ℕ)
-      (r : Result DayRecord DayRefusal)
-      → IfOk r (λ done. IsDayDone terms orders ceilings day (at old one was told choice) done (at new late opening told_after choice_after))
-      → IfOk r
-      (λ done. IsDayDone terms orders ceilings day (at old other was told choice) done (at new later opening told_after choice_after))
-  done_there old was new opening one other late later told told_after choice choice_after (Err e) is = tt
-  done_there old was new opening one other late later told told_after choice choice_after (Ok done) is = record {
-    rule = record {
-      number = is.rule.number;
-      is_day = is.rule.is_day;
-      opening = is.rule.opening;
-      told = is.rule.told;
-      chosen = is.rule.chosen;
-    };
-    follows = is.follows;
-  }
+tells_none : (before after : List ℕ) → after ≡ before → (refusal : DayRefusal) → TellsNoneUnfit before after refusal
+tells_none before after same (refusals.Unfit refusal) = same
+tells_none before after same refusals.OutOfMemory = tells_still before after same
 
-  pub ends_played : (desk : DeskStates) (old evening was new now opening : State) (told told_after : List ℕ)
-      (choice choice_after : List ℕ → List ℕ → ℕ) (r : Result DayRecord DayRefusal)
-      → (at old evening was told choice).desk ≡ desk → now ≡ old
-      → IfOk r (λ done. IsDayDone terms orders ceilings day (at old old was told choice) done (at new old opening told_after choice_after))
-      → IfErr r (IsUnfitOf old.dossier day (unfit_on terms day old)) → OnErr r (new ≡ old) → new.dossier ≡ old.dossier
-      → IfErr r (KeepsOpening was opening)
-      → IfErr r (TellsNoneUnfit told told_after) → choice_after ≡ choice
-      → EndsDay terms orders ceilings day (record { desk = desk; told = told; choice = choice })
-      (at new now opening told_after choice_after) r
-  ends_played desk old evening was new now opening told told_after choice choice_after r is now_is done unfit restored same unopened untold
-      kept =
-      let P : DeskStates → Type 0 = λ d. EndsDay terms orders ceilings day (record { desk = d; told = told; choice = choice })
-      (at new now opening told_after choice_after) r in
-      subst P is (record {
-        done = done_there old was new opening old evening old now told told_after choice choice_after r done;
-        unfit = unfit;
-        restored = restored;
+-- a day whose answers were not all done has made no pass
+pub not_begun : {T : Type 0} (terms : Option Terms) (day : ℕ) (before after : Moment) (r : Result T DayRefusal)
+    (refusal : DayRefusal) → IsErrAnd r (λ e. e ≡ refusal)
+    → IsUnfitOf before.desk.present.dossier day (unfit_on terms day before.desk.present) refusal
+    → after.desk.opening ≡ before.desk.opening → after.told ≡ before.told → IfErr r (IsUndone terms day before after)
+not_begun terms day before after (Ok x) refusal is unfit opening told = tt
+not_begun terms day before after (Err e) refusal is unfit opening told =
+    subst (λ (x : DayRefusal). IsUndone terms day before after x) (sym is) (record {
+      unfit = unfit;
+      unopened = keeps_still before.desk.opening after.desk.opening opening refusal;
+      untold = tells_none before.told after.told told refusal;
+    })
+
+-- a day on a desk from the day that ran on its states
+module _ (terms : Option Terms) (orders : List CallOrder) (ceilings : List ℕ) (day : ℕ) (desk : DeskStates)
+    (was new noted : RunningStates) (evening now : State) (told told_after : List ℕ)
+    (choice choice_after : List ℕ → List ℕ → ℕ)
+    (is : record { present = was.present; evening = evening; opening = was.opening } ≡ desk) (now_is : now ≡ was.present)
+    (kept : choice_after ≡ choice) where
+  abbrev Ends : DeskStates → RunningStates → Result DayRecord DayRefusal → Type 0
+  Ends before after r = EndsDay terms orders ceilings day (record { desk = before; told = told; choice = choice })
+      (moment_on after now told_after choice_after) r
+
+  pub ends_done : (done : DayRecord) → noted ≡ new
+      → IsDayDone terms orders ceilings day (moment_on was was.present told choice) done
+      (moment_on new was.present told_after choice_after)
+      → new.present.dossier ≡ was.present.dossier → Ends desk noted (Ok done)
+  ends_done done noted_is came same =
+      subst (λ (d : DeskStates). Ends d noted (Ok done)) is
+      (subst (λ (r : RunningStates). Ends (record { present = was.present; evening = evening; opening = was.opening }) r (Ok done))
+      (sym noted_is) (record {
+        done = record {
+          rule = record {
+            number = came.rule.number;
+            is_day = came.rule.is_day;
+            opening = came.rule.opening;
+            told = came.rule.told;
+            chosen = came.rule.chosen;
+          };
+          follows = came.follows;
+        };
+        unfit = tt;
+        restored = tt;
         evening = now_is;
         dossier = same;
-        unopened = unopened;
-        untold = untold;
+        unopened = tt;
+        untold = tt;
         choice = kept;
-      })
+      }))
+
+  pub ends_undone : (refusal : DayRefusal) → noted.present ≡ was.present → noted.opening ≡ new.opening
+      → IsUndone terms day (moment_on was was.present told choice) (moment_on new was.present told_after choice_after) refusal
+      → Ends desk noted (Err refusal)
+  ends_undone refusal restored opened undone = subst (λ (d : DeskStates). Ends d noted (Err refusal)) is (record {
+    done = tt;
+    unfit = undone.unfit;
+    restored = restored;
+    evening = now_is;
+    dossier = ap (λ (s : State). s.dossier) restored;
+    unopened = subst (λ (o : State). KeepsOpening was.opening o refusal) (sym opened) undone.unopened;
+    untold = undone.untold;
+    choice = kept;
+  })

@@ -21,7 +21,7 @@ use Rattle.desk_day.specs.RunDay.{IsDayByRule, Moment}
 use Rattle.desk_day.specs.Touched.{touched, wishes_of_answer}
 use Rattle.desk_day.proofs.Touching.{nothing_changed}
 
-no_items : {X : Type 0} (xs : List X) → nat_eq (length xs) 0 ≡ true → xs ≡ []
+pub no_items : {X : Type 0} (xs : List X) → nat_eq (length xs) 0 ≡ true → xs ≡ []
 no_items [] none = refl
 no_items (x ∷ xs) none = absurd (omega (arith, eqb-true (length (x ∷ xs)) 0 none))
 

@@ -1,5 +1,5 @@
 -- Where all have been answered for but those who have one of some wishes, only they and those with an offer are answered for, and change.
-use Rattle.std.proofs.Common.{ℕ, ◌<◌, ◌≡◌, false, List, ◌++◌, map, length, inl, inr, refl, sym, ◌∙◌, ap, subst, nat_eq}
+use Rattle.std.proofs.Common.{ℕ, ◌<◌, ◌≡◌, false, List, [], ◌++◌, arith, map, length, inl, inr, refl, sym, ◌∙◌, ap, subst, nat_eq}
 use Rattle.std.specs.Prelude.{All, if◌then◌else◌}
 use Rattle.std.proofs.lemmas.Bool.{cases_Bool, false≢true, or_parts}
 use Rattle.std.proofs.lemmas.List.{map-append}
@@ -18,7 +18,7 @@ use Rattle.admit_core.specs.Days.{offered, closing}
 use Rattle.admit_core.proofs.Tests.{among-map}
 use Rattle.day_state.specs.Kept.{mark_in}
 use Rattle.day_state.specs.Along.{change_along}
-use Rattle.day_state.proofs.Along.{along_at, length-with_marks}
+use Rattle.day_state.proofs.Along.{along_at, length-with_marks, same_marks, same_state}
 use Rattle.day_state.proofs.Independence.{Agrees}
 use Rattle.day_state.proofs.Places.{candidate_in}
 use Rattle.auto_answer.specs.Laws.{SameOthers, AreAnsweredBut, SameOwnMarks}
@@ -133,3 +133,16 @@ answered_along s opening orders bars beside offers asked stamp long opening_is a
 pub answered_all : (s : State) → IsAnswered s → (none : List ℕ) → IsAnsweredBut none s
 answered_all s answered none stamp c apart =
     subst (λ (t : State). SameOwnMarks c s t) (sym (answered stamp)) (record { dossier = refl; each = λ place lt own. refl })
+
+-- where nobody is left out, all have been answered for
+pub settled : (s : State) (beside : List ℕ) → length s.marks ≡ length s.dossier.wishes → beside ≡ []
+    → IsAnsweredBut beside s → IsAnswered s
+settled s beside long none answered stamp =
+    let t = auto_all s stamp in
+    let as_long : length t.marks ≡ length s.marks = length-with_marks (all_mark s stamp) s long in
+    same_state t s refl (same_marks t.marks s.marks as_long (λ k lt.
+    let c = candidate_of s.dossier k in
+    let k_in : k < length s.dossier.wishes = omega (arith, as_long, long, lt) in
+    let own : SameOwnMarks c s t =
+    answered stamp c (ap (λ (ks : List ℕ). is_among c (map (candidate_of s.dossier) ks)) none) in
+    sym (own.each k k_in refl)))

@@ -22,6 +22,7 @@ use Rattle.auto_answer.proofs.Answering.{all_mark}
 use Rattle.auto_answer.proofs.Freeing.{freeing_refuses}
 use Rattle.desk_day.specs.Changes.{answered_changes}
 use Rattle.desk_day.specs.DayPasses.{open_wishes}
+use Rattle.desk_day.specs.Running.{opening_after}
 use Rattle.admit_core.specs.AutoAnswer.{auto_status}
 use Rattle.admit_core.proofs.Statuses.{changed_status, status_of_auto}
 use Rattle.desk_day.proofs.ChangedMarks.{changes_alike, proposed_waits}
@@ -178,3 +179,13 @@ closed_long s close orders bars stamp long close_is =
     let f = λ (w : Wish) (m : Mark). if is_proposed s orders bars w m then changed_to Offered stamp m else m in
     let o_long : length o.marks ≡ length s.marks = length-with_marks f s long in
     rw close_is (length-with_marks (all_mark o stamp) o (o_long ∙ long) ∙ o_long ∙ long)
+
+-- the opening after a pass is of the dossier of its closing
+pub next_dossier : (all : Freed) (opening close next : State) → next ≡ opening_after all opening close
+    → opening.dossier ≡ close.dossier → next.dossier ≡ close.dossier
+next_dossier all opening close next next_is same =
+    ap (λ (t : State). t.dossier) next_is ∙ either (frees_nothing all)
+  where
+    either : (last : Bool) → (if last then opening else close).dossier ≡ close.dossier
+    either true = same
+    either false = refl

@@ -11,3 +11,4 @@ pub mod LastPasses
 pub mod RunDay
 pub mod Idle
 pub mod Once
+pub mod Running

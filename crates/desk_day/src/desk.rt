@@ -3,6 +3,7 @@ ghost use Rattle.std.specs.Prelude.{◌≡◌, IfOk, true};
 ghost use Rattle.admit_core.specs.Days.{first_evening};
 ghost use Rattle.desk_day.specs.DeskStates.{DeskStates};
 
+use crate::running::Running;
 use admit_core::{Dossier, OutOfMemory};
 use day_state::DayState;
 use std::alloc::Global;
@@ -11,42 +12,37 @@ use std::marker::Model;
 /// The present state of a dossier's wishes, the state in which its last day began, and the opening
 /// of the last pass.
 ///
-/// It also knows whether all have been answered for in the present state, as after each day: the
-/// next day then asks fewer, whose wishes are listed in `beside`. And it knows whether all three
-/// states are the same, as before the first day and after one on which nothing happened: then none
-/// has to be copied.
+/// Where `is_still`, the evening is the present state, as before the first day and after one on
+/// which nothing happened: then it need not be copied.
 pub struct Desk<'d> {
-    pub(crate) present: DayState<'d>,
+    pub(crate) running: Running<'d>,
     pub(crate) evening: DayState<'d>,
-    pub(crate) opening: DayState<'d>,
-    pub(crate) is_answered: bool,
-    pub(crate) is_alike: bool,
-    pub(crate) beside: Vec<u32>,
+    pub(crate) is_still: bool,
 }
 
 // Not derived: so a desk is dropped in one step where it is held, and not state by state.
 impl Drop for Desk<'_> {
     fn drop(self) {
         let Desk {
-            present: _,
+            running: _,
             evening: _,
-            opening: _,
-            is_answered: _,
-            is_alike: _,
-            beside: _,
+            is_still: _,
         } = self;
     }
 }
 
 impl<'d> Model for Desk<'d> {
-    ghost use Rattle.desk_day.specs.DeskStates.{DeskStates, AreKept};
+    ghost use Rattle.desk_day.specs.DeskStates.{DeskStates, IsKept};
 
     ghost Value = { DeskStates };
 
-    ghost view = { λ s. record { present = s.present; evening = s.evening; opening = s.opening } };
+    ghost view = { λ s. record {
+      present = s.running.present;
+      evening = s.evening;
+      opening = s.running.opening;
+    } };
 
-    ghost invariant = { λ s. AreKept s.is_answered s.is_alike
-        (record { present = s.present; evening = s.evening; opening = s.opening }) };
+    ghost invariant = { λ s. IsKept s.is_still s.evening s.running.present };
 }
 
 impl<'d> Desk<'d> {
@@ -56,16 +52,12 @@ impl<'d> Desk<'d> {
         ensures evening { IfOk result (λ desk. desk.evening ≡ first_evening dossier.now) }
         ensures opening { IfOk result (λ desk. desk.opening ≡ first_evening dossier.now) }
     {
-        let present = DayState::begin(alloc, dossier)?;
-        let evening = present.copy(alloc)?;
-        let opening = present.copy(alloc)?;
+        let running = Running::begin(alloc, dossier)?;
+        let evening = running.now().copy(alloc)?;
         Ok(Desk {
-            present,
+            running,
             evening,
-            opening,
-            is_answered: false,
-            is_alike: true,
-            beside: Vec::new(alloc),
+            is_still: true,
         })
     }
 
@@ -73,7 +65,7 @@ impl<'d> Desk<'d> {
     pub fn now(&self) -> &DayState<'d>
         ensures { result.now ≡ self.now.present }
     {
-        &self.present
+        self.running.now()
     }
 
     /// The state in which the last day began: that of the evening before.
@@ -87,7 +79,7 @@ impl<'d> Desk<'d> {
     pub fn opening(&self) -> &DayState<'d>
         ensures { result.now ≡ self.now.opening }
     {
-        &self.opening
+        self.running.opening()
     }
 
     /// Makes the evening the present state, where it is not yet.
@@ -96,7 +88,7 @@ impl<'d> Desk<'d> {
         ensures present { self.new.present ≡ self.old.present }
         ensures opening { self.new.opening ≡ self.old.opening }
     {
-        keep_evening(&mut self.evening, &self.present, self.is_alike);
+        keep_evening(&mut self.evening, self.running.now(), self.is_still);
     }
 
     /// The present state alone; the room of the other two is given back.
@@ -104,24 +96,21 @@ impl<'d> Desk<'d> {
         ensures { result ≡ self.entry.present }
     {
         let Desk {
-            present,
+            running,
             evening: _,
-            opening: _,
-            is_answered: _,
-            is_alike: _,
-            beside: _,
+            is_still: _,
         } = self;
-        present
+        running.into_now()
     }
 }
 
 /// Makes the evening the present state, where it is not yet.
-pub(crate) fn keep_evening<'d>(evening: &mut DayState<'d>, present: &DayState<'d>, is_alike: bool)
+pub(crate) fn keep_evening<'d>(evening: &mut DayState<'d>, present: &DayState<'d>, is_still: bool)
     requires same { evening.old.dossier ≡ present.now.dossier }
-    requires alike { is_alike ≡ true → evening.old ≡ present.now }
+    requires still { is_still ≡ true → evening.old ≡ present.now }
     ensures { evening.new ≡ present.now }
 {
-    if !is_alike {
+    if !is_still {
         evening.set_from(present);
     }
 }

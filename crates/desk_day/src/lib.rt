@@ -17,10 +17,13 @@ mod morning;
 mod once;
 mod passes;
 mod refusal;
+mod running;
 mod touched;
 
 pub use ceilings::{ceilings_on, own_ceilings};
-pub use day::run_day_along;
+pub use day::{Begun, begin_day, run_day_along};
 pub use desk::Desk;
 pub use morning::make_morning;
+pub use once::ask_beside;
+pub use passes::answer_after;
 pub use refusal::DayRefusal;

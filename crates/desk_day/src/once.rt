@@ -40,7 +40,7 @@ fn keep_once(places: &mut Vec<u32>, state: &DayState<'_>)
 
 /// Adds the offers of a pass to the wishes of those whom it asks. Where they are to be gone along
 /// one wish of each candidate is left.
-pub(crate) fn ask_beside(
+pub fn ask_beside(
     places: &mut Vec<u32>,
     state: &DayState<'_>,
     offers: &[u32],
@@ -48,8 +48,9 @@ pub(crate) fn ask_beside(
 ) -> Result<(), AllocError>
     requires places { AreWishesOf state.now.dossier places.old.items }
     requires offers { AreWishesOf state.now.dossier offers.now }
-    ensures { OnOk result (NamesSame state.now.dossier (places.old.items ++ offers.now)
+    ensures names { OnOk result (NamesSame state.now.dossier (places.old.items ++ offers.now)
         places.new.items) }
+    ensures within { AreWishesOf state.now.dossier places.new.items }
 {
     places.extend_from_slice(offers)?;
     if is_answered {

@@ -1,5 +1,5 @@
 //! Whose wishes the lapse and the answers of a day may change.
-ghost use Rattle.std.specs.Prelude.{◌≡◌, ◌<◌, ◌++◌, All, OnOk, length, map, take};
+ghost use Rattle.std.specs.Prelude.{◌≡◌, ◌<◌, ◌++◌, All, IfOk, OnOk, length, map, take};
 ghost use Rattle.std.specs.List.{flat_map};
 ghost use Rattle.desk_day.specs.DayPlaces.{AreWishesOf};
 ghost use Rattle.desk_day.specs.Touched.{touched, wishes_of_answer};
@@ -7,25 +7,24 @@ ghost use Rattle.desk_day.specs.Touched.{touched, wishes_of_answer};
 use crate::answers_on::answers_on;
 use admit_core::{Answer, AnswerKind, Lapse, OutOfMemory};
 use day_state::DayState;
-use std::alloc::AllocError;
+use std::alloc::{AllocError, Global};
 
-/// Lists wishes of all whose offers lapse, and of all who answer on the day, in place of those that
-/// were listed.
+/// Wishes of all whose offers lapse, and of all who answer on the day.
 pub(crate) fn list_touched(
-    places: &mut Vec<u32>,
+    alloc: Global,
     state: &DayState<'_>,
     lapsed: &[Lapse],
     day: u32,
-) -> Result<(), OutOfMemory>
+) -> Result<Vec<u32>, OutOfMemory>
     requires { All (λ l. l.wish < length state.now.dossier.wishes) lapsed.now }
-    ensures listed { OnOk result (places.new.items ≡ touched state.now.dossier lapsed.now day) }
-    ensures within { OnOk result (AreWishesOf state.now.dossier places.new.items) }
+    ensures listed { IfOk result (λ v. v.items ≡ touched state.now.dossier lapsed.now day) }
+    ensures within { IfOk result (λ v. AreWishesOf state.now.dossier v.items) }
 {
-    places.clear();
-    push_lapsed(places, lapsed)?;
+    let mut places = Vec::new(alloc);
+    push_lapsed(&mut places, lapsed)?;
     let today = answers_on(state.dossier(), day);
-    push_answered(places, state, today.answers)?;
-    Ok(())
+    push_answered(&mut places, state, today.answers)?;
+    Ok(places)
 }
 
 /// Adds the wishes of lapses.

@@ -1,23 +1,18 @@
 -- The picker that the ending is lent.
-use Rattle.std.proofs.Common.{◌≡◌, ◌∙◌, ℕ, List, [], Option, None, Some, Result, Ok, Err, IfOk, refl, subst, sym}
+use Rattle.std.proofs.Common.{◌≡◌, ◌∙◌, List, [], Option, None, Some, Result, Ok, Err, IfOk, refl, subst, sym}
 use Rattle.std.specs.Prelude.{⊤}
-use Rattle.std.specs.Result.{IsErrAnd}
-use Rattle.std.proofs.lemmas.Result.{err_from_is_err_and}
 use Rattle.std.proofs.lemmas.List.{append-nil}
-use Rattle.admit_core.specs.DossierRows.{DossierRows}
 use Rattle.admit_core.specs.declared.ranking.CallOrder.{CallOrder}
 use Rattle.admit_core.specs.declared.records.DayRecord.{DayRecord}
 use Rattle.admit_core.specs.declared.refusal.Refusal.{Refusal}
 use Rattle.desk_day.specs.DayPasses.{TellsMore}
 use Rattle.desk_day.specs.DeskStates.{DeskStates}
-use Rattle.dossier_check.specs.Ids.{Ids}
 use Rattle.played.specs.Lent.{Lent, Untold}
 use Rattle.played.specs.PlayedDays.{Played}
 use Rattle.played.proofs.Naming.{OnlyNamed, back_untouched, each_named}
 use Rattle.request.specs.declared.modes.Mode.{Mode}
 use Rattle.request.specs.declared.pickers.PickerName.{PickerName}
 use Rattle.modes.specs.Asking.{ArePicks, Asked, IsLent, TellsLent, TellsPicks, asked}
-use Rattle.modes.specs.Beds.{PicksForFigures}
 use Rattle.modes.specs.Endings.{EndsAfter, EndsLent, IsEndOf, IsRefusedWith, lines_before}
 use Rattle.modes.specs.Jobs.{Seen, picker_after}
 use Rattle.modes.specs.declared.reply.Reply.{Reply}
@@ -27,29 +22,34 @@ pub nobody_lent : (name : Option PickerName) (pickers : Lent) → IsLent name pi
 nobody_lent None pickers = record { back = back_untouched pickers; others = λ name. refl }
 nobody_lent (Some name) pickers = record { back = back_untouched pickers; others = λ other none. refl }
 
-module _ {E : Type 0} (seen : Seen) (played : Played) (desk : DeskStates) (between after : Lent) (result : Result Reply E) where
+module _ {E : Type 0} (seen : Seen) (played : Played) (desk : DeskStates) (between after : Lent)
+    (result : Result Reply E) where
   -- the picker of the name was lent
-  lent_named : (name : PickerName) → OnlyNamed name between after → EndsLent seen played desk (asked between name) (asked after name) result → IsLent (Some name) between after
+  lent_named : (name : PickerName) → OnlyNamed name between after
+      → EndsLent seen played desk (asked between name) (asked after name) result → IsLent (Some name) between after
   lent_named name only ends = record {
     back = record {
       choice = each_named (λ n. after.choice n ≡ between.choice n) name ends.choice only.choice;
-      told = each_named (λ n. TellsMore (between.told n) (after.told n)) name ends.told (λ other none. ([], only.told other none ∙ sym (append-nil (between.told other))));
+      told = each_named (λ n. TellsMore (between.told n) (after.told n)) name ends.told
+          (λ other none. ([], only.told other none ∙ sym (append-nil (between.told other))));
     };
     others = only.told;
   }
 
-  pub ends_lent : (name : PickerName) → EndsLent seen played desk (asked between name) (asked after name) result → OnlyNamed name between after → Some name ≡ picker_after seen.request
+  pub ends_lent : (name : PickerName) → EndsLent seen played desk (asked between name) (asked after name) result
+      → OnlyNamed name between after → Some name ≡ picker_after seen.request
       → EndsAfter (Ok desk) seen played between after result
   ends_lent name ends only is = record {
     ends = ends.ends;
-    tells = subst (λ (n : Option PickerName). IfOk result (λ reply. TellsLent n (ArePicks seen.request.mode seen played desk) between after)) is ends.picks;
+    tells = subst (λ (n : Option PickerName). IfOk result
+        (λ reply. TellsLent n (ArePicks seen.request.mode seen played desk) between after)) is ends.picks;
     lends = subst (λ (n : Option PickerName). IsLent n between after) is (lent_named name only ends);
   }
 
 -- a mode that is lent a picker ends by what its text and its picks are
 module _ {E : Type 0} {seen : Seen} {played : Played} {desk : DeskStates} {before after : Asked}
     (told : TellsMore before.told after.told) (choice : after.choice ≡ before.choice) where
-  pub ends_so_lent : (mode : Mode) {reply : Reply} → seen.request.mode ≡ mode
+  ends_so_lent : (mode : Mode) {reply : Reply} → seen.request.mode ≡ mode
       → IsEndOf mode seen played desk reply.exit reply.text.items
       → TellsPicks (ArePicks mode seen played desk before) before.told after.told
       → EndsLent {E = E} seen played desk before after (Ok reply)
@@ -60,32 +60,35 @@ module _ {E : Type 0} {seen : Seen} {played : Played} {desk : DeskStates} {befor
     choice = choice;
   }
 
-  -- or not at all
-  pub stops_lent : (Q : E → Type 0) {result : Result Reply E} → IsErrAnd result Q
-      → EndsLent seen played desk before after result
-  stops_lent Q {result} stops =
-      let stopped = err_from_is_err_and result stops in
-      let Stops : Result Reply E → Type 0 = λ r. EndsLent seen played desk before after r in
-      subst Stops (sym stopped.1) (record { ends = tt; picks = tt; told = told; choice = choice })
+  -- and so does one that may run out of memory
+  pub ends_lent_by : (mode : Mode) → seen.request.mode ≡ mode → (result : Result Reply E)
+      → IfOk result (λ reply. IsEndOf mode seen played desk reply.exit reply.text.items)
+      → IfOk result (λ reply. TellsPicks (ArePicks mode seen played desk before) before.told after.told)
+      → EndsLent {E = E} seen played desk before after result
+  ends_lent_by mode is (Ok reply) ends picks = ends_so_lent mode is ends picks
+  ends_lent_by mode is (Err e) ends picks = record { ends = tt; picks = tt; told = told; choice = choice }
 
--- the picks for the figures of days that have another name
-pub picks_named : {days others : List DayRecord} {choice : List ℕ → List ℕ → ℕ} {before after : List ℕ}
-    (d : DossierRows) (index : Ids) (orders : List CallOrder) (desk : DeskStates) (school : ℕ) → days ≡ others
-    → TellsPicks (PicksForFigures d index orders days desk school choice before) before after
-    → TellsPicks (PicksForFigures d index orders others desk school choice before) before after
-picks_named {choice = choice} {before = before} d index orders desk school same picks =
-    (picks.0, subst (λ (ds : List DayRecord). PicksForFigures d index orders ds desk school choice before picks.0) same picks.1, picks.2)
+-- what holds of orders, days and a desk that have another name
+pub same_led : {orders others : List CallOrder} {days later : List DayRecord} {desk last : DeskStates}
+    (P : List CallOrder → List DayRecord → DeskStates → Type 0) → orders ≡ others → days ≡ later → desk ≡ last
+    → P orders days desk → P others later last
+same_led {orders = orders} {days = days} {later = later} {last = last} P called came led holds =
+    subst (λ (o : List CallOrder). P o later last) called
+    (subst (λ (ds : List DayRecord). P orders ds last) came (subst (λ (k : DeskStates). P orders days k) led holds))
 
 -- nobody is lent
 told_nothing : {E : Type 0} (result : Result Reply E) → IfOk result (λ reply. ⊤)
 told_nothing (Ok reply) = tt
 told_nothing (Err e) = tt
 
-pub ends_unlent : {E : Type 0} (seen : Seen) (played : Played) (desk : DeskStates) (pickers : Lent) (result : Result Reply E) → None ≡ picker_after seen.request
-    → IfOk result (λ reply. IsEndOf seen.request.mode seen played desk reply.exit reply.text.items) → EndsAfter (Ok desk) seen played pickers pickers result
+pub ends_unlent : {E : Type 0} (seen : Seen) (played : Played) (desk : DeskStates) (pickers : Lent)
+    (result : Result Reply E) → None ≡ picker_after seen.request
+    → IfOk result (λ reply. IsEndOf seen.request.mode seen played desk reply.exit reply.text.items)
+    → EndsAfter (Ok desk) seen played pickers pickers result
 ends_unlent seen played desk pickers result none ends = record {
   ends = ends;
-  tells = subst (λ (n : Option PickerName). IfOk result (λ reply. TellsLent n (ArePicks seen.request.mode seen played desk) pickers pickers)) none (told_nothing result);
+  tells = subst (λ (n : Option PickerName). IfOk result
+      (λ reply. TellsLent n (ArePicks seen.request.mode seen played desk) pickers pickers)) none (told_nothing result);
   lends = nobody_lent (picker_after seen.request) pickers;
 }
 
@@ -94,13 +97,18 @@ untold_after : {E : Type 0} (pickers : Lent) (result : Result Reply E) → IfOk 
 untold_after pickers (Ok reply) = λ name. refl
 untold_after pickers (Err e) = tt
 
-pub ends_cut_short : {E : Type 0} (refusal : Refusal) (seen : Seen) (played : Played) (pickers : Lent) (result : Result Reply E)
-    → IfOk result (λ reply. IsRefusedWith refusal (lines_before seen.request.mode seen played) reply.exit reply.text.items) → EndsAfter (Err refusal) seen played pickers pickers result
+pub ends_cut_short : {E : Type 0} (refusal : Refusal) (seen : Seen) (played : Played) (pickers : Lent)
+    (result : Result Reply E)
+    → IfOk result (λ reply. IsRefusedWith refusal (lines_before seen.request.mode seen played) reply.exit
+    reply.text.items) → EndsAfter (Err refusal) seen played pickers pickers result
 ends_cut_short refusal seen played pickers result ends =
     record { ends = ends; tells = untold_after pickers result; lends = nobody_lent (picker_after seen.request) pickers }
 
 -- the end of the days is the one that was found
-pub ends_so : {E : Type 0} (end found : Result DeskStates Refusal) (seen : Seen) (orders : List CallOrder) (days : List DayRecord) (between after : Lent) (result : Result Reply E) → end ≡ found
-    → EndsAfter found seen (record { orders = orders; days = days; end = found }) between after result → EndsAfter end seen (record { orders = orders; days = days; end = end }) between after result
+pub ends_so : {E : Type 0} (end found : Result DeskStates Refusal) (seen : Seen) (orders : List CallOrder)
+    (days : List DayRecord) (between after : Lent) (result : Result Reply E) → end ≡ found
+    → EndsAfter found seen (record { orders = orders; days = days; end = found }) between after result
+    → EndsAfter end seen (record { orders = orders; days = days; end = end }) between after result
 ends_so end found seen orders days between after result is ends =
-    subst (λ (e : Result DeskStates Refusal). EndsAfter e seen (record { orders = orders; days = days; end = e }) between after result) (sym is) ends
+    subst (λ (e : Result DeskStates Refusal). EndsAfter e seen (record { orders = orders; days = days; end = e })
+    between after result) (sym is) ends

@@ -14,17 +14,20 @@ use Rattle.modes.specs.Asking.{TellsPicks}
 use Rattle.modes.specs.Market.{PicksForMarket, TellsMarket}
 
 module _ (d : DossierRows) (orders : List CallOrder) (m : MarketRows) (same : m ≡ market_of d orders) where
-  pub tells_market : (candidates bars : List ℕ) (places : List (Option ℕ)) (text : List ℕ) → candidates ≡ market_candidates d → IsGreatest (market_system m) bars
+  pub tells_market : (candidates bars : List ℕ) (places : List (Option ℕ)) (text : List ℕ)
+      → candidates ≡ market_candidates d → IsGreatest (market_system m) bars
       → places ≡ matched_under m bars → text ≡ market_text d candidates bars places → TellsMarket d orders text
   tells_market candidates bars places text named greatest under is =
       record {
         bars = bars;
         greatest = subst (λ (x : MarketRows). IsGreatest (market_system x) bars) same greatest;
         is_text = is ∙ ap (λ (cs : List ℕ). market_text d cs bars places) named
-            ∙ ap (market_text d (market_candidates d) bars) (under ∙ ap (λ (x : MarketRows). matched_under x bars) same);
+            ∙ ap (market_text d (market_candidates d) bars)
+            (under ∙ ap (λ (x : MarketRows). matched_under x bars) same);
       }
 
-  pub picks_market : (choice : List ℕ → List ℕ → ℕ) (told after bars : List ℕ) → IsLedTo (market_system m) choice told after bars
+  pub picks_market : (choice : List ℕ → List ℕ → ℕ) (told after bars : List ℕ)
+      → IsLedTo (market_system m) choice told after bars
       → TellsPicks (PicksForMarket d orders choice told) told after
   picks_market choice told after bars led = (
     schools_of led.falls,
@@ -36,7 +39,8 @@ module _ (d : DossierRows) (orders : List CallOrder) (m : MarketRows) (same : m 
     led.told_of,
   )
 
-pub led_more : (m : MarketRows) (choice : List ℕ → List ℕ → ℕ) (told after bars : List ℕ) → IsLedTo (market_system m) choice told after bars → TellsMore told after
+pub led_more : (m : MarketRows) (choice : List ℕ → List ℕ → ℕ) (told after bars : List ℕ)
+    → IsLedTo (market_system m) choice told after bars → TellsMore told after
 led_more m choice told after bars led = (schools_of led.falls, led.told_of)
 
 -- what holds whatever the text is

@@ -28,24 +28,34 @@ use Rattle.modes.specs.Replay.{CanBeDated, CanBeWritten}
 use Rattle.modes.proofs.Writable.{played_written}
 
 few_days : (request : Request) → IsRequest request → days_of request ≤ 366
-few_days request is = elim (cases_Bool (runs_days request.mode)) [ inl runs ↦ rw runs is.days | inr none ↦ rw none (omega arith) ]
+few_days request is = elim (cases_Bool (runs_days request.mode))
+    [ inl runs ↦ rw runs is.days | inr none ↦ rw none (omega arith) ]
 
 -- the days that came about can be written, and so can the evening after them
-pub written : (seen : Seen) (played : Played) → CanEnd seen played → All (CanBeWritten seen.dossier seen.dated) played.days × ForOk played.end (λ desk. CanBeDated seen.dated desk.present)
+pub written : (seen : Seen) (played : Played) → CanEnd seen played
+    → All (CanBeWritten seen.dossier seen.dated) played.days × ForOk played.end
+    (λ desk. CanBeDated seen.dated desk.present)
 written seen played can =
-    played_written seen.dossier seen.dated (days_of seen.request) seen.request.picker can.plays.0 played can.plays.1 (few_days seen.request can.request) can.dated can.plays.2
+    played_written seen.dossier seen.dated (days_of seen.request) seen.request.picker can.plays.0 played can.plays.1
+    (few_days seen.request can.request) can.dated can.plays.2
 
-as_many : (terms : Option Terms) (number : ℕ) (days : List DayRecord) (last : DeskStates) (end : Result DeskStates Refusal) → DaysEndAfter terms number days last end → ForOk end (λ desk. length days ≡ number)
+as_many : (terms : Option Terms) (number : ℕ) (days : List DayRecord) (last : DeskStates)
+    (end : Result DeskStates Refusal) → DaysEndAfter terms number days last end
+    → ForOk end (λ desk. length days ≡ number)
 as_many terms number days last (Ok desk) ends = λ x same. ends.0
 as_many terms number days last (Err refusal) ends = λ x same. absurd (cc)
 
 -- where no day is asked for, the desk is the first one
-no_day : (plan : Plan) (first : DeskStates) (before : Lent) (days : List DayRecord) (last : DeskStates) → Lead plan 1 first before days last → length days ≡ 0 → first ≡ last
+no_day : (plan : Plan) (first : DeskStates) (before : Lent) (days : List DayRecord) (last : DeskStates)
+    → Lead plan 1 first before days last → length days ≡ 0 → first ≡ last
 no_day plan first before [] last lead none = lead
 no_day plan first before (day ∷ days) last lead none = absurd (omega arith)
 
-desk_at_first : (terms : Option Terms) (number : ℕ) (days : List DayRecord) (last : DeskStates) (end : Result DeskStates Refusal) (first : DeskStates) (plan : Plan) (before : Lent) → Lead plan 1 first before days last
-    → DaysEndAfter terms number days last end → (desk : DeskStates) → end ≡ Ok desk → number ≡ 0 → desk.present ≡ first.present
+desk_at_first : (terms : Option Terms) (number : ℕ) (days : List DayRecord) (last : DeskStates)
+    (end : Result DeskStates Refusal) (first : DeskStates) (plan : Plan) (before : Lent)
+    → Lead plan 1 first before days last
+    → DaysEndAfter terms number days last end → (desk : DeskStates) → end ≡ Ok desk → number ≡ 0
+    → desk.present ≡ first.present
 desk_at_first terms number days last (Ok found) first plan before lead ends desk same none =
     let begun : first ≡ last = no_day plan first before days last lead (ends.0 ∙ none) in
     let here : found ≡ desk = cc in
@@ -53,7 +63,8 @@ desk_at_first terms number days last (Ok found) first plan before lead ends desk
 desk_at_first terms number days last (Err refusal) first plan before lead ends desk same none = absurd (cc)
 
 -- the days led to a desk
-ends_on : (seen : Seen) (played : Played) (desk : DeskStates) → CanEnd seen played → played.end ≡ Ok desk → CanBeEnded seen played desk
+ends_on : (seen : Seen) (played : Played) (desk : DeskStates) → CanEnd seen played → played.end ≡ Ok desk
+    → CanBeEnded seen played desk
 ends_on seen played desk can same =
     let plays = can.plays.2 in
     let all = written seen played can in
@@ -63,35 +74,48 @@ ends_on seen played desk can same =
       index = can.index;
       dated = can.dated;
       called = plays.called;
-      number = as_many (terms_in seen.dated) (days_of seen.request) played.days plays.last played.end plays.ends desk same;
+      number = as_many (terms_in seen.dated) (days_of seen.request) played.days plays.last played.end plays.ends desk
+          same;
       days = all.0;
       offers = all.1 desk same;
-      last = desk_played seen.dossier (terms_in seen.dated) (days_of seen.request) seen.request.picker can.plays.0 played can.plays.1 plays desk same;
-      idle = desk_at_first (terms_in seen.dated) (days_of seen.request) played.days plays.last played.end (first_desk seen.dossier) (plan_of (terms_in seen.dated) seen.request.picker played) can.plays.0 plays.days plays.ends desk same;
+      last = desk_played seen.dossier (terms_in seen.dated) (days_of seen.request) seen.request.picker can.plays.0
+          played can.plays.1 plays desk same;
+      idle = desk_at_first (terms_in seen.dated) (days_of seen.request) played.days plays.last played.end
+          (first_desk seen.dossier) (plan_of (terms_in seen.dated) seen.request.picker played) can.plays.0 plays.days
+          plays.ends desk same;
     }
 
 -- the same of what is kept of the days then
-pub ends_led : (seen : Seen) (played : Played) (desk : DeskStates) → CanEnd seen played → played.end ≡ Ok desk → CanBeEnded seen (record { orders = played.orders; days = played.days; end = Ok desk }) desk
+pub ends_led : (seen : Seen) (played : Played) (desk : DeskStates) → CanEnd seen played → played.end ≡ Ok desk
+    → CanBeEnded seen (record { orders = played.orders; days = played.days; end = Ok desk }) desk
 ends_led seen played desk can same =
-    subst (λ (end : Result DeskStates Refusal). CanBeEnded seen (record { orders = played.orders; days = played.days; end = end }) desk) same (ends_on seen played desk can same)
+    subst (λ (end : Result DeskStates Refusal). CanBeEnded seen
+    (record { orders = played.orders; days = played.days; end = end }) desk) same
+    (ends_on seen played desk can same)
 
 -- what is found by its id is one of so many
 pub found_within : (ids : List ℕ) (n id place : ℕ) → length ids ≡ n → position (nat_eq id) ids ≡ Some place → place < n
 found_within ids n id place long found = omega (arith, (position-Some (nat_eq id) ids place 0 found).0, long)
 
 -- an explanation under the ceilings of the last day and the bars of its last pass
-pub explains_on : (d : DossierRows) (orders : List CallOrder) (day : DayRecord) (desk : DeskStates) (place : ℕ) (x : Explanation) (ceilings bars : List ℕ) → ceilings ≡ ceilings_of d day.day
-    → bars ≡ last_bars day.passes → Explains (last_pass desk.opening orders ceilings bars) desk.present place x → Explains (pass_on d orders day desk) desk.present place x
+pub explains_on : (d : DossierRows) (orders : List CallOrder) (day : DayRecord) (desk : DeskStates) (place : ℕ)
+    (x : Explanation) (ceilings bars : List ℕ) → ceilings ≡ ceilings_of d day.day
+    → bars ≡ last_bars day.passes → Explains (last_pass desk.opening orders ceilings bars) desk.present place x
+    → Explains (pass_on d orders day desk) desk.present place x
 explains_on d orders day desk place x ceilings bars ceilings_are bars_are explains =
-    subst (λ (cs : List ℕ). Explains (last_pass desk.opening orders cs (last_bars day.passes)) desk.present place x) ceilings_are
-    (subst (λ (bs : List ℕ). Explains (last_pass desk.opening orders ceilings bs) desk.present place x) bars_are explains)
+    subst (λ (cs : List ℕ). Explains (last_pass desk.opening orders cs (last_bars day.passes)) desk.present place x)
+    ceilings_are
+    (subst (λ (bs : List ℕ). Explains (last_pass desk.opening orders ceilings bs) desk.present place x) bars_are
+    explains)
 
 -- the last pass of the last day, with the ceilings and the bars that were found
-pub pass_found : (d : DossierRows) (orders : List CallOrder) (days : List DayRecord) (day : DayRecord) (desk : DeskStates)
+pub pass_found : (d : DossierRows) (orders : List CallOrder) (days : List DayRecord) (day : DayRecord)
+    (desk : DeskStates)
     (ceilings bars : List ℕ) → IsDeskAfter d orders days desk → IsLastOf days day
     → ceilings ≡ ceilings_of d day.day → bars ≡ last_bars day.passes
     → IsLastPass (last_pass desk.opening orders ceilings bars) desk.present
 pass_found d orders days day desk ceilings bars after last ceilings_are bars_are =
     subst (λ (cs : List ℕ). IsLastPass (last_pass desk.opening orders cs bars) desk.present) (sym ceilings_are)
-    (subst (λ (bs : List ℕ). IsLastPass (last_pass desk.opening orders (ceilings_of d day.day) bs) desk.present) (sym bars_are)
+    (subst (λ (bs : List ℕ). IsLastPass (last_pass desk.opening orders (ceilings_of d day.day) bs) desk.present)
+    (sym bars_are)
     (after.last day last))

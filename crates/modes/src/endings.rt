@@ -6,11 +6,15 @@ ghost use Rattle.admit_core.specs.Lists.{is_among};
 ghost use Rattle.certificate.specs.ChainText.{HasPassesOf, chain_text};
 ghost use Rattle.certificate.specs.Checked.{ids_in};
 ghost use Rattle.intake.specs.Dated.{AreDatedFor};
+ghost use Rattle.desk_day.specs.DayPasses.{TellsMore};
+ghost use Rattle.modes.specs.Asking.{TellsPicks};
+ghost use Rattle.modes.specs.Beds.{PicksForFigures, TellsFigures};
 ghost use Rattle.modes.specs.Blocked.{blocked_text};
 ghost use Rattle.modes.specs.Checking.{IsChecked};
 ghost use Rattle.modes.specs.Endings.{CanBeEnded, CanEnd, EndsAfter, EndsLent, IsDoneSaying, IsDoneWith, IsEndOf, IsRefusedWith, led_by, lines_before};
 ghost use Rattle.modes.specs.Explained.{IsExplained};
 ghost use Rattle.modes.specs.Jobs.{picker_after, seen_by};
+ghost use Rattle.modes.specs.Market.{PicksForMarket, TellsMarket};
 ghost use Rattle.modes.specs.Order.{orders_text};
 ghost use Rattle.modes.specs.Replay.{CanBeDated, CanBeWritten, replay_text};
 ghost use Rattle.played.specs.LastDays.{IsDeskAfter};
@@ -65,7 +69,7 @@ fn replayed(
         reply.exit reply.text.items) }
 {
     let (orders, days, desk) = led.into_parts();
-    let evening = desk.into_now();
+    let evening = desk.into_now(alloc)?;
     let called = orders.orders.as_slice();
     let text = replay_text(
         alloc,
@@ -116,23 +120,24 @@ fn tested(
         reply.exit reply.text.items) }
 {
     let (orders, _, desk) = led.into_parts();
-    let first = desk.into_now();
+    let first = desk.into_now(alloc)?;
     checked(alloc, input, dated, &orders, &first)
 }
 
 /// How the mode `explain` ends, which needs the opening of the last pass too.
-fn explained(alloc: Global, input: &Input, led: &Led<'_>, wish: u32) -> Result<Reply, OutOfMemory>
+fn explained(alloc: Global, input: &Input, led: Led<'_>, wish: u32) -> Result<Reply, OutOfMemory>
     requires named { IsTrue (is_among wish input.now.index.wishes) }
-    requires some_day { 0 < length led.now.days.items }
+    requires some_day { 0 < length led.days.items }
     requires desk { IsDeskAfter
-        input.now.dossier led.now.orders.orders led.now.days.items led.now.desk }
+        input.now.dossier led.orders.orders led.days.items led.desk }
     ensures { IfOk result (λ reply. IsDoneSaying
-        (IsExplained input.now.dossier input.now.index led.now.orders.orders led.now.days.items
-        led.now.desk wish)
+        (IsExplained input.now.dossier input.now.index led.entry.orders.orders
+        led.entry.days.items led.entry.desk wish)
         reply.exit reply.text.items) }
 {
-    let Led { orders, days, desk } = led;
-    let text = explained_text(alloc, input, orders, days.as_slice(), desk, wish)?;
+    let (orders, days, desk) = led.into_parts();
+    let desk = desk.into_desk(alloc)?;
+    let text = explained_text(alloc, input, &orders, days.as_slice(), &desk, wish)?;
     Ok(done(text))
 }
 
@@ -144,7 +149,7 @@ fn envied(alloc: Global, led: Led<'_>) -> Result<Reply, OutOfMemory>
         reply.exit reply.text.items) }
 {
     let (orders, _, desk) = led.into_parts();
-    let state = desk.into_now();
+    let state = desk.into_now(alloc)?;
     Ok(done(blocked_text(alloc, &state, &orders)?))
 }
 
@@ -161,9 +166,9 @@ fn sampled(
         reply.exit reply.text.items) }
 {
     let (_, days, desk) = led.into_parts();
-    let state = desk.into_now();
+    let last = desk.into_now(alloc)?;
     let wishes = dossier.wishes.len() as u32;
-    let text = sample_text(alloc, number, wishes, days.as_slice(), &state)?;
+    let text = sample_text(alloc, number, wishes, days.as_slice(), &last)?;
     Ok(done(text))
 }
 
@@ -188,7 +193,7 @@ fn ended(
         Mode::Replay => replayed(alloc, input, dated, led),
         Mode::Chain => chained(alloc, &input.dossier, led),
         Mode::Check => tested(alloc, input, dated, led),
-        Mode::Explain { wish } => explained(alloc, input, &led, wish),
+        Mode::Explain { wish } => explained(alloc, input, led, wish),
         Mode::Envy => envied(alloc, led),
         // These are lent a picker.
         Mode::Beds { .. } | Mode::Market => unreachable!(),
@@ -236,34 +241,80 @@ fn cut_short(
     }
 }
 
+/// How the mode `beds` ends, which needs the opening of the last pass too.
+fn needed(
+    alloc: Global,
+    input: &Input,
+    led: Led<'_>,
+    school: u32,
+    picker: &mut dyn Picker,
+) -> Result<Reply, OutOfMemory>
+    requires named { IsTrue (is_among school input.now.index.schools) }
+    requires some_day { 0 < length led.days.items }
+    requires desk { IsDeskAfter
+        input.now.dossier led.orders.orders led.days.items led.desk }
+
+    ensures text { IfOk result (λ reply. IsDoneSaying
+        (TellsFigures input.now.dossier input.now.index led.entry.orders.orders
+        led.entry.days.items led.entry.desk school)
+        reply.exit reply.text.items) }
+    ensures picks { IfOk result (λ _. TellsPicks
+        (PicksForFigures input.now.dossier input.now.index led.entry.orders.orders
+        led.entry.days.items led.entry.desk school (choice picker.old) (told picker.old))
+        (told picker.old) (told picker.new)) }
+    ensures early { TellsMore (told picker.old) (told picker.new) }
+    ensures choice { choice picker.new ≡ choice picker.old }
+{
+    let (orders, days, desk) = led.into_parts();
+    let desk = desk.into_desk(alloc)?;
+    let records = days.as_slice();
+    let text = school_text(alloc, input, &orders, records, &desk, school, picker)?;
+    Ok(done(text))
+}
+
+/// How the mode `market` ends, for which the days count for nothing.
+fn matched(
+    alloc: Global,
+    dossier: &Dossier,
+    led: Led<'_>,
+    picker: &mut dyn Picker,
+) -> Result<Reply, OutOfMemory>
+    requires { AreCallOrders dossier.now.groups led.orders.orders }
+
+    ensures text { IfOk result (λ reply. IsDoneSaying
+        (TellsMarket dossier.now led.entry.orders.orders) reply.exit reply.text.items) }
+    ensures picks { IfOk result (λ _. TellsPicks
+        (PicksForMarket dossier.now led.entry.orders.orders (choice picker.old) (told picker.old))
+        (told picker.old) (told picker.new)) }
+    ensures early { TellsMore (told picker.old) (told picker.new) }
+    ensures choice { choice picker.new ≡ choice picker.old }
+{
+    let orders = led.into_orders();
+    let text = matched_text(alloc, dossier, &orders, picker)?;
+    Ok(done(text))
+}
+
 /// How each mode ends that asks a picker once its days have led to a desk.
 fn ended_asking(
     alloc: Global,
     request: &Request,
     input: &Input,
     dated: Option<&DatedTerms>,
-    led: &Led<'_>,
+    led: Led<'_>,
     picker: &mut dyn Picker,
 ) -> Result<Reply, OutOfMemory>
     requires asks { IsSome (picks_after request.now.mode request.now.days) }
     requires can { CanBeEnded
-        (seen_by request.now input.now (option_copied dated)) (led_by led.now) led.now.desk }
+        (seen_by request.now input.now (option_copied dated)) (led_by led) led.desk }
     ensures { EndsLent
-        (seen_by request.now input.now (option_copied dated.entry)) (led_by led.now) led.now.desk
+        (seen_by request.now input.now (option_copied dated.entry)) (led_by led.entry)
+        led.entry.desk
         (record { told = told picker.old; choice = choice picker.old })
         (record { told = told picker.new; choice = choice picker.new }) result }
 {
-    let Led { orders, days, desk } = led;
     match request.mode {
-        Mode::Beds { school } => {
-            let records = days.as_slice();
-            let text = school_text(alloc, input, orders, records, desk, school, picker)?;
-            Ok(done(text))
-        }
-        Mode::Market => {
-            let text = matched_text(alloc, &input.dossier, orders, picker)?;
-            Ok(done(text))
-        }
+        Mode::Beds { school } => needed(alloc, input, led, school, picker),
+        Mode::Market => matched(alloc, &input.dossier, led, picker),
         _ => unreachable!(),
     }
 }
@@ -274,16 +325,17 @@ fn ended_lent(
     request: &Request,
     input: &Input,
     dated: Option<&DatedTerms>,
-    led: &Led<'_>,
+    led: Led<'_>,
     place: &mut Option<Box<dyn Picker>>,
 ) -> Result<Reply, OutOfMemory>
     requires asks { IsSome (picks_after request.now.mode request.now.days) }
     requires can { CanBeEnded
-        (seen_by request.now input.now (option_copied dated)) (led_by led.now) led.now.desk }
+        (seen_by request.now input.now (option_copied dated)) (led_by led) led.desk }
     requires there { IsSome place.old }
     ensures there { IsSome place.new }
     ensures ends { EndsLent
-        (seen_by request.now input.now (option_copied dated.entry)) (led_by led.now) led.now.desk
+        (seen_by request.now input.now (option_copied dated.entry)) (led_by led.entry)
+        led.entry.desk
         (record {
           told = told_in (λ p. told p) place.old;
           choice = choice_in
@@ -309,17 +361,17 @@ fn ended_asked(
     request: &Request,
     input: &Input,
     dated: Option<&DatedTerms>,
-    led: &Led<'_>,
+    led: Led<'_>,
     name: PickerName,
     pickers: &mut Pickers,
 ) -> Result<Reply, OutOfMemory>
     requires named { Some name ≡ picker_after request.now }
     requires can { CanBeEnded
-        (seen_by request.now input.now (option_copied dated)) (led_by led.now) led.now.desk }
+        (seen_by request.now input.now (option_copied dated)) (led_by led) led.desk }
     requires there { AreThere pickers.old }
     ensures there { AreThere pickers.new }
-    ensures ends { EndsAfter (Ok led.now.desk)
-        (seen_by request.now input.now (option_copied dated.entry)) (led_by led.now)
+    ensures ends { EndsAfter (Ok led.entry.desk)
+        (seen_by request.now input.now (option_copied dated.entry)) (led_by led.entry)
         (standing (λ p. told p) (λ p. choice p) pickers.old)
         (standing (λ p. told p) (λ p. choice p) pickers.new) result }
 {
@@ -350,7 +402,7 @@ fn ended_by(
 {
     match picker_after(request) {
         None => ended(alloc, request, input, dated, led),
-        Some(name) => ended_asked(alloc, request, input, dated, &led, name, pickers),
+        Some(name) => ended_asked(alloc, request, input, dated, led, name, pickers),
     }
 }
 

@@ -2,13 +2,14 @@
 ghost use Rattle.std.specs.Prelude.{◌≡◌};
 
 use admit_core::{CallOrders, DayRecord};
-use desk_day::Desk;
+use played::LastDesk;
 
-/// All days that were asked for, by which call orders they were run, and the desk after them.
+/// All days that were asked for, by which call orders they were run, and the desk after them, which
+/// is begun when it is asked for.
 pub(crate) struct Led<'d> {
     pub orders: CallOrders,
     pub days: Vec<DayRecord>,
-    pub desk: Desk<'d>,
+    pub desk: LastDesk<'d>,
 }
 
 // Not derived: so it is dropped in one step where it is held, and not by each list.
@@ -48,7 +49,7 @@ impl<'d> Led<'d> {
     }
 
     /// All three.
-    pub fn into_parts(self) -> (CallOrders, Vec<DayRecord>, Desk<'d>)
+    pub fn into_parts(self) -> (CallOrders, Vec<DayRecord>, LastDesk<'d>)
         ensures orders { result.0.orders ≡ self.entry.orders.orders }
         ensures days { result.1.items ≡ self.entry.days.items }
         ensures desk { result.2 ≡ self.entry.desk }

@@ -1,5 +1,5 @@
 -- The days that were played so far.
-use Rattle.std.proofs.Common.{◌≡◌, ◌∙◌, ℕ, ◌+◌, ◌<◌, List, [], ◌∷◌, ◌++◌, Option, Result, Ok, Err, IsErrAnd, IsSomeAnd, ap, append_assoc, arith, length, refl, subst, sym}
+use Rattle.std.proofs.Common.{◌≡◌, ◌∙◌, ℕ, ◌+◌, ◌<◌, List, [], ◌∷◌, ◌++◌, Option, Result, Ok, Err, IfOk, IsErrAnd, IsSomeAnd, ap, append_assoc, arith, length, refl, subst, sym}
 use Rattle.std.proofs.lemmas.List.{append-nil, length-append}
 use Rattle.admit_core.specs.CallOrder.{AreCallOrders}
 use Rattle.admit_core.specs.Days.{ceilings_of, unfit_on}
@@ -17,7 +17,7 @@ use Rattle.request.specs.Pickers.{picker_on}
 use Rattle.request.specs.declared.pickers.PickerChoice.{PickerChoice}
 use Rattle.request.specs.declared.pickers.PickerName.{PickerName}
 use Rattle.played.specs.Lent.{AreBack, Lent, Told, Untold, picked_by}
-use Rattle.played.specs.PlayedDays.{EndsNext, IsNext, IsPlayed, Lead, Plan, PlaysDays, first_desk, lent_after}
+use Rattle.played.specs.PlayedDays.{EndsNext, IsNext, IsPlayed, Lead, Plan, Played, PlaysDays, first_desk, lent_after}
 use Rattle.played.proofs.Naming.{back_again, back_untouched, picked_by-append, told_more}
 
 -- so many days were played
@@ -55,7 +55,8 @@ next_same plan d old new one other day told choice next =
     let name = picker_on plan.who d in
     let P : List ℕ → (List ℕ → List ℕ → ℕ) → Type 0 =
     λ t c.
-    IsDayDone plan.terms plan.orders (ceilings_of old.present.dossier d) d (record { desk = old; told = t; choice = c }) day
+    IsDayDone plan.terms plan.orders (ceilings_of old.present.dossier d) d (record { desk = old; told = t; choice = c })
+    day
     (record { desk = new; told = t ++ picked_by plan.who name (day ∷ []); choice = c }) in
     record {
       done = subst (λ c. P (other.told name) c) choice (subst (λ t. P t (one.choice name)) told next.done);
@@ -80,7 +81,8 @@ lead_more plan d old before (first ∷ days) mid day new lead next =
       lead.0,
       lead.1,
       lead_more plan (d + 1) lead.0 (lent_after plan.who first before) days mid day new lead.2
-          (subst (λ (n : ℕ). IsNext plan n mid (lents_after plan.who days (lent_after plan.who first before)) day new) at next),
+          (subst (λ (n : ℕ). IsNext plan n mid (lents_after plan.who days (lent_after plan.who first before)) day new)
+          at next),
     )
 
 -- the dossier stays as it was
@@ -94,7 +96,13 @@ pub nothing_played : (plan : Plan) (begun : DeskStates) (before : Lent) (days : 
     → days ≡ [] → SoFar plan begun before 0 days begun before
 nothing_played plan begun before days none =
     subst (λ (ds : List DayRecord). SoFar plan begun before 0 ds begun before) (sym none)
-    (record { lead = refl; number = refl; told = λ name. sym (append-nil (before.told name)); back = back_untouched before })
+    (record {
+      lead = refl;
+      number = refl;
+      told = λ name. sym (append-nil (before.told name));
+      back = back_untouched
+          before;
+    })
 
 told_nothing : (who : PickerChoice) (days : List DayRecord) (before after : Lent) → length days ≡ 0
     → Told who days before after → Untold before after
@@ -164,7 +172,8 @@ module _ (plan : Plan) (old : DeskStates) (before : Lent) (played : ℕ) (days :
 
   pub plays_some : (number : ℕ) (refusal : DayRefusal) (new : DeskStates) (after : Lent)
       (r : Result (Unit {0}) DayRefusal) → IsErrAnd r (λ x. x ≡ refusal) → played < number
-      → EndsNext plan (played + 1) mid between (Err refusal) new after → PlaysDays plan number old before days r new after
+      → EndsNext plan (played + 1) mid between (Err refusal) new after
+      → PlaysDays plan number old before days r new after
   plays_some number refusal new after (Ok done) from fewer ends = absurd from
   plays_some number refusal new after (Err other) from fewer ends =
       subst (λ (x : DayRefusal). PlaysDays plan number old before days (Err x) new after) (sym from)
@@ -229,3 +238,22 @@ pub by_orders : (one other : List CallOrder) (terms : Option Terms) (who : Picke
 by_orders one other terms who number old before days result new after same plays =
     subst (λ (orders : List CallOrder).
     PlaysDays (record { orders = orders; terms = terms; who = who }) number old before days result new after) same plays
+
+-- a run of which no day is asked for
+pub none_played : {A E : Type 0} (shown : A → Played) (d : DossierRows) (terms : Option Terms) (number : ℕ)
+    (who : PickerChoice)
+    (before : Lent) (r : Result A E) → IfOk r (λ p. AreCallOrders d.groups (shown p).orders)
+    → IfOk r (λ p. (shown p).days ≡ [])
+    → IfOk r (λ p. (shown p).end ≡ Ok (first_desk d)) → number ≡ 0
+    → IfOk r (λ p. IsPlayed d terms number who before (shown p) before)
+none_played shown d terms number who before (Err e) called days end none = tt
+none_played shown d terms number who before (Ok p) called days end none = record {
+  called = called;
+  last = first_desk d;
+  days = subst (λ (ds : List DayRecord).
+      Lead (record { orders = (shown p).orders; terms = terms; who = who }) 1 (first_desk d) before ds (first_desk d))
+      (sym days) refl;
+  ends = rw (end, days) (sym none, refl);
+  told = subst (λ (ds : List DayRecord). Told who ds before before) (sym days)
+      (λ name. sym (append-nil (before.told name)));
+}

@@ -28,11 +28,13 @@ next_ends plan d rows old before day new called same next =
     desk_ends_so plan.terms plan.orders (ceilings_of old.present.dossier d)
     (ceilings_of rows day.day) (last_bars day.passes) d (moment_of plan d old before)
     (moment_of plan d new (lent_after plan.who day before)) day
-    (subst (λ (e : DossierRows). AreCallOrders e.groups plan.orders) (sym same) called) (length-ceilings_of old.present.dossier d) next.done
+    (subst (λ (e : DossierRows). AreCallOrders e.groups plan.orders) (sym same) called)
+    (length-ceilings_of old.present.dossier d) next.done
     (ap (λ (e : DossierRows). ceilings_of e d) same ∙ ap (ceilings_of rows) (sym next.done.rule.number)) refl
 
 -- the last of several days is the last of all but the first
-last_later : (one two : DayRecord) (days : List DayRecord) (day : DayRecord) → IsLastOf (one ∷ two ∷ days) day → IsLastOf (two ∷ days) day
+last_later : (one two : DayRecord) (days : List DayRecord) (day : DayRecord) → IsLastOf (one ∷ two ∷ days) day
+    → IsLastOf (two ∷ days) day
 last_later one two days day is =
     let at : length (one ∷ two ∷ days) - 1 ≡ suc (length days) = omega arith in
     let then : length (two ∷ days) - 1 ≡ length days = omega arith in
@@ -64,7 +66,8 @@ desk_after plan d rows old before (one ∷ two ∷ days) new called same lead =
 -- the desk at which days end is the one that they led to
 desk_at : (rows : DossierRows) (orders : List CallOrder) (terms : Option Terms) (number : ℕ)
     (days : List DayRecord) (last : DeskStates) (end : Result DeskStates Refusal)
-    → DaysEndAfter terms number days last end → IsDeskAfter rows orders days last → ForOk end (IsDeskAfter rows orders days)
+    → DaysEndAfter terms number days last end → IsDeskAfter rows orders days last
+    → ForOk end (IsDeskAfter rows orders days)
 desk_at rows orders terms number days last (Ok desk) ends is =
     λ x same.
     let here : last ≡ x = cc (ends.1, same) in
@@ -78,4 +81,5 @@ pub desk_played : (rows : DossierRows) (terms : Option Terms) (number : ℕ) (wh
     → ForOk played.end (IsDeskAfter rows played.orders played.days)
 desk_played rows terms number who before played after plays =
     desk_at rows played.orders terms number played.days plays.last played.end plays.ends
-    (desk_after (plan_of terms who played) 1 rows (first_desk rows) before played.days plays.last plays.called refl plays.days)
+    (desk_after (plan_of terms who played) 1 rows (first_desk rows) before played.days plays.last plays.called refl
+    plays.days)

@@ -33,7 +33,11 @@ named_same Turn Turn is = refl
 pub each_named : (P : PickerName → Type 0) (name : PickerName) → P name
     → ((other : PickerName) → is_named other name ≡ false → P other) → (n : PickerName) → P n
 each_named P name here others n =
-    elim (cases_Bool (is_named n name)) [ inl is ↦ subst P (sym (named_same n name is)) here | inr none ↦ others n none ]
+    elim (cases_Bool (is_named n name)) [
+      | inl is ↦ subst P (sym (named_same n name is)) here
+      | inr none
+          ↦ others n none
+    ]
 
 pub picked_here : (who : PickerChoice) (name : PickerName) (day : DayRecord)
     → is_named name (picker_on who day.day) ≡ true

@@ -15,7 +15,8 @@ use Rattle.played.specs.OneDay.{DayEndsWith}
 use Rattle.played.specs.PlayedDays.{EndsNext, IsNext, Plan, moment_of}
 use Rattle.played.proofs.Naming.{OnlyNamed, each_named, named_self, picked_here, picked_none}
 
-module _ (plan : Plan) (d : ℕ) (old new : DeskStates) (before after : Lent) (only : OnlyNamed (picker_on plan.who d) before after) where
+module _ (plan : Plan) (d : ℕ) (old new : DeskStates) (before after : Lent)
+    (only : OnlyNamed (picker_on plan.who d) before after) where
   abbrev name : PickerName
   name = picker_on plan.who d
 
@@ -30,7 +31,8 @@ module _ (plan : Plan) (d : ℕ) (old new : DeskStates) (before after : Lent) (o
       (λ other none. ([], only.told other none ∙ sym (append-nil (before.told other))))
 
   picked : (day : DayRecord) → day.day ≡ d → picked_by plan.who name (day ∷ []) ≡ schools_of_passes day.passes
-  picked day number = picked_here plan.who name day (ap (λ n. is_named name (picker_on plan.who n)) number ∙ named_self name)
+  picked day number = picked_here plan.who name day
+      (ap (λ n. is_named name (picker_on plan.who n)) number ∙ named_self name)
 
   -- what the pickers told on a day that came about
   told_on : (day : DayRecord) → day.day ≡ d

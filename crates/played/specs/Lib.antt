@@ -1,4 +1,5 @@
 pub mod LastDays
+pub mod LastDesks
 pub mod Lent
 pub mod OneDay
 pub mod PlayedDays

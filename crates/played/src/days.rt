@@ -1,11 +1,12 @@
 //! The days of a run.
-ghost use Rattle.std.specs.Prelude.{◌≡◌, ◌≤◌, [], ◌∷◌, ◌++◌, IfOk, OnOk, option_copied};
+ghost use Rattle.std.specs.Prelude.{◌≡◌, ◌≤◌, [], ◌∷◌, ◌++◌, IfOk, Ok, OnOk, option_copied};
 ghost use Rattle.admit_core.specs.CallOrder.{AreCallOrders};
 ghost use Rattle.admit_core.specs.Lapses.{AreTermsFor};
 ghost use Rattle.played.specs.Lent.{AreBack, AreThere, Untold, lent};
 ghost use Rattle.played.specs.PlayedDays.{IsPlayed, PlaysDays, first_desk};
 
 use crate::day::next_day;
+use crate::last::LastDesk;
 use crate::pickers::Pickers;
 use admit_core::{CallOrders, DayRecord, Dossier, OutOfMemory, Refusal, Terms};
 use call_order::call_orders;
@@ -21,7 +22,7 @@ pub struct Played<'d> {
     /// The days that came about, from day 1 on.
     pub days: Vec<DayRecord>,
     /// The desk after all of them, or the refusal of the first answer that does not fit.
-    pub end: Result<Desk<'d>, Refusal>,
+    pub end: Result<LastDesk<'d>, Refusal>,
 }
 
 /// Keeps the record of a day.
@@ -88,8 +89,55 @@ fn begin<'d>(alloc: Global, dossier: &'d Dossier) -> Result<Begun<'d>, OutOfMemo
     Ok(Begun { orders, desk })
 }
 
+/// A run of which no day is asked for.
+fn unplayed<'d>(alloc: Global, dossier: &'d Dossier) -> Result<Played<'d>, OutOfMemory>
+    ensures orders { IfOk result (λ p. AreCallOrders dossier.now.groups p.orders.orders) }
+    ensures days { IfOk result (λ p. p.days.items ≡ []) }
+    ensures end { IfOk result (λ p. p.end ≡ Ok (first_desk dossier.now)) }
+{
+    Ok(Played {
+        orders: call_orders(alloc, dossier.groups.as_slice())?,
+        days: Vec::new(alloc),
+        end: Ok(LastDesk::first(dossier)),
+    })
+}
+
+/// Runs so many days of a dossier, of which there is one at least.
+fn play_some<'d>(
+    alloc: Global,
+    dossier: &'d Dossier,
+    terms: Option<&Terms>,
+    wanted: Wanted,
+    pickers: &mut Pickers,
+) -> Result<Played<'d>, OutOfMemory>
+    requires terms { AreTermsFor dossier.now (option_copied terms) }
+    requires number { wanted.number ≤ 366 }
+    requires there { AreThere pickers.old }
+
+    ensures there { AreThere pickers.new }
+    ensures back { AreBack (lent (λ p. told p) (λ p. choice p) pickers.old)
+        (lent (λ p. told p) (λ p. choice p) pickers.new) }
+    ensures played { IfOk result (λ p. IsPlayed dossier.now (option_copied terms.entry)
+        wanted.number wanted.who
+        (lent (λ p. told p) (λ p. choice p) pickers.old)
+        (record { orders = p.orders.orders; days = p.days.items; end = p.end })
+        (lent (λ p. told p) (λ p. choice p) pickers.new)) }
+{
+    let Begun { orders, mut desk } = begin(alloc, dossier)?;
+    let mut days = Vec::new(alloc);
+    let roster = Roster::build(alloc, desk.now(), &orders)?;
+    let end = match play_days(alloc, &mut desk, &roster, terms, wanted, pickers, &mut days) {
+        Ok(()) => Ok(LastDesk::after_days(dossier, desk)),
+        Err(DayRefusal::Unfit(refusal)) => Err(refusal),
+        Err(DayRefusal::OutOfMemory) => return Err(OutOfMemory),
+    };
+    drop(roster);
+    Ok(Played { orders, days, end })
+}
+
 /// Runs so many days of a dossier, each with the picker of the day, from the evening that it comes
-/// in with: all of them, or those before one with an answer that does not fit.
+/// in with: all of them, or those before one with an answer that does not fit. Where none is asked
+/// for, no state is made.
 pub fn play<'d>(
     alloc: Global,
     dossier: &'d Dossier,
@@ -112,15 +160,8 @@ pub fn play<'d>(
         (record { orders = p.orders.orders; days = p.days.items; end = p.end })
         (lent (λ p. told p) (λ p. choice p) pickers.new)) }
 {
-    let Begun { orders, mut desk } = begin(alloc, dossier)?;
-    let mut days = Vec::new(alloc);
-    let roster = Roster::build(alloc, desk.now(), &orders)?;
-    let wanted = Wanted { number, who };
-    let end = match play_days(alloc, &mut desk, &roster, terms, wanted, pickers, &mut days) {
-        Ok(()) => Ok(desk),
-        Err(DayRefusal::Unfit(refusal)) => Err(refusal),
-        Err(DayRefusal::OutOfMemory) => return Err(OutOfMemory),
-    };
-    drop(roster);
-    Ok(Played { orders, days, end })
+    if number == 0 {
+        return unplayed(alloc, dossier);
+    }
+    play_some(alloc, dossier, terms, Wanted { number, who }, pickers)
 }

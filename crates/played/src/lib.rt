@@ -6,7 +6,9 @@
 
 mod day;
 mod days;
+mod last;
 mod pickers;
 
 pub use days::{Played, play};
+pub use last::LastDesk;
 pub use pickers::Pickers;

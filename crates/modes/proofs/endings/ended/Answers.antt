@@ -11,4 +11,5 @@ chained-requires c =
 
 pub envied-requires : goal.envied-requires
 envied-requires c =
-    subst (λ (d : DossierRows). AreCallOrders d.groups c.args.led.orders.orders) (sym c.requires.can.last.dossier) c.requires.can.called
+    subst (λ (d : DossierRows). AreCallOrders d.groups c.args.led.orders.orders) (sym c.requires.can.last.dossier)
+    c.requires.can.called

@@ -12,4 +12,5 @@ pub cut_short-requires : goal.cut_short-requires
 cut_short-requires g c = (written _ _ c.requires.can).0
 
 pub returns-in-Err-clause-ends : goal.returns-in-Err-clause-ends
-returns-in-Err-clause-ends g c = ends_so _ _ _ _ _ _ _ c.cut_short.result c.in-Err.is (ends_cut_short _ _ _ _ c.cut_short.result c.cut_short.ensures)
+returns-in-Err-clause-ends g c = ends_so _ _ _ _ _ _ _ c.cut_short.result c.in-Err.is
+    (ends_cut_short _ _ _ _ c.cut_short.result c.cut_short.ensures)

@@ -7,6 +7,7 @@ use Rattle.modes.proofs.endings.envied.Goals as goal
 
 pub blocked_text-requires : goal.blocked_text-requires
 blocked_text-requires c =
-    let state = c.into_now-state.ensures ∙ ap (λ (x : DeskStates). x.present) c.into_parts-orders.ensures.desk in
+    let state = c.in_ok-state.ensures ∙ ap (λ (x : DeskStates). x.present) c.into_parts-orders.ensures.desk in
     subst (λ (s : State). AreCallOrders s.dossier.groups c.into_parts-orders.result.0.orders) (sym state)
-    (subst (λ (o : List CallOrder). AreCallOrders c.args.led.desk.present.dossier.groups o) (sym c.into_parts-orders.ensures.orders) c.requires)
+    (subst (λ (o : List CallOrder). AreCallOrders c.args.led.desk.present.dossier.groups o)
+    (sym c.into_parts-orders.ensures.orders) c.requires)

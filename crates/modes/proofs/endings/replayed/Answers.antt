@@ -9,12 +9,13 @@ use Rattle.modes.proofs.endings.replayed.Goals as goal
 pub replay_text-requires-clause-days : goal.replay_text-requires-clause-days
 replay_text-requires-clause-days c =
     let days = c.as_slice.ensures.value ∙ c.into_parts-orders.ensures.days in
-    subst (λ (ds : List DayRecord). All (CanBeWritten c.args.input.now.dossier (option_copied c.args.dated)) ds) (sym days)
+    subst (λ (ds : List DayRecord). All (CanBeWritten c.args.input.now.dossier (option_copied c.args.dated)) ds)
+    (sym days)
     c.requires.days
 
 pub replay_text-requires-clause-offers : goal.replay_text-requires-clause-offers
 replay_text-requires-clause-offers c =
-    let evening = c.into_now-evening.ensures
+    let evening = c.in_ok-evening.ensures
     ∙ ap (λ (x : DeskStates). x.present) c.into_parts-orders.ensures.desk in
     subst (λ (s : State). CanBeDated (option_copied c.args.dated) s) (sym evening) c.requires.offers
 
@@ -22,7 +23,7 @@ pub returns : goal.returns
 returns c =
     let orders = c.as_slice-called.ensures ∙ c.into_parts-orders.ensures.orders in
     let days = c.as_slice.ensures.value ∙ c.into_parts-orders.ensures.days in
-    let evening = c.into_now-evening.ensures ∙ ap (λ (x : DeskStates). x.present) c.into_parts-orders.ensures.desk in (
+    let evening = c.in_ok-evening.ensures ∙ ap (λ (x : DeskStates). x.present) c.into_parts-orders.ensures.desk in (
       c.done.ensures.exit,
       c.done.ensures.text ∙ c.in_ok-text.ensures
           ∙ (λ i. replay_text c.args.input.now.dossier (option_copied c.args.dated) (orders i) (days i) (evening i)),

@@ -20,11 +20,13 @@ explain_on_desk-why-requires-clause-last c =
 
 pub explain_text-requires-clause-wish : goal.explain_text-requires-clause-wish
 explain_text-requires-clause-wish c =
-    found_within _ _ c.args.wish c.in-Some.place c.args.input.now.wishes_have_ids (sym c.wish_place.ensures ∙ c.in-Some.is)
+    found_within _ _ c.args.wish c.in-Some.place c.args.input.now.wishes_have_ids
+    (sym c.wish_place.ensures ∙ c.in-Some.is)
 
 pub explain_on_desk-why-requires-clause-wish : goal.explain_on_desk-why-requires-clause-wish
 explain_on_desk-why-requires-clause-wish c =
-    let place = found_within _ _ c.args.wish c.in-Some.place c.args.input.now.wishes_have_ids (sym c.wish_place.ensures ∙ c.in-Some.is) in
+    let place = found_within _ _ c.args.wish c.in-Some.place c.args.input.now.wishes_have_ids
+    (sym c.wish_place.ensures ∙ c.in-Some.is) in
     omega (arith, place, ap (λ (d : DossierRows). length d.wishes) c.requires.desk.dossier)
 
 pub returns : goal.returns
@@ -37,7 +39,8 @@ returns c =
       is_last = sym c.in-Some-last.ensures.value;
       explanation = c.explain_on_desk-why.result;
       explains =
-          explains_on c.args.input.now.dossier c.args.orders.now.orders day c.args.desk.now c.in-Some.place c.explain_on_desk-why.result _ _
+          explains_on c.args.input.now.dossier c.args.orders.now.orders day c.args.desk.now c.in-Some.place
+          c.explain_on_desk-why.result _ _
           (c.deref.ensures.value ∙ c.in_ok-ceilings.ensures.ceilings)
           (c.last_bars-bars.ensures ∙ ap last_bars c.as_slice.ensures) c.explain_on_desk-why.ensures;
       is_line = same;

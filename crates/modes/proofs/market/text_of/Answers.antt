@@ -17,14 +17,16 @@ pub market_text-requires-clause-bars : goal.market_text-requires-clause-bars
 market_text-requires-clause-bars g c =
     let P : DossierRows → Type 0 = IsValid in
     let bars = c.in_ok-solved.solved.bars.items in
-    bar_each c.args.dossier.now (subst P c.dossier.view_is c.dossier.invariant) c.args.orders.now.orders c.requires.orders bars
+    bar_each c.args.dossier.now (subst P c.dossier.view_is c.dossier.invariant) c.args.orders.now.orders
+    c.requires.orders bars
     (subst (λ (m : MarketRows). IsGreatest (market_system m) bars) c.requires.market c.in_ok-solved.ensures.greatest)
 
 pub market_text-requires-clause-places : goal.market_text-requires-clause-places
 market_text-requires-clause-places g c =
     let P : DossierRows → Type 0 = IsValid in
     let places = c.in_ok-solved.solved.places.items in
-    places_there c.args.dossier.now (subst P c.dossier.view_is c.dossier.invariant) c.args.orders.now.orders c.requires.orders places
+    places_there c.args.dossier.now (subst P c.dossier.view_is c.dossier.invariant) c.args.orders.now.orders
+    c.requires.orders places
     (subst (λ (m : MarketRows). IsStable m places) c.requires.market c.in_ok-solved.ensures.stable)
 
 pub returns-clause-text : goal.returns-clause-text
@@ -34,19 +36,23 @@ returns-clause-text g c =
     let candidates = c.args.named.now.candidates.items in
     let bars = c.in_ok-solved.solved.bars.items in
     let places = c.in_ok-solved.solved.places.items in
-    IfOk-weaker c.market_text.result (λ text. text.items ≡ market_text d candidates bars places) (λ text. TellsMarket d orders text.items)
+    IfOk-weaker c.market_text.result (λ text. text.items ≡ market_text d candidates bars places)
+    (λ text. TellsMarket d orders text.items)
     (λ text is.
-    tells_market d orders c.args.named.now.market c.requires.market candidates bars places text.items c.requires.candidates c.in_ok-solved.ensures.greatest
+    tells_market d orders c.args.named.now.market c.requires.market candidates bars places text.items
+    c.requires.candidates c.in_ok-solved.ensures.greatest
     c.in_ok-solved.ensures.places is)
     c.market_text.ensures
 
 pub returns-clause-picks : goal.returns-clause-picks
 returns-clause-picks g c =
     always c.market_text.result
-    (picks_market c.args.dossier.now c.args.orders.now.orders c.args.named.now.market c.requires.market _ _ _ c.in_ok-solved.solved.bars.items c.in_ok-solved.ensures.led)
+    (picks_market c.args.dossier.now c.args.orders.now.orders c.args.named.now.market c.requires.market _ _ _
+    c.in_ok-solved.solved.bars.items c.in_ok-solved.ensures.led)
 
 pub returns-clause-early : goal.returns-clause-early
-returns-clause-early g c = led_more c.args.named.now.market _ _ _ c.in_ok-solved.solved.bars.items c.in_ok-solved.ensures.led
+returns-clause-early g c = led_more c.args.named.now.market _ _ _ c.in_ok-solved.solved.bars.items
+    c.in_ok-solved.ensures.led
 
 pub returns-in_err-solved-clause-early : goal.returns-in_err-solved-clause-early
 returns-in_err-solved-clause-early g c = tells_of_falls _ _ _ _ c.in_err-solved.ensures.early

@@ -7,7 +7,10 @@ use Rattle.modes.proofs.order.push_orders.Goals as goal
 
 pub returns : goal.returns
 returns c =
-    let end = YieldsList-end (YieldsList-from_zip {s = c.into_iter-group-iterator.result} (YieldsList-from_slice c.args.groups.now (search rules)) (YieldsList-from_slice c.args.orders.now (search rules))) c.loop-group.yielded c.loop-group.group-iterator c.loop-group.yielded_by c.next.result c.next.new.self c.in-None.is c.next.ensures.steps in
+    let end = YieldsList-end (YieldsList-from_zip {s = c.into_iter-group-iterator.result}
+    (YieldsList-from_slice c.args.groups.now (search rules))
+    (YieldsList-from_slice c.args.orders.now (search rules))) c.loop-group.yielded c.loop-group.group-iterator
+    c.loop-group.yielded_by c.next.result c.next.new.self c.in-None.is c.next.ensures.steps in
     c.loop-group.invariant
     ∙ ap (λ lines. string_bytes c.args.text.now ++ lines)
     (sym (flat_map-map group_text (λ p. (p.0.now, p.1.now)) c.loop-group.yielded) ∙ ap (flat_map group_text) end.0)

@@ -9,8 +9,10 @@ returns-in-First-clause-ends g c =
 
 pub returns-in-Last-clause-ends : goal.returns-in-Last-clause-ends
 returns-in-Last-clause-ends g c =
-    ends_next _ _ _ _ _ _ Last c.run_lent-in-Last.result c.in-Last.ensures (only_last _ _ _ _ _ _) c.run_lent-in-Last.ensures.ends
+    ends_next _ _ _ _ _ _ Last c.run_lent-in-Last.result c.in-Last.ensures (only_last _ _ _ _ _ _)
+    c.run_lent-in-Last.ensures.ends
 
 pub returns-in-Turn-clause-ends : goal.returns-in-Turn-clause-ends
 returns-in-Turn-clause-ends g c =
-    ends_next _ _ _ _ _ _ Turn c.run_lent-in-Turn.result c.in-Turn.ensures (only_turn _ _ _ _ _ _) c.run_lent-in-Turn.ensures.ends
+    ends_next _ _ _ _ _ _ Turn c.run_lent-in-Turn.result c.in-Turn.ensures (only_turn _ _ _ _ _ _)
+    c.run_lent-in-Turn.ensures.ends

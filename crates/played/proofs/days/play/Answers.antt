@@ -1,16 +1,10 @@
-use Rattle.std.proofs.Common.{ap}
-use Rattle.linked_demand.specs.Rosters.{Setting}
-use Rattle.played.proofs.DaysSoFar.{all_played, by_orders, cut_short}
+use Rattle.std.proofs.Common.{arith}
+use Rattle.played.specs.declared.days.Played.{Played}
+use Rattle.played.proofs.DaysSoFar.{none_played}
 use Rattle.played.proofs.days.play.Goals as goal
-use Rattle.played.proofs.days.play.Goals.{in-Ok, in-Err-Unfit}
 
-pub returns-clause-played : goal.returns-clause-played
-returns-clause-played g c =
-    let same = ap (λ (r : Setting). r.orders) c.in_ok-roster.ensures in
-    elim c.match-play_days.branch [
-      | in-Ok w ↦ all_played _ _ _ _ _ _ _ _ _ c.in_ok-orders.ensures.orders c.in_ok-orders.ensures.desk
-          (by_orders _ _ _ _ _ _ _ _ _ _ _ same w.in-Ok.ensures.plays) w.end-is
-      | in-Err-Unfit w ↦ cut_short _ _ _ _ _ _ _ _ _ c.in_ok-orders.ensures.orders
-          c.in_ok-orders.ensures.desk w.in-Err-Unfit.refusal
-          (by_orders _ _ _ _ _ _ _ _ _ _ _ same (rw w.in-Err-Unfit.field-0-is at w.in-Err-Unfit.ensures.plays)) w.end-is
-    ]
+pub returns-then-number-eq0-clause-played : goal.returns-then-number-eq0-clause-played
+returns-then-number-eq0-clause-played g c =
+    none_played (λ (p : Played). record { orders = p.orders.orders; days = p.days.items; end = p.end }) _ _ _ _ _
+    c.unplayed.result c.unplayed.ensures.orders c.unplayed.ensures.days c.unplayed.ensures.end
+    (omega (arith, c.if-number-eq0.true))

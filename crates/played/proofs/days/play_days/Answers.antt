@@ -10,7 +10,8 @@ loop-played-init g c = record { so_far = nothing_played _ _ _ _ c.requires.none;
 
 pub next_day-requires-clause-roster : goal.next_day-requires-clause-roster
 next_day-requires-clause-roster g c =
-    still _ _ _ _ _ _ _ c.loop-played.invariant.so_far (λ (d : DossierRows). c.args.roster.now.dossier ≡ d) c.requires.roster
+    still _ _ _ _ _ _ _ c.loop-played.invariant.so_far (λ (d : DossierRows). c.args.roster.now.dossier ≡ d)
+    c.requires.roster
 
 pub next_day-requires-clause-terms : goal.next_day-requires-clause-terms
 next_day-requires-clause-terms g c =
@@ -34,7 +35,8 @@ returns-in_err-keep-clause-plays g c =
 
 pub loop-played-preserved : goal.loop-played-preserved
 loop-played-preserved g c = record {
-  so_far = played_on _ _ _ _ _ _ _ c.loop-played.invariant.so_far c.in_ok-day.day _ _ _ c.in_ok-day.ensures.ends c.in_ok-keep.ensures;
+  so_far = played_on _ _ _ _ _ _ _ c.loop-played.invariant.so_far c.in_ok-day.day _ _ _ c.in_ok-day.ensures.ends
+      c.in_ok-keep.ensures;
   there = c.in_ok-day.ensures.there;
 }
 

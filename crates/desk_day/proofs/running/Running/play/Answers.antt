@@ -1,0 +1,91 @@
+use Rattle.std.proofs.Common.{◌∙◌, ◌≤◌, ◌+◌, ap, length, refl, subst, sym}
+use Rattle.std.proofs.lemmas.Result.{IfOk-from_err}
+use Rattle.std.specs.Option.{option_copied}
+use Rattle.admit_core.specs.CallOrder.{AreCallOrders}
+use Rattle.admit_core.specs.Days.{IsDay, Passes}
+use Rattle.admit_core.specs.DossierRows.{DossierRows}
+use Rattle.admit_core.specs.State.{State}
+use Rattle.admit_core.specs.Validity.{IsValid}
+use Rattle.desk_day.specs.DayPasses.{AreChosenPasses, last_opening}
+use Rattle.desk_day.specs.RunDay.{recorded}
+use Rattle.desk_day.proofs.DayEnds.{done_so, not_begun, ran_out}
+use Rattle.desk_day.proofs.DayLaws.{laws_kept}
+use Rattle.desk_day.proofs.DayPlaces.{day_in}
+use Rattle.desk_day.proofs.Stamps.{stamps_kept}
+use Rattle.desk_day.proofs.running.Running.play.Goals as goal
+
+pub make_passes-requires : goal.make_passes-requires
+make_passes-requires g c = record {
+  roster = c.requires.roster ∙ sym c.begin_day.ensures.dossier;
+  ceilings = c.requires.ceilings ∙ sym (ap (λ (d : DossierRows). length d.schools) c.begin_day.ensures.dossier);
+}
+
+pub returns-in_err-lapsed-clause-undone : goal.returns-in_err-lapsed-clause-undone
+returns-in_err-lapsed-clause-undone g c =
+    not_begun _ _ _ _ c.from_residual.result c.in_err-lapsed.field-0.0 c.from_residual.ensures.1 c.in_err-lapsed.ensures.unfit
+    c.begin_day.ensures.opening refl
+
+pub returns-in_err-passes-clause-done : goal.returns-in_err-passes-clause-done
+returns-in_err-passes-clause-done g c = IfOk-from_err _ _ c.from_residual-in_err-passes.ensures.0
+
+pub returns-in_err-passes-clause-undone : goal.returns-in_err-passes-clause-undone
+returns-in_err-passes-clause-undone g c = ran_out _ _ c.from_residual-in_err-passes.ensures.1
+    (record { unfit = tt; unopened = tt; untold = c.in_err-passes.ensures.early })
+
+pub returns-in_err-passes-clause-dossier : goal.returns-in_err-passes-clause-dossier
+returns-in_err-passes-clause-dossier g c = c.make_passes.ensures.dossier ∙ c.begin_day.ensures.dossier
+
+pub returns-in_err-done-clause-done : goal.returns-in_err-done-clause-done
+returns-in_err-done-clause-done g c = IfOk-from_err _ _ c.from_residual-in_err-done.ensures.0
+
+pub returns-in_err-done-clause-undone : goal.returns-in_err-done-clause-undone
+returns-in_err-done-clause-undone g c = ran_out _ _ c.from_residual-in_err-done.ensures.1
+    (record { unfit = tt; unopened = tt; untold = (_, c.in_ok-passes.ensures.told) })
+
+pub returns-in_err-done-clause-dossier : goal.returns-in_err-done-clause-dossier
+returns-in_err-done-clause-dossier g c = c.make_passes.ensures.dossier ∙ c.begin_day.ensures.dossier
+
+pub returns-clause-dossier : goal.returns-clause-dossier
+returns-clause-dossier g c = c.make_passes.ensures.dossier ∙ c.begin_day.ensures.dossier
+
+pub returns-clause-done : goal.returns-clause-done
+returns-clause-done g c =
+    let s = c.args.self.now.present in
+    let terms = option_copied c.args.terms in
+    let orders = c.args.roster.now.orders in
+    let ceilings = c.args.ceilings.now in
+    let day = c.args.day in
+    let evening = c.make_passes.new.self.present in
+    let passes = c.in_ok-passes.passes.items in
+    let done = recorded day passes c.in_ok-lapsed.lapsed.items evening in
+    let morning = c.in_ok-lapsed.ensures.present in
+    let made = c.in_ok-passes.ensures.made in
+    let valid : IsValid s.dossier = subst IsValid
+    (c.behind-state.view_is ∙ c.dossier.ensures ∙ ap (λ (t : State). t.dossier) c.now-state.ensures) c.behind-state.invariant in
+    let called : AreCallOrders s.dossier.groups orders =
+    subst (λ (d : DossierRows). AreCallOrders d.groups orders) c.requires.roster c.orders.ensures.right in
+    let first = goal.Picker-dyn g c.args.picker.now in
+    let is : IsDay terms orders ceilings s done evening = record {
+      lapsed = c.in_ok-lapsed.ensures.lapsed;
+      fits = c.in_ok-lapsed.ensures.fits;
+      passes = subst (λ (m : State). Passes orders ceilings day 1 m passes evening) morning made.passes;
+      left = refl;
+      free = refl;
+    } in
+    done_so _ _ _ _ _ _ _ done (c.in_ok-done.ensures
+    ∙ ap (λ (t : State). recorded day passes c.in_ok-lapsed.lapsed.items t) c.now.ensures) (record {
+      rule = record {
+        number = refl;
+        is_day = is;
+        opening = made.opening ∙ ap (λ (m : State). last_opening orders day 1 m passes) morning;
+        told = c.in_ok-passes.ensures.told;
+        chosen = subst (λ (m : State). AreChosenPasses orders ceilings day 1 m (first.choice c.args.picker.now.1)
+            (first.told c.args.picker.now.1) passes) morning c.in_ok-passes.ensures.chosen;
+      };
+      follows = record {
+        laws = laws_kept terms orders ceilings s done evening valid called c.requires.ceilings is;
+        few = subst (λ (d : DossierRows). length passes ≤ length d.wishes + 1) c.begin_day.ensures.dossier made.few;
+        places = day_in terms orders ceilings s done evening c.requires.before c.requires.ceilings is;
+        stamps = stamps_kept terms orders ceilings s done evening is;
+      };
+    })

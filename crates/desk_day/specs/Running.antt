@@ -1,0 +1,66 @@
+-- What the desk of a day that runs holds.
+use Rattle.std.specs.Prelude.{◌≡◌, ℕ, ◌+◌, ◌≤◌, ◌<◌, Bool, true, not, List, length, Option, IsTrue, if◌then◌else◌}
+use Rattle.admit_core.specs.declared.ranking.CallOrder.{CallOrder}
+use Rattle.admit_core.specs.declared.records.PassEnd.{PassEnd}
+use Rattle.admit_core.specs.declared.records.Terms.{Terms}
+use Rattle.admit_core.specs.declared.state.Freed.{Freed}
+use Rattle.admit_core.specs.declared.state.Stamp.{Stamp}
+use Rattle.admit_core.specs.Days.{IsPassEnd, Passes, closing, frees_nothing, unfit_on}
+use Rattle.admit_core.specs.State.{State}
+use Rattle.desk_day.specs.AnswersOn.{IsUnfitOf}
+use Rattle.desk_day.specs.DayPasses.{IsAnsweredBut, last_opening, open_wishes}
+use Rattle.desk_day.specs.DayPlaces.{AreWishesOf}
+use Rattle.desk_day.specs.RunDay.{KeepsOpening, Moment, TellsNoneUnfit}
+use Rattle.desk_day.specs.declared.refusal.DayRefusal.{DayRefusal}
+
+-- the present state, and the opening of the last pass
+pub record RunningStates : Type 0 where
+  pub present : State
+  pub opening : State
+
+-- both are of one dossier, and so are some wishes. Where that is known, all have been answered for in
+-- the present state but maybe those who have one of these wishes, or the opening is that state
+pub record IsRunning (is_answered is_alike : Bool) (beside : List ℕ) (s : RunningStates) : Type 0 where
+  pub dossier : s.opening.dossier ≡ s.present.dossier
+  pub within : AreWishesOf s.present.dossier beside
+  pub answered : is_answered ≡ true → IsAnsweredBut beside s.present
+  pub alike : is_alike ≡ true → s.opening ≡ s.present
+
+-- the opening after a pass: its own where it freed nothing, since it is the last one then, and
+-- elsewhere its closing, with which the next one opens
+abbrev pub opening_after : Freed → State → State → State
+opening_after freed opening closing = if frees_nothing freed then opening else closing
+
+-- a pass that opened with this state has been made, with its automatic answers
+pub record IsPassMade (orders : List CallOrder) (ceilings : List ℕ) (stamp : Stamp) (s : State)
+    (end : PassEnd) (after : RunningStates) : Type 0 where
+  pub ended : IsPassEnd s orders ceilings stamp end
+  pub present : after.present ≡ closing s orders end.pass.bars stamp
+  pub opening : after.opening ≡ opening_after end.freed s after.present
+  pub fewer : IsTrue (not (frees_nothing end.freed)) → open_wishes after.present < open_wishes s
+  pub marks : length after.present.marks ≡ length after.present.dossier.wishes
+
+-- the passes of a day from its morning on have been made, of which there are at most as many as
+-- wishes, and one more
+pub record ArePassesMade (orders : List CallOrder) (ceilings : List ℕ) (day : ℕ) (morning : State)
+    (ends : List PassEnd) (after : RunningStates) : Type 0 where
+  pub passes : Passes orders ceilings day 1 morning ends after.present
+  pub opening : after.opening ≡ last_opening orders day 1 morning ends
+  pub few : length ends ≤ length morning.dossier.wishes + 1
+
+-- a day that runs, with the evening before it, and what the picker of the day has told and how it
+-- chooses
+abbrev pub moment_on : RunningStates → State → List ℕ → (List ℕ → List ℕ → ℕ) → Moment
+moment_on running evening told choice = record {
+  desk = record { present = running.present; evening = evening; opening = running.opening };
+  told = told;
+  choice = choice;
+}
+
+-- why a day has not come about, and what its picker told and its last pass opened with by then
+pub record IsUndone (terms : Option Terms) (day : ℕ) (before after : Moment)
+    (refusal : DayRefusal) : Type 0 where
+  pub unfit : IsUnfitOf before.desk.present.dossier day (unfit_on terms day before.desk.present)
+      refusal
+  pub unopened : KeepsOpening before.desk.opening after.desk.opening refusal
+  pub untold : TellsNoneUnfit before.told after.told refusal

@@ -1,0 +1,138 @@
+//! The states of a day that runs.
+ghost use Rattle.std.specs.Prelude.{◌≡◌, ◌&&◌, IfOk, true};
+ghost use Rattle.admit_core.specs.Days.{first_evening};
+ghost use Rattle.desk_day.specs.DayPasses.{IsAnswered};
+ghost use Rattle.desk_day.specs.Running.{RunningStates};
+
+use admit_core::{Dossier, OutOfMemory};
+use day_state::DayState;
+use std::alloc::Global;
+use std::marker::Model;
+
+/// The present state of a dossier's wishes, and the opening of the last pass.
+///
+/// Where `is_answered`, all have been answered for in the present state but those who have a wish
+/// in `beside`: the next pass then asks them and those with an offer, and no others. Where
+/// `is_alike`, the opening is the present state, and need not be copied from it. Neither is said
+/// while a pass is made.
+pub(crate) struct Running<'d> {
+    pub(crate) present: DayState<'d>,
+    pub(crate) opening: DayState<'d>,
+    pub(crate) beside: Vec<u32>,
+    pub(crate) is_answered: bool,
+    pub(crate) is_alike: bool,
+}
+
+// Not derived: so it is dropped in one step where it is held, and not state by state.
+impl Drop for Running<'_> {
+    fn drop(self) {
+        let Running {
+            present: _,
+            opening: _,
+            beside: _,
+            is_answered: _,
+            is_alike: _,
+        } = self;
+    }
+}
+
+impl<'d> Model for Running<'d> {
+    ghost use Rattle.desk_day.specs.Running.{RunningStates, IsRunning};
+
+    ghost Value = { RunningStates };
+
+    ghost view = { λ s. record { present = s.present; opening = s.opening } };
+
+    ghost invariant = { λ s. IsRunning s.is_answered s.is_alike s.beside.items
+        (record { present = s.present; opening = s.opening }) };
+}
+
+impl<'d> Running<'d> {
+    /// Both states are the one that the dossier comes in with.
+    pub(crate) fn begin(alloc: Global, dossier: &'d Dossier) -> Result<Running<'d>, OutOfMemory>
+        ensures present { IfOk result (λ running. running.present ≡ first_evening dossier.now) }
+        ensures opening { IfOk result (λ running. running.opening ≡ first_evening dossier.now) }
+    {
+        let present = DayState::begin(alloc, dossier)?;
+        let opening = present.copy(alloc)?;
+        Ok(Running {
+            present,
+            opening,
+            beside: Vec::new(alloc),
+            is_answered: false,
+            is_alike: true,
+        })
+    }
+
+    /// The present state.
+    pub(crate) fn now(&self) -> &DayState<'d>
+        ensures { result.now ≡ self.now.present }
+    {
+        &self.present
+    }
+
+    /// The state in which the last pass began.
+    pub(crate) fn opening(&self) -> &DayState<'d>
+        ensures { result.now ≡ self.now.opening }
+    {
+        &self.opening
+    }
+
+    /// The present state alone.
+    pub(crate) fn into_now(self) -> DayState<'d>
+        ensures { result ≡ self.entry.present }
+    {
+        let Running {
+            present,
+            opening: _,
+            beside: _,
+            is_answered: _,
+            is_alike: _,
+        } = self;
+        present
+    }
+
+    /// Whether all are known to have been answered for.
+    pub(crate) fn is_settled(&self) -> bool
+        ensures { result ≡ true → IsAnswered self.now.present }
+    {
+        let _ = self.present.marks(); // one for each wish
+        both(self.is_answered, self.beside.as_slice().is_empty())
+    }
+
+    /// Notes whether the opening is the present state.
+    pub(crate) fn note_alike(&mut self, is_alike: bool)
+        requires { is_alike ≡ true → self.old.opening ≡ self.old.present }
+        ensures { self.new ≡ self.old }
+    {
+        self.is_alike = is_alike;
+    }
+
+    /// Leads the present state back to an evening. Nothing is known of it then.
+    pub(crate) fn restore(&mut self, evening: &DayState<'d>)
+        requires { evening.now.dossier ≡ self.old.present.dossier }
+        ensures present { self.new.present ≡ evening.now }
+        ensures opening { self.new.opening ≡ self.old.opening }
+    {
+        self.is_answered = false;
+        self.is_alike = false;
+        self.present.set_from(evening);
+    }
+
+    /// Opens a pass with the present state.
+    pub(crate) fn open(&mut self)
+        ensures present { self.new.present ≡ self.old.present }
+        ensures opening { self.new.opening ≡ self.old.present }
+    {
+        if !self.is_alike {
+            self.opening.set_from(&self.present);
+        }
+    }
+}
+
+/// Whether two tests both pass.
+pub(crate) fn both(one: bool, other: bool) -> bool
+    ensures { result ≡ (one && other) }
+{
+    one && other
+}
