@@ -1,6 +1,6 @@
 -- Reading order. Each file says in its first line what it shows.
 -- A market is read: BelowCount, Reading, Listing, Stamping, Ordering.
--- A market as a falling system: Held, Rounds, Filled; how it is solved: Seated, Led, Noting.
+-- A market as a falling system: Held, Rounds, Filled; how it is solved: Seated, Led, Noting, Tied.
 -- The solution: Stable, Best, SamePlaces, Existing, and last SamePlaced (the same candidates
 -- have a place in every stable matching).
 -- The market of a dossier: InTurn, Owning, OneMore, Rankers, Called, Ranking, Telling.
@@ -27,3 +27,4 @@ pub mod Seated
 pub mod Stable
 pub mod Stamping
 pub mod Telling
+pub mod Tied

@@ -1,6 +1,6 @@
 -- What the lists and orders of a market have, as they are read.
-use Rattle.std.proofs.Common.{ℕ, ◌≤◌, ◌<◌, ◌≡◌, true, List, [], length, get_or, refl, ◌∙◌, ap, arith, nat_eq, nat_lt}
-use Rattle.std.specs.Prelude.{All}
+use Rattle.std.proofs.Common.{ℕ, ◌≤◌, ◌<◌, ◌≡◌, true, List, [], ◌∷◌, length, get_or, refl, ◌∙◌, ap, arith, nat_eq, nat_lt}
+use Rattle.std.specs.Prelude.{All, IsTrue}
 use Rattle.std.specs.List.{list_all, range_with_len}
 use Rattle.std.proofs.lemmas.Bool.{and_parts, ltb-true, eq-eqb}
 use Rattle.std.proofs.lemmas.Cmp.{nat_eq_equiv}
@@ -9,13 +9,21 @@ use Rattle.std.proofs.lemmas.List.Folds.{list_any_at}
 use Rattle.std.proofs.lemmas.List.FromFn.{length-range_with_len}
 use Rattle.std.proofs.lemmas.Map.Made.{length-le_from_is_member}
 use Rattle.admit_core.specs.Lists.{is_among}
-use Rattle.markets.specs.Markets.{MarketRows, IsMarket, list_of, market_order, is_distinct}
+use Rattle.markets.specs.Markets.{MarketRows, IsMarket, list_of, market_order, is_distinct, is_list_below}
 use Rattle.markets.specs.Firsts.{one_of_all, range_has}
 use Rattle.markets.specs.Positions.{distinct_from, is_candidate, order_lists, order_distinct}
 
 -- one at a place of a list, whatever stands for a place past the end
 pub among_place : (xs : List ℕ) (k d : ℕ) → k < length xs → is_among (get_or xs k d) xs ≡ true
 among_place xs k d lt = list_any_at (nat_eq (get_or xs k d)) xs k d lt (eq-eqb (get_or xs k d) (get_or xs k d) refl)
+
+-- no number is below 0
+pub none_below : (ns : List ℕ) → IsTrue (is_list_below 0 ns) → ns ≡ []
+none_below [] below = refl
+none_below (n ∷ ns) below =
+    let parts = and_parts (is_distinct (n ∷ ns)) (list_all (λ q. nat_lt q 0) (n ∷ ns)) below in
+    let here : is_among n (n ∷ ns) ≡ true = among_place (n ∷ ns) 0 0 (omega arith) in
+    absurd (omega (arith, ltb-true n 0 (one_of_all (λ q. nat_lt q 0) n (n ∷ ns) parts.1 here)))
 
 -- an item of a list of lists, as it is read
 pub list_read : (lists : List (List ℕ)) (k : ℕ) (item slice : List ℕ) → k < length lists → item ≡ get_or lists k item → slice ≡ item

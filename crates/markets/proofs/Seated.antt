@@ -16,6 +16,7 @@ use Rattle.markets.specs.Lawful.{best_is_within}
 use Rattle.markets.specs.Standing.{AreBeyond, IsStand, AreStands}
 use Rattle.markets.specs.Fillings.{Fill}
 use Rattle.markets.specs.Rounds.{AreCounts, IsRound}
+use Rattle.markets.specs.Seatings.{HasMovedOn, IsLeaving}
 use Rattle.markets.proofs.Held.{place_under, past_lists}
 use Rattle.markets.proofs.Rounds.{best_found, best_nowhere}
 
@@ -312,7 +313,7 @@ module _ {m : MarketRows} {bars stands : List ℕ} {places : List (Option ℕ)} 
     pub lowered : lower_bars ≡ low m bars stands places f round p p_lt above
     lowered = lower_is ∙ ap (λ n. set bars p (n - 1)) bar_read
 
-    pub bars_each : length lower_bars ≡ length m.orders
+    bars_each : length lower_bars ≡ length m.orders
     bars_each = ap length lowered ∙ low_each m bars stands places f round p p_lt above
 
     module _ {place : Option ℕ} (place_is : place ≡ get_or places who_is_there place) where
@@ -327,10 +328,10 @@ module _ {m : MarketRows} {bars stands : List ℕ} {places : List (Option ℕ)} 
           (ap (λ z. is_at p (place_of places z)) (sym next_is) ∙ ap (is_at p) (sym place_read) ∙ away))
 
       -- what it takes to move on
-      pub had_place : is_at p place ≡ true → place_of places who_is_there ≡ Some p
+      had_place : is_at p place ≡ true → place_of places who_is_there ≡ Some p
       had_place holds = sym place_read ∙ at_place p place holds
 
-      pub entry_left : is_at p place ≡ true → (slice_index stands who_is_there < length (list_of m who_is_there))
+      entry_left : is_at p place ≡ true → (slice_index stands who_is_there < length (list_of m who_is_there))
           × AreBeyond m lower_bars who_is_there (slice_index stands who_is_there + 1)
       entry_left holds =
           let x : ℕ = next m bars stands places f round p p_lt above in
@@ -343,38 +344,58 @@ module _ {m : MarketRows} {bars stands : List ℕ} {places : List (Option ℕ)} 
           (round.seated.stood.each x next_within) in
           subst (P who_is_there) (sym lowered) (subst (λ z. P z (low m bars stands places f round p p_lt above)) (sym next_is) here)
 
-    pub moves_on : (new : List ℕ) (now : List (Option ℕ)) (g : Fill) → IsStand m lower_bars who_is_there (slice_index new who_is_there)
-        → new ≡ set stands who_is_there (slice_index new who_is_there)
-        → now ≡ set places who_is_there (best_within m lower_bars who_is_there) → g.seats ≡ f.seats
-        → AreCounts (length m.orders) now g.counts → IsRound m lower_bars new now g
-    moves_on new now g stand new_is now_is seats counts =
+      pub leaving : is_at p place ≡ true → IsLeaving m lower_bars who_is_there p stands places
+      leaving holds =
+          record {
+            one_bar_each = bars_each;
+            candidate = who_within;
+            had = had_place holds;
+            on_list = (entry_left holds).0;
+            beyond = (entry_left holds).1;
+          }
+
+    pub moves_on : (new : List ℕ) (now : List (Option ℕ)) (g : Fill)
+        → HasMovedOn m lower_bars who_is_there stands places new now → g.seats ≡ f.seats
+        → AreCounts (length g.seats) now g.counts → IsRound m lower_bars new now g
+    moves_on new now g moved seats counts =
         let lower : List ℕ = low m bars stands places f round p p_lt above in
         let P : List ℕ → Type 0 = λ bs. IsRound m bs new now g in
         let S : ℕ → List ℕ → Type 0 = λ z bs. IsStand m bs z (slice_index new z) in
         let N : ℕ → List ℕ → Type 0 = λ z bs. now ≡ set places z (best_within m bs z) in
         let M : ℕ → Type 0 = λ z. new ≡ set stands z (slice_index new z) in
+        let C : ℕ → Type 0 = λ n. AreCounts n now g.counts in
+        let long : length g.seats ≡ length m.orders =
+        ap length seats ∙ ap length round.seats ∙ round.valid.one_seat_each in
         subst P (sym lowered)
         (moves m bars stands places f round p p_lt above new now g next_within
-        (subst (λ z. S z lower) next_is (subst (S who_is_there) lowered stand)) (subst M next_is new_is)
-        (subst (λ z. N z lower) next_is (subst (N who_is_there) lowered now_is)) seats counts)
+        (subst (λ z. S z lower) next_is (subst (S who_is_there) lowered moved.stand)) (subst M next_is moved.stood)
+        (subst (λ z. N z lower) next_is (subst (N who_is_there) lowered moved.placed)) seats (subst C long counts))
 
--- a round, as it begins
-pub round_from : (m : MarketRows) → IsMarket m → (bars stands : List ℕ) (places : List (Option ℕ)) (f : Fill) (counts seats : List ℕ)
-    → length bars ≡ length m.orders
-    → ((p : ℕ) → slice_index bars p ≤ length (market_order m p)) → AreStands m bars stands → places ≡ matched_under m bars
-    → f ≡ record { seats = seats; counts = counts } → seats ≡ m.seats → AreCounts (length m.orders) places counts
-    → IsRound m bars stands places f
-round_from m is bars stands places f counts seats each under stood are f_is seats_are counted =
-    let P : Fill → Type 0 = λ g. IsRound m bars stands places g in
-    subst P (sym f_is) (record {
-      valid = is;
-      seated = record {
-        one_bar_each = each;
-        under = under;
-        stood = stood;
-        one_place_each = ap length are ∙ length-map-range_with_len (best_within m bars) 0 (length m.lists);
-        placed = λ x. ap (λ (ps : List (Option ℕ)). place_of ps x) are ∙ place_under m bars x;
-      };
-      seats = seats_are;
-      counts = counted;
-    })
+-- a round, as it begins: what is read of its market, and what is made of it
+module _ {m : MarketRows} (is : IsMarket m) {bars : List ℕ} (each : length bars ≡ length m.orders)
+    (under : (p : ℕ) → slice_index bars p ≤ length (market_order m p)) {stands : List ℕ} (stood : AreStands m bars stands)
+    {r : MarketRows} (same : r ≡ m) {places : List (Option ℕ)} (are : places ≡ matched_under r bars)
+    {r' : MarketRows} (same' : r' ≡ m) {read : List (Option ℕ)} (read_is : read ≡ places) {counts : List ℕ}
+    (counted : AreCounts (length r'.orders) read counts)
+    {r'' : MarketRows} (same'' : r'' ≡ m) {seats : List ℕ} (seats_are : seats ≡ r''.seats)
+    {f : Fill} (f_is : f ≡ record { seats = seats; counts = counts }) where
+  matched : places ≡ matched_under m bars
+  matched = are ∙ ap (λ (rows : MarketRows). matched_under rows bars) same
+
+  pub round_from : IsRound m bars stands places f
+  round_from =
+      let P : Fill → Type 0 = λ g. IsRound m bars stands places g in
+      let Q : ℕ → List (Option ℕ) → Type 0 = λ n ps. AreCounts n ps counts in
+      subst P (sym f_is) (record {
+        valid = is;
+        seated = record {
+          one_bar_each = each;
+          under = under;
+          stood = stood;
+          one_place_each = ap length matched ∙ length-map-range_with_len (best_within m bars) 0 (length m.lists);
+          placed = λ x. ap (λ (ps : List (Option ℕ)). place_of ps x) matched ∙ place_under m bars x;
+        };
+        seats = seats_are ∙ ap (λ (rows : MarketRows). rows.seats) same'';
+        counts = subst (λ n. Q n places) (ap (λ (rows : MarketRows). length rows.orders) same')
+            (subst (Q (length r'.orders)) read_is counted);
+      })

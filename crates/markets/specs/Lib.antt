@@ -13,6 +13,7 @@ pub mod Positions
 pub mod Ranked
 pub mod Rounds
 pub mod Rows
+pub mod Seatings
 pub mod Solving
 pub mod Stamps
 pub mod Standing

@@ -1,5 +1,5 @@
 //! How many candidates programmes have, with a list of those that have more than their seats.
-ghost use Rattle.std.specs.Prelude.{◌≡◌, ◌<◌, ◌≤◌, length, slice_index, slice_set, IfOk, nat_lt, true, false, filter};
+ghost use Rattle.std.specs.Prelude.{◌≡◌, ◌<◌, ◌≤◌, length, slice_index, slice_set, IfOk, IsOk, [], nat_lt, true, false, filter};
 ghost use Rattle.std.specs.List.{range_with_len};
 ghost use Rattle.std.specs.List.Sorted.{IsNonDecreasing, IsPartitionPoint};
 ghost use Rattle.markets.specs.Fillings.{overfilled, is_over};
@@ -78,9 +78,14 @@ impl Filling {
 
     /// The programmes that have more candidates than seats, from the least.
     pub fn overfilled(&self, alloc: Global) -> Result<Vec<u32>, OutOfMemory>
-        ensures { IfOk result (λ places. places.items ≡ overfilled self.now) }
+        ensures places { IfOk result (λ places. places.items ≡ overfilled self.now) }
+        ensures always { overfilled self.now ≡ [] → IsOk result }
     {
-        Ok(self.overfilled.as_slice().to_vec(alloc)?)
+        let listed = self.overfilled.as_slice();
+        if listed.is_empty() {
+            return Ok(Vec::new(alloc));
+        }
+        Ok(listed.to_vec(alloc)?)
     }
 
     /// The same, lent.

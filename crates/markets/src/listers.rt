@@ -1,5 +1,5 @@
 //! For each programme the candidates whose lists name it.
-ghost use Rattle.std.specs.Prelude.{◌≡◌, ◌≤◌, [], length, IfOk, OnOk, IsTrue};
+ghost use Rattle.std.specs.Prelude.{◌≡◌, ◌≤◌, [], length, IfOk, IsOk, OnOk, IsTrue};
 ghost use Rattle.admit_core.specs.Lists.{is_among};
 ghost use Rattle.markets.specs.Markets.{is_list_below};
 ghost use Rattle.markets.specs.Listers.{AreLists, AreListers, ArePutIn};
@@ -15,7 +15,9 @@ pub fn listers_of(
 ) -> Result<Vec<Vec<u32>>, OutOfMemory>
     requires few { length lists.now ≤ 16000000 }
     requires lists { AreLists count lists.now }
-    ensures { IfOk result (λ rows. AreListers lists.now count (length lists.now) rows.items) }
+    ensures listers { IfOk result (λ rows.
+        AreListers lists.now count (length lists.now) rows.items) }
+    ensures always { count ≡ 0 → IsOk result }
 {
     let mut rows = empty_rows(alloc, count)?;
     for (place, list) in lists.iter().enumerate() {
@@ -26,7 +28,8 @@ pub fn listers_of(
 
 /// So many empty rows.
 pub fn empty_rows(alloc: Global, count: u32) -> Result<Vec<Vec<u32>>, OutOfMemory>
-    ensures { IfOk result (λ rows. AreListers [] count 0 rows.items) }
+    ensures empty { IfOk result (λ rows. AreListers [] count 0 rows.items) }
+    ensures always { count ≡ 0 → IsOk result }
 {
     let mut rows = Vec::new(alloc);
     for _row in 0..count {
@@ -39,8 +42,9 @@ pub fn empty_rows(alloc: Global, count: u32) -> Result<Vec<Vec<u32>>, OutOfMemor
 /// Puts an item at the end of the rows whose numbers stand in a list.
 fn put_in_rows(rows: &mut Vec<Vec<u32>>, list: &[u32], item: u32) -> Result<(), OutOfMemory>
     requires { IsTrue (is_list_below (length rows.old.items) list.now) }
-    ensures { OnOk result (ArePutIn (λ p. is_among p list.now) (λ p. item) rows.old.items
+    ensures put { OnOk result (ArePutIn (λ p. is_among p list.now) (λ p. item) rows.old.items
         rows.new.items) }
+    ensures always { list.now ≡ [] → IsOk result }
 {
     for number in list {
         rows[*number as usize].push(item)?;

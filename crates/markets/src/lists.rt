@@ -1,5 +1,5 @@
 //! Whether lists name programmes of a market, none twice.
-ghost use Rattle.std.specs.Prelude.{◌≡◌, ◌≤◌, not, length, position, IfOk};
+ghost use Rattle.std.specs.Prelude.{◌≡◌, ◌≤◌, [], not, length, position, IfOk, IsOk};
 ghost use Rattle.markets.specs.Markets.{is_list_below};
 
 use crate::stamps::stamp_list;
@@ -13,9 +13,13 @@ pub fn first_bad_list(
     count: u32,
 ) -> Result<Option<u32>, OutOfMemory>
     requires { length lists.now ≤ 16000000 }
-    ensures { IfOk result (λ bad. bad ≡ position
+    ensures bad { IfOk result (λ bad. bad ≡ position
         (λ list. not (is_list_below count list)) lists.now) }
+    ensures always { lists.now ≡ [] → IsOk result }
 {
+    if lists.is_empty() {
+        return Ok(None);
+    }
     let mut stamps = vec![in alloc; 0; count as usize]?;
     let mut stamp = 0;
     for list in lists {

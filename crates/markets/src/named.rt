@@ -1,5 +1,5 @@
 //! The market of a dossier.
-ghost use Rattle.std.specs.Prelude.{◌≡◌, ◌<◌, ◌≤◌, [], length, map, filter, nat_eq, All, IfOk, OnOk};
+ghost use Rattle.std.specs.Prelude.{◌≡◌, ◌<◌, ◌≤◌, [], length, map, filter, nat_eq, All, IfOk, IsOk, OnOk};
 ghost use Rattle.std.specs.List.{position_or_len, range_with_len};
 ghost use Rattle.std.specs.List.Sorted.{IsStrictlyIncreasing};
 ghost use Rattle.admit_core.specs.CallOrder.{AreCallOrders};
@@ -62,8 +62,9 @@ fn called(
 ) -> Result<Sequence<u32>, OutOfMemory>
     requires few { length names.now.keys ≤ 16000000 }
     requires rises { IsStrictlyIncreasing listers.now }
-    ensures { IfOk result (λ v. v ≡ filter (λ x. is_among x listers.now)
+    ensures called { IfOk result (λ v. v ≡ filter (λ x. is_among x listers.now)
         (map (λ c. position_or_len (nat_eq c) names.now.keys) order.now)) }
+    ensures always { listers.now ≡ [] → IsOk result }
 {
     if listers.is_empty() {
         return Ok(Sequence::new(alloc));

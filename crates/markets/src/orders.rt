@@ -1,5 +1,5 @@
 //! Whether orders have the candidates whose lists name their programmes.
-ghost use Rattle.std.specs.Prelude.{◌≡◌, ◌≤◌, ◌<◌, [], length, All, IfOk};
+ghost use Rattle.std.specs.Prelude.{◌≡◌, ◌≤◌, ◌<◌, [], length, All, IfOk, IsOk};
 ghost use Rattle.markets.specs.Markets.{first_bad_order};
 ghost use Rattle.markets.specs.Listers.{AreLists};
 ghost use Rattle.markets.specs.Rows.{has_all_of};
@@ -20,9 +20,13 @@ pub fn first_bad_order(
     requires candidates { length lists.now ≤ 16000000 }
     requires programmes { length orders.now ≤ 16000000 }
     requires lists { AreLists (length orders.now) lists.now }
-    ensures { IfOk result (λ bad. bad ≡ first_bad_order
+    ensures bad { IfOk result (λ bad. bad ≡ first_bad_order
         (record { lists = lists.now; orders = orders.now; seats = [] })) }
+    ensures always { orders.now ≡ [] → IsOk result }
 {
+    if orders.is_empty() {
+        return Ok(None);
+    }
     let rows = listers_of(alloc, lists, orders.len() as u32)?;
     let mut room = vec![in alloc; 0; lists.len()]?;
     let stamps = room.as_mut_slice();

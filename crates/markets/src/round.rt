@@ -1,10 +1,10 @@
 //! A market as a system of falling bars.
-ghost use Rattle.std.specs.Prelude.{ℕ, ◌≡◌, ◌<◌, ◌≤◌, length, map, filter, nat_le, slice_get, slice_index, ◌-◌, All, IfOk, IsOk};
+ghost use Rattle.std.specs.Prelude.{ℕ, ◌≡◌, ◌<◌, ◌≤◌, length, map, filter, nat_le, slice_get, slice_index, ◌-◌, [], All, IfOk, IsOk};
 ghost use Rattle.markets.specs.Markets.{IsMarket, market_order, candidate_at};
 ghost use Rattle.markets.specs.Matchings.{IsMatching};
 ghost use Rattle.markets.specs.Bars.{demanded, market_system, place_codes, place_code};
 ghost use Rattle.markets.specs.Rounds.{IsRound, held_to};
-ghost use Rattle.bar_fixpoint.specs.Overfilled.{rank_over};
+ghost use Rattle.bar_fixpoint.specs.Overfilled.{all_overfilled, rank_over};
 
 use crate::market::Market;
 use crate::ranked::Ranked;
@@ -37,8 +37,9 @@ fn names_within(
     requires programme { programme < length market.now.orders }
     requires places { length places.now ≡ length market.now.lists }
     requires upto { upto ≤ length (market_order market.now programme) }
-    ensures { IfOk result (λ names. names.items ≡
+    ensures names { IfOk result (λ names. names.items ≡
         map (candidate_at market.now programme) (held_to market.now places.now programme upto)) }
+    ensures always { upto ≡ 0 → IsOk result }
 {
     let order = market.order(programme);
     let mut names = Vec::new(alloc);
@@ -110,7 +111,6 @@ fn first_over(market: &Market, bar: u32, seating: &Seating, programme: u32) -> O
     requires programme { programme < length market.now.orders }
     requires bar { bar ≤ length (market_order market.now programme) }
     requires seats { length seating.now.filling.seats ≡ length market.now.orders }
-    requires counts { length seating.now.filling.counts ≡ length market.now.orders }
     requires places { length seating.now.places.items ≡ length market.now.lists }
     requires count { slice_index seating.now.filling.counts programme
         ≡ length (held_to market.now seating.now.places.items programme bar) }
@@ -168,7 +168,12 @@ impl Falling for MarketRound<'_> {
         Ok(first_over(self.market.market(), bar, &self.seating, i))
     }
 
-    fn overfilled(&self, alloc: Global) -> Result<Vec<u32>, OutOfMemory> {
+    fn overfilled(&self, alloc: Global) -> Result<Vec<u32>, OutOfMemory>
+        ensures places { IfOk result (λ places. places.items ≡
+            all_overfilled (market_system self.now.market) self.now.bars.items) }
+        ensures always { all_overfilled (market_system self.now.market) self.now.bars.items ≡ []
+            → IsOk result }
+    {
         self.seating.filling.overfilled(alloc)
     }
 
@@ -176,7 +181,14 @@ impl Falling for MarketRound<'_> {
         Some(self.seating.filling.listed())
     }
 
-    fn names(&self, alloc: Global, i: u32, upto: u32) -> Result<Vec<u32>, OutOfMemory> {
+    fn names(&self, alloc: Global, i: u32, upto: u32) -> Result<Vec<u32>, OutOfMemory>
+        requires { i < length (market_system self.now.market).ceilings }
+        ensures names { IfOk result (λ names. names.items ≡
+            map ((market_system self.now.market).name self.now.bars.items i)
+            (filter (λ rank. nat_le rank upto)
+            ((market_system self.now.market).ranks self.now.bars.items i))) }
+        ensures always { upto ≡ 0 → IsOk result }
+    {
         let end = least(self.bars[i as usize], upto);
         names_within(alloc, self.market.market(), &self.seating.places, i, end)
     }

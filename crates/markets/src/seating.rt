@@ -1,11 +1,10 @@
 //! Where the candidates of a market stand under bars, and how they move on as bars fall.
-ghost use Rattle.std.specs.Prelude.{ℕ, ◌≡◌, ◌<◌, ◌≤◌, ◌-◌, ◌+◌, length, slice_index, slice_set, slice_get, IfOk, Some};
-ghost use Rattle.markets.specs.Markets.{IsMarket, IsSmall, market_order, list_of};
+ghost use Rattle.std.specs.Prelude.{ℕ, ◌≡◌, ◌<◌, ◌≤◌, ◌-◌, ◌+◌, length, slice_index, slice_set, IfOk, Some};
+ghost use Rattle.markets.specs.Markets.{market_order};
 ghost use Rattle.markets.specs.Matchings.{is_at, place_of};
-ghost use Rattle.markets.specs.Bars.{best_within, demanded};
-ghost use Rattle.markets.specs.Standing.{AreBeyond, AreSeated, IsStand};
+ghost use Rattle.markets.specs.Seatings.{AreTied, HasMovedOn, IsLeaving};
 ghost use Rattle.markets.specs.Fillings.{counted_in};
-ghost use Rattle.markets.specs.Rounds.{AreCounts, IsRound};
+ghost use Rattle.markets.specs.Rounds.{IsRound};
 
 use crate::counts::counts_of;
 use crate::filling::Filling;
@@ -22,6 +21,7 @@ pub struct Seating {
     pub stands: Vec<u32>,
     pub places: Vec<Option<u32>>,
     pub filling: Filling,
+    ghost tied: { AreTied stands.items places.items filling },
 }
 
 /// Whether a place is in a programme.
@@ -59,16 +59,8 @@ pub fn seated_under(
 
 /// Puts the place of a candidate who had one, and counts them where they are now.
 fn put_place(seating: &mut Seating, candidate: u32, had: u32, place: Option<u32>)
-    requires few { length seating.old.places.items ≤ 16000000 }
-    requires candidate { candidate < length seating.old.places.items }
     requires had { place_of seating.old.places.items candidate ≡ Some had }
-    requires had_within { had < length seating.old.filling.counts }
-    requires within { (p : ℕ) → place ≡ Some p → p < length seating.old.filling.counts }
-    requires seats { length seating.old.filling.seats ≡ length seating.old.filling.counts }
-    requires counts { AreCounts (length seating.old.filling.counts) seating.old.places.items
-        seating.old.filling.counts }
-    ensures counts { AreCounts (length seating.old.filling.counts) seating.new.places.items
-        seating.new.filling.counts }
+    requires within { (p : ℕ) → place ≡ Some p → p < length seating.old.filling.seats }
     ensures places { seating.new.places.items ≡ slice_set seating.old.places.items candidate place }
     ensures stands { seating.new.stands.items ≡ seating.old.stands.items }
     ensures seats { seating.new.filling.seats ≡ seating.old.filling.seats }
@@ -95,27 +87,11 @@ fn count_in(filling: &mut Filling, place: Option<u32>)
 
 /// A candidate moves on to the next entry of their list within reach.
 fn move_on(market: &Ranked<'_>, bars: &[u32], seating: &mut Seating, candidate: u32, had: u32)
-    requires bars { length bars.now ≡ length market.now.orders }
-    requires candidate { candidate < length market.now.lists }
-    requires stands { length seating.old.stands.items ≡ length market.now.lists }
-    requires places { length seating.old.places.items ≡ length market.now.lists }
-    requires had { place_of seating.old.places.items candidate ≡ Some had }
-    requires had_within { had < length market.now.orders }
-    requires on_list { slice_index seating.old.stands.items candidate
-        < length (list_of market.now candidate) }
-    requires beyond { AreBeyond market.now bars.now candidate
-        (slice_index seating.old.stands.items candidate + 1) }
-    requires seats { length seating.old.filling.seats ≡ length market.now.orders }
-    requires counts { AreCounts (length market.now.orders) seating.old.places.items
-        seating.old.filling.counts }
-    ensures counts { AreCounts (length market.now.orders) seating.new.places.items
-        seating.new.filling.counts }
-    ensures stand { IsStand market.now bars.now candidate
-        (slice_index seating.new.stands.items candidate) }
-    ensures stands { seating.new.stands.items ≡ slice_set seating.old.stands.items candidate
-        (slice_index seating.new.stands.items candidate) }
-    ensures places { seating.new.places.items ≡ slice_set seating.old.places.items candidate
-        (best_within market.now bars.now candidate) }
+    requires leaves { IsLeaving market.now bars.now candidate had seating.old.stands.items
+        seating.old.places.items }
+    requires seats { seating.old.filling.seats ≡ market.now.seats }
+    ensures moved { HasMovedOn market.now bars.now candidate seating.old.stands.items
+        seating.old.places.items seating.new.stands.items seating.new.places.items }
     ensures seats { seating.new.filling.seats ≡ seating.old.filling.seats }
 {
     market.market().stands();

@@ -11,8 +11,8 @@ loop-row-preserved c =
     rw c.in_ok-push.ensures.items (empty_more c.loop-row._row c.loop-row.rows.items c.new-empty.result c.loop-row.invariant
     c.new-empty.ensures.items)
 
-pub returns : goal.returns
-returns c =
+pub returns-clause-empty : goal.returns-clause-empty
+returns-clause-empty c =
     let same : c.loop-row._row ≡ c.args.count = omega arith in
     let P = λ (n : ℕ). AreListers [] n 0 c.loop-row.rows.items in
     subst P same c.loop-row.invariant

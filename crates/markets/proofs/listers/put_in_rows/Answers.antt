@@ -5,8 +5,8 @@ use Rattle.markets.proofs.listers.put_in_rows.Goals as goal
 pub loop-number-init : goal.loop-number-init
 loop-number-init c = put_none (λ p. c.args.item) c.args.rows.now.items
 
-pub returns : goal.returns
-returns c = put_whole (λ p. c.args.item) c.args.list.now c.loop-number.number-index c.args.rows.now.items c.loop-number.rows.items
+pub returns-clause-put : goal.returns-clause-put
+returns-clause-put c = put_whole (λ p. c.args.item) c.args.list.now c.loop-number.number-index c.args.rows.now.items c.loop-number.rows.items
     (omega (arith, c.loop-number-test.false)) c.loop-number.invariant
 
 pub loop-number-preserved : goal.loop-number-preserved

@@ -1,4 +1,7 @@
 use Rattle.std.proofs.Common.{ℕ, List, [], ◌+◌, ◌-◌, ◌≡◌, Bool, not, arith, length, sym, ◌∙◌, ap, subst, Some}
+use Rattle.std.specs.Prelude.{position}
+use Rattle.std.proofs.lemmas.Bool.{eqb-true}
+use Rattle.std.proofs.lemmas.List.{nil_from_length}
 use Rattle.markets.specs.Markets.{is_list_below}
 use Rattle.markets.specs.Stamps.{AreOlder}
 use Rattle.markets.specs.Firsts.{position_found, position_none}
@@ -18,8 +21,8 @@ stamp_list-requires c =
     let P : List ℕ → Type 0 = AreOlder (c.loop-list.stamp + 1) in
     subst P (sym c.deref_mut.ensures.value) (λ q lt. omega (arith, c.loop-list.invariant.up_to q lt))
 
-pub returns-then-not-stamp_list : goal.returns-then-not-stamp_list
-returns-then-not-stamp_list c =
+pub returns-then-not-stamp_list-clause-bad : goal.returns-then-not-stamp_list-clause-bad
+returns-then-not-stamp_list-clause-bad c =
     let k : ℕ = c.loop-list.list-index in
     let xs : List (List ℕ) = c.args.lists.now in
     let test : List ℕ → Bool = λ list. not (is_list_below c.args.count list) in
@@ -47,7 +50,14 @@ loop-list-preserved c =
     (stood_more n xs k c.loop-list.stamp stamps new c.loop-list.invariant long c.stamp_list.ensures.up_to
     (sym told ∙ c.if-not-stamp_list.false))
 
-pub returns : goal.returns
-returns c =
+pub returns-clause-bad : goal.returns-clause-bad
+returns-clause-bad c =
     let test : List ℕ → Bool = λ list. not (is_list_below c.args.count list) in
     sym (position_none test c.args.lists.now [] (λ k lt. c.loop-list.invariant.stood k (omega (arith, lt, c.loop-list-test.false))))
+
+pub returns-then-is_empty-clause-bad : goal.returns-then-is_empty-clause-bad
+returns-then-is_empty-clause-bad c =
+    let lists : List (List ℕ) = c.args.lists.now in
+    let test : List ℕ → Bool = λ list. not (is_list_below c.args.count list) in
+    let none : length lists ≡ 0 = eqb-true (length lists) 0 (sym c.is_empty.ensures ∙ c.if-is_empty.true) in
+    ap (position test) (sym (nil_from_length lists none))

@@ -30,8 +30,8 @@ loop-candidate-preserved c =
           ap (λ (v : Vec ℕ Global). v.items) w.numbers-is ∙ c.loop-candidate.invariant ∙ sym (same ∙ append-nil before)
     ]
 
-pub returns-then-is_empty : goal.returns-then-is_empty
-returns-then-is_empty c =
+pub returns-then-is_empty-clause-called : goal.returns-then-is_empty-clause-called
+returns-then-is_empty-clause-called c =
     c.new.ensures
     ∙ none_called c.args.listers.now (map (λ k. position_or_len (nat_eq k) c.args.names.now.keys) c.args.order.now)
     (eqb-true (length c.args.listers.now) 0 (sym c.is_empty.ensures ∙ c.if-is_empty.true))
@@ -42,8 +42,8 @@ number_of-number-requires c = c.requires.few
 pub is_in-requires : goal.is_in-requires
 is_in-requires c = c.requires.rises
 
-pub returns : goal.returns
-returns c =
+pub returns-clause-called : goal.returns-clause-called
+returns-clause-called c =
     let listers : List ℕ = c.args.listers.now in
     let names : List ℕ = c.args.names.now.keys in
     let all = take_all c.loop-candidate.candidate-index c.args.order.now c.loop-candidate-test.false in

@@ -46,7 +46,7 @@ called-requires-clause-rises c =
     let lists : List (List ℕ) = c.args.lists.now in
     let n : ℕ = c.len-count.result in
     let p : ℕ = c.loop-programme.programme in
-    let row = row_is lists n (length lists) p c.in_ok-rows.rows.items c.index.result.now c.in_ok-rows.ensures c.loop-programme-test.true
+    let row = row_is lists n (length lists) p c.in_ok-rows.rows.items c.index.result.now c.in_ok-rows.ensures.listers c.loop-programme-test.true
     c.index.ensures in
     subst IsStrictlyIncreasing (sym (c.as_slice-listers.ensures.value ∙ row)) (listers_rise lists p (length lists))
 
@@ -59,12 +59,12 @@ loop-programme-preserved c =
     let n : ℕ = c.len-count.result in
     let p : ℕ = c.loop-programme.programme in
     let called : ℕ → List ℕ = λ q. called_in ws q (order_of d orders q) in
-    let row = row_is lists n (length lists) p c.in_ok-rows.rows.items c.index.result.now c.in_ok-rows.ensures c.loop-programme-test.true
+    let row = row_is lists n (length lists) p c.in_ok-rows.rows.items c.index.result.now c.in_ok-rows.ensures.listers c.loop-programme-test.true
     c.index.ensures in
     let listers : c.as_slice-listers.result.now ≡ naming (lists_in ws) p (length (lists_in ws)) =
     c.as_slice-listers.ensures.value ∙ row ∙ ap (λ (ls : List (List ℕ)). naming ls p (length ls)) c.requires.lists in
     let numbers : c.in_ok-numbers.numbers ≡ called p =
-    c.in_ok-numbers.ensures
+    c.in_ok-numbers.ensures.called
     ∙ ap (λ (ks : List ℕ). filter (λ x. is_among x c.as_slice-listers.result.now)
     (map (λ k. position_or_len (nat_eq k) ks) c.order_of-order.result.now)) c.requires.names
     ∙ ap (λ (o : List ℕ). filter (λ x. is_among x c.as_slice-listers.result.now) (map (λ k. position_or_len (nat_eq k) (named ws)) o))
@@ -80,7 +80,7 @@ order_of-order-requires-clause-programme c =
     subst P n_is c.loop-programme-test.true
 
 pub index-requires : goal.index-requires
-index-requires c = omega (arith, c.loop-programme-test.true, c.in_ok-rows.ensures.one_each)
+index-requires c = omega (arith, c.loop-programme-test.true, c.in_ok-rows.ensures.listers.one_each)
 
 pub returns : goal.returns
 returns c =

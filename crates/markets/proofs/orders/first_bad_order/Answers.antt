@@ -1,5 +1,7 @@
-use Rattle.std.proofs.Common.{ℕ, [], ◌∙◌, sym, length, arith}
-use Rattle.markets.specs.Markets.{MarketRows}
+use Rattle.std.proofs.Common.{ℕ, ◌≡◌, List, [], ◌∙◌, sym, ap, length, arith}
+use Rattle.std.proofs.lemmas.Bool.{eqb-true}
+use Rattle.std.proofs.lemmas.List.{nil_from_length}
+use Rattle.markets.specs.Markets.{MarketRows, first_bad_order}
 use Rattle.markets.proofs.Ordering.{orders_start, orders_more, orders_found, orders_none, row_read, told_now, row_within}
 use Rattle.markets.proofs.Reading.{list_read}
 use Rattle.markets.proofs.orders.first_bad_order.Goals as goal
@@ -9,15 +11,15 @@ has_all_of-requires-clause-within c =
     let m : MarketRows = record { lists = c.args.lists.now; orders = c.args.orders.now; seats = [] } in
     let row = row_read m c.loop-order.order-index c.loop-order.stamp c.in_ok-rows.rows.items c.index.result.now
     c.as_slice-listers.result.now
-    c.loop-order.invariant.stamp_is c.loop-order-test.true c.in_ok-rows.ensures c.index.ensures c.as_slice-listers.ensures.value in
+    c.loop-order.invariant.stamp_is c.loop-order-test.true c.in_ok-rows.ensures.listers c.index.ensures c.as_slice-listers.ensures.value in
     row_within m (length c.loop-order.stamps) c.loop-order.order-index c.as_slice-listers.result.now row c.loop-order.invariant.as_many
 
-pub returns-then-not-has_all_of : goal.returns-then-not-has_all_of
-returns-then-not-has_all_of c =
+pub returns-then-not-has_all_of-clause-bad : goal.returns-then-not-has_all_of-clause-bad
+returns-then-not-has_all_of-clause-bad c =
     let m : MarketRows = record { lists = c.args.lists.now; orders = c.args.orders.now; seats = [] } in
     let k : ℕ = c.loop-order.order-index in
     let row = row_read m k c.loop-order.stamp c.in_ok-rows.rows.items c.index.result.now c.as_slice-listers.result.now
-    c.loop-order.invariant.stamp_is c.loop-order-test.true c.in_ok-rows.ensures c.index.ensures c.as_slice-listers.ensures.value in
+    c.loop-order.invariant.stamp_is c.loop-order-test.true c.in_ok-rows.ensures.listers c.index.ensures c.as_slice-listers.ensures.value in
     let order = list_read m.orders k c.order-item.result c.as_slice.result.now c.loop-order-test.true c.order-item.is c.as_slice.ensures in
     let told = told_now m (length c.loop-order.stamps) k c.as_slice-listers.result.now c.as_slice.result.now c.has_all_of.result row order
     c.has_all_of.ensures.all in
@@ -29,7 +31,7 @@ loop-order-preserved c =
     let m : MarketRows = record { lists = c.args.lists.now; orders = c.args.orders.now; seats = [] } in
     let k : ℕ = c.loop-order.order-index in
     let row = row_read m k c.loop-order.stamp c.in_ok-rows.rows.items c.index.result.now c.as_slice-listers.result.now
-    c.loop-order.invariant.stamp_is c.loop-order-test.true c.in_ok-rows.ensures c.index.ensures c.as_slice-listers.ensures.value in
+    c.loop-order.invariant.stamp_is c.loop-order-test.true c.in_ok-rows.ensures.listers c.index.ensures c.as_slice-listers.ensures.value in
     let order = list_read m.orders k c.order-item.result c.as_slice.result.now c.loop-order-test.true c.order-item.is c.as_slice.ensures in
     let told = told_now m (length c.loop-order.stamps) k c.as_slice-listers.result.now c.as_slice.result.now c.has_all_of.result row order
     c.has_all_of.ensures.all in
@@ -37,8 +39,8 @@ loop-order-preserved c =
     c.loop-order.invariant
     c.has_all_of.ensures.as_many c.has_all_of.ensures.up_to told c.if-not-has_all_of.false
 
-pub returns : goal.returns
-returns c =
+pub returns-clause-bad : goal.returns-clause-bad
+returns-clause-bad c =
     let m : MarketRows = record { lists = c.args.lists.now; orders = c.args.orders.now; seats = [] } in
     sym (orders_none m c.loop-order.order-index c.loop-order.stamp c.loop-order.stamps (omega (arith, c.loop-order-test.false))
     c.loop-order.invariant)
@@ -48,9 +50,16 @@ overflow_add-stamp c = omega (arith, c.loop-order.invariant.stamp_is, c.loop-ord
 
 pub index-requires : goal.index-requires
 index-requires c =
-    omega (arith, c.loop-order.invariant.stamp_is, c.loop-order-test.true, c.in_ok-rows.ensures.one_each)
+    omega (arith, c.loop-order.invariant.stamp_is, c.loop-order-test.true, c.in_ok-rows.ensures.listers.one_each)
 
 pub loop-order-init : goal.loop-order-init
 loop-order-init c =
     orders_start (record { lists = c.args.lists.now; orders = c.args.orders.now; seats = [] }) c.as_mut_slice-stamps.result.now
     (c.as_mut_slice-stamps.ensures.value ∙ c.in_ok-room.ensures.items_if_clones_equal (λ y e. e))
+
+pub returns-then-is_empty-clause-bad : goal.returns-then-is_empty-clause-bad
+returns-then-is_empty-clause-bad c =
+    let orders : List (List ℕ) = c.args.orders.now in
+    let none : length orders ≡ 0 = eqb-true (length orders) 0 (sym c.is_empty.ensures ∙ c.if-is_empty.true) in
+    ap (λ (os : List (List ℕ)). first_bad_order (record { lists = c.args.lists.now; orders = os; seats = [] }))
+    (sym (nil_from_length orders none))

@@ -1,13 +1,13 @@
 use Rattle.std.proofs.Common.{ℕ, List, Option, Some, ◌≡◌, ◌∙◌, sym, ap, subst, arith, length}
 use Rattle.std.proofs.lemmas.List.FromFn.{length-map-range_with_len}
-use Rattle.markets.specs.Markets.{MarketRows, IsMarket}
+use Rattle.markets.specs.Markets.{IsSmall, MarketRows, IsMarket}
 use Rattle.markets.specs.Matchings.{place_of}
 use Rattle.markets.specs.Bars.{best_within, matched_under}
 use Rattle.markets.specs.Lawful.{best_is_listed}
 use Rattle.markets.specs.Positions.{is_programme}
-use Rattle.markets.specs.Rounds.{AreCounts}
 use Rattle.markets.proofs.Held.{place_under}
 use Rattle.markets.proofs.Seated.{round_from}
+use Rattle.markets.proofs.Tied.{tied_from}
 use Rattle.markets.proofs.seating.seated_under.Goals as goal
 
 pub counts_of-requires-clause-few : goal.counts_of-requires-clause-few
@@ -37,17 +37,17 @@ counts_of-requires-clause-within c =
 
 pub returns : goal.returns
 returns c =
-    let m = c.args.market.now in
-    let bars = c.args.bars.now in
     let P : MarketRows → Type 0 = IsMarket in
-    let is = subst P c.market.ensures c.stands.ensures.market in
-    let places_are : c.in_ok-places.places.items ≡ matched_under m bars = c.in_ok-places.ensures
-    ∙ ap (λ (r : MarketRows). matched_under r bars) c.market-2.ensures in
-    let Q : ℕ → List (Option ℕ) → Type 0 = λ n ps. AreCounts n ps c.in_ok-counts.counts.items in
-    let counts =
-    subst (λ n. Q n c.in_ok-places.places.items) (ap (λ (r : MarketRows). length r.orders) c.market-3.ensures)
-    (subst (Q (length c.market-3.result.now.orders)) c.deref-2.ensures.value c.in_ok-counts.ensures) in
-    round_from m is bars c.in_ok-stands.stands.items c.in_ok-places.places.items c.in_ok-filling.filling c.in_ok-counts.counts.items
-    c.all_seats.result.now
-    c.requires.bars c.requires.under c.in_ok-stands.ensures places_are c.in_ok-filling.ensures
-    (c.all_seats.ensures ∙ ap (λ (r : MarketRows). r.seats) c.market-4.ensures) counts
+    round_from (subst P c.market.ensures c.stands.ensures.market) c.requires.bars c.requires.under c.in_ok-stands.ensures
+    c.market-2.ensures c.in_ok-places.ensures c.market-3.ensures c.deref-2.ensures.value c.in_ok-counts.ensures
+    c.market-4.ensures c.all_seats.ensures c.in_ok-filling.ensures
+
+pub invariant_of-result : goal.invariant_of-result
+invariant_of-result c =
+    let P : MarketRows → Type 0 = IsMarket in
+    let Q : MarketRows → Type 0 = IsSmall in
+    let round =
+    round_from (subst P c.market.ensures c.stands.ensures.market) c.requires.bars c.requires.under c.in_ok-stands.ensures
+    c.market-2.ensures c.in_ok-places.ensures c.market-3.ensures c.deref-2.ensures.value c.in_ok-counts.ensures
+    c.market-4.ensures c.all_seats.ensures c.in_ok-filling.ensures in
+    record { tied = tied_from (subst Q c.market.ensures c.stands.ensures.small) round }

@@ -9,7 +9,7 @@ pub first_bad_order-requires-clause-lists : goal.first_bad_order-requires-clause
 first_bad_order-requires-clause-lists c =
     lists_ready c.len-programmes.result c.deref.result.now c.deref-2.result.now c.deref-3.result.now
     (c.len-programmes.ensures ∙ sym c.deref-3.ensures.len) (c.deref.ensures.value ∙ sym c.deref-2.ensures.value)
-    (sym c.in_ok-candidate.ensures ∙ c.in_default.is)
+    (sym c.in_ok-candidate.ensures.bad ∙ c.in_default.is)
 
 pub returns-in-Some-2-clause-fault : goal.returns-in-Some-2-clause-fault
 returns-in-Some-2-clause-fault c =
@@ -19,10 +19,10 @@ returns-in-Some-2-clause-fault c =
       omega (arith, long, c.if-len.false, c.len.ensures, c.len-2.ensures),
       bad_list_is None c.len-programmes.result lists c.deref.result.now orders c.args.seats.items
           (c.len-programmes.ensures ∙ sym c.deref-3.ensures.len ∙ ap length (c.deref-3.ensures.value ∙ c.in_ok-orders.ensures))
-          (c.deref.ensures.value ∙ c.in_ok-lists.ensures) (sym c.in_ok-candidate.ensures ∙ c.in_default.is),
+          (c.deref.ensures.value ∙ c.in_ok-lists.ensures) (sym c.in_ok-candidate.ensures.bad ∙ c.in_default.is),
       bad_order_is (Some c.in-Some-2.programme) lists c.deref-2.result.now orders c.deref-3.result.now c.args.seats.items
           (c.deref-2.ensures.value ∙ c.in_ok-lists.ensures)
-          (c.deref-3.ensures.value ∙ c.in_ok-orders.ensures) (sym c.in_ok-programme.ensures ∙ c.in-Some-2.is),
+          (c.deref-3.ensures.value ∙ c.in_ok-orders.ensures) (sym c.in_ok-programme.ensures.bad ∙ c.in-Some-2.is),
     )
 
 pub returns-clause-stands : goal.returns-clause-stands
@@ -35,10 +35,10 @@ returns-clause-stands c =
     (omega (arith, long, c.if-len.false, c.len.ensures, c.len-2.ensures))
     (bad_list_is None c.len-programmes.result lists c.deref.result.now orders c.args.seats.items
     (c.len-programmes.ensures ∙ sym c.deref-3.ensures.len ∙ ap length c.deref-3.ensures.value) c.deref.ensures.value
-    (sym c.in_ok-candidate.ensures ∙ c.in_default.is))
+    (sym c.in_ok-candidate.ensures.bad ∙ c.in_default.is))
     (bad_order_is None lists c.deref-2.result.now orders c.deref-3.result.now c.args.seats.items c.deref-2.ensures.value
     c.deref-3.ensures.value
-    (sym c.in_ok-programme.ensures ∙ c.in_default-2.is))
+    (sym c.in_ok-programme.ensures.bad ∙ c.in_default-2.is))
 
 pub invariant_of-result : goal.invariant_of-result
 invariant_of-result c =
@@ -54,10 +54,10 @@ invariant_of-result c =
           (omega (arith, long, c.if-len.false, c.len.ensures, c.len-2.ensures))
           (bad_list_is None c.len-programmes.result lists c.deref.result.now orders c.args.seats.items
           (c.len-programmes.ensures ∙ sym c.deref-3.ensures.len ∙ ap length c.deref-3.ensures.value) c.deref.ensures.value
-          (sym c.in_ok-candidate.ensures ∙ c.in_default.is))
+          (sym c.in_ok-candidate.ensures.bad ∙ c.in_default.is))
           (bad_order_is None lists c.deref-2.result.now orders c.deref-3.result.now c.args.seats.items c.deref-2.ensures.value
           c.deref-3.ensures.value
-          (sym c.in_ok-programme.ensures ∙ c.in_default-2.is));
+          (sym c.in_ok-programme.ensures.bad ∙ c.in_default-2.is));
       small = record {
         candidates = omega (arith, lists_long, c.requires.candidates);
         programmes = omega
@@ -93,7 +93,7 @@ returns-in-Some-clause-fault c =
     omega (arith, c.len-programmes.ensures, ap length c.in_ok-orders.ensures) in (
       omega (arith, long, c.if-len.false, c.len.ensures, c.len-2.ensures),
       bad_list_is (Some c.in-Some.candidate) c.len-programmes.result rows.lists c.deref.result.now rows.orders rows.seats count
-          (c.deref.ensures.value ∙ c.in_ok-lists.ensures) (sym c.in_ok-candidate.ensures ∙ c.in-Some.is),
+          (c.deref.ensures.value ∙ c.in_ok-lists.ensures) (sym c.in_ok-candidate.ensures.bad ∙ c.in-Some.is),
     )
 
 pub returns-then-len-clause-fault : goal.returns-then-len-clause-fault

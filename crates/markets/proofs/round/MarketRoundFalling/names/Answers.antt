@@ -7,8 +7,8 @@ use Rattle.markets.specs.Rounds.{held_to}
 use Rattle.markets.proofs.Rounds.{demanded_upto}
 use Rattle.markets.proofs.round.MarketRoundFalling.names.Goals as goal
 
-pub returns : goal.returns
-returns c =
+pub returns-clause-names : goal.returns-clause-names
+returns-clause-names c =
     let r = c.args.self.now in
     let i : ℕ = c.args.i in
     let bars : List ℕ = r.bars.items in
@@ -27,4 +27,7 @@ returns c =
     ∙ ap (λ (m : MarketRows). map (candidate_at m i) (held_to m places i e)) c.market.ensures
     ∙ ap (map (candidate_at r.market i)) (sym asked)
     )
-    c.names_within.ensures
+    c.names_within.ensures.names
+
+pub returns-clause-always : goal.returns-clause-always
+returns-clause-always c = λ none. c.names_within.ensures.always (omega (arith, none, c.least-end.ensures.within))
