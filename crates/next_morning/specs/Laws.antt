@@ -22,8 +22,8 @@ pub record IsEveningOf (t : Tables) (evening : State) : Type 0 where
   pub marks : length evening.marks ≡ length evening.dossier.wishes
   pub ids : IsDistinct nat_eq (wish_ids t)
 
--- a check accepts the tables: their rows are in the ranges of their columns, and no relation between
--- them fails
+-- a check accepts the tables: their rows are in the ranges of their columns, and no relation
+-- between them fails
 pub record IsAccepted (t : Tables) : Type 0 where
   pub ranges : AreTables t
   pub faultless : first_fault t ≡ None
