@@ -1,5 +1,6 @@
 -- Who has been answered for is not answered for again: the second answer changes nothing.
-use Rattle.std.proofs.Common.{ℕ, zero, ◌<◌, ◌≡◌, Bool, true, false, ◌&&◌, List, [], ◌∷◌, length, inl, inr, refl, sym, ◌∙◌, ap, arith, filter, zip, Option, Some, None}
+use Rattle.std.proofs.Common.{ℕ, zero, ◌<◌, ◌≡◌, Bool, true, false, ◌&&◌, List, [], ◌∷◌, length, inl, inr, refl, sym}
+use Rattle.std.proofs.Common.{◌∙◌, ap, arith, filter, zip, Option, Some, None}
 use Rattle.std.specs.Prelude.{◌==◌, nat_lt}
 use Rattle.std.specs.List.{list_any}
 use Rattle.std.proofs.lemmas.Bool.{cases_Bool, eqb-true, eq-eqb, and_parts, and_from}
@@ -7,7 +8,8 @@ use Rattle.admit_core.specs.declared.dossier.Wish.{Wish}
 use Rattle.admit_core.specs.declared.state.Mark.{Mark}
 use Rattle.admit_core.specs.declared.state.Stamp.{Stamp}
 use Rattle.admit_core.specs.declared.state.Status.{Status}
-use Rattle.admit_core.specs.declared.state.Status.TheVariants.{Waiting, Offered, Accepted, Refused, Withdrawn, Quit, AutoRefused, AutoWithdrawn, Lapsed}
+use Rattle.admit_core.specs.declared.state.Status.TheVariants.{Waiting, Offered, Accepted, Refused, Withdrawn, Quit}
+use Rattle.admit_core.specs.declared.state.Status.TheVariants.{AutoRefused, AutoWithdrawn, Lapsed}
 use Rattle.admit_core.specs.Lists.{lesser, least_by}
 use Rattle.admit_core.specs.State.{State, is_live, is_live_status, changed_to, status_number}
 use Rattle.admit_core.specs.AutoAnswer.{auto_mark, auto_status, best_live, auto_all}
@@ -46,7 +48,8 @@ least_some q key (y ∷ ys) e =
     ]
 
 -- one who is live after the answer was the best
-live_is_best : (x : Status) (is_best is_behind : Bool) → is_live_status (auto_status x is_best is_behind) ≡ true → is_best ≡ true
+live_is_best : (x : Status) (is_best is_behind : Bool) → is_live_status (auto_status x is_best is_behind) ≡ true
+    → is_best ≡ true
 live_is_best Waiting is_best true live = absurd (cc)
 live_is_best Waiting is_best false live = absurd (cc)
 live_is_best Offered true is_behind live = refl
@@ -147,7 +150,8 @@ module _ (s : State) (stamp : Stamp) (long : length s.marks ≡ length s.dossier
       let outer = and_parts (test (w, m)) (w.preference == b.0.preference) here in
       let inner = and_parts (is_live m && (w.candidate == c)) (ranked w) outer.0 in
       let first = and_parts (is_live m) (w.candidate == c) inner.0 in
-      let now : mark_in end.marks k ≡ auto_mark stamp (Some b) w m = mark_by c k (Some b) best k_in (eqb-true w.candidate c first.1) in
+      let now : mark_in end.marks k ≡ auto_mark stamp (Some b) w m =
+      mark_by c k (Some b) best k_in (eqb-true w.candidate c first.1) in
       let lives : is_live (mark_in end.marks k) ≡ true =
       ap is_live now ∙ ap is_live_status (status_of_auto stamp b w m)
       ∙ best_lives m.status (w.preference == b.0.preference) (nat_lt b.0.preference w.preference) first.0 outer.1 in
@@ -164,18 +168,23 @@ module _ (s : State) (stamp : Stamp) (long : length s.marks ≡ length s.dossier
       let outer_j = and_parts (test (v, mark_in end.marks j)) (v.preference == y.0.preference) at_j in
       let inner_j = and_parts (is_live (mark_in end.marks j) && (v.candidate == c)) (ranked v) outer_j.0 in
       let first_j = and_parts (is_live (mark_in end.marks j)) (v.candidate == c) inner_j.0 in
-      let now_j : mark_in end.marks j ≡ auto_mark stamp (Some b) v n = mark_by c j (Some b) best j_in (eqb-true v.candidate c first_j.1) in
-      let live_j : is_live_status (auto_status n.status (v.preference == b.0.preference) (nat_lt b.0.preference v.preference)) ≡ true =
+      let now_j : mark_in end.marks j ≡ auto_mark stamp (Some b) v n =
+      mark_by c j (Some b) best j_in (eqb-true v.candidate c first_j.1) in
+      let live_j : is_live_status (auto_status n.status (v.preference == b.0.preference)
+      (nat_lt b.0.preference v.preference)) ≡ true =
       ap is_live_status (sym (status_of_auto stamp b v n)) ∙ sym (ap is_live now_j) ∙ first_j.0 in
-      let is_best = live_is_best n.status (v.preference == b.0.preference) (nat_lt b.0.preference v.preference) live_j in
+      let is_best = live_is_best n.status (v.preference == b.0.preference)
+      (nat_lt b.0.preference v.preference) live_j in
       (y, some.1, sym (eqb-true v.preference y.0.preference outer_j.1) ∙ eqb-true v.preference b.0.preference is_best)
 
-  stays : (again : Stamp) (c k : ℕ) (o : Option (Wish × Mark)) → best_live s c ≡ o → k < length s.dossier.wishes → who s k ≡ c
+  stays : (again : Stamp) (c k : ℕ) (o : Option (Wish × Mark)) → best_live s c ≡ o → k < length s.dossier.wishes
+      → who s k ≡ c
       → auto_mark again (best_live end c) (wish_in s.dossier.wishes k) (mark_in end.marks k) ≡ mark_in end.marks k
   stays again c k None best lt own = rw (none_again c best) refl
   stays again c k (Some b) best lt own =
       let (y, is, same) = best_again c b best in
-      rw (is, mark_by c k (Some b) best lt own) (mark_again stamp again b y (wish_in s.dossier.wishes k) (mark_in s.marks k) same)
+      rw (is, mark_by c k (Some b) best lt own)
+      (mark_again stamp again b y (wish_in s.dossier.wishes k) (mark_in s.marks k) same)
 
   -- THE LAW: answering for all twice is answering once
   pub answered_once : (again : Stamp) → auto_all end again ≡ end
@@ -183,6 +192,7 @@ module _ (s : State) (stamp : Stamp) (long : length s.marks ≡ length s.dossier
       same_state (auto_all end again) end refl
       (same_marks (auto_all end again).marks end.marks (length-with_marks (all_mark end again) end end_long)
       (λ k lt.
-      let k_in : k < length s.dossier.wishes = omega (arith, lt, length-with_marks (all_mark end again) end end_long, end_long) in
+      let k_in : k < length s.dossier.wishes =
+      omega (arith, lt, length-with_marks (all_mark end again) end end_long, end_long) in
       mark_in-with_marks (all_mark end again) end end_long k (omega (arith, k_in, end_long))
       ∙ stays again (who s k) k (best_live s (who s k)) refl k_in refl))

@@ -1,5 +1,6 @@
 -- What the answer of one candidate does, beside the answers of all.
-use Rattle.std.proofs.Common.{ℕ, zero, suc, ◌<◌, ◌≡◌, Bool, true, not, cond, ◌&&◌, List, [], ◌∷◌, map, length, refl, sym, ◌∙◌, ap, arith, nat_eq, sum, count_by}
+use Rattle.std.proofs.Common.{ℕ, zero, suc, ◌<◌, ◌≡◌, Bool, true, not, cond, ◌&&◌, List, [], ◌∷◌, map, length, refl}
+use Rattle.std.proofs.Common.{sym, ◌∙◌, ap, arith, nat_eq, sum, count_by}
 use Rattle.std.specs.Prelude.{◌==◌, if◌then◌else◌}
 use Rattle.std.specs.List.{range_with_len}
 use Rattle.std.proofs.lemmas.Bool.{eq-eqb, ne_eqb, or_left, or_right}
@@ -48,7 +49,8 @@ one_other c d s t stamp differ a = record {
   long_too = a.long_too;
   same = λ k lt own.
       mark_in-with_marks (one_mark s d stamp) s a.long k (omega (arith, a.long))
-      ∙ ap (λ b. if b then auto_mark stamp (best_live s d) (wish_in s.dossier.wishes k) (mark_in s.marks k) else mark_in s.marks k)
+      ∙ ap (λ b. if b then auto_mark stamp (best_live s d) (wish_in s.dossier.wishes k)
+      (mark_in s.marks k) else mark_in s.marks k)
       (ne_eqb (who s k) d (λ e. differ (sym e ∙ own)))
       ∙ a.same k lt own;
 }
@@ -99,15 +101,32 @@ same_count : (p q : ℕ → Bool) → ((k : ℕ) → p k ≡ q k) → (ks : List
 same_count p q same [] = refl
 same_count p q same (k ∷ ks) =
     let first = ap one (same k) in
-    omega (arith, sum_by-cons (λ x. cond (p x) 1 0) k ks, sum_by-cons (λ x. cond (q x) 1 0) k ks, first, same_count p q same ks)
+    omega (
+      arith,
+      sum_by-cons (λ x. cond (p x) 1 0) k ks,
+      sum_by-cons
+          (λ x. cond (q x) 1 0) k ks,
+      first,
+      same_count p q same ks,
+    )
 
 pub same_freed : (c : ℕ) (s t u v : State) → Agrees c s u → Agrees c t v → freed_by s t c ≡ freed_by u v c
 same_freed c s t u v before after =
-    let seats = same_count (λ p. holds_seat s c p && not (holds_seat t c p)) (λ p. holds_seat u c p && not (holds_seat v c p))
-    (λ p. rw (own_holds (λ (w : Wish). w.programme == p) c s u before, own_holds (λ (w : Wish). w.programme == p) c t v after) refl)
+    let seats = same_count (λ p. holds_seat s c p && not (holds_seat t c p))
+    (λ p. holds_seat u c p && not (holds_seat v c p))
+    (λ p. rw (
+      own_holds (λ (w : Wish). w.programme == p) c s u before,
+      own_holds
+          (λ (w : Wish). w.programme == p) c t v after,
+    ) refl)
     (range_with_len 0 (length s.dossier.programmes)) in
-    let beds = same_count (λ h. holds_bed s c h && not (holds_bed t c h)) (λ h. holds_bed u c h && not (holds_bed v c h))
-    (λ h. rw (own_holds (λ (w : Wish). has_school w h) c s u before, own_holds (λ (w : Wish). has_school w h) c t v after) refl)
+    let beds = same_count (λ h. holds_bed s c h && not (holds_bed t c h))
+    (λ h. holds_bed u c h && not (holds_bed v c h))
+    (λ h. rw (
+      own_holds (λ (w : Wish). has_school w h) c s u before,
+      own_holds
+          (λ (w : Wish). has_school w h) c t v after,
+    ) refl)
     (range_with_len 0 (length s.dossier.schools)) in
     rw (seats, beds, before.dossier) refl
 
@@ -119,7 +138,8 @@ abbrev pub beds_of_all : State → State → List ℕ → ℕ
 beds_of_all old new cs = sum (map (beds_freed old new) (distinct cs))
 
 -- the candidate of a wish is among the wishes' candidates
-pub own_among : (ws : List Wish) (k : ℕ) → k < length ws → is_among (wish_in ws k).candidate (map (λ (w : Wish). w.candidate) ws) ≡ true
+pub own_among : (ws : List Wish) (k : ℕ) → k < length ws
+    → is_among (wish_in ws k).candidate (map (λ (w : Wish). w.candidate) ws) ≡ true
 own_among [] k lt = absurd (omega arith)
 own_among (w ∷ ws) zero lt = or_left (nat_eq w.candidate w.candidate)
     (is_among w.candidate (map (λ (w : Wish). w.candidate) ws)) (eq-eqb w.candidate w.candidate refl)

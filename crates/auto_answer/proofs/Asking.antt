@@ -1,5 +1,6 @@
 -- Candidates are asked at their live wishes, and who has none is not changed.
-use Rattle.std.proofs.Common.{ℕ, ◌+◌, ◌≤◌, ◌<◌, ◌≡◌, true, false, ◌&&◌, ◌||◌, List, [], ◌∷◌, ◌++◌, length, inl, inr, refl, sym, ◌∙◌, ap, arith, nat_eq, zip, Option, Some, None}
+use Rattle.std.proofs.Common.{ℕ, ◌+◌, ◌≤◌, ◌<◌, ◌≡◌, true, false, ◌&&◌, ◌||◌, List, [], ◌∷◌, ◌++◌, length, inl, inr}
+use Rattle.std.proofs.Common.{refl, sym, ◌∙◌, ap, arith, nat_eq, zip, Option, Some, None}
 use Rattle.std.specs.Prelude.{◌==◌, nat_lt}
 use Rattle.std.proofs.lemmas.Bool.{cases_Bool, cases_eq, eqb-true, or_left, and_parts, and_from, false≢true}
 use Rattle.admit_core.specs.declared.dossier.Wish.{Wish}
@@ -18,7 +19,8 @@ use Rattle.auto_answer.proofs.Again.{preference, ranked, least_stands, none_chan
 use Rattle.auto_answer.proofs.Answering.{turned}
 use Rattle.auto_answer.proofs.Freeing.{passing_place}
 use Rattle.auto_answer.proofs.LawsOfAnswers.{same_own}
-use Rattle.auto_answer.proofs.NewOffers.{AreAnswered, answered_nobody, dossier_stays, among_more, among_last, one_more, all_answered, wishes_here, at_start, next_room}
+use Rattle.auto_answer.proofs.NewOffers.{AreAnswered, answered_nobody, dossier_stays, among_more, among_last, one_more}
+use Rattle.auto_answer.proofs.NewOffers.{all_answered, wishes_here, at_start, next_room}
 use Rattle.auto_answer.proofs.OwnMarks.{holds}
 
 -- who has no live wish that they rank has no best one
@@ -26,7 +28,8 @@ best_by : (s : State) (c : ℕ) → ((k : ℕ) → k < length s.dossier.wishes �
     → (best : Option (Wish × Mark)) → best_live s c ≡ best → best_live s c ≡ None
 best_by s c none None is = is
 best_by s c none (Some b) is =
-    let (k, k_in, k_marks, here) = passing_place (λ x. holds ranked c x && (preference x == preference b)) s.dossier.wishes s.marks
+    let (k, k_in, k_marks, here) = passing_place (λ x. holds ranked c x && (preference x == preference b))
+    s.dossier.wishes s.marks
     (least_stands (holds ranked c) preference (zip s.dossier.wishes s.marks) b is) in
     let w = wish_in s.dossier.wishes k in
     let m = mark_in s.marks k in
@@ -61,10 +64,12 @@ module _ (start now : State) (stamp : Stamp) (i : ℕ) (all : Freed) (so_far : A
       let agrees = turned c now start (so_far.answered.waits c waits) in
       ap (λ (m : Mark). is_live m && nat_lt 0 (wish_in start.dossier.wishes i).preference)
       (agrees.same i lt (sym (candidate_in start.dossier.wishes i)))
-      ∙ ap (λ (d : DossierRows). is_live (mark_in now.marks i) && nat_lt 0 (wish_in d.wishes i).preference) (sym same_rows)
+      ∙ ap (λ (d : DossierRows). is_live (mark_in now.marks i) && nat_lt 0 (wish_in d.wishes i).preference)
+      (sym same_rows)
 
   -- a wish that is not live now is passed over
-  pub passed_over : i < length start.dossier.wishes → is_live_ranked now i ≡ false → AreAsked start now stamp (i + 1) all
+  pub passed_over : i < length start.dossier.wishes → is_live_ranked now i ≡ false
+      → AreAsked start now stamp (i + 1) all
   passed_over lt dead = record {
     asked = so_far.asked;
     answered = so_far.answered;

@@ -1,5 +1,7 @@
 -- A candidate frees no more seats, and no more beds, than they have wishes.
-use Rattle.std.proofs.Common.{ℕ, zero, suc, ◌+◌, ◌≤◌, ◌<◌, ◌≡◌, Bool, true, false, not, cond, ◌&&◌, ◌||◌, List, [], ◌∷◌, map, length, inl, inr, refl, sym, ◌∙◌, ap, arith, nat_eq, count_by, zip, Option, Some, None}
+use Rattle.std.proofs.Common.{ℕ, zero, suc, ◌+◌, ◌≤◌, ◌<◌, ◌≡◌, Bool, true, false, not, cond, ◌&&◌, ◌||◌, List, [], ◌∷◌}
+use Rattle.std.proofs.Common.{map, length, inl, inr, refl, sym, ◌∙◌, ap, arith, nat_eq, count_by, zip, Option, Some}
+use Rattle.std.proofs.Common.{None}
 use Rattle.std.specs.Prelude.{◌==◌}
 use Rattle.std.specs.List.{list_any, range_with_len}
 use Rattle.std.proofs.lemmas.Bool.{cases_Bool, cases_eq, eqb-true, eq-eqb, ne_eqb, and_parts}
@@ -17,7 +19,8 @@ one b = cond b 1 0
 count-cons : {X : Type 0} (p : X → Bool) (x : X) (xs : List X) → count_by p (x ∷ xs) ≡ one (p x) + count_by p xs
 count-cons p x xs = sum_by-cons (λ y. cond (p y) 1 0) x xs
 
-count_fewer : {X : Type 0} (p q : X → Bool) → ((x : X) → one (p x) ≤ one (q x)) → (xs : List X) → count_by p xs ≤ count_by q xs
+count_fewer : {X : Type 0} (p q : X → Bool) → ((x : X) → one (p x) ≤ one (q x)) → (xs : List X)
+    → count_by p xs ≤ count_by q xs
 count_fewer p q fewer xs = sum_by-le-sum_by (λ x. cond (p x) 1 0) (λ x. cond (q x) 1 0) xs fewer
 
 one_and : (a b : Bool) → one (a && b) ≤ one a
@@ -55,11 +58,20 @@ one_of_range q a (suc n) single =
 count_or : (p q : ℕ → Bool) (ks : List ℕ) → count_by (λ k. p k || q k) ks ≤ count_by p ks + count_by q ks
 count_or p q [] = omega arith
 count_or p q (k ∷ ks) =
-    omega (arith, count-cons (λ k. p k || q k) k ks, count-cons p k ks, count-cons q k ks, one_or (p k) (q k), count_or p q ks)
+    omega (
+      arith,
+      count-cons (λ k. p k || q k) k ks,
+      count-cons p k ks,
+      count-cons q k ks,
+      one_or (p k)
+          (q k),
+      count_or p q ks,
+    )
 
 pub count_none : (q : ℕ → Bool) → ((k : ℕ) → q k ≡ false) → (ks : List ℕ) → count_by q ks ≡ 0
 count_none q none [] = refl
-count_none q none (k ∷ ks) = let first = ap one (none k) in omega (arith, count-cons q k ks, first, count_none q none ks)
+count_none q none (k ∷ ks) = let first = ap one (none k) in
+    omega (arith, count-cons q k ks, first, count_none q none ks)
 
 -- where each entry hits one number at most, no more numbers are hit than there are entries of the kind that hits
 few_hit : {X : Type 0} (hits : X → ℕ → Bool) (kind : X → Bool) (n : ℕ)
@@ -72,7 +84,8 @@ few_hit hits kind n single of_kind (x ∷ xs) =
     let rest = few_hit hits kind n single of_kind xs in
     let cons = count-cons kind x xs in
     elim (cases_Bool (kind x)) [
-      | inl of ↦ let first = ap one of in let here = one_of_range (hits x) 0 n (single x) in omega (arith, both, rest, cons, first, here)
+      | inl of ↦ let first = ap one of in let here = one_of_range (hits x) 0 n (single x) in
+          omega (arith, both, rest, cons, first, here)
       | inr not_of ↦ let first = ap one not_of in let here = count_none (hits x) (λ k. of_kind x k not_of) ks in
           omega (arith, both, rest, cons, first, here)
     ]

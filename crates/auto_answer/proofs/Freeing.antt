@@ -1,8 +1,10 @@
 -- Where automatic answers free something, a live wish is refused.
-use Rattle.std.proofs.Common.{ℕ, zero, suc, ◌<◌, ◌≡◌, Bool, true, false, not, cond, ◌&&◌, List, [], ◌∷◌, length, inl, inr, refl, sym, ◌∙◌, ap, arith, nat_eq, sum_by, count_by, zip, Option, Some, None}
+use Rattle.std.proofs.Common.{ℕ, zero, suc, ◌<◌, ◌≡◌, Bool, true, false, not, cond, ◌&&◌, List, [], ◌∷◌, length, inl}
+use Rattle.std.proofs.Common.{inr, refl, sym, ◌∙◌, ap, arith, nat_eq, sum_by, count_by, zip, Option, Some, None}
 use Rattle.std.specs.Prelude.{◌==◌, nat_lt}
 use Rattle.std.specs.List.{list_any, range_with_len}
-use Rattle.std.proofs.lemmas.Bool.{cases_Bool, cases_eq, eq-eqb, and_parts, and_from, and_cases, or_left, or_right, or_cases, false≢true, false_from_ne_true, not-true}
+use Rattle.std.proofs.lemmas.Bool.{cases_Bool, cases_eq, eq-eqb, and_parts, and_from, and_cases, or_left, or_right}
+use Rattle.std.proofs.lemmas.Bool.{or_cases, false≢true, false_from_ne_true, not-true}
 use Rattle.std.proofs.lemmas.List.Sums.{sum_by-cons, sum-map}
 use Rattle.admit_core.specs.declared.dossier.Wish.{Wish}
 use Rattle.admit_core.specs.declared.state.Status.TheVariants.{AutoRefused}
@@ -78,7 +80,8 @@ live_no_longer stamp (Some best) w m live gone =
 
 -- a candidate who was live where a test says, and no longer is, has a wish that was refused
 refused_of : (test : Wish → Bool) (s : State) (stamp : Stamp) (c : ℕ) → length s.marks ≡ length s.dossier.wishes
-    → holds_one test s c ≡ true → holds_one test (auto_all s stamp) c ≡ false → (place : ℕ) × IsRefusedAt s (auto_all s stamp) place
+    → holds_one test s c ≡ true → holds_one test (auto_all s stamp) c ≡ false
+    → (place : ℕ) × IsRefusedAt s (auto_all s stamp) place
 refused_of test s stamp c long held lost =
     let end = auto_all s stamp in
     let found = passing_place (holds test c) s.dossier.wishes s.marks held in
@@ -106,7 +109,8 @@ refused_of test s stamp c long held lost =
     )
 
 -- what was freed counts a place where they were live and no longer are
-lost_one : (p q : ℕ → Bool) (ks : List ℕ) → (count_by (λ k. p k && not (q k)) ks ≡ 0 → ⊥) → (k : ℕ) × (p k ≡ true) × (q k ≡ false)
+lost_one : (p q : ℕ → Bool) (ks : List ℕ) → (count_by (λ k. p k && not (q k)) ks ≡ 0 → ⊥)
+    → (k : ℕ) × (p k ≡ true) × (q k ≡ false)
 lost_one p q ks some =
     let found = some_counted (λ k. p k && not (q k)) ks some in
     let parts = and_parts (p found.0) (not (q found.0)) found.1 in
@@ -122,11 +126,14 @@ freeing_refuses s stamp long some =
     let cs = candidates_of s.dossier in
     elim (and_cases (nat_eq all.seats 0) (nat_eq all.beds 0) some) [
       | inl seats ↦
-          let of = some_term (seats_freed s end) cs (λ e. not_zero all.seats seats (sum-map (seats_freed s end) cs ∙ e)) in
-          let at = lost_one (holds_seat s of.0) (holds_seat end of.0) (range_with_len 0 (length s.dossier.programmes)) of.1 in
+          let of = some_term (seats_freed s end) cs
+          (λ e. not_zero all.seats seats (sum-map (seats_freed s end) cs ∙ e)) in
+          let at = lost_one (holds_seat s of.0) (holds_seat end of.0)
+          (range_with_len 0 (length s.dossier.programmes)) of.1 in
           refused_of (λ (w : Wish). w.programme == at.0) s stamp of.0 long at.1 at.2
       | inr beds ↦
           let of = some_term (beds_freed s end) cs (λ e. not_zero all.beds beds (sum-map (beds_freed s end) cs ∙ e)) in
-          let at = lost_one (holds_bed s of.0) (holds_bed end of.0) (range_with_len 0 (length s.dossier.schools)) of.1 in
+          let at = lost_one (holds_bed s of.0) (holds_bed end of.0)
+          (range_with_len 0 (length s.dossier.schools)) of.1 in
           refused_of (λ (w : Wish). has_school w at.0) s stamp of.0 long at.1 at.2
     ]

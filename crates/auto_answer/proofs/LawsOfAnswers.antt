@@ -22,7 +22,10 @@ agrees c s t long long_too same = record {
 }
 
 pub same_own : (c : ℕ) (s t : State) → Agrees c s t → SameOwnMarks c s t
-same_own c s t a = record { dossier = a.dossier; each = λ k lt own. a.same k lt (sym (candidate_in s.dossier.wishes k) ∙ own) }
+same_own c s t a = record {
+  dossier = a.dossier;
+  each = λ k lt own. a.same k lt (sym (candidate_in s.dossier.wishes k) ∙ own);
+}
 
 pub own_wishes_decide : OwnWishesDecide
 own_wishes_decide c s t stamp long long_too same =

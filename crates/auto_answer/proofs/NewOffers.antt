@@ -1,5 +1,6 @@
 -- Some candidates are answered for, at any of their wishes and maybe more than once; all others have been answered for.
-use Rattle.std.proofs.Common.{ℕ, ◌+◌, ◌≤◌, ◌<◌, ◌≡◌, true, false, not, ◌&&◌, ◌||◌, List, [], ◌∷◌, ◌++◌, map, length, take, get_or, inl, inr, refl, sym, ◌∙◌, ap, arith, nat_eq, sum}
+use Rattle.std.proofs.Common.{ℕ, ◌+◌, ◌≤◌, ◌<◌, ◌≡◌, true, false, not, ◌&&◌, ◌||◌, List, [], ◌∷◌, ◌++◌, map, length}
+use Rattle.std.proofs.Common.{take, get_or, inl, inr, refl, sym, ◌∙◌, ap, arith, nat_eq, sum}
 use Rattle.std.specs.Prelude.{if◌then◌else◌}
 use Rattle.std.specs.List.{range_with_len}
 use Rattle.std.proofs.lemmas.Bool.{cases_Bool, cases_eq, eq-eqb, ne_eqb, or_left, or_right, or_parts, false≢true}
@@ -20,7 +21,8 @@ use Rattle.day_state.proofs.Places.{candidate_in}
 use Rattle.auto_answer.specs.Asked.{wishers}
 use Rattle.auto_answer.specs.Laws.{SameOwnMarks, AreAnsweredBut}
 use Rattle.auto_answer.proofs.Again.{answered_once}
-use Rattle.auto_answer.proofs.Answering.{all_mark, joined, one_other, one_here, same_freed, seats_of_all, beds_of_all, own_among, same_numbers}
+use Rattle.auto_answer.proofs.Answering.{all_mark, joined, one_other, one_here, same_freed, seats_of_all, beds_of_all}
+use Rattle.auto_answer.proofs.Answering.{own_among, same_numbers}
 use Rattle.auto_answer.proofs.Bounds.{count_none, few_seats, few_beds}
 use Rattle.auto_answer.proofs.LawsOfAnswers.{agrees, all_agree}
 use Rattle.auto_answer.proofs.Once.{total_again, total_new, total_at_most}
@@ -113,13 +115,15 @@ pub among_more : (c x : ℕ) (cs : List ℕ) → is_among c (cs ++ x ∷ []) ≡
 among_more c x cs = list_any-append (nat_eq c) cs (x ∷ [])
 
 pub among_last : (x : ℕ) (cs : List ℕ) → is_among x (cs ++ x ∷ []) ≡ true
-among_last x cs = among_more x x cs ∙ or_right (is_among x cs) (nat_eq x x || false) (or_left (nat_eq x x) false (eq-eqb x x refl))
+among_last x cs = among_more x x cs ∙ or_right (is_among x cs) (nat_eq x x || false)
+    (or_left (nat_eq x x) false (eq-eqb x x refl))
 
 among_other : (c x : ℕ) (cs : List ℕ) → (c ≡ x → ⊥) → is_among c (cs ++ x ∷ []) ≡ is_among c cs
 among_other c x cs other = among_more c x cs ∙ rw (ne_eqb c x other) (or_false (is_among c cs))
 
 -- what one more candidate does
-module _ (start now : State) (stamp : Stamp) (x : ℕ) (cs : List ℕ) (all : Freed) (so_far : AreAnswered start now stamp cs all) where
+module _ (start now : State) (stamp : Stamp) (x : ℕ) (cs : List ℕ) (all : Freed)
+    (so_far : AreAnswered start now stamp cs all) where
   abbrev end : State
   end = auto_all start stamp
 
@@ -173,11 +177,13 @@ module _ (start now : State) (stamp : Stamp) (x : ℕ) (cs : List ℕ) (all : Fr
     long = so_far.long;
     done = λ c some. elim (cases_eq c x) [
       | inl is ↦ rw is here.0
-      | inr other ↦ one_other c x now end stamp (λ e. other (sym e)) (so_far.done c (sym (among_other c x cs other) ∙ some))
+      | inr other ↦ one_other c x now end stamp (λ e. other (sym e))
+          (so_far.done c (sym (among_other c x cs other) ∙ some))
     ];
     waits = λ c none. elim (cases_eq c x) [
       | inl is ↦ absurd (false≢true (sym (rw is at none) ∙ among_last x cs))
-      | inr other ↦ one_other c x now start stamp (λ e. other (sym e)) (so_far.waits c (sym (among_other c x cs other) ∙ none))
+      | inr other ↦ one_other c x now start stamp (λ e. other (sym e))
+          (so_far.waits c (sym (among_other c x cs other) ∙ none))
     ];
     seats = omega (arith, so_far.seats, here.1, taken_out (seats_freed start end) wishes, seats);
     beds = omega (arith, so_far.beds, here.2, taken_out (beds_freed start end) wishes, beds);
@@ -191,7 +197,8 @@ all_answered start now stamp cs all so_far others =
     let end = auto_all start stamp in
     let end_long : length end.marks ≡ length end.dossier.wishes =
     length-with_marks (all_mark start stamp) start so_far.long ∙ so_far.long in
-    let stays : (c : ℕ) → is_among c cs ≡ false → Agrees c start end = λ c none. agrees c start end so_far.long end_long (others c none) in
+    let stays : (c : ℕ) → is_among c cs ≡ false → Agrees c start end =
+    λ c none. agrees c start end so_far.long end_long (others c none) in
     let each : (c : ℕ) → Agrees c now end = λ c.
     elim (cases_Bool (is_among c cs)) [
       | inl some ↦ so_far.done c some
@@ -236,18 +243,21 @@ more_candidates d places i p lt here =
     ∙ ap (λ (k : ℕ). first_candidates d places i ++ candidate_of d k ∷ []) here
 
 -- the answer beside a wish, by the candidate that it has in the dossier of the start
-pub at_start : (start now next : State) (stamp : Stamp) (cs : List ℕ) (p : ℕ) (all own : Freed) → AreAnswered start now stamp cs all
+pub at_start : (start now next : State) (stamp : Stamp) (cs : List ℕ) (p : ℕ) (all own : Freed)
+    → AreAnswered start now stamp cs all
     → next ≡ auto_one now (candidate_of now.dossier p) stamp → own ≡ freed_by now next (candidate_of now.dossier p)
     → let x = candidate_of start.dossier p in
     (next ≡ auto_one now x stamp) × (own ≡ freed_by now (auto_one now x stamp) x)
 at_start start now next stamp cs p all own so_far next_is own_is =
     let x = candidate_of start.dossier p in
-    let x_is : candidate_of now.dossier p ≡ x = ap (λ (d : DossierRows). candidate_of d p) (dossier_stays start now stamp cs all so_far) in
+    let x_is : candidate_of now.dossier p ≡ x =
+    ap (λ (d : DossierRows). candidate_of d p) (dossier_stays start now stamp cs all so_far) in
     let next_here : next ≡ auto_one now x stamp = next_is ∙ ap (λ (c : ℕ). auto_one now c stamp) x_is in
     (next_here, own_is ∙ ap (λ (c : ℕ). freed_by now next c) x_is ∙ ap (λ (t : State). freed_by now t x) next_here)
 
 -- THE STEP, as the loop has it: what is freed fits, and one more has been answered for
-pub next_room : (start now next : State) (stamp : Stamp) (cs : List ℕ) (p : ℕ) (all own : Freed) → AreAnswered start now stamp cs all
+pub next_room : (start now next : State) (stamp : Stamp) (cs : List ℕ) (p : ℕ) (all own : Freed)
+    → AreAnswered start now stamp cs all
     → p < length start.dossier.wishes → next ≡ auto_one now (candidate_of now.dossier p) stamp
     → own ≡ freed_by now next (candidate_of now.dossier p)
     → (all.seats + own.seats ≤ length start.dossier.wishes) × (all.beds + own.beds ≤ length start.dossier.wishes)
@@ -271,8 +281,10 @@ next_place start now next stamp places i p all own next_all so_far lt here in_ra
     (ap (λ (f : Freed). f.beds) in_all ∙ ap (λ (f : Freed). all.beds + f.beds) own_here))
 
 pub places_end : (start now : State) (stamp : Stamp) (places : List ℕ) (i : ℕ) (all : Freed)
-    → AreAnswered start now stamp (first_candidates start.dossier places i) all → length places ≤ i → AreAnsweredBut places start stamp
+    → AreAnswered start now stamp (first_candidates start.dossier places i) all → length places ≤ i
+    → AreAnsweredBut places start stamp
     → (now ≡ auto_all start stamp) × (all ≡ freed start (auto_all start stamp))
 places_end start now stamp places i all so_far le others =
     all_answered start now stamp (first_candidates start.dossier places i) all so_far
-    (λ c none. others c (ap (λ (l : List ℕ). is_among c (map (candidate_of start.dossier) l)) (sym (take_all i places le)) ∙ none))
+    (λ c none. others c (ap (λ (l : List ℕ). is_among c (map (candidate_of start.dossier) l))
+    (sym (take_all i places le)) ∙ none))

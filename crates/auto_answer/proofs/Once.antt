@@ -1,12 +1,14 @@
 -- Each candidate once: what is summed over the candidates of a list.
-use Rattle.std.proofs.Common.{ℕ, ◌+◌, ◌≤◌, ◌≡◌, true, false, cond, List, [], ◌∷◌, map, length, inl, inr, refl, sym, ◌∙◌, ap, arith, nat_eq, sum, sum_by, count_by}
+use Rattle.std.proofs.Common.{ℕ, ◌+◌, ◌≤◌, ◌≡◌, true, false, cond, List, [], ◌∷◌, map, length, inl, inr, refl, sym, ◌∙◌}
+use Rattle.std.proofs.Common.{ap, arith, nat_eq, sum, sum_by, count_by}
 use Rattle.std.proofs.lemmas.Bool.{cases_Bool, cases_eq, eqb-true, eq-eqb, ne_eqb, or_parts}
 use Rattle.std.proofs.lemmas.List.Sums.{sum_by-cons, sum-map, sum_by-le-sum_by}
 use Rattle.admit_core.proofs.Plain.{zero_plus}
 use Rattle.admit_core.specs.Lists.{is_among, distinct}
 
 -- what is summed over the candidates from a place on: nothing is added at one who comes again
-pub total_again : (f : ℕ → ℕ) (c : ℕ) (cs : List ℕ) → is_among c cs ≡ true → sum (map f (distinct (c ∷ cs))) ≡ sum (map f (distinct cs))
+pub total_again : (f : ℕ → ℕ) (c : ℕ) (cs : List ℕ) → is_among c cs ≡ true
+    → sum (map f (distinct (c ∷ cs))) ≡ sum (map f (distinct cs))
 total_again f c cs again = rw again refl
 
 pub total_new : (f : ℕ → ℕ) (c : ℕ) (cs : List ℕ) → is_among c cs ≡ false
@@ -50,7 +52,8 @@ at_most_once c (n ∷ ns) =
     elim (cases_Bool (is_among n ns)) [
       | inl again ↦ rw again (at_most_once c ns)
       | inr new ↦ rw new (elim (cases_Bool (nat_eq c n)) [
-        | inl here ↦ let none = none_distinct c ns (rw (eqb-true c n here) new) in omega (arith, one_time c n (distinct ns) here, none)
+        | inl here ↦ let none = none_distinct c ns (rw (eqb-true c n here) new) in
+            omega (arith, one_time c n (distinct ns) here, none)
         | inr other ↦ omega (arith, no_time c n (distinct ns) other, at_most_once c ns)
       ])
     ]
@@ -78,7 +81,8 @@ stands_at_most [] ns = omega (arith, nothing (distinct ns))
 stands_at_most (x ∷ cs) ns = omega (arith, split_stands x cs (distinct ns), stands_at_most cs ns, at_most_once x ns)
 
 -- what counts at most each candidate's own wishes is at most the number of all
-pub total_at_most : (f : ℕ → ℕ) (cs : List ℕ) → ((c : ℕ) → f c ≤ count_by (nat_eq c) cs) → sum (map f (distinct cs)) ≤ length cs
+pub total_at_most : (f : ℕ → ℕ) (cs : List ℕ) → ((c : ℕ) → f c ≤ count_by (nat_eq c) cs)
+    → sum (map f (distinct cs)) ≤ length cs
 total_at_most f cs few =
     omega (
       arith,

@@ -1,5 +1,6 @@
 -- What is asked of a candidate's own wishes depends on their marks alone.
-use Rattle.std.proofs.Common.{ℕ, zero, suc, ◌<◌, ◌≡◌, Bool, ◌&&◌, List, [], ◌∷◌, length, inl, inr, refl, sym, ◌∙◌, ap, arith, nat_lt, filter, zip}
+use Rattle.std.proofs.Common.{ℕ, zero, suc, ◌<◌, ◌≡◌, Bool, ◌&&◌, List, [], ◌∷◌, length, inl, inr, refl, sym, ◌∙◌, ap}
+use Rattle.std.proofs.Common.{arith, nat_lt, filter, zip}
 use Rattle.std.specs.Prelude.{◌==◌}
 use Rattle.std.specs.List.{list_any}
 use Rattle.std.proofs.lemmas.Bool.{cases_Bool, eqb-true}
@@ -21,7 +22,8 @@ SameOwn c ws ms ns = (k : ℕ) → k < length ws → (wish_in ws k).candidate �
 abbrev pub holds : (Wish → Bool) → ℕ → Wish × Mark → Bool
 holds test c x = is_live x.1 && (x.0.candidate == c) && test x.0
 
-any_own : (test : Wish → Bool) (c : ℕ) (ws : List Wish) (ms ns : List Mark) → length ms ≡ length ws → length ns ≡ length ws
+any_own : (test : Wish → Bool) (c : ℕ) (ws : List Wish) (ms ns : List Mark) → length ms ≡ length ws
+    → length ns ≡ length ws
     → SameOwn c ws ms ns → list_any (holds test c) (zip ws ms) ≡ list_any (holds test c) (zip ws ns)
 any_own test c [] ms ns long long_too same = refl
 any_own test c (w ∷ ws) [] ns long long_too same = absurd (omega arith)
@@ -32,10 +34,15 @@ any_own test c (w ∷ ws) (m ∷ ms) (n ∷ ns) long long_too same =
       | inl his ↦
           let here : m ≡ n = same zero (omega arith) (eqb-true w.candidate c his) in
           rw (here, rest) refl
-      | inr other ↦ rw (middle_false (is_live m) (w.candidate == c) (test w) other, middle_false (is_live n) (w.candidate == c) (test w) other) rest
+      | inr other ↦ rw (
+        middle_false (is_live m) (w.candidate == c) (test w) other,
+        middle_false (is_live n)
+            (w.candidate == c) (test w) other,
+      ) rest
     ]
 
-filter_own : (test : Wish → Bool) (c : ℕ) (ws : List Wish) (ms ns : List Mark) → length ms ≡ length ws → length ns ≡ length ws
+filter_own : (test : Wish → Bool) (c : ℕ) (ws : List Wish) (ms ns : List Mark) → length ms ≡ length ws
+    → length ns ≡ length ws
     → SameOwn c ws ms ns → filter (holds test c) (zip ws ms) ≡ filter (holds test c) (zip ws ns)
 filter_own test c [] ms ns long long_too same = refl
 filter_own test c (w ∷ ws) [] ns long long_too same = absurd (omega arith)
@@ -46,7 +53,11 @@ filter_own test c (w ∷ ws) (m ∷ ms) (n ∷ ns) long long_too same =
       | inl his ↦
           let here : m ≡ n = same zero (omega arith) (eqb-true w.candidate c his) in
           rw (here, rest) refl
-      | inr other ↦ rw (middle_false (is_live m) (w.candidate == c) (test w) other, middle_false (is_live n) (w.candidate == c) (test w) other) rest
+      | inr other ↦ rw (
+        middle_false (is_live m) (w.candidate == c) (test w) other,
+        middle_false (is_live n)
+            (w.candidate == c) (test w) other,
+      ) rest
     ]
 
 -- whether the candidate is live where a test says

@@ -1,7 +1,8 @@
 -- What the test for an accepted status tells.
 use Rattle.std.proofs.Common.{◌≡◌, true, refl}
 use Rattle.admit_core.specs.declared.state.Status.{Status}
-use Rattle.admit_core.specs.declared.state.Status.TheVariants.{Accepted, AutoRefused, AutoWithdrawn, Lapsed, Offered, Refused, Waiting, Withdrawn}
+use Rattle.admit_core.specs.declared.state.Status.TheVariants.{Accepted, AutoRefused, AutoWithdrawn, Lapsed, Offered}
+use Rattle.admit_core.specs.declared.state.Status.TheVariants.{Refused, Waiting, Withdrawn}
 use Rattle.admit_core.specs.declared.state.Status.TheVariants as statuses
 use Rattle.admit_core.specs.Relations.{is_accepted}
 

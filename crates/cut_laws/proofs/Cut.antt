@@ -1,5 +1,6 @@
 -- The days after a cut are days of the cut campaign.
-use Rattle.std.proofs.Common.{ℕ, ◌+◌, ◌-◌, ◌<◌, ◌≡◌, List, [], ◌∷◌, length, map, Option, Some, None, refl, sym, ◌∙◌, ap, arith, subst, get_or, zip}
+use Rattle.std.proofs.Common.{ℕ, ◌+◌, ◌-◌, ◌<◌, ◌≡◌, List, [], ◌∷◌, length, map, Option, Some, None, refl, sym, ◌∙◌, ap}
+use Rattle.std.proofs.Common.{arith, subst, get_or, zip}
 use Rattle.std.specs.Prelude.{ℤ, pos, ◌+ℤ◌, ◌-ℤ◌}
 use Rattle.std.proofs.Math.ListN.{get_or-map as get_or-map_default}
 use Rattle.std.proofs.lemmas.Int.{ints}
@@ -13,17 +14,20 @@ use Rattle.admit_core.specs.declared.records.Terms.{Terms}
 use Rattle.admit_core.specs.declared.state.Mark.{Mark}
 use Rattle.admit_core.specs.declared.state.Stamp.{Stamp}
 use Rattle.admit_core.specs.Answers.{after_all}
-use Rattle.admit_core.specs.Days.{Days, IsDay, after_lapse, answers_of, ceilings_of, closing, first_evening, first_mark, lapsed_on, morning}
+use Rattle.admit_core.specs.Days.{Days, IsDay, after_lapse, answers_of, ceilings_of, closing, first_evening, first_mark}
+use Rattle.admit_core.specs.Days.{lapsed_on, morning}
 use Rattle.admit_core.specs.DossierRows.{DossierRows}
 use Rattle.admit_core.specs.Lapses.{AreTermsFor, lapse, lapses_of, offer_day}
 use Rattle.admit_core.specs.State.{State}
 use Rattle.day_state.proofs.Independence.{dossier_after_all}
 use Rattle.cut_laws.specs.Alike.{HaveEqualStatuses, undated, unstamped}
-use Rattle.cut_laws.specs.Cut.{AlikeStatesGoOnAlike, CampaignsMayBeCut, OpenOffersDecide, StandAlike, cut_at, earlier, terms_at}
+use Rattle.cut_laws.specs.Cut.{AlikeStatesGoOnAlike, CampaignsMayBeCut, OpenOffersDecide, StandAlike, cut_at, earlier}
+use Rattle.cut_laws.specs.Cut.{terms_at}
 use Rattle.cut_laws.proofs.Unstamped.{bare}
 use Rattle.cut_laws.proofs.CutRows.{same_answers, same_ceilings, statuses_taken_in}
 use Rattle.cut_laws.proofs.Dated.{AreApart, AreDated, no_mark}
-use Rattle.cut_laws.proofs.DatedLapses.{lapse_dated, lapse_statuses, lapses_told, of_term, row_at, rows_dated, rows_long, stand_dated, stand_rows}
+use Rattle.cut_laws.proofs.DatedLapses.{lapse_dated, lapse_statuses, lapses_told, of_term, row_at, rows_dated}
+use Rattle.cut_laws.proofs.DatedLapses.{rows_long, stand_dated, stand_rows}
 use Rattle.cut_laws.proofs.DatedSteps.{answers_dated, closed_dated}
 use Rattle.cut_laws.proofs.Days.{IsAlikeMorning, dawn_alike, day_alike, passes_alike}
 

@@ -1,5 +1,6 @@
 -- Each step of a day leaves open offers dated alike, as many days apart as before.
-use Rattle.std.proofs.Common.{ℕ, ◌+◌, ◌<◌, ◌≡◌, ◌≢◌, Bool, true, false, ◌&&◌, List, length, map, None, inl, inr, refl, sym, ◌∙◌, ap, arith, subst, get_or, nat_lt, zip}
+use Rattle.std.proofs.Common.{ℕ, ◌+◌, ◌<◌, ◌≡◌, ◌≢◌, Bool, true, false, ◌&&◌, List, length, map, None, inl, inr, refl}
+use Rattle.std.proofs.Common.{sym, ◌∙◌, ap, arith, subst, get_or, nat_lt, zip}
 use Rattle.std.specs.Prelude.{ℤ, pos, ◌+ℤ◌, ◌==◌, if◌then◌else◌, int_lt}
 use Rattle.std.proofs.Math.ListN.{set, get_or-map as get_or-map_default}
 use Rattle.std.proofs.lemmas.Bool.{cases_Bool, eqb-true}

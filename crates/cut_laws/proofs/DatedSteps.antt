@@ -1,5 +1,6 @@
 -- The steps of a day, one by one, leave open offers dated as many days apart.
-use Rattle.std.proofs.Common.{ℕ, ◌<◌, ◌≡◌, Bool, ◌&&◌, ◌||◌, List, [], ◌∷◌, length, Option, Some, None, refl, sym, ◌∙◌, ap, arith, subst, get_or, nat_lt}
+use Rattle.std.proofs.Common.{ℕ, ◌<◌, ◌≡◌, Bool, ◌&&◌, ◌||◌, List, [], ◌∷◌, length, Option, Some, None, refl, sym, ◌∙◌}
+use Rattle.std.proofs.Common.{ap, arith, subst, get_or, nat_lt}
 use Rattle.std.specs.Prelude.{ℤ, pos, ◌==◌, if◌then◌else◌}
 use Rattle.std.proofs.lemmas.Option.{unwrap_or-slice_get}
 use Rattle.admit_core.specs.declared.dossier.Answer.{Answer}
@@ -18,8 +19,10 @@ use Rattle.admit_core.specs.Proposals.{is_proposed}
 use Rattle.admit_core.specs.State.{State, changed_to, is_live, is_live_status, is_waiting, is_waiting_status}
 use Rattle.cut_laws.specs.Alike.{HaveEqualStatuses, undated}
 use Rattle.cut_laws.proofs.Unstamped.{same_proposed}
-use Rattle.cut_laws.proofs.Steps.{after_alike, best_preference, first_of, offers_alike, preference_alike, rest_of, who_alike}
-use Rattle.cut_laws.proofs.Dated.{AreApart, AreDated, IsDated, changed_dated, either_dated, no_mark, same_at, set_dated, with_dated}
+use Rattle.cut_laws.proofs.Steps.{after_alike, best_preference, first_of, offers_alike, preference_alike, rest_of}
+use Rattle.cut_laws.proofs.Steps.{who_alike}
+use Rattle.cut_laws.proofs.Dated.{AreApart, AreDated, IsDated, changed_dated, either_dated, no_mark, same_at, set_dated}
+use Rattle.cut_laws.proofs.Dated.{with_dated}
 
 module _ (a : ℕ) (bs cs : List ℤ) (one other : Stamp) (apart : AreApart a one other) where
   -- a change where a test passes

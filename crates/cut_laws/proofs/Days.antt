@@ -10,7 +10,8 @@ use Rattle.admit_core.specs.declared.records.Terms.{Terms}
 use Rattle.admit_core.specs.declared.state.Stamp.{Stamp}
 use Rattle.admit_core.specs.AutoAnswer.{freed}
 use Rattle.admit_core.specs.Boarding.{boarding}
-use Rattle.admit_core.specs.Days.{IsDay, IsPassEnd, Passes, after_lapse, answers_of, changes, closing, lapsed_on, morning, offered}
+use Rattle.admit_core.specs.Days.{IsDay, IsPassEnd, Passes, after_lapse, answers_of, changes, closing, lapsed_on}
+use Rattle.admit_core.specs.Days.{morning, offered}
 use Rattle.admit_core.specs.Falls.{FallingSystem, IsGreatest, IsRunOfFalls}
 use Rattle.admit_core.specs.Proposals.{proposed}
 use Rattle.admit_core.specs.State.{State, free_beds, seats_left}

@@ -1,5 +1,6 @@
 -- Each step of a day leads states with equal statuses to states with equal statuses.
-use Rattle.std.proofs.Common.{ℕ, ◌+◌, ◌≡◌, Bool, true, false, ◌&&◌, ◌||◌, List, [], ◌∷◌, map, Option, Some, None, refl, sym, ◌∙◌, ap, zip, option_map, unwrap_or}
+use Rattle.std.proofs.Common.{ℕ, ◌+◌, ◌≡◌, Bool, true, false, ◌&&◌, ◌||◌, List, [], ◌∷◌, map, Option, Some, None, refl}
+use Rattle.std.proofs.Common.{sym, ◌∙◌, ap, zip, option_map, unwrap_or}
 use Rattle.std.specs.Prelude.{◌==◌, if◌then◌else◌, slice_get, nat_lt}
 use Rattle.std.proofs.lemmas.List.{map-set}
 use Rattle.std.proofs.lemmas.Option.{slice_get-map}
@@ -11,12 +12,15 @@ use Rattle.admit_core.specs.declared.ranking.CallOrder.{CallOrder}
 use Rattle.admit_core.specs.declared.state.Mark.{Mark}
 use Rattle.admit_core.specs.declared.state.Stamp.{Stamp}
 use Rattle.admit_core.specs.declared.state.Status.{Status}
-use Rattle.admit_core.specs.declared.state.Status.TheVariants.{Waiting, Offered, Accepted, Refused, Withdrawn, Quit as HasQuit}
-use Rattle.admit_core.specs.Answers.{after, after_all, after_kind, candidate_at, first_unfit, kind_fits, mark_at, refuse_live, status_at}
+use Rattle.admit_core.specs.declared.state.Status.TheVariants.{Waiting, Offered, Accepted, Refused, Withdrawn}
+use Rattle.admit_core.specs.declared.state.Status.TheVariants.{Quit as HasQuit}
+use Rattle.admit_core.specs.Answers.{after, after_all, after_kind, candidate_at, first_unfit, kind_fits, mark_at}
+use Rattle.admit_core.specs.Answers.{refuse_live, status_at}
 use Rattle.admit_core.specs.AutoAnswer.{auto_all, auto_mark, auto_status, best_live}
 use Rattle.admit_core.specs.Days.{first_mark, offered}
 use Rattle.admit_core.specs.Proposals.{is_proposed}
-use Rattle.admit_core.specs.State.{State, changed_to, is_live, is_live_status, is_waiting, is_waiting_status, with_mark_at, with_marks}
+use Rattle.admit_core.specs.State.{State, changed_to, is_live, is_live_status, is_waiting, is_waiting_status}
+use Rattle.admit_core.specs.State.{with_mark_at, with_marks}
 use Rattle.admit_core.proofs.Statuses.{changed_status}
 use Rattle.cut_laws.specs.Alike.{HaveEqualStatuses, lasting, undated, unstamped}
 use Rattle.cut_laws.proofs.Unstamped.{bare, bare_entry, same_best, same_proposed}

@@ -1,5 +1,6 @@
 -- What a pass reads of a state it reads of the state without stamps.
-use Rattle.std.proofs.Common.{ℕ, ◌+◌, ◌-◌, ◌≡◌, Bool, not, ◌&&◌, ◌||◌, filter, List, [], ◌∷◌, length, map, Option, Some, None, inl, inr, refl, ◌∙◌, ap, nat_lt, nat_le, zip, count_by, option_map, unwrap_or}
+use Rattle.std.proofs.Common.{ℕ, ◌+◌, ◌-◌, ◌≡◌, Bool, not, ◌&&◌, ◌||◌, filter, List, [], ◌∷◌, length, map, Option, Some}
+use Rattle.std.proofs.Common.{None, inl, inr, refl, ◌∙◌, ap, nat_lt, nat_le, zip, count_by, option_map, unwrap_or}
 use Rattle.std.specs.Prelude.{◌==◌, slice_index, sum, find}
 use Rattle.std.specs.List.{enumerate_from, list_any, range_with_len}
 use Rattle.std.proofs.lemmas.Bool.{cases_Bool}
@@ -15,8 +16,11 @@ use Rattle.admit_core.specs.Boarding.{boarding, name_of}
 use Rattle.admit_core.specs.Days.{changes, first_mark}
 use Rattle.admit_core.specs.DossierRows.{candidates_of, limit_of, seats_of}
 use Rattle.admit_core.specs.Lists.{ascending, least_by, lesser}
-use Rattle.admit_core.specs.Proposals.{ahead, before, demanded_ranks, demands_bed, has_open_wish, is_behind_bar, is_open, is_open_in, is_proposed, needs_no_seat, position_of, proposed, wants_seat}
-use Rattle.admit_core.specs.State.{State, entries, free_beds, has_school, holds_bed, holds_seat, is_live, is_waiting, seats_left, status_number}
+use Rattle.admit_core.specs.Proposals.{ahead, before, demanded_ranks, demands_bed, has_open_wish, is_behind_bar}
+use Rattle.admit_core.specs.Proposals.{is_open, is_open_in, is_proposed, needs_no_seat, position_of, proposed}
+use Rattle.admit_core.specs.Proposals.{wants_seat}
+use Rattle.admit_core.specs.State.{State, entries, free_beds, has_school, holds_bed, holds_seat, is_live, is_waiting}
+use Rattle.admit_core.specs.State.{seats_left, status_number}
 use Rattle.admit_core.proofs.Plain.{any-map}
 use Rattle.cut_laws.specs.Alike.{unstamped, without_ceiling}
 

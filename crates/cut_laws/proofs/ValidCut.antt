@@ -1,5 +1,7 @@
 -- The dossier of the morning after a cut is a valid one.
-use Rattle.std.proofs.Common.{ℕ, ◌+◌, ◌-◌, ◌<◌, ◌≤◌, ◌≡◌, Bool, true, filter, List, [], ◌∷◌, length, map, Option, Some, None, inl, inr, refl, sym, ◌∙◌, ap, arith, subst, get_or, nat_eq, nat_lt, nat_le, option_map, unwrap_or, zip}
+use Rattle.std.proofs.Common.{ℕ, ◌+◌, ◌-◌, ◌<◌, ◌≤◌, ◌≡◌, Bool, true, filter, List, [], ◌∷◌, length, map, Option, Some}
+use Rattle.std.proofs.Common.{None, inl, inr, refl, sym, ◌∙◌, ap, arith, subst, get_or, nat_eq, nat_lt, nat_le}
+use Rattle.std.proofs.Common.{option_map, unwrap_or, zip}
 use Rattle.std.specs.Prelude.{◌==◌, All, AllPairs, ◌&&◌}
 use Rattle.std.specs.List.{AllByRecursion, IsDistinct, enumerate_from}
 use Rattle.std.specs.List.Sorted.{IsNonDecreasing, IsNonDecreasingBy}
@@ -28,7 +30,8 @@ use Rattle.admit_core.specs.declared.dossier.Wish.{Wish}
 use Rattle.admit_core.specs.OwnWishes.{AcceptsOne, IsOneAccepted}
 use Rattle.std.proofs.lemmas.Slice.Zip.{get_or-zip, length-zip}
 use Rattle.cut_laws.proofs.Dated.{no_mark}
-use Rattle.admit_core.specs.Validity.{NotBothAccepted, IsTarget, IsValid, IsValidAnswer, IsValidCeiling, IsValidSchool, NotSameDay}
+use Rattle.admit_core.specs.Validity.{NotBothAccepted, IsTarget, IsValid, IsValidAnswer, IsValidCeiling, IsValidSchool}
+use Rattle.admit_core.specs.Validity.{NotSameDay}
 use Rattle.cut_laws.specs.Cut.{CutsAreValid, cut_at}
 
 -- ---- what is kept of a list for later days

@@ -8,8 +8,11 @@ use Rattle.admit_core.specs.WorkedRows.{marked}
 use Rattle.admit_core.proofs.Rows.{passes_with}
 use Rattle.admit_core.proofs.SmallDossier.{small_dossier_holds}
 use Rattle.cut_laws.specs.Cut.{IsGivenAlike, cut_at, terms_at}
-use Rattle.cut_laws.specs.Witnesses.{AlikeStatesGoOnAlikeWitness, CampaignsMayBeCutWitness, CutDaysAreTheRestWitness, CutsAreValidWitness, OpenOffersDecideWitness, StampsDecideNothingWitness}
-use Rattle.cut_laws.specs.WorkedCampaign.{NextMorning, call_orders, campaign, cut_days, cut_night, first_night, one_day_more, other_morning, other_night, second_day, second_night, small_night, third_day, third_night}
+use Rattle.cut_laws.specs.Witnesses.{AlikeStatesGoOnAlikeWitness, CampaignsMayBeCutWitness, CutDaysAreTheRestWitness}
+use Rattle.cut_laws.specs.Witnesses.{CutsAreValidWitness, OpenOffersDecideWitness, StampsDecideNothingWitness}
+use Rattle.cut_laws.specs.WorkedCampaign.{NextMorning, call_orders, campaign, cut_days, cut_night, first_night}
+use Rattle.cut_laws.specs.WorkedCampaign.{one_day_more, other_morning, other_night, second_day, second_night}
+use Rattle.cut_laws.specs.WorkedCampaign.{small_night, third_day, third_night}
 use Rattle.cut_laws.proofs.Cut.{alike_states_go_on, campaigns_may_be_cut, open_offers_decide}
 use Rattle.cut_laws.proofs.Rest.{cut_days_are_the_rest}
 use Rattle.cut_laws.proofs.ValidCut.{cuts_are_valid}

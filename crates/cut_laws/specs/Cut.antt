@@ -1,5 +1,6 @@
 -- A campaign that is cut at an evening, and begun again from what it left.
-use Rattle.std.specs.Prelude.{◌<◌, ◌≡◌, ℕ, ℤ, pos, ◌+◌, ◌-◌, ◌+ℤ◌, ◌-ℤ◌, List, length, map, filter, nat_lt, Option, Some, None, option_map, zip, if◌then◌else◌, ⊤}
+use Rattle.std.specs.Prelude.{◌<◌, ◌≡◌, ℕ, ℤ, pos, ◌+◌, ◌-◌, ◌+ℤ◌, ◌-ℤ◌, List, length, map, filter, nat_lt, Option}
+use Rattle.std.specs.Prelude.{Some, None, option_map, zip, if◌then◌else◌, ⊤}
 use Rattle.std.specs.List.{enumerate_from}
 use Rattle.admit_core.specs.declared.dossier.Answer.{Answer}
 use Rattle.admit_core.specs.declared.dossier.CeilingChange.{CeilingChange}

@@ -10,9 +10,11 @@ use Rattle.admit_core.specs.OwnWishes.{IsOneAccepted}
 use Rattle.admit_core.specs.State.{State}
 use Rattle.admit_core.specs.Validity.{IsValid}
 use Rattle.cut_laws.specs.Alike.{HaveEqualStatuses, undated}
-use Rattle.cut_laws.specs.Cut.{AreTheRest, FollowAlike, GoesOnAlike, IsGivenAlike, LeadsOnAlike, StandAlike, cut_at, terms_at}
+use Rattle.cut_laws.specs.Cut.{AreTheRest, FollowAlike, GoesOnAlike, IsGivenAlike, LeadsOnAlike, StandAlike, cut_at}
+use Rattle.cut_laws.specs.Cut.{terms_at}
 use Rattle.cut_laws.specs.StampsDecideNothing.{LeadsAlike}
-use Rattle.cut_laws.specs.WorkedCampaign.{call_orders, cut_days, cut_night, first_night, one_day_more, other_morning, other_night, second_day, second_night, small_night, third_day, third_night}
+use Rattle.cut_laws.specs.WorkedCampaign.{call_orders, cut_days, cut_night, first_night, one_day_more, other_morning}
+use Rattle.cut_laws.specs.WorkedCampaign.{other_night, second_day, second_night, small_night, third_day, third_night}
 
 -- ---- day 2 is the same from other stamps, as day 7
 abbrev pub StampsDecideNothingWitness : Type 0

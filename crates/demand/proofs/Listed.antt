@@ -1,5 +1,6 @@
 -- What the calls list.
-use Rattle.std.proofs.Common.{ℕ, ◌+◌, ◌≤◌, ◌<◌, ◌≡◌, Bool, List, [], ◌∷◌, map, length, inl, inr, refl, sym, ◌∙◌, ap, arith, filter, zero-add}
+use Rattle.std.proofs.Common.{ℕ, ◌+◌, ◌≤◌, ◌<◌, ◌≡◌, Bool, List, [], ◌∷◌, map, length, inl, inr, refl, sym, ◌∙◌, ap}
+use Rattle.std.proofs.Common.{arith, filter, zero-add}
 use Rattle.std.specs.Prelude.{slice_get, slice_index, All}
 use Rattle.std.specs.List.{enumerate_from, range_with_len}
 use Rattle.std.proofs.lemmas.Bool.{cases_Bool}
@@ -18,43 +19,54 @@ use Rattle.proposals.specs.Demands.{demands_of}
 use Rattle.demand.specs.Proposed.{proposed_flags}
 
 flagged_are : (f : Wish × Mark → Bool) (n : ℕ) (es : List (Wish × Mark))
-    → map (λ (x : ℕ × Bool). x.0) (filter (λ (x : ℕ × Bool). x.1) (enumerate_from n (map f es))) ≡ map (λ (x : ℕ × (Wish × Mark)). x.0) (filter (λ (x : ℕ × (Wish × Mark)). f x.1) (enumerate_from n es))
+    → map (λ (x : ℕ × Bool). x.0) (filter (λ (x : ℕ × Bool). x.1) (enumerate_from n (map f es)))
+    ≡ map (λ (x : ℕ × (Wish × Mark)). x.0) (filter (λ (x : ℕ × (Wish × Mark)). f x.1) (enumerate_from n es))
 flagged_are f n [] = refl
 flagged_are f n (e ∷ es) =
     let later = flagged_are f (n + 1) es in
     elim (cases_Bool (f e)) [ inl passes ↦ rw passes (ap (λ (ks : List ℕ). n ∷ ks) later) | inr fails ↦ rw fails later ]
 
 -- the flagged places are the proposed ones
-pub flagged_proposed : (s : State) (orders : List CallOrder) (bars : List ℕ) (flags : List Bool) → flags ≡ proposed_flags s orders bars
+pub flagged_proposed : (s : State) (orders : List CallOrder) (bars : List ℕ) (flags : List Bool)
+    → flags ≡ proposed_flags s orders bars
     → map (λ (x : ℕ × Bool). x.0) (filter (λ (x : ℕ × Bool). x.1) (enumerate_from 0 flags)) ≡ proposed s orders bars
 flagged_proposed s orders bars flags is =
     ap (λ fs. map (λ (x : ℕ × Bool). x.0) (filter (λ (x : ℕ × Bool). x.1) (enumerate_from 0 fs))) is
     ∙ flagged_are (λ e. is_proposed s orders bars e.0 e.1) 0 (entries s)
 
 numbered : (p : Wish × Mark → Bool) (n count : ℕ) (es : List (Wish × Mark)) → n + length es ≤ count
-    → All (λ k. k < count) (map (λ (x : ℕ × (Wish × Mark)). x.0) (filter (λ (x : ℕ × (Wish × Mark)). p x.1) (enumerate_from n es)))
+    → All (λ k. k < count)
+    (map (λ (x : ℕ × (Wish × Mark)). x.0) (filter (λ (x : ℕ × (Wish × Mark)). p x.1) (enumerate_from n es)))
 numbered p n count [] le = All-nil (λ k. k < count)
 numbered p n count (e ∷ es) le =
     let later = numbered p (n + 1) count es (omega arith) in
     elim (cases_Bool (p e)) [
-      | inl passes ↦ rw passes (All-cons (λ k. k < count) n (map (λ (x : ℕ × (Wish × Mark)). x.0) (filter (λ (x : ℕ × (Wish × Mark)). p x.1) (enumerate_from (n + 1) es))) (omega arith) later)
+      | inl passes ↦ rw passes
+          (All-cons (λ k. k < count) n (map (λ (x : ℕ × (Wish × Mark)). x.0)
+          (filter (λ (x : ℕ × (Wish × Mark)). p x.1) (enumerate_from (n + 1) es))) (omega arith) later)
       | inr fails ↦ rw fails later
     ]
 
 -- the proposed places are places of wishes
-pub proposed_within : (s : State) (orders : List CallOrder) (bars : List ℕ) → All (λ k. k < length s.dossier.wishes) (proposed s orders bars)
+pub proposed_within : (s : State) (orders : List CallOrder) (bars : List ℕ)
+    → All (λ k. k < length s.dossier.wishes) (proposed s orders bars)
 proposed_within s orders bars =
-    numbered (λ e. is_proposed s orders bars e.0 e.1) 0 (length s.dossier.wishes) (entries s) (omega (arith, length-zip s.dossier.wishes s.marks))
+    numbered (λ e. is_proposed s orders bars e.0 e.1) 0 (length s.dossier.wishes) (entries s)
+    (omega (arith, length-zip s.dossier.wishes s.marks))
 
-map_ranks : (name : ℕ → ℕ) (ranks : List ℕ) → map (λ (x : Demand). x.rank) (map (λ r. let d : Demand = record { rank = r; wish = name r } in d) ranks) ≡ ranks
+map_ranks : (name : ℕ → ℕ) (ranks : List ℕ)
+    → map (λ (x : Demand). x.rank) (map (λ r. let d : Demand = record { rank = r; wish = name r } in d) ranks) ≡ ranks
 map_ranks name [] = refl
 map_ranks name (r ∷ ranks) = ap (λ (rs : List ℕ). r ∷ rs) (map_ranks name ranks)
 
 -- the first rank that finds no bed
-pub over_is : (s : State) (orders : List CallOrder) (ceilings bars : List ℕ) (h free : ℕ) → h < length ceilings → free ≡ free_beds s h
-    → slice_get (map (λ (x : Demand). x.rank) (demands_of s orders bars h)) free ≡ rank_over (boarding s orders ceilings) bars h
+pub over_is : (s : State) (orders : List CallOrder) (ceilings bars : List ℕ) (h free : ℕ) → h < length ceilings
+    → free ≡ free_beds s h
+    → slice_get (map (λ (x : Demand). x.rank) (demands_of s orders bars h)) free
+    ≡ rank_over (boarding s orders ceilings) bars h
 over_is s orders ceilings bars h free lt is =
     let beds = slice_index (map (free_beds s) (range_with_len 0 (length ceilings))) h in
-    let same : beds ≡ free_beds s h = get_or-map-range_with_len (free_beds s) 0 (length ceilings) h h 0 lt (zero-add h) in
+    let same : beds ≡ free_beds s h = get_or-map-range_with_len (free_beds s) 0 (length ceilings) h h 0 lt
+    (zero-add h) in
     ap (λ rs. slice_get rs free) (map_ranks (name_of s orders bars h) (demanded_ranks s orders bars h))
     ∙ ap (slice_get (demanded_ranks s orders bars h)) (is ∙ sym same)

@@ -1,5 +1,7 @@
 -- The first of each rank in a list put in order by rank: the demanded ranks with their names.
-use Rattle.std.proofs.Common.{ℕ, zero, suc, ◌+◌, ◌≤◌, ◌<◌, ◌≡◌, Bool, true, false, cond, not, ◌&&◌, ◌||◌, List, [], ◌∷◌, map, length, get_or, inl, inr, refl, sym, ◌∙◌, ap, arith, nat_eq, filter, Option, Some, None, nat_lt, add-zero, zero-add}
+use Rattle.std.proofs.Common.{ℕ, zero, suc, ◌+◌, ◌≤◌, ◌<◌, ◌≡◌, Bool, true, false, cond, not, ◌&&◌, ◌||◌, List, [], ◌∷◌}
+use Rattle.std.proofs.Common.{map, length, get_or, inl, inr, refl, sym, ◌∙◌, ap, arith, nat_eq, filter, Option, Some}
+use Rattle.std.proofs.Common.{None, nat_lt, add-zero, zero-add}
 use Rattle.std.specs.Prelude.{◌==◌, option_map, unwrap_or, find}
 use Rattle.std.specs.List.{list_any, enumerate_from, dedup, dedup_from, AllByRecursion}
 use Rattle.std.specs.List.Sorted.{IsNonDecreasingBy, IsPermutation, IsStableByKey}
@@ -32,14 +34,18 @@ abbrev Rises : List Demand → Type 0
 Rises [] = Unit {0}
 Rises (x ∷ xs) = AllByRecursion (λ y. x.rank ≤ y.rank) xs × Rises xs
 
-not_below : (x : Demand) (xs : List Demand) → ((k : ℕ) (d : Demand) → k < length xs → x.rank ≤ (get_or xs k d).rank) → AllByRecursion (λ y. x.rank ≤ y.rank) xs
+not_below : (x : Demand) (xs : List Demand) → ((k : ℕ) (d : Demand) → k < length xs → x.rank ≤ (get_or xs k d).rank)
+    → AllByRecursion (λ y. x.rank ≤ y.rank) xs
 not_below x [] h = tt
 not_below x (y ∷ ys) h = (h zero y (omega arith), not_below x ys (λ k d lt. h (suc k) d (omega arith)))
 
 rises_from : (xs : List Demand) → IsNonDecreasingBy (λ x. x.rank) xs → Rises xs
 rises_from [] h = tt
-rises_from (x ∷ xs) h =
-    (not_below x xs (λ k d lt. h zero (suc k) d (omega arith) (omega arith)), rises_from xs (λ i j d le lt. h (suc i) (suc j) d (omega arith) (omega arith)))
+rises_from (x ∷ xs) h = (
+  not_below x xs (λ k d lt. h zero (suc k) d (omega arith) (omega arith)),
+  rises_from xs
+      (λ i j d le lt. h (suc i) (suc j) d (omega arith) (omega arith)),
+)
 
 -- those that are kept behind a first one
 abbrev kept : Demand → List Demand → List Demand
@@ -59,14 +65,16 @@ record IsFirst (low : ℕ) (xs : List Demand) (y : Demand) : Type 0 where
   above : low < y.rank
   found : find (at_rank y.rank) xs ≡ Some y
 
-later_first : (low : ℕ) (x : Demand) (xs ys : List Demand) → low ≤ x.rank → AllByRecursion (IsFirst x.rank xs) ys → AllByRecursion (IsFirst low (x ∷ xs)) ys
+later_first : (low : ℕ) (x : Demand) (xs ys : List Demand) → low ≤ x.rank → AllByRecursion (IsFirst x.rank xs) ys
+    → AllByRecursion (IsFirst low (x ∷ xs)) ys
 later_first low x xs [] le all = tt
 later_first low x xs (y ∷ ys) le all =
     let first = all.0 in
     let other : (x.rank == y.rank) ≡ false = ne_eqb x.rank y.rank (λ e. omega (arith, e, first.above)) in
     (record { above = omega (arith, first.above); found = rw other first.found }, later_first low x xs ys le all.1)
 
-firsts : (k : Demand) (xs : List Demand) → AllByRecursion (λ y. k.rank ≤ y.rank) xs → Rises xs → AllByRecursion (IsFirst k.rank xs) (kept k xs)
+firsts : (k : Demand) (xs : List Demand) → AllByRecursion (λ y. k.rank ≤ y.rank) xs → Rises xs
+    → AllByRecursion (IsFirst k.rank xs) (kept k xs)
 firsts k [] from rises = tt
 firsts k (x ∷ xs) from rises =
     elim (cases_Bool (same_rank x k)) [
@@ -82,7 +90,8 @@ firsts k (x ∷ xs) from rises =
           )
     ]
 
-only_found : (xs ys : List Demand) (low : ℕ) → AllByRecursion (IsFirst low xs) ys → AllByRecursion (λ y. find (at_rank y.rank) xs ≡ Some y) ys
+only_found : (xs ys : List Demand) (low : ℕ) → AllByRecursion (IsFirst low xs) ys
+    → AllByRecursion (λ y. find (at_rank y.rank) xs ≡ Some y) ys
 only_found xs [] low all = tt
 only_found xs (y ∷ ys) low all = (all.0.found, only_found xs ys low all.1)
 
@@ -90,25 +99,37 @@ only_found xs (y ∷ ys) low all = (all.0.found, only_found xs ys low all.1)
 first_of : (xs : List Demand) → Rises xs → AllByRecursion (λ y. find (at_rank y.rank) xs ≡ Some y) (dedup same_rank xs)
 first_of [] rises = tt
 first_of (x ∷ xs) rises =
-    rw (dedup_kept x xs)
-    (rw (eq-eqb x.rank x.rank refl) refl, only_found (x ∷ xs) (kept x xs) x.rank (later_first x.rank x xs (kept x xs) (omega arith) (firsts x xs rises.0 rises.1)))
+    rw (dedup_kept x xs) (
+      rw (eq-eqb x.rank x.rank refl) refl,
+      only_found (x ∷ xs) (kept x xs) x.rank
+          (later_first x.rank x xs (kept x xs) (omega arith) (firsts x xs rises.0 rises.1)),
+    )
 
 -- their ranks rise
-above_low : (low : ℕ) (xs ys : List Demand) → AllByRecursion (IsFirst low xs) ys → AllByRecursion (λ m. low < m) (map (λ x. x.rank) ys)
+above_low : (low : ℕ) (xs ys : List Demand) → AllByRecursion (IsFirst low xs) ys
+    → AllByRecursion (λ m. low < m) (map (λ x. x.rank) ys)
 above_low low xs [] all = tt
 above_low low xs (y ∷ ys) all = (all.0.above, above_low low xs ys all.1)
 
-ascends_kept : (k : Demand) (xs : List Demand) → AllByRecursion (λ y. k.rank ≤ y.rank) xs → Rises xs → Ascends (map (λ x. x.rank) (kept k xs))
+ascends_kept : (k : Demand) (xs : List Demand) → AllByRecursion (λ y. k.rank ≤ y.rank) xs → Rises xs
+    → Ascends (map (λ x. x.rank) (kept k xs))
 ascends_kept k [] from rises = tt
 ascends_kept k (x ∷ xs) from rises =
     elim (cases_Bool (same_rank x k)) [
       | inl same ↦ rw same (ascends_kept k xs from.1 rises.1)
-      | inr other ↦ rw other (above_low x.rank xs (kept x xs) (firsts x xs rises.0 rises.1), ascends_kept x xs rises.0 rises.1)
+      | inr other ↦ rw other (
+        above_low x.rank xs (kept x xs) (firsts x xs rises.0 rises.1),
+        ascends_kept x xs rises.0 rises.1,
+      )
     ]
 
 ascends_dedup : (xs : List Demand) → Rises xs → Ascends (map (λ x. x.rank) (dedup same_rank xs))
 ascends_dedup [] rises = tt
-ascends_dedup (x ∷ xs) rises = rw (dedup_kept x xs) (above_low x.rank xs (kept x xs) (firsts x xs rises.0 rises.1), ascends_kept x xs rises.0 rises.1)
+ascends_dedup (x ∷ xs) rises = rw (dedup_kept x xs) (
+  above_low x.rank xs (kept x xs)
+      (firsts x xs rises.0 rises.1),
+  ascends_kept x xs rises.0 rises.1,
+)
 
 -- and none is lost
 twice : (a b c : Bool) → a ≡ b → (a || (b || c)) ≡ (a || c)
@@ -116,17 +137,20 @@ twice true b c e = refl
 twice false true c e = absurd (false≢true e)
 twice false false c e = refl
 
-ranks_kept : (r : ℕ) (k : Demand) (xs : List Demand) → is_among r (map (λ x. x.rank) (k ∷ kept k xs)) ≡ is_among r (map (λ x. x.rank) (k ∷ xs))
+ranks_kept : (r : ℕ) (k : Demand) (xs : List Demand)
+    → is_among r (map (λ x. x.rank) (k ∷ kept k xs)) ≡ is_among r (map (λ x. x.rank) (k ∷ xs))
 ranks_kept r k [] = refl
 ranks_kept r k (x ∷ xs) =
     elim (cases_Bool (same_rank x k)) [
       | inl same ↦
           let is : nat_eq r k.rank ≡ nat_eq r x.rank = ap (nat_eq r) (sym (eqb-true x.rank k.rank same)) in
-          rw same (ranks_kept r k xs ∙ sym (twice (nat_eq r k.rank) (nat_eq r x.rank) (is_among r (map (λ y. y.rank) xs)) is))
+          rw same (ranks_kept r k xs ∙ sym (twice (nat_eq r k.rank) (nat_eq r x.rank)
+          (is_among r (map (λ y. y.rank) xs)) is))
       | inr other ↦ rw other (ap (λ b. nat_eq r k.rank || b) (ranks_kept r x xs))
     ]
 
-ranks_dedup : (r : ℕ) (xs : List Demand) → is_among r (map (λ x. x.rank) (dedup same_rank xs)) ≡ is_among r (map (λ x. x.rank) xs)
+ranks_dedup : (r : ℕ) (xs : List Demand)
+    → is_among r (map (λ x. x.rank) (dedup same_rank xs)) ≡ is_among r (map (λ x. x.rank) xs)
 ranks_dedup r [] = refl
 ranks_dedup r (x ∷ xs) = rw (dedup_kept x xs) (ranks_kept r x xs)
 
@@ -161,25 +185,33 @@ placed test n es = map demand_at (filter (λ x. test x.1) (enumerate_from n es))
 -- the demands of proposed wishes, by place
 from_places : (s : State) (h : ℕ) (proposes : Wish × Mark → Bool) (n : ℕ) (es : List (Wish × Mark))
     → ((k : ℕ) (d : Wish × Mark) → k < length es → wish_in s.dossier.wishes (n + k) ≡ (get_or es k d).0)
-    → map (demand_in s.dossier.wishes) (filter (needs_bed s h) (map (λ x. x.0) (filter (λ x. proposes x.1) (enumerate_from n es))))
+    → map (demand_in s.dossier.wishes)
+    (filter (needs_bed s h) (map (λ x. x.0) (filter (λ x. proposes x.1) (enumerate_from n es))))
     ≡ placed (λ e. has_school e.0 h && nat_lt 0 e.0.board_rank && not (holds_bed s e.0.candidate h) && proposes e) n es
 from_places s h proposes n [] at = refl
 from_places s h proposes n (e ∷ es) at =
     let ws = s.dossier.wishes in
     let needs = λ (w : Wish). has_school w h && nat_lt 0 w.board_rank && not (holds_bed s w.candidate h) in
     let here : wish_in ws n ≡ e.0 = ap (wish_in ws) (sym (add-zero n)) ∙ at 0 e (omega arith) in
-    let later = from_places s h proposes (n + 1) es (λ k d lt. let next : (n + 1) + k ≡ n + suc k = omega arith in ap (wish_in ws) next ∙ at (suc k) d (omega arith)) in
-    let demand : demand_in ws n ≡ demand_at (n, e) = ap (λ (w : Wish). let d : Demand = record { rank = w.board_rank; wish = n } in d) here in
+    let later = from_places s h proposes (n + 1) es
+    (λ k d lt. let next : (n + 1) + k ≡ n + suc k = omega arith in
+    ap (wish_in ws) next ∙ at (suc k) d (omega arith)) in
+    let demand : demand_in ws n ≡ demand_at (n, e) =
+    ap (λ (w : Wish). let d : Demand = record { rank = w.board_rank; wish = n } in d) here in
     let need : needs_bed s h n ≡ needs e.0 = ap needs here in
     elim (cases_Bool (proposes e)) [
       | inl proposed ↦ elim (cases_Bool (needs e.0)) [
-        | inl needed ↦ rw (proposed, need, needed) (ap (λ (d : Demand). d ∷ map (demand_in ws) (filter (needs_bed s h) (map (λ x. x.0) (filter (λ x. proposes x.1) (enumerate_from (n + 1) es))))) demand ∙ ap (λ (ys : List Demand). demand_at (n, e) ∷ ys) later)
+        | inl needed ↦ rw (proposed, need, needed)
+            (ap (λ (d : Demand). d ∷ map (demand_in ws) (filter (needs_bed s h)
+            (map (λ x. x.0) (filter (λ x. proposes x.1) (enumerate_from (n + 1) es))))) demand
+            ∙ ap (λ (ys : List Demand). demand_at (n, e) ∷ ys) later)
         | inr not_needed ↦ rw (proposed, need, not_needed) later
       ]
       | inr not_proposed ↦ rw (not_proposed, and_right (needs e.0) false refl) later
     ]
 
-ranks_placed : (test : Wish × Mark → Bool) (n : ℕ) (es : List (Wish × Mark)) → map (λ x. x.rank) (placed test n es) ≡ map (λ e. e.0.board_rank) (filter test es)
+ranks_placed : (test : Wish × Mark → Bool) (n : ℕ) (es : List (Wish × Mark))
+    → map (λ x. x.rank) (placed test n es) ≡ map (λ e. e.0.board_rank) (filter test es)
 ranks_placed test n [] = refl
 ranks_placed test n (e ∷ es) =
     let later = ranks_placed test (n + 1) es in
@@ -189,16 +221,19 @@ ranks_placed test n (e ∷ es) =
     ]
 
 found_placed : (test : Wish × Mark → Bool) (r n : ℕ) (es : List (Wish × Mark))
-    → find (at_rank r) (placed test n es) ≡ option_map demand_at (find (λ x. test x.1 && (x.1.0.board_rank == r)) (enumerate_from n es))
+    → find (at_rank r) (placed test n es) ≡ option_map demand_at (find (λ x. test x.1 && (x.1.0.board_rank == r))
+    (enumerate_from n es))
 found_placed test r n [] = refl
 found_placed test r n (e ∷ es) =
     let later = found_placed test r (n + 1) es in
     elim (cases_Bool (test e)) [
-      | inl passes ↦ rw passes (elim (cases_Bool (e.0.board_rank == r)) [ inl here ↦ rw here refl | inr other ↦ rw other later ])
+      | inl passes ↦ rw passes (elim (cases_Bool (e.0.board_rank == r))
+          [ inl here ↦ rw here refl | inr other ↦ rw other later ])
       | inr fails ↦ rw fails later
     ]
 
-wish_found : (o : Option (ℕ × (Wish × Mark))) (y : Demand) → option_map demand_at o ≡ Some y → unwrap_or (option_map (λ x. x.0) o) 0 ≡ y.wish
+wish_found : (o : Option (ℕ × (Wish × Mark))) (y : Demand) → option_map demand_at o ≡ Some y
+    → unwrap_or (option_map (λ x. x.0) o) 0 ≡ y.wish
 wish_found None y e = absurd (cc)
 wish_found (Some x) y e = let is : demand_at x ≡ y = (cc) in ap (λ (d : Demand). d.wish) is
 
@@ -209,25 +244,32 @@ named name [] all = refl
 named name (z ∷ zs) all =
     let with_wish = λ (n : ℕ). let d : Demand = record { rank = z.rank; wish = n } in d in
     ap (λ (ys : List Demand). z ∷ ys) (named name zs all.1)
-    ∙ ap (λ (y : Demand). y ∷ map (λ r. record { rank = r; wish = name r }) (map (λ x. x.rank) zs)) (sym (ap with_wish all.0))
+    ∙ ap (λ (y : Demand). y ∷ map (λ r. record { rank = r; wish = name r }) (map (λ x. x.rank) zs))
+    (sym (ap with_wish all.0))
 
-each_named : (name : ℕ → ℕ) (xs zs : List Demand) → ((y : Demand) → find (at_rank y.rank) xs ≡ Some y → name y.rank ≡ y.wish)
+each_named : (name : ℕ → ℕ) (xs zs : List Demand)
+    → ((y : Demand) → find (at_rank y.rank) xs ≡ Some y → name y.rank ≡ y.wish)
     → AllByRecursion (λ y. find (at_rank y.rank) xs ≡ Some y) zs → AllByRecursion (λ y. name y.rank ≡ y.wish) zs
 each_named name xs [] h all = tt
 each_named name xs (z ∷ zs) h all = (h z all.0, each_named name xs zs h all.1)
 
-entry_wishes : (s : State) → length s.marks ≡ length s.dossier.wishes → (k : ℕ) (d : Wish × Mark) → k < length (entries s)
+entry_wishes : (s : State) → length s.marks ≡ length s.dossier.wishes → (k : ℕ) (d : Wish × Mark)
+    → k < length (entries s)
     → wish_in s.dossier.wishes (0 + k) ≡ (get_or (entries s) k d).0
 entry_wishes s long k d lt =
     let n = length s.dossier.wishes in
     let within : k < n = omega (arith, length-zip s.dossier.wishes s.marks) in
     ap (wish_in s.dossier.wishes) (zero-add k)
-    ∙ sym (ap (λ (e : Wish × Mark). e.0) (ap (λ es. get_or es k d) (entries_by_place s long) ∙ get_or-map-range_with_len (entry_in s) 0 n k k d within (zero-add k)))
+    ∙ sym (ap (λ (e : Wish × Mark). e.0) (ap (λ es. get_or es k d) (entries_by_place s long)
+    ∙ get_or-map-range_with_len (entry_in s) 0 n k k d within (zero-add k)))
 
 -- the firsts of what is put in order are the demanded ranks with their names
-pub demands_are : (s : State) (orders : List CallOrder) (bars : List ℕ) (h : ℕ) (places : List ℕ) (by_place sorted firsts : List Demand)
-    → length s.marks ≡ length s.dossier.wishes → places ≡ proposed s orders bars → by_place ≡ map (demand_in s.dossier.wishes) (filter (needs_bed s h) places)
-    → IsPermutation by_place sorted → IsNonDecreasingBy (λ x. x.rank) sorted → IsStableByKey (λ x. x.rank) nat_cmp by_place sorted
+pub demands_are : (s : State) (orders : List CallOrder) (bars : List ℕ) (h : ℕ) (places : List ℕ)
+    (by_place sorted firsts : List Demand)
+    → length s.marks ≡ length s.dossier.wishes → places ≡ proposed s orders bars
+    → by_place ≡ map (demand_in s.dossier.wishes) (filter (needs_bed s h) places)
+    → IsPermutation by_place sorted → IsNonDecreasingBy (λ x. x.rank) sorted
+    → IsStableByKey (λ x. x.rank) nat_cmp by_place sorted
     → firsts ≡ dedup same_rank sorted → firsts ≡ demands_of s orders bars h
 demands_are s orders bars h places by_place sorted firsts long are placed_are moved rising stable firsts_are =
     let es = entries s in
@@ -244,13 +286,16 @@ demands_are s orders bars h places by_place sorted firsts long are placed_are mo
     let find_same : (r : ℕ) → find (at_rank r) sorted ≡ find (at_rank r) (placed test 0 es) = λ r.
     find_first (at_rank r) sorted ∙ ap first (own r) ∙ sym (find_first (at_rank r) (placed test 0 es)) in
     let named_so : (y : Demand) → find (at_rank y.rank) sorted ≡ Some y → name y.rank ≡ y.wish = λ y found.
-    wish_found (find (λ x. test x.1 && (x.1.0.board_rank == y.rank)) (enumerate_from 0 es)) y (sym (found_placed test y.rank 0 es) ∙ sym (find_same y.rank) ∙ found) in
+    wish_found (find (λ x. test x.1 && (x.1.0.board_rank == y.rank)) (enumerate_from 0 es)) y
+    (sym (found_placed test y.rank 0 es) ∙ sym (find_same y.rank) ∙ found) in
     let members : (r : ℕ) → is_among r (map rank zs) ≡ is_among r (demanded_ranks s orders bars h) = λ r.
     ranks_dedup r sorted ∙ any_turned r sorted
-    ∙ any_first (at_rank r) sorted ∙ ap (λ ys. is_some (first ys)) (own r) ∙ sym (any_first (at_rank r) (placed test 0 es))
+    ∙ any_first (at_rank r) sorted ∙ ap (λ ys. is_some (first ys)) (own r)
+    ∙ sym (any_first (at_rank r) (placed test 0 es))
     ∙ sym (any_turned r (placed test 0 es)) ∙ ap (is_among r) (ranks_placed test 0 es)
     ∙ sym (among-ascending r (map (λ e. e.0.board_rank) (filter test es))) in
     firsts_are
     ∙ named name zs (each_named name sorted zs named_so (first_of sorted rises))
     ∙ ap (map (λ r. record { rank = r; wish = name r }))
-    (same_members (map rank zs) (demanded_ranks s orders bars h) (ascends_dedup sorted rises) (ascends_ascending (map (λ e. e.0.board_rank) (filter test es))) members)
+    (same_members (map rank zs) (demanded_ranks s orders bars h) (ascends_dedup sorted rises)
+    (ascends_ascending (map (λ e. e.0.board_rank) (filter test es))) members)

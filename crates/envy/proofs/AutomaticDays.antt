@@ -1,5 +1,7 @@
 -- After a day that is answered automatically alone nobody has a blocking wish.
-use Rattle.std.proofs.Common.{ℕ, ◌+◌, ◌<◌, ◌≡◌, Bool, true, false, not, ◌&&◌, ◌||◌, List, [], ◌∷◌, map, length, inl, inr, refl, sym, ◌∙◌, ap, subst, arith, nat_eq, nat_lt, get_or, filter, Option, Some, None, All}
+use Rattle.std.proofs.Common.{ℕ, ◌+◌, ◌<◌, ◌≡◌, Bool, true, false, not, ◌&&◌, ◌||◌, List, [], ◌∷◌, map, length, inl}
+use Rattle.std.proofs.Common.{inr, refl, sym, ◌∙◌, ap, subst, arith, nat_eq, nat_lt, get_or, filter, Option, Some, None}
+use Rattle.std.proofs.Common.{All}
 use Rattle.std.specs.Prelude.{ℤ, zip, if◌then◌else◌, is_some}
 use Rattle.std.specs.List.{enumerate_from}
 use Rattle.std.proofs.lemmas.Bool.{and_parts, cases_Bool, false_from_ne_true, false≢true, ltb-true, and_left, and_right}
@@ -16,26 +18,33 @@ use Rattle.admit_core.specs.declared.records.Terms.{Terms}
 use Rattle.admit_core.specs.declared.state.Mark.{Mark}
 use Rattle.admit_core.specs.declared.state.Stamp.{Stamp}
 use Rattle.admit_core.specs.declared.state.Status.{Status}
-use Rattle.admit_core.specs.declared.state.Status.TheVariants.{Waiting, Offered, Accepted, Refused, Withdrawn, Quit, AutoRefused, AutoWithdrawn, Lapsed}
+use Rattle.admit_core.specs.declared.state.Status.TheVariants.{Waiting, Offered, Accepted, Refused, Withdrawn, Quit}
+use Rattle.admit_core.specs.declared.state.Status.TheVariants.{AutoRefused, AutoWithdrawn, Lapsed}
 use Rattle.admit_core.specs.Answers.{after_all}
-use Rattle.admit_core.specs.Blocking.{behind, blocking, has_better, has_envy, is_blocking, is_missed, lacks_school, last_of, wants_more}
+use Rattle.admit_core.specs.Blocking.{behind, blocking, has_better, has_envy, is_blocking, is_missed, lacks_school}
+use Rattle.admit_core.specs.Blocking.{last_of, wants_more}
 use Rattle.admit_core.specs.CallOrder.{AreCallOrders}
-use Rattle.admit_core.specs.Days.{Days, IsDay, Passes, after_lapse, answers_of, ceilings_of, closing, first_evening, first_mark, morning}
+use Rattle.admit_core.specs.Days.{Days, IsDay, Passes, after_lapse, answers_of, ceilings_of, closing, first_evening}
+use Rattle.admit_core.specs.Days.{first_mark, morning}
 use Rattle.admit_core.specs.DossierRows.{DossierRows}
 use Rattle.admit_core.specs.EveningLaws.{IsFilled, last_bars}
 use Rattle.admit_core.specs.Lapses.{AreTermsFor, is_offered, lapses}
 use Rattle.admit_core.specs.Proposals.{is_barred, is_behind_bar}
-use Rattle.admit_core.specs.State.{State, changed_to, entries, holds_seat, is_live, is_live_status, is_waiting, is_waiting_status, seats_left}
+use Rattle.admit_core.specs.State.{State, changed_to, entries, holds_seat, is_live, is_live_status, is_waiting}
+use Rattle.admit_core.specs.State.{is_waiting_status, seats_left}
 use Rattle.admit_core.specs.Validity.{IsValid}
 use Rattle.admit_core.proofs.Evenings.{after_offers, answer, entry_wish, offer, seats_are_filled}
 use Rattle.admit_core.proofs.Plain.{filter_none}
 use Rattle.admit_core.proofs.Statuses.{waiting_is}
 use Rattle.day_state.proofs.Along.{length-with_marks}
-use Rattle.envy.specs.AutomaticDays.{DaysEndFair, FirstEveningsBlockNone, LaterEveningsBlockNone, HoldsBetter, IsFair, IsFairEvening, IsRankedPlainly, IsSettled, NobodyBehind, PassesKeepFair, QuietDaysEndFair, WaitingIsFair, is_given_up}
+use Rattle.envy.specs.AutomaticDays.{DaysEndFair, FirstEveningsBlockNone, LaterEveningsBlockNone, HoldsBetter, IsFair}
+use Rattle.envy.specs.AutomaticDays.{IsFairEvening, IsRankedPlainly, IsSettled, NobodyBehind, PassesKeepFair}
+use Rattle.envy.specs.AutomaticDays.{QuietDaysEndFair, WaitingIsFair, is_given_up}
 use Rattle.envy.proofs.OnePass.{closing_fair}
 
 pub passes_keep_fair : PassesKeepFair
-passes_keep_fair orders s bars stamp valid called plain long fair = closing_fair orders s bars stamp valid called plain fair
+passes_keep_fair orders s bars stamp valid called plain long fair =
+    closing_fair orders s bars stamp valid called plain fair
 
 placed_none : {X : Type 0} (test : X → Bool) (k : ℕ) (xs : List X) → All (λ x. test x ≡ false) xs
     → filter (λ (x : ℕ × X). test x.1) (enumerate_from k xs) ≡ []
@@ -83,7 +92,8 @@ module _ (orders : List CallOrder) (s : State) (bars : List ℕ) (plain : IsRank
       ap (λ (h : Option ℕ). is_waiting m && is_behind_bar s bars w h) (sym none) ∙ barred in
       false≢true (and_parts (is_waiting m) false behind_none).1)
 
-  blocks_not : (k : ℕ) (x : Wish × Mark) → k < length (entries s) → get_or (entries s) k x ≡ x → is_blocking s orders x.0 x.1 ≡ false
+  blocks_not : (k : ℕ) (x : Wish × Mark) → k < length (entries s) → get_or (entries s) k x ≡ x
+      → is_blocking s orders x.0 x.1 ≡ false
   blocks_not k x lt at =
       let w = x.0 in
       let m = x.1 in
@@ -195,11 +205,13 @@ module _ (orders : List CallOrder) (s : State) (waiting : All (λ m. is_waiting 
 
   at_entry : (P : Wish × Mark → Type 0) → ((k : ℕ) (x : Wish × Mark) → k < length (entries s)
       → get_or (entries s) k x ≡ x → P x) → All P (entries s)
-  at_entry P holds_at k d lt = holds_at k (get_or (entries s) k d) lt (get_or_default (entries s) k (get_or (entries s) k d) d lt)
+  at_entry P holds_at k d lt = holds_at k (get_or (entries s) k d) lt (get_or_default (entries s) k
+      (get_or (entries s) k d) d lt)
 
   pub waiting_fair : IsFair orders s
   waiting_fair = record {
-    behind = at_entry (NobodyBehind orders s) (λ k x lt at waits j d j_lt. nobody_live (get_or (behind s orders x.0) j d) x.0.programme);
+    behind = at_entry (NobodyBehind orders s)
+        (λ k x lt at waits j d j_lt. nobody_live (get_or (behind s orders x.0) j d) x.0.programme);
     better = at_entry (HoldsBetter s) (λ k x lt at given. absurd
         (false≢true (sym (ap is_given_up (waiting_is x.1.status (waits_at k x lt at))) ∙ given)));
     settled = λ k d lt. ap is_offered (waiting_is (get_or s.marks k d).status (waiting k d lt));
@@ -209,7 +221,8 @@ pub waiting_is_fair : WaitingIsFair
 waiting_is_fair orders s waiting = waiting_fair orders s waiting
 
 -- where no wish is merely offered, nothing lapses
-kept_marks : (term day : ℕ) (bs : List ℤ) (ms : List Mark) → length bs ≡ length ms → All (λ m. is_offered m.status ≡ false) ms
+kept_marks : (term day : ℕ) (bs : List ℤ) (ms : List Mark) → length bs ≡ length ms
+    → All (λ m. is_offered m.status ≡ false) ms
     → map (λ (x : ℤ × Mark). if lapses term day x.0 x.1
     then changed_to Lapsed (record { day = day; pass = 0 }) x.1 else x.1) (zip bs ms) ≡ ms
 kept_marks term day [] [] long none = refl
@@ -217,14 +230,16 @@ kept_marks term day [] (m ∷ ms) long none = absurd (omega (arith, long))
 kept_marks term day (b ∷ bs) [] long none = absurd (omega (arith, long))
 kept_marks term day (b ∷ bs) (m ∷ ms) long none =
     rw (All-head (λ n. is_offered n.status ≡ false) m ms none)
-    (ap (λ l. m ∷ l) (kept_marks term day bs ms (omega (arith, long)) (All-tail (λ n. is_offered n.status ≡ false) m ms none)))
+    (ap (λ l. m ∷ l) (kept_marks term day bs ms (omega (arith, long))
+    (All-tail (λ n. is_offered n.status ≡ false) m ms none)))
 
 -- so a day on which nobody answers begins with the evening before
 lapsed_none : (terms : Option Terms) (day : ℕ) (s : State) → AreTermsFor s.dossier terms
     → length s.marks ≡ length s.dossier.wishes → All IsSettled s.marks → after_lapse terms day s ≡ s
 lapsed_none None day s fit long settled = refl
 lapsed_none (Some terms) day s fit long settled =
-    ap (λ (ms : List Mark). record s { marks = ms }) (kept_marks terms.term day terms.before s.marks (fit ∙ sym long) settled)
+    ap (λ (ms : List Mark). record s { marks = ms })
+    (kept_marks terms.term day terms.before s.marks (fit ∙ sym long) settled)
 
 quiet_morning : (terms : Option Terms) (day : ℕ) (s : State) → AreTermsFor s.dossier terms
     → length s.marks ≡ length s.dossier.wishes → All IsSettled s.marks
@@ -252,7 +267,8 @@ quiet_days_end_fair terms orders ceilings old day evening valid called fit plain
 -- so do several days
 several : (terms : Option Terms) (orders : List CallOrder) (k : ℕ) (old : State) (days : List
     DayRecord) (evening : State) → IsValid old.dossier → AreCallOrders old.dossier.groups orders
-    → AreTermsFor old.dossier terms → IsRankedPlainly old.dossier → length old.marks ≡ length old.dossier.wishes → 0 < length days
+    → AreTermsFor old.dossier terms → IsRankedPlainly old.dossier → length old.marks ≡ length old.dossier.wishes
+    → 0 < length days
     → ((d : ℕ) → d < k + length days → answers_of old.dossier d ≡ []) → IsFair orders old
     → Days terms orders k old days evening → IsFairEvening orders evening
 several terms orders k old [] evening valid called fit plain long some quiet fair are = absurd (omega (arith, some))
@@ -277,7 +293,8 @@ several terms orders k old (day ∷ next ∷ rest) evening valid called fit plai
 module _ (d : DossierRows) (valid : IsValid d) (orders : List CallOrder)
     (waiting : All (λ st. is_waiting_status st ≡ true) d.statuses) where
   first_fair : IsFair orders (first_evening d)
-  first_fair = waiting_fair orders (first_evening d) (All-map (λ (m : Mark). is_waiting m ≡ true) first_mark d.statuses waiting)
+  first_fair = waiting_fair orders (first_evening d)
+      (All-map (λ (m : Mark). is_waiting m ≡ true) first_mark d.statuses waiting)
 
   first_long : length (first_evening d).marks ≡ length d.wishes
   first_long = length-map d.statuses first_mark ∙ valid.one_status_each

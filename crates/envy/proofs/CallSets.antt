@@ -1,9 +1,12 @@
 -- The candidates of a call order, each at their place.
-use Rattle.std.proofs.Common.{ℕ, zero, suc, ◌+◌, ◌<◌, ◌≡◌, Bool, true, false, not, List, [], ◌∷◌, ◌++◌, length, map, take, option_map, position, unwrap_or, inl, inr, refl, sym, ◌∙◌, ap, arith, nat_eq, nat_lt, get_or, All}
+use Rattle.std.proofs.Common.{ℕ, zero, suc, ◌+◌, ◌<◌, ◌≡◌, Bool, true, false, not, List, [], ◌∷◌, ◌++◌, length, map}
+use Rattle.std.proofs.Common.{take, option_map, position, unwrap_or, inl, inr, refl, sym, ◌∙◌, ap, arith, nat_eq}
+use Rattle.std.proofs.Common.{nat_lt, get_or, All}
 use Rattle.std.specs.Prelude.{slice_get}
 use Rattle.std.specs.List.{IsDistinct, list_any, position_or_len}
 use Rattle.std.proofs.lemmas.Bool.{cases_Bool, eq-eqb, eqb-true, false_from_ne_true, false≢true, ltb-false}
-use Rattle.std.proofs.lemmas.List.{get_or-map, get_or-take, get_or_default, length-map, length-take-le, map-append, map_more, take_more}
+use Rattle.std.proofs.lemmas.List.{get_or-map, get_or-take, get_or_default, length-map, length-take-le, map-append}
+use Rattle.std.proofs.lemmas.List.{map_more, take_more}
 use Rattle.std.proofs.lemmas.List.Elements.{All-cons, All-head, All-nil, All-tail}
 use Rattle.std.proofs.lemmas.List.Folds.{Any-from_list_any}
 use Rattle.std.proofs.lemmas.List.Sums.{prefix_len-le-length}
@@ -20,11 +23,13 @@ pub found_or_len : (p : ℕ → Bool) (xs : List ℕ) → unwrap_or (position p 
 found_or_len p xs =
     elim (cases_Bool (nat_lt (position_or_len p xs) (length xs))) [
       | inl within ↦ rw within refl
-      | inr past ↦ rw past (omega (arith, ltb-false (position_or_len p xs) (length xs) past, prefix_len-le-length (λ x. not (p x)) xs))
+      | inr past ↦ rw past
+          (omega (arith, ltb-false (position_or_len p xs) (length xs) past, prefix_len-le-length (λ x. not (p x)) xs))
     ]
 
 -- one who is not called yet
-not_yet : (xs : List ℕ) (i d : ℕ) → IsDistinct nat_eq xs → i < length xs → list_any (nat_eq (get_or xs i d)) (take i xs) ≡ false
+not_yet : (xs : List ℕ) (i d : ℕ) → IsDistinct nat_eq xs → i < length xs
+    → list_any (nat_eq (get_or xs i d)) (take i xs) ≡ false
 not_yet xs i d apart lt =
     let c = get_or xs i d in
     false_from_ne_true (list_any (nat_eq c) (take i xs)) (λ among.
@@ -47,7 +52,8 @@ each_once [] (o ∷ os) valid calls = absurd calls
 each_once (g ∷ gs) [] valid calls = absurd calls
 each_once (g ∷ gs) (o ∷ os) valid calls =
     All-cons (λ (q : CallOrder). IsDistinct nat_eq q.list) o os
-    (distinct-order g o (All-head IsValidGroup g gs valid).ranking calls.0) (each_once gs os (All-tail IsValidGroup g gs valid) calls.1)
+    (distinct-order g o (All-head IsValidGroup g gs valid).ranking calls.0)
+    (each_once gs os (All-tail IsValidGroup g gs valid) calls.1)
 
 -- the call order at a place
 list_at : (os : List CallOrder) (g : ℕ)
@@ -58,9 +64,11 @@ list_at (o ∷ os) zero = refl
 list_at (o ∷ os) (suc g) = list_at os g
 
 -- the candidates of one call order more
-pub sets_more : {S : Type 0} (sets new : List (IndexSet ℕ S)) (set : IndexSet ℕ S) (os : List CallOrder) (i : ℕ) (d : CallOrder)
+pub sets_more : {S : Type 0} (sets new : List (IndexSet ℕ S)) (set : IndexSet ℕ S) (os : List CallOrder) (i : ℕ)
+    (d : CallOrder)
     → i < length os → new ≡ sets ++ set ∷ []
-    → map (λ (x : IndexSet ℕ S). x.keys) sets ≡ map (λ (o : CallOrder). o.list) (take i os) → set.keys ≡ (get_or os i d).list
+    → map (λ (x : IndexSet ℕ S). x.keys) sets ≡ map (λ (o : CallOrder). o.list) (take i os)
+    → set.keys ≡ (get_or os i d).list
     → map (λ (x : IndexSet ℕ S). x.keys) new ≡ map (λ (o : CallOrder). o.list) (take (i + 1) os)
 sets_more {S} sets new set os i d lt pushed same is =
     let keys = λ (x : IndexSet ℕ S). x.keys in
@@ -79,8 +87,10 @@ sets_each {S} sets os same =
 pub keys_at : {S : Type 0} (sets : List (IndexSet ℕ S)) (os : List CallOrder) (g : ℕ)
     (set : IndexSet ℕ S)
     → map (λ (x : IndexSet ℕ S). x.keys) sets ≡ map (λ (o : CallOrder). o.list) os
-    → g < length os → set ≡ get_or sets g set → set.keys ≡ unwrap_or (option_map (λ (o : CallOrder). o.list) (slice_get os g)) []
+    → g < length os → set ≡ get_or sets g set
+    → set.keys ≡ unwrap_or (option_map (λ (o : CallOrder). o.list) (slice_get os g)) []
 keys_at {S} sets os g set same lt is =
     let keys = λ (x : IndexSet ℕ S). x.keys in
     let within : g < length sets = omega (arith, lt, sets_each sets os same) in
-    ap keys is ∙ sym (get_or-map keys sets g set [] within) ∙ ap (λ (ls : List (List ℕ)). get_or ls g []) same ∙ sym (list_at os g)
+    ap keys is ∙ sym (get_or-map keys sets g set [] within) ∙ ap (λ (ls : List (List ℕ)). get_or ls g []) same
+    ∙ sym (list_at os g)

@@ -1,5 +1,6 @@
 -- What is noted of entries, one after another.
-use Rattle.std.proofs.Common.{ℕ, ◌+◌, ◌<◌, ◌≤◌, ◌≡◌, Bool, true, false, ◌&&◌, ◌||◌, List, [], length, take, set, inl, inr, refl, sym, ◌∙◌, ap, arith, nat_eq, nat_le, get_or, map, Option, Some, None}
+use Rattle.std.proofs.Common.{ℕ, ◌+◌, ◌<◌, ◌≤◌, ◌≡◌, Bool, true, false, ◌&&◌, ◌||◌, List, [], length, take, set, inl}
+use Rattle.std.proofs.Common.{inr, refl, sym, ◌∙◌, ap, arith, nat_eq, nat_le, get_or, map, Option, Some, None}
 use Rattle.std.specs.Prelude.{if◌then◌else◌}
 use Rattle.std.specs.List.{list_any}
 use Rattle.std.proofs.lemmas.Bool.{cases_Bool, eqb-false, eqb-true}
@@ -48,7 +49,8 @@ module _ (s : State) (long : length s.marks ≡ length s.dossier.wishes) (k : �
       noted c q
       ∙ ap (λ b. b || is_better c q (w, m)) (are c q)
       ∙ ap (λ (v : Wish). list_any (is_better c q) (take k (entries s)) || is_better c q (v, m)) w_is
-      ∙ ap (λ (n : Mark). list_any (is_better c q) (take k (entries s)) || is_better c q (wish_in s.dossier.wishes k, n)) m_is
+      ∙ ap (λ (n : Mark). list_any (is_better c q) (take k (entries s))
+      || is_better c q (wish_in s.dossier.wishes k, n)) m_is
       ∙ sym (any_more (is_better c q))
 
   -- and in the last ones
@@ -56,7 +58,8 @@ module _ (s : State) (long : length s.marks ≡ length s.dossier.wishes) (k : �
       (old new : List (Option ℕ)) → w ≡ wish_in s.dossier.wishes k → m ≡ mark_in s.marks k
       → place ≡ place_of s.dossier orders (wish_in s.dossier.wishes k) → length new ≡ length old
       → AreLast s.dossier orders (take k (entries s)) old
-      → ((p j : ℕ) → reaches (number_in new p) j ≡ (reaches (number_in old p) j || ((is_live m && nat_eq w.programme p) && nat_le j place)))
+      → ((p j : ℕ) → reaches (number_in new p) j
+      ≡ (reaches (number_in old p) j || ((is_live m && nat_eq w.programme p) && nat_le j place)))
       → AreLast s.dossier orders (take (k + 1) (entries s)) new
   last_more orders w m place old new w_is m_is at as_long are noted =
       let here = wish_in s.dossier.wishes k in
@@ -108,12 +111,14 @@ number_set ns k p n lt =
 -- the last place of a programme is noted
 pub last_noted : (ns : List (Option ℕ)) (q : ℕ) (live : Bool) (place later : ℕ) → q < length ns → live ≡ true
     → ((j : ℕ) → nat_le j later ≡ (reaches (number_in ns q) j || nat_le j place))
-    → (p j : ℕ) → reaches (number_in (set ns q (Some later)) p) j ≡ (reaches (number_in ns p) j || ((live && nat_eq q p) && nat_le j place))
+    → (p j : ℕ) → reaches (number_in (set ns q (Some later)) p) j
+    ≡ (reaches (number_in ns p) j || ((live && nat_eq q p) && nat_le j place))
 last_noted ns q live place later lt lives is p j =
     elim (cases_Bool (nat_eq q p)) [
       | inl here ↦
           let same : q ≡ p = eqb-true q p here in
-          rw (number_set ns q p (Some later) lt, here, lives) (is j ∙ ap (λ k. reaches (number_in ns k) j || nat_le j place) same)
+          rw (number_set ns q p (Some later) lt, here, lives)
+          (is j ∙ ap (λ k. reaches (number_in ns k) j || nat_le j place) same)
       | inr other ↦ rw (number_set ns q p (Some later) lt, other, lives) (or_none (reaches (number_in ns p) j))
     ]
   where

@@ -1,7 +1,10 @@
 -- The last live candidate of a call order is the last one whom a candidate before them envies.
-use Rattle.std.proofs.Common.{ℕ, zero, suc, ◌+◌, ◌-◌, ◌<◌, ◌≤◌, ◌≡◌, Bool, true, false, ◌&&◌, List, [], ◌∷◌, length, drop, inl, inr, refl, sym, ◌∙◌, ap, subst, arith, nat_eq, nat_le, get_or, filter, Option, Some, None, All, not}
+use Rattle.std.proofs.Common.{ℕ, zero, suc, ◌+◌, ◌-◌, ◌<◌, ◌≤◌, ◌≡◌, Bool, true, false, ◌&&◌, List, [], ◌∷◌, length}
+use Rattle.std.proofs.Common.{drop, inl, inr, refl, sym, ◌∙◌, ap, subst, arith, nat_eq, nat_le, get_or, filter, Option}
+use Rattle.std.proofs.Common.{Some, None, All, not}
 use Rattle.std.specs.List.{IsDistinct, list_any, position_or_len}
-use Rattle.std.proofs.lemmas.Bool.{and_parts, cases_Bool, cases_lt, eq-eqb, eqb-true, false_from_ne_true, false≢true, le-leb, le-ltb, leb-true, lt-leb, lt-ltb}
+use Rattle.std.proofs.lemmas.Bool.{and_parts, cases_Bool, cases_lt, eq-eqb, eqb-true, false_from_ne_true, false≢true}
+use Rattle.std.proofs.lemmas.Bool.{le-leb, le-ltb, leb-true, lt-leb, lt-ltb}
 use Rattle.std.proofs.lemmas.Option.{slice_get-get_or, unwrap_or-slice_get}
 use Rattle.std.proofs.lemmas.List.{get_or-drop, get_or_default, length-drop, length-take-le}
 use Rattle.std.proofs.lemmas.List.Folds.{Any-from_list_any, list_any_at}
@@ -52,7 +55,8 @@ three : (a b c : Bool) → a ≡ true → b ≡ true → c ≡ true → ((a && b
 three a b c x y z = rw (x, y, z) refl
 
 -- the last place of a programme at which somebody is live
-module _ (s : State) (orders : List CallOrder) (p : ℕ) (last : Option ℕ) (apart : IsDistinct nat_eq (order_of s.dossier orders p))
+module _ (s : State) (orders : List CallOrder) (p : ℕ) (last : Option ℕ)
+    (apart : IsDistinct nat_eq (order_of s.dossier orders p))
     (known : (k : ℕ) → reaches last k ≡ list_any (is_live_from s.dossier orders p k) (entries s)) where
   abbrev order : List ℕ
   order = order_of s.dossier orders p
@@ -76,13 +80,15 @@ module _ (s : State) (orders : List CallOrder) (p : ℕ) (last : Option ℕ) (ap
       let passes : is_live_from s.dossier orders p k e ≡ true =
       three (is_live e.1) (nat_eq e.0.programme p) (nat_le k (place_of s.dossier orders e.0))
       inner.0 outer.1 (le-leb k (place_of s.dossier orders e.0) (omega (arith, place))) in
-      known k ∙ list_any_at (is_live_from s.dossier orders p k) (entries s) j e j_lt (ap (is_live_from s.dossier orders p k) at ∙ passes)
+      known k ∙ list_any_at (is_live_from s.dossier orders p k) (entries s) j e j_lt
+      (ap (is_live_from s.dossier orders p k) at ∙ passes)
 
   -- so nobody is live from a place on that it does not reach
   dead_from : (n : ℕ) → ((k : ℕ) → n ≤ k → reaches last k ≡ false) → All (λ c. live c ≡ false) (drop n order)
   dead_from n past j d lt =
       let within : n + j < length order = omega (arith, lt, length-drop n order) in
-      let there : get_or (drop n order) j d ≡ get_or order (n + j) 0 = get_or-drop n order j d ∙ get_or_default order (n + j) d 0 within in
+      let there : get_or (drop n order) j d ≡ get_or order (n + j) 0 =
+      get_or-drop n order j d ∙ get_or_default order (n + j) d 0 within in
       ap live there
       ∙ false_from_ne_true (live (get_or order (n + j) 0))
       (λ held. false≢true (sym (past (n + j) (omega arith)) ∙ reached (n + j) within held))
@@ -123,7 +129,8 @@ module _ (s : State) (orders : List CallOrder) (p n : ℕ) (apart : IsDistinct n
       let holds : ((is_live e.1 && nat_eq e.0.candidate (get_or line n 0)) && nat_eq e.0.programme p) ≡ true =
       three (is_live e.1) (nat_eq e.0.candidate (get_or line n 0)) (nat_eq e.0.programme p) inner.0
       (eq-eqb e.0.candidate (get_or line n 0) candidate) inner.1 in
-      let test = λ (x : Wish × Mark). (is_live x.1 && nat_eq x.0.candidate (get_or line n 0)) && nat_eq x.0.programme p in
+      let test = λ (x : Wish × Mark). (is_live x.1 && nat_eq x.0.candidate (get_or line n 0))
+      && nat_eq x.0.programme p in
       (omega (arith, within, is), list_any_at test (entries s) j e j_lt (ap test at ∙ holds))
 
 -- one who is among a list stands in it
@@ -136,11 +143,13 @@ stands c xs among =
       | inr not_before ↦ omega (arith, lt, not_before)
     ]
 
-module _ (s : State) (orders : List CallOrder) (w : Wish) (apart : IsDistinct nat_eq (order_of s.dossier orders w.programme))
+module _ (s : State) (orders : List CallOrder) (w : Wish)
+    (apart : IsDistinct nat_eq (order_of s.dossier orders w.programme))
     (called : (j : ℕ) (e : Wish × Mark) → j < length (entries s) → get_or (entries s) j e ≡ e
     → e.0.programme ≡ w.programme
     → place_of s.dossier orders e.0 < length (order_of s.dossier orders w.programme)) where
-  by_last : (last : Option ℕ) → ((k : ℕ) → reaches last k ≡ list_any (is_live_from s.dossier orders w.programme k) (entries s))
+  by_last : (last : Option ℕ) → ((k : ℕ) → reaches last k ≡ list_any (is_live_from s.dossier orders w.programme k)
+      (entries s))
       → envied_at (order_of s.dossier orders w.programme) last (place_of s.dossier orders w) ≡ last_envied s orders w
   by_last None known =
       let n = place_of s.dossier orders w in
@@ -160,14 +169,17 @@ module _ (s : State) (orders : List CallOrder) (w : Wish) (apart : IsDistinct na
             let tail = drop (n + 1) order_p in
             let r = l - (n + 1) in
             let r_lt : r < length tail = omega (arith, held.0, before, length-drop (n + 1) order_p) in
-            let there : (k d : ℕ) → get_or tail k d ≡ get_or order_p (n + 1 + k) d = λ k d. get_or-drop (n + 1) order_p k d in
+            let there : (k d : ℕ) → get_or tail k d ≡ get_or order_p (n + 1 + k) d =
+            λ k d. get_or-drop (n + 1) order_p k d in
             let r_is : n + 1 + r ≡ l = omega (arith, before) in
             let at : get_or tail r 0 ≡ get_or order_p l 0 = there r 0 ∙ ap (λ k. get_or order_p k 0) r_is in
             let dead : (k : ℕ) → r < k → k < length tail → lives (get_or tail k 0) ≡ false =
             λ k after k_lt.
             let deep : n + 1 + k < length order_p = omega (arith, k_lt, length-drop (n + 1) order_p) in
-            let rest = dead_from s orders p (Some l) apart known (n + 1 + k) (λ j le. lt-leb j l (omega (arith, after, le, before))) in
-            let first : get_or (drop (n + 1 + k) order_p) 0 0 ≡ get_or order_p (n + 1 + k + 0) 0 = get_or-drop (n + 1 + k) order_p 0 0 in
+            let rest = dead_from s orders p (Some l) apart known (n + 1 + k)
+            (λ j le. lt-leb j l (omega (arith, after, le, before))) in
+            let first : get_or (drop (n + 1 + k) order_p) 0 0 ≡ get_or order_p (n + 1 + k + 0) 0 =
+            get_or-drop (n + 1 + k) order_p 0 0 in
             let zero_is : n + 1 + k + 0 ≡ n + 1 + k = omega arith in
             ap lives (there k 0 ∙ sym (first ∙ ap (λ j. get_or order_p j 0) zero_is))
             ∙ rest 0 0 (omega (arith, deep, length-drop (n + 1 + k) order_p)) in
@@ -181,7 +193,8 @@ module _ (s : State) (orders : List CallOrder) (w : Wish) (apart : IsDistinct na
 pub envied_is : (s : State) (orders : List CallOrder) (lasts : List (Option ℕ)) (w : Wish)
     → IsDistinct nat_eq (order_of s.dossier orders w.programme) → AreCalled s.dossier orders
     → AreLast s.dossier orders (entries s) lasts → w.programme < length s.dossier.programmes
-    → envied_at (order_of s.dossier orders w.programme) (number_in lasts w.programme) (place_of s.dossier orders w) ≡ last_envied s orders w
+    → envied_at (order_of s.dossier orders w.programme) (number_in lasts w.programme) (place_of s.dossier orders w)
+    ≡ last_envied s orders w
 envied_is s orders lasts w apart called are lt =
     let d = s.dossier in
     by_last s orders w apart

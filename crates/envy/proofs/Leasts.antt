@@ -1,5 +1,6 @@
 -- The one with the least key of those that pass a test.
-use Rattle.std.proofs.Common.{ℕ, zero, suc, ◌≤◌, ◌<◌, ◌≡◌, Bool, true, false, List, [], ◌∷◌, length, inl, inr, refl, sym, ◌∙◌, subst, arith, filter, Option, Some, None, get_or}
+use Rattle.std.proofs.Common.{ℕ, zero, suc, ◌≤◌, ◌<◌, ◌≡◌, Bool, true, false, List, [], ◌∷◌, length, inl, inr, refl}
+use Rattle.std.proofs.Common.{sym, ◌∙◌, subst, arith, filter, Option, Some, None, get_or}
 use Rattle.std.specs.Prelude.{nat_le}
 use Rattle.std.proofs.lemmas.Bool.{cases_Bool, false≢true, leb-true, leb-false}
 use Rattle.admit_core.specs.Lists.{lesser, least_by}
@@ -62,7 +63,8 @@ module _ {X : Type 0} (key : X → ℕ) (test : X → Bool) where
   no_first x xs fails rest zero d lt t = false≢true (sym fails ∙ t)
   no_first x xs fails rest (suc j) d lt t = rest j d (omega arith) t
 
-  none_passes : (xs : List X) → least_by key (filter test xs) ≡ None → (j : ℕ) (d : X) → j < length xs → test (get_or xs j d) ≡ true → ⊥
+  none_passes : (xs : List X) → least_by key (filter test xs) ≡ None → (j : ℕ) (d : X) → j < length xs
+      → test (get_or xs j d) ≡ true → ⊥
   none_passes [] none j d lt t = omega arith
   none_passes (x ∷ xs) none j d lt t =
       elim (cases_Bool (test x)) [
@@ -82,7 +84,8 @@ module _ {X : Type 0} (key : X → ℕ) (test : X → Bool) where
         | inl le ↦
             let here : x ≡ b = rw le at same in
             subst (IsLeastOf key test (x ∷ xs)) here
-            (before x xs passes (λ j d lt t. let first = leb-true (key x) (key y) le in omega (arith, first, rest.least j d lt t)))
+            (before x xs passes (λ j d lt t. let first = leb-true (key x) (key y) le in
+            omega (arith, first, rest.least j d lt t)))
         | inr above ↦
             let here : y ≡ b = rw above at same in
             subst (IsLeastOf key test (x ∷ xs)) here (behind x xs y (leb-false (key x) (key y) above) rest)
@@ -93,7 +96,8 @@ module _ {X : Type 0} (key : X → ℕ) (test : X → Bool) where
   filtered_least [] b some = absurd (cc)
   filtered_least (x ∷ xs) b some =
       elim (cases_Bool (test x)) [
-        | inl passes ↦ chosen x xs b (least_by key (filter test xs)) passes refl (filtered_least xs) (let e0 = rw passes at some in cc)
+        | inl passes ↦ chosen x xs b (least_by key (filter test xs)) passes refl (filtered_least xs)
+            (let e0 = rw passes at some in cc)
         | inr fails ↦ later x xs b fails (filtered_least xs b (rw fails at some))
       ]
 

@@ -1,5 +1,6 @@
 -- The blocks of a state are listed by place.
-use Rattle.std.proofs.Common.{ℕ, zero, suc, ◌+◌, ◌<◌, ◌≤◌, ◌≡◌, Bool, true, false, cond, List, [], ◌∷◌, ◌++◌, map, length, inl, inr, refl, sym, ◌∙◌, ap, arith, filter, Option, All}
+use Rattle.std.proofs.Common.{ℕ, zero, suc, ◌+◌, ◌<◌, ◌≤◌, ◌≡◌, Bool, true, false, cond, List, [], ◌∷◌, ◌++◌, map}
+use Rattle.std.proofs.Common.{length, inl, inr, refl, sym, ◌∙◌, ap, arith, filter, Option, All}
 use Rattle.std.specs.List.{enumerate_from, range_with_len}
 use Rattle.std.proofs.lemmas.Bool.{cases_Bool}
 use Rattle.std.proofs.lemmas.List.{append-nil}
@@ -90,7 +91,9 @@ within_from g test own n count (e ∷ es) le =
       | inr fails ↦ rw fails later
     ]
 
-pub blocks_within : (s : State) (orders : List CallOrder) → All (λ (b : Block). b.wish < length s.dossier.wishes) (blocks_of s orders)
+pub blocks_within : (s : State) (orders : List CallOrder)
+    → All (λ (b : Block). b.wish < length s.dossier.wishes) (blocks_of s orders)
 blocks_within s orders =
-    within_from (block_at s orders) (λ (e : Wish × Mark). is_blocking s orders e.0 e.1) (λ k. refl) 0 (length s.dossier.wishes) (entries s)
+    within_from (block_at s orders) (λ (e : Wish × Mark). is_blocking s orders e.0 e.1) (λ k. refl) 0
+    (length s.dossier.wishes) (entries s)
     (omega (arith, length-zip s.dossier.wishes s.marks))

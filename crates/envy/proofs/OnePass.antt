@@ -1,8 +1,12 @@
 -- A pass with its automatic answers leaves a fair state fair.
-use Rattle.std.proofs.Common.{ℕ, ◌+◌, ◌≤◌, ◌<◌, ◌≡◌, ◌⊎◌, Bool, true, false, not, ◌&&◌, ◌||◌, List, map, length, take, drop, inl, inr, refl, sym, ◌∙◌, ap, subst, arith, nat_eq, nat_lt, get_or, count_by, Option, Some, None, All}
+use Rattle.std.proofs.Common.{ℕ, ◌+◌, ◌≤◌, ◌<◌, ◌≡◌, ◌⊎◌, Bool, true, false, not, ◌&&◌, ◌||◌, List, map, length, take}
+use Rattle.std.proofs.Common.{drop, inl, inr, refl, sym, ◌∙◌, ap, subst, arith, nat_eq, nat_lt, get_or, count_by}
+use Rattle.std.proofs.Common.{Option, Some, None, All}
 use Rattle.std.specs.Prelude.{◌==◌, nat_le}
 use Rattle.std.specs.List.{position_or_len, before_first}
-use Rattle.std.proofs.lemmas.Bool.{and_cases, and_from, and_parts, cases_order, eq-eqb, eqb-true, false_from_ne_true, false≢true, leb-false, leb-true, lt-ltb, ltb-false, ltb-true, not_from_false, or_cases, or_parts}
+use Rattle.std.proofs.lemmas.Bool.{and_cases, and_from, and_parts, cases_order, eq-eqb, eqb-true, false_from_ne_true}
+use Rattle.std.proofs.lemmas.Bool.{false≢true, leb-false, leb-true, lt-ltb, ltb-false, ltb-true, not_from_false}
+use Rattle.std.proofs.lemmas.Bool.{or_cases, or_parts}
 use Rattle.std.proofs.lemmas.List.{get_or-map, get_or_default, length-map, length-take-le}
 use Rattle.std.proofs.lemmas.List.Elements.{All-map, All-same}
 use Rattle.std.proofs.lemmas.List.Folds.{Any-from_list_any, list_any_at}
@@ -12,19 +16,22 @@ use Rattle.admit_core.specs.declared.ranking.CallOrder.{CallOrder}
 use Rattle.admit_core.specs.declared.state.Mark.{Mark}
 use Rattle.admit_core.specs.declared.state.Stamp.{Stamp}
 use Rattle.admit_core.specs.declared.state.Status.{Status}
-use Rattle.admit_core.specs.declared.state.Status.TheVariants.{Waiting, Offered, Accepted, Refused, Withdrawn, Quit, AutoRefused, AutoWithdrawn, Lapsed}
+use Rattle.admit_core.specs.declared.state.Status.TheVariants.{Waiting, Offered, Accepted, Refused, Withdrawn, Quit}
+use Rattle.admit_core.specs.declared.state.Status.TheVariants.{AutoRefused, AutoWithdrawn, Lapsed}
 use Rattle.admit_core.specs.AutoAnswer.{auto_mark, auto_status, best_live}
 use Rattle.admit_core.specs.Blocking.{has_better}
 use Rattle.admit_core.specs.CallOrder.{AreCallOrders}
 use Rattle.admit_core.specs.Days.{closing}
 use Rattle.admit_core.specs.DossierRows.{limit_of}
 use Rattle.admit_core.specs.Lapses.{is_offered}
-use Rattle.admit_core.specs.Proposals.{ahead, is_barred, is_behind_bar, is_open, is_proposed, needs_no_seat, order_of, position_of, wants_seat}
+use Rattle.admit_core.specs.Proposals.{ahead, is_barred, is_behind_bar, is_open, is_proposed, needs_no_seat, order_of}
+use Rattle.admit_core.specs.Proposals.{position_of, wants_seat}
 use Rattle.admit_core.specs.State.{State, entries, holds_seat, is_live, is_live_status, is_waiting, seats_left}
 use Rattle.admit_core.specs.Validity.{IsValid}
 use Rattle.admit_core.proofs.Counting.{count_front}
 use Rattle.admit_core.proofs.Evenings.{after_offers, answer, entry_wish, held_after_offers, offer}
-use Rattle.admit_core.proofs.FilledSeats.{auto_waits, live_or_offered, live_stays, offer_if, order_distinct, waits_still}
+use Rattle.admit_core.proofs.FilledSeats.{auto_waits, live_or_offered, live_stays, offer_if, order_distinct}
+use Rattle.admit_core.proofs.FilledSeats.{waits_still}
 use Rattle.admit_core.proofs.Holders.{entries_marked, holds, holds_after, holds_kept, lives_with, marked_by}
 use Rattle.admit_core.proofs.Statuses.{changed_status, status_of_auto}
 use Rattle.admit_core.proofs.Plain.{and_false}
@@ -47,7 +54,8 @@ settled_by_answer AutoRefused is_best is_behind = refl
 settled_by_answer AutoWithdrawn is_best is_behind = refl
 settled_by_answer Lapsed is_best is_behind = refl
 
-best_stays : (st : Status) (is_behind : Bool) → is_live_status st ≡ true → is_live_status (auto_status st true is_behind) ≡ true
+best_stays : (st : Status) (is_behind : Bool) → is_live_status st ≡ true
+    → is_live_status (auto_status st true is_behind) ≡ true
 best_stays Waiting is_behind live = absurd (cc)
 best_stays Offered is_behind live = refl
 best_stays Accepted is_behind live = refl
@@ -71,7 +79,8 @@ offered_is_live Lapsed is = absurd (cc)
 
 -- a wish that is given up was so before, or stands behind the best one, or was live and is another
 abbrev GivenUpFrom : Status → Bool → Bool → Type 0
-GivenUpFrom st is_best is_behind = (is_given_up st ≡ true) ⊎ ((is_behind ≡ true) ⊎ ((is_live_status st ≡ true) × (is_best ≡ false)))
+GivenUpFrom st is_best is_behind = (is_given_up st ≡ true) ⊎ ((is_behind ≡ true) ⊎
+    ((is_live_status st ≡ true) × (is_best ≡ false)))
 
 given_up_from : (st : Status) (is_best is_behind : Bool)
     → is_given_up (auto_status st is_best is_behind) ≡ true → GivenUpFrom st is_best is_behind
@@ -89,8 +98,10 @@ given_up_from AutoWithdrawn is_best is_behind given = inl refl
 given_up_from Lapsed is_best is_behind given = absurd (cc)
 
 -- an offer gives no wish up
-given_up_before_offer : (stamp : Stamp) (b : Bool) (m : Mark) → is_given_up (offer_if stamp b m).status ≡ true → is_given_up m.status ≡ true
-given_up_before_offer stamp true m given = absurd (false≢true (sym (ap is_given_up (changed_status Offered stamp m)) ∙ given))
+given_up_before_offer : (stamp : Stamp) (b : Bool) (m : Mark) → is_given_up (offer_if stamp b m).status ≡ true
+    → is_given_up m.status ≡ true
+given_up_before_offer stamp true m given =
+    absurd (false≢true (sym (ap is_given_up (changed_status Offered stamp m)) ∙ given))
 given_up_before_offer stamp false m given = given
 
 -- the test and the key of the best live wish
@@ -133,10 +144,12 @@ module _ (orders : List CallOrder) (o : State) (bars : List ℕ) (stamp : Stamp)
       omega (arith, is, plain.preferences k x.0 within)
 
   never_barred : (w : Wish) (m : Mark) → w.school ≡ None → is_barred o bars w m ≡ false
-  never_barred w m none = ap (λ (h : Option ℕ). is_waiting m && is_behind_bar o bars w h) none ∙ and_false (is_waiting m)
+  never_barred w m none = ap (λ (h : Option ℕ). is_waiting m && is_behind_bar o bars w h) none
+      ∙ and_false (is_waiting m)
 
   -- a wish is overtaken by one that stands behind it in the call order
-  module _ (w : Wish) (m : Mark) (opens : is_open o bars w m ≡ true) (missed : is_proposed o orders bars w m ≡ false) where
+  module _ (w : Wish) (m : Mark) (opens : is_open o bars w m ≡ true)
+      (missed : is_proposed o orders bars w m ≡ false) where
     abbrev p : ℕ
     p = w.programme
 
@@ -151,14 +164,16 @@ module _ (orders : List CallOrder) (o : State) (bars : List ℕ) (stamp : Stamp)
 
     no_seat : (needs_no_seat o orders w ≡ false) × (nat_lt (ahead o orders bars w) (seats_left o p) ≡ false)
     no_seat =
-        elim (and_cases (is_open o bars w m) (needs_no_seat o orders w || nat_lt (ahead o orders bars w) (seats_left o p)) missed) [
+        elim (and_cases (is_open o bars w m) (needs_no_seat o orders w
+        || nat_lt (ahead o orders bars w) (seats_left o p)) missed) [
           | inl not_open ↦ absurd (false≢true (sym not_open ∙ opens))
           | inr neither ↦ or_parts (needs_no_seat o orders w) (nat_lt (ahead o orders bars w) (seats_left o p)) neither
         ]
 
     past_limit : limit_of o.dossier p < n + 1
     past_limit =
-        let late = (or_parts (holds_seat o w.candidate p) (nat_le (position_of o orders w) (limit_of o.dossier p)) no_seat.0).1 in
+        let late = (or_parts (holds_seat o w.candidate p)
+        (nat_le (position_of o orders w) (limit_of o.dossier p)) no_seat.0).1 in
         omega (arith, leb-false (position_of o orders w) (limit_of o.dossier p) late, front_long w.candidate)
 
     all_taken : seats_left o p ≤ count_by (wants_seat o bars p) (take n xs)
@@ -189,14 +204,16 @@ module _ (orders : List CallOrder) (o : State) (bars : List ℕ) (stamp : Stamp)
           )
 
       -- who stands behind gets no offer there
-      not_offered : (v : Wish) (mv : Mark) → v.candidate ≡ c → v.programme ≡ p → is_proposed o orders bars v mv ≡ true → ⊥
+      not_offered : (v : Wish) (mv : Mark) → v.candidate ≡ c → v.programme ≡ p → is_proposed o orders bars v mv ≡ true
+          → ⊥
       not_offered v mv is_c is_p proposed =
           let wants : (needs_no_seat o orders v || nat_lt (ahead o orders bars v) (seats_left o v.programme)) ≡ true =
           (and_parts (is_open o bars v mv) (needs_no_seat o orders v
           || nat_lt (ahead o orders bars v) (seats_left o v.programme)) proposed).1 in
           let here :
           ((holds_seat o c p || nat_le (length (before_first (nat_eq c) xs) + 1) (limit_of o.dossier p))
-          || nat_lt (count_by (wants_seat o bars p) (before_first (nat_eq c) xs)) (seats_left o p)) ≡ true = rw (is_c, is_p) at wants in
+          || nat_lt (count_by (wants_seat o bars p) (before_first (nat_eq c) xs)) (seats_left o p)) ≡ true =
+          rw (is_c, is_p) at wants in
           elim (or_cases (holds_seat o c p || nat_le (length (before_first (nat_eq c) xs) + 1) (limit_of o.dossier p))
           (nat_lt (count_by (wants_seat o bars p) (before_first (nat_eq c) xs)) (seats_left o p)) here) [
             | inl needs ↦ elim (or_cases (holds_seat o c p)
@@ -212,7 +229,8 @@ module _ (orders : List CallOrder) (o : State) (bars : List ℕ) (stamp : Stamp)
       stays_free =
           let in_p = λ (v : Wish). nat_eq v.programme p in
           false_from_ne_true (holds_seat night c p) (λ held.
-          let (j, e, e_lt, e_at, lives) = Any-from_list_any (λ (e : Wish × Mark). lives_with in_p c (marked_by offer_to e)) (entries o)
+          let (j, e, e_lt, e_at, lives) = Any-from_list_any (λ (e : Wish × Mark).
+          lives_with in_p c (marked_by offer_to e)) (entries o)
           (sym (holds_after in_p o offer_to c) ∙ held_after_offers o orders bars stamp in_p c held) in
           let v = e.0 in
           let mv = e.1 in
@@ -224,7 +242,8 @@ module _ (orders : List CallOrder) (o : State) (bars : List ℕ) (stamp : Stamp)
                 let here : lives_with in_p c e ≡ true =
                 and_from (is_live mv && nat_eq v.candidate c) (nat_eq v.programme p)
                 (and_from (is_live mv) (nat_eq v.candidate c) was_live inner.1) outer.1 in
-                let seated : holds_seat o c p ≡ true = list_any_at (lives_with in_p c) (entries o) j e e_lt (rw e_at here) in
+                let seated : holds_seat o c p ≡ true = list_any_at (lives_with in_p c) (entries o) j e e_lt
+                (rw e_at here) in
                 false≢true (sym free ∙ seated)
           ])
 
@@ -259,7 +278,8 @@ module _ (orders : List CallOrder) (o : State) (bars : List ℕ) (stamp : Stamp)
         let own : best_live mid b.0.candidate ≡ Some b = ap (best_live mid) (eqb-true b.0.candidate c inner.1) ∙ best in
         let status : (answer_to b.0 b.1).status ≡ auto_status b.1.status true (nat_lt b.0.preference b.0.preference) =
         ap (λ (o : Option (Wish × Mark)). (auto_mark stamp o b.0 b.1).status) own ∙ status_of_auto stamp b b.0 b.1
-        ∙ ap (λ (t : Bool). auto_status b.1.status t (nat_lt b.0.preference b.0.preference)) (eq-eqb b.0.preference b.0.preference refl) in
+        ∙ ap (λ (t : Bool). auto_status b.1.status t (nat_lt b.0.preference b.0.preference))
+        (eq-eqb b.0.preference b.0.preference refl) in
         let lives : is_live (answer_to b.0 b.1) ≡ true = ap is_live_status status
         ∙ best_stays b.1.status (nat_lt b.0.preference b.0.preference) inner.0 in
         let here : lives_with test c (marked_by answer_to b) ≡ true =
@@ -274,7 +294,8 @@ module _ (orders : List CallOrder) (o : State) (bars : List ℕ) (stamp : Stamp)
         → holds test mid c ≡ true
     in_mid test b least passes =
         let outer = and_parts (is_live b.1 && (b.0.candidate == c)) (nat_lt 0 b.0.preference) least.passes in
-        let here : lives_with test c b ≡ true = and_from (is_live b.1 && nat_eq b.0.candidate c) (test b.0) outer.0 passes in
+        let here : lives_with test c b ≡ true = and_from (is_live b.1 && nat_eq b.0.candidate c)
+        (test b.0) outer.0 passes in
         list_any_at (lives_with test c) (entries mid) least.place b least.within (rw least.is_there here)
 
     -- who is live after the offers by a better wish than one holds a better one in the evening
@@ -285,14 +306,16 @@ module _ (orders : List CallOrder) (o : State) (bars : List ℕ) (stamp : Stamp)
         let (j, e, lt, at, lives) = Any-from_list_any (lives_with (λ v. nat_lt v.preference q) c) (entries mid) held in
         let outer = and_parts (is_live e.1 && nat_eq e.0.candidate c) (nat_lt e.0.preference q) lives in
         let positive = lt-ltb 0 e.0.preference (ranked mid j e refl lt at) in
-        let own : is_own_live c e ≡ true = and_from (is_live e.1 && (e.0.candidate == c)) (nat_lt 0 e.0.preference) outer.0 positive in
+        let own : is_own_live c e ≡ true = and_from (is_live e.1 && (e.0.candidate == c))
+        (nat_lt 0 e.0.preference) outer.0 positive in
         let there : is_own_live c (get_or (entries mid) j e) ≡ true = rw at own in
         by j e lt at outer.1 there best is
       where
         by : (j : ℕ) (e : Wish × Mark) → j < length (entries mid) → get_or (entries mid) j e ≡ e
             → nat_lt e.0.preference q ≡ true → is_own_live c (get_or (entries mid) j e) ≡ true
             → (best : Option (Wish × Mark)) → best_live mid c ≡ best → holds (λ v. nat_lt v.preference q) night c ≡ true
-        by j e lt at less there None none = absurd (filtered_none preference (is_own_live c) (entries mid) none j e lt there)
+        by j e lt at less there None none = absurd (filtered_none preference (is_own_live c)
+            (entries mid) none j e lt there)
         by j e lt at less there (Some b) some =
             let least = filtered_least preference (is_own_live c) (entries mid) b some in
             let le : preference b ≤ preference (get_or (entries mid) j e) = least.least j e lt there in
@@ -312,7 +335,8 @@ module _ (orders : List CallOrder) (o : State) (bars : List ℕ) (stamp : Stamp)
       let es = map (marked_by offer_to) (entries o) in
       let long : length es ≡ length (entries o) = length-map (entries o) (marked_by offer_to) in
       let within : k < length es = omega (arith, long, lt) in
-      let found : get_or es k y ≡ y = get_or-map (marked_by offer_to) (entries o) k x y lt ∙ ap (marked_by offer_to) at in (
+      let found : get_or es k y ≡ y = get_or-map (marked_by offer_to) (entries o) k x y lt
+      ∙ ap (marked_by offer_to) at in (
         subst (λ (l : List (Wish × Mark)). k < length l) (sym (entries_marked o offer_to)) within,
         ap (λ (l : List (Wish × Mark)). get_or l k y) (entries_marked o offer_to) ∙ found,
       )
@@ -339,7 +363,8 @@ module _ (orders : List CallOrder) (o : State) (bars : List ℕ) (stamp : Stamp)
               and_from (is_live m && (c == c)) (nat_lt 0 w.preference)
               (and_from (is_live m) (c == c) other.0 (eq-eqb c c refl))
               (lt-ltb 0 w.preference (ranked mid k (w, m) refl lt at)) in
-              let le : b.0.preference ≤ preference (get_or (entries mid) k (w, m)) = least.least k (w, m) lt (rw at own) in
+              let le : b.0.preference ≤ preference (get_or (entries mid) k (w, m)) =
+              least.least k (w, m) lt (rw at own) in
               let same : preference (get_or (entries mid) k (w, m)) ≡ w.preference = ap preference at in
               elim (cases_order w.preference b.0.preference) [
                 | inl equal ↦ absurd (false≢true (sym other.1 ∙ eq-eqb w.preference b.0.preference equal))

@@ -1,5 +1,6 @@
 -- Who stands behind whom in a call order.
-use Rattle.std.proofs.Common.{ℕ, ◌+◌, ◌≤◌, ◌<◌, ◌≡◌, true, List, length, drop, inl, inr, refl, sym, ◌∙◌, ap, arith, nat_eq, get_or}
+use Rattle.std.proofs.Common.{ℕ, ◌+◌, ◌≤◌, ◌<◌, ◌≡◌, true, List, length, drop, inl, inr, refl, sym, ◌∙◌, ap, arith}
+use Rattle.std.proofs.Common.{nat_eq, get_or}
 use Rattle.std.specs.List.{IsDistinct, position_or_len}
 use Rattle.std.proofs.lemmas.Bool.{cases_lt, eqb-true, eq-eqb, false≢true}
 use Rattle.std.proofs.lemmas.List.{get_or-drop, get_or_default, length-drop}
@@ -8,7 +9,8 @@ use Rattle.std.proofs.lemmas.Map.Keys.{apart_from_distinct}
 use Rattle.admit_core.proofs.Counting.{first_at_most}
 
 -- in an order without repeats who stands at a place stands first there
-pub first_there : (xs : List ℕ) → IsDistinct nat_eq xs → (k : ℕ) → k < length xs → position_or_len (nat_eq (get_or xs k 0)) xs ≡ k
+pub first_there : (xs : List ℕ) → IsDistinct nat_eq xs → (k : ℕ) → k < length xs
+    → position_or_len (nat_eq (get_or xs k 0)) xs ≡ k
 first_there xs apart k lt =
     let c = get_or xs k 0 in
     let n = position_or_len (nat_eq c) xs in
@@ -16,7 +18,8 @@ first_there xs apart k lt =
     elim (cases_lt n k) [
       | inl below ↦
           let here : nat_eq c (get_or xs n 0) ≡ true = passes_at_first (nat_eq c) xs 0 (omega (arith, below, lt)) in
-          let same : nat_eq (get_or xs n 0) c ≡ true = eq-eqb (get_or xs n 0) c (sym (eqb-true c (get_or xs n 0) here)) in
+          let same : nat_eq (get_or xs n 0) c ≡ true =
+          eq-eqb (get_or xs n 0) c (sym (eqb-true c (get_or xs n 0) here)) in
           absurd (false≢true (sym (apart_from_distinct nat_eq xs n k 0 apart below lt) ∙ same))
       | inr above ↦ omega (arith, le, above)
     ]

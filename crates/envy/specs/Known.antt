@@ -1,5 +1,6 @@
 -- What tells at once whether a wish's candidate holds a better one, and who behind them is live.
-use Rattle.std.specs.Prelude.{◌≡◌, ◌<◌, ℕ, Bool, false, ◌&&◌, List, length, Option, Some, None, nat_eq, nat_le, nat_lt, ◌==◌, slice_get, if◌then◌else◌}
+use Rattle.std.specs.Prelude.{◌≡◌, ◌<◌, ℕ, Bool, false, ◌&&◌, List, length, Option, Some, None, nat_eq, nat_le, nat_lt}
+use Rattle.std.specs.Prelude.{◌==◌, slice_get, if◌then◌else◌}
 use Rattle.std.specs.List.{list_any, position_or_len}
 use Rattle.admit_core.specs.declared.dossier.Wish.{Wish}
 use Rattle.admit_core.specs.declared.ranking.CallOrder.{CallOrder}

@@ -15,7 +15,8 @@ use Rattle.modes.specs.Checking.{proved_text}
 use Rattle.modes.specs.Market.{TellsMarket}
 use Rattle.outcome_laws.proofs.BestMarkets.{markets_tell_the_best}
 use Rattle.outcome_laws.proofs.OwnTexts.{ends_as}
-use Rattle.outcome_laws.specs.Witnesses.{MarketsTellTheBestWitness, OwnTextsAreProvedWitness, crossed_orders, crossed_wishes}
+use Rattle.outcome_laws.specs.Witnesses.{MarketsTellTheBestWitness, OwnTextsAreProvedWitness, crossed_orders}
+use Rattle.outcome_laws.specs.Witnesses.{crossed_wishes}
 use Rattle.law_cases.proofs.MarketCases.{crossed_bars}
 use Rattle.law_cases.proofs.Valid.{valid_by}
 

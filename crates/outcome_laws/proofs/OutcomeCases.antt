@@ -1,5 +1,6 @@
 -- The witnesses of the laws of whole runs.
-use Rattle.std.proofs.Common.{◌≡◌, ℕ, ◌+◌, ◌-◌, ◌≤◌, List, [], ◌∷◌, ◌++◌, Option, Result, Ok, None, ap, false, get_or, length, lit≤, refl, subst, sym, true}
+use Rattle.std.proofs.Common.{◌≡◌, ℕ, ◌+◌, ◌-◌, ◌≤◌, List, [], ◌∷◌, ◌++◌, Option, Result, Ok, None, ap, false, get_or}
+use Rattle.std.proofs.Common.{length, lit≤, refl, subst, sym, true}
 use Rattle.std.specs.Prelude.{Some}
 use Rattle.std.proofs.lemmas.List.{append-nil}
 use Rattle.admit_core.proofs.Rows.{two_days_hold}
@@ -31,7 +32,8 @@ use Rattle.desk_day.specs.DayPasses.{AreChosenPasses, last_opening, schools_of_p
 use Rattle.desk_day.specs.DeskStates.{DeskStates}
 use Rattle.desk_day.specs.RunDay.{KeepsStamps}
 use Rattle.dossier_csv.specs.Columns.{added_number, flag, number, optional_date, optional_number, word}
-use Rattle.dossier_csv.specs.Rows.{answer_row, board_row, ceiling_row, group_row, programme_row, rank_row, school_row, state_row, wish_row}
+use Rattle.dossier_csv.specs.Rows.{answer_row, board_row, ceiling_row, group_row, programme_row, rank_row, school_row}
+use Rattle.dossier_csv.specs.Rows.{state_row, wish_row}
 use Rattle.dossier_csv.specs.Shape.{rows_from, table_of}
 use Rattle.intake.specs.Input.{Job, accepted, job_of}
 use Rattle.intake.specs.Reading.{files_in, sized, with_rows, with_slot, with_slots}
@@ -47,14 +49,16 @@ use Rattle.outcome_laws.proofs.Cases.{own_texts_are_proved_here}
 use Rattle.outcome_laws.proofs.JobsOf.{Accepts, chain_job, check_job, job_with, replay_job, request_with}
 use Rattle.outcome_laws.proofs.Outcomes.{accepted_as, chains_are_proved, checks_end_as_replays}
 use Rattle.outcome_laws.proofs.ReadTables.{Files, chain_added}
-use Rattle.outcome_laws.specs.OutcomeWitnesses.{ChainsAreProvedWitness, ChecksEndAsReplaysWitness, last_evening, realistic_slots, words_of_chain, words_of_check, words_of_replay}
+use Rattle.outcome_laws.specs.OutcomeWitnesses.{ChainsAreProvedWitness, ChecksEndAsReplaysWitness, last_evening}
+use Rattle.outcome_laws.specs.OutcomeWitnesses.{realistic_slots, words_of_chain, words_of_check, words_of_replay}
 use Rattle.outcome_laws.specs.Outcomes.{Ran, with_chain}
 use Rattle.played.specs.Lent.{Lent, named, picked_by}
 use Rattle.played.specs.PlayedDays.{IsNext, IsPlayed, Lead, Plan, Played, first_desk, lent_after}
 use Rattle.replay_cli.specs.Outcome.{Ends, IsOutcome}
 use Rattle.request.specs.Modes.{nine_slots}
 use Rattle.request.specs.Pickers.{picker_on}
-use Rattle.request.specs.Request.{deadlines_option, mode_option, number_option, numbers_option, picker_option, request_in, request_of, request_of_named, start_option}
+use Rattle.request.specs.Request.{deadlines_option, mode_option, number_option, numbers_option, picker_option}
+use Rattle.request.specs.Request.{request_in, request_of, request_of_named, start_option}
 use Rattle.request.specs.declared.modes.Mode.{Mode}
 use Rattle.request.specs.declared.modes.Mode.TheVariants.{Chain, Check, Replay}
 use Rattle.request.specs.declared.pickers.PickerChoice.{PickerChoice}
@@ -66,15 +70,18 @@ use Rattle.request.specs.declared.request.Request.{Request}
 
 -- ---- the words
 chain_asks : request_of words_of_chain ≡ Some (request_with Chain 2 (Same First) None)
-unfolding clap_on_literals request_of_named request_in numbers_option number_option mode_option picker_option start_option deadlines_option
+unfolding clap_on_literals request_of_named request_in numbers_option number_option mode_option picker_option
+    start_option deadlines_option
 chain_asks = refl
 
 replay_asks : request_of words_of_replay ≡ Some (request_with Replay 2 (Same Last) None)
-unfolding clap_on_literals request_of_named request_in numbers_option number_option mode_option picker_option start_option deadlines_option
+unfolding clap_on_literals request_of_named request_in numbers_option number_option mode_option picker_option
+    start_option deadlines_option
 replay_asks = refl
 
 check_asks : request_of words_of_check ≡ Some (request_with Check 1 (Same First) None)
-unfolding clap_on_literals request_of_named request_in numbers_option number_option mode_option picker_option start_option deadlines_option
+unfolding clap_on_literals request_of_named request_in numbers_option number_option mode_option picker_option
+    start_option deadlines_option
 check_asks = refl
 
 -- ---- a day of the rules
@@ -270,7 +277,9 @@ abbrev realistic_files : Files
 realistic_files = record { tables = realistic_tables; chain = [] }
 
 files_read : files_in nine_slots realistic_slots ≡ Ok realistic_files
-unfolding csv_on_literals field_at table_of rows_from group_row programme_row school_row rank_row board_row wish_row state_row ceiling_row answer_row number added_number optional_number optional_date flag word sized with_rows with_slot with_slots
+unfolding csv_on_literals field_at table_of rows_from group_row programme_row school_row rank_row board_row wish_row
+    state_row ceiling_row answer_row number added_number optional_number optional_date flag word sized with_rows
+    with_slot with_slots
 files_read = refl
 
 files_sound : first_fault realistic_tables ≡ None

@@ -1,5 +1,6 @@
 -- A check of the text of `chain` is done, and ends as `replay` does.
-use Rattle.std.proofs.Common.{◌≡◌, ◌∙◌, ℕ, ◌≤◌, List, Option, Some, Result, Ok, Err, ap, arith, length, refl, subst, sym}
+use Rattle.std.proofs.Common.{◌≡◌, ◌∙◌, ℕ, ◌≤◌, List, Option, Some, Result, Ok, Err, ap, arith, length, refl, subst}
+use Rattle.std.proofs.Common.{sym}
 use Rattle.admit_core.specs.Days.{Days, first_evening}
 use Rattle.admit_core.specs.DossierRows.{DossierRows}
 use Rattle.admit_core.specs.State.{State}
@@ -23,7 +24,8 @@ use Rattle.modes.specs.Jobs.{AreDays, dated_of, days_of, dossier, seen_of, terms
 use Rattle.modes.specs.Replay.{replay_text}
 use Rattle.modes.specs.declared.exit.Exit.{Exit}
 use Rattle.modes.specs.declared.exit.Exit.TheVariants.{Done, Refused}
-use Rattle.outcome_laws.proofs.JobsOf.{Accepts, chain_files, check_job, job_with, replay_files, request_with, same_files, valid_files}
+use Rattle.outcome_laws.proofs.JobsOf.{Accepts, chain_files, check_job, job_with, replay_files, request_with}
+use Rattle.outcome_laws.proofs.JobsOf.{same_files, valid_files}
 use Rattle.outcome_laws.proofs.OwnTexts.{own_texts_are_proved}
 use Rattle.outcome_laws.proofs.ReadTables.{Files, chain_added}
 use Rattle.outcome_laws.proofs.Requests.{days_few}

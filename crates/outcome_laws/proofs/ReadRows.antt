@@ -1,19 +1,23 @@
 -- What is read of a slot is in the ranges of its columns.
-use Rattle.std.proofs.Common.{◌≡◌, ℕ, ◌+◌, ◌≤◌, Bool, true, false, List, [], ◌∷◌, All, Option, None, Some, Result, Ok, Err, IfOk, arith, inl, inr, length, subst}
+use Rattle.std.proofs.Common.{◌≡◌, ℕ, ◌+◌, ◌≤◌, Bool, true, false, List, [], ◌∷◌, All, Option, None, Some, Result, Ok}
+use Rattle.std.proofs.Common.{Err, IfOk, arith, inl, inr, length, subst}
 use Rattle.std.specs.Prelude.{◌&&◌, ◌==◌, if◌then◌else◌, nat_le, nat_lt}
 use Rattle.std.specs.List.{list_any}
 use Rattle.std.specs.Option.{ForSome}
 use Rattle.std.proofs.lemmas.Bool.{and_parts, cases_Bool, leb-false, leb-true}
 use Rattle.std.proofs.lemmas.List.Elements.{All-cons, All-nil}
 use Rattle.std.proofs.lemmas.Result.{IfOk-weaker}
-use Rattle.admit_core.specs.Ranges.{AreRows, IsAnswerRow, IsBoardRow, IsCeilingRow, IsGroupRow, IsNumber, IsProgrammeRow, IsRankRow, IsSchoolRow, IsStateRow, IsWishRow}
+use Rattle.admit_core.specs.Ranges.{AreRows, IsAnswerRow, IsBoardRow, IsCeilingRow, IsGroupRow, IsNumber}
+use Rattle.admit_core.specs.Ranges.{IsProgrammeRow, IsRankRow, IsSchoolRow, IsStateRow, IsWishRow}
 use Rattle.admit_core.specs.declared.refusal.Reason.{Reason}
 use Rattle.admit_core.specs.declared.refusal.Reason.TheVariants.{FieldCount, TooManyRows}
 use Rattle.admit_core.specs.declared.refusal.Refusal.{Refusal}
 use Rattle.admit_core.specs.declared.slot.Slot.{Slot}
-use Rattle.dossier_csv.specs.Columns.{◌>>=◌, added_number, amounts, days, flag, ids, number, number_of, optional_date, optional_from, optional_number, percents, text_at, within, word}
+use Rattle.dossier_csv.specs.Columns.{◌>>=◌, added_number, amounts, days, flag, ids, number, number_of, optional_date}
+use Rattle.dossier_csv.specs.Columns.{optional_from, optional_number, percents, text_at, within, word}
 use Rattle.dossier_csv.specs.Layout.{Layout}
-use Rattle.dossier_csv.specs.Rows.{answer_row, board_row, ceiling_row, group_row, kinds, programme_row, rank_row, school_row, state_row, statuses, wish_row}
+use Rattle.dossier_csv.specs.Rows.{answer_row, board_row, ceiling_row, group_row, kinds, programme_row, rank_row}
+use Rattle.dossier_csv.specs.Rows.{school_row, state_row, statuses, wish_row}
 use Rattle.dossier_csv.specs.Shape.{at_row, row_of, rows_from, same_texts, table_of, with_row}
 use Rattle.outcome_laws.proofs.TypeOf.{TypeOf}
 

@@ -1,21 +1,25 @@
 -- The tables of slots that are read are in the ranges of their columns.
-use Rattle.std.proofs.Common.{◌≡◌, ◌∙◌, ℕ, ◌≤◌, List, [], ◌∷◌, ◌++◌, Result, Ok, Err, IfOk, ap, length, lit≤, refl, subst, sym}
+use Rattle.std.proofs.Common.{◌≡◌, ◌∙◌, ℕ, ◌≤◌, List, [], ◌∷◌, ◌++◌, Result, Ok, Err, IfOk, ap, length, lit≤, refl}
+use Rattle.std.proofs.Common.{subst, sym}
 use Rattle.std.specs.Prelude.{⊤}
 use Rattle.std.specs.Result.{result_map_both}
 use Rattle.std.proofs.lemmas.Bool.{le-ltb}
 use Rattle.std.proofs.lemmas.List.Elements.{All-nil}
-use Rattle.admit_core.specs.Ranges.{AreRows, AreTables, IsAnswerRow, IsBoardRow, IsCeilingRow, IsGroupRow, IsProgrammeRow, IsRankRow, IsSchoolRow, IsStateRow, IsWishRow}
+use Rattle.admit_core.specs.Ranges.{AreRows, AreTables, IsAnswerRow, IsBoardRow, IsCeilingRow, IsGroupRow}
+use Rattle.admit_core.specs.Ranges.{IsProgrammeRow, IsRankRow, IsSchoolRow, IsStateRow, IsWishRow}
 use Rattle.admit_core.specs.declared.refusal.Refusal.{Refusal}
 use Rattle.admit_core.specs.declared.slot.Slot.{Slot}
 use Rattle.admit_core.specs.declared.slot.Slot.TheVariants as names
 use Rattle.admit_core.specs.declared.tables.Tables.{Tables}
 use Rattle.dossier_csv.specs.Rows as Rows
 use Rattle.dossier_csv.specs.Shape.{records_of, shape}
-use Rattle.intake.specs.Reading.{chain_after, files_in, made_by, no_files, no_rows, sized, with_rows, with_slot, with_slots}
+use Rattle.intake.specs.Reading.{chain_after, files_in, made_by, no_files, no_rows, sized, with_rows, with_slot}
+use Rattle.intake.specs.Reading.{with_slots}
 use Rattle.intake.specs.Stops.{◌>>=◌, refused_as}
 use Rattle.intake.specs.declared.stop.Stop.{Stop}
 use Rattle.outcome_laws.proofs.TypeOf.{TypeOf}
-use Rattle.outcome_laws.proofs.ReadRows.{answer_in, board_in, ceiling_in, group_in, programme_in, rank_in, school_in, state_in, table_in, wish_in}
+use Rattle.outcome_laws.proofs.ReadRows.{answer_in, board_in, ceiling_in, group_in, programme_in, rank_in, school_in}
+use Rattle.outcome_laws.proofs.ReadRows.{state_in, table_in, wish_in}
 
 -- what is read of the slots, a type that its crate does not export
 abbrev pub Files : Type 0

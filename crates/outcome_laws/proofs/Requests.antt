@@ -1,12 +1,15 @@
 -- A request has at most 366 days.
-use Rattle.std.proofs.Common.{◌≡◌, ℕ, ◌≤◌, List, [], ◌∷◌, Option, None, Some, Result, Ok, Err, IfOk, IfSome, arith, inl, inr, option_map, subst}
+use Rattle.std.proofs.Common.{◌≡◌, ℕ, ◌≤◌, List, [], ◌∷◌, Option, None, Some, Result, Ok, Err, IfOk, IfSome, arith, inl}
+use Rattle.std.proofs.Common.{inr, option_map, subst}
 use Rattle.std.specs.Prelude.{◌&&◌, codes, nat_le, unwrap_or}
 use Rattle.std.specs.Option.{ok_or}
 use Rattle.std.proofs.lemmas.Bool.{and_parts, cases_Bool, leb-true}
 use Rattle.clap.specs.Words.{Kinds, Row, Text, fault_of, first_of, matches_of}
 use Rattle.dossier_csv.specs.Columns.{number_of}
 use Rattle.request.specs.Command.{parcours}
-use Rattle.request.specs.Request.{◌>>=◌, bad_words, between, deadlines_option, given, mode_option, named_words, number_option, numbers_option, picker_option, request_in, request_of, request_of_named, where_sound}
+use Rattle.request.specs.Request.{◌>>=◌, bad_words, between, deadlines_option, given, mode_option, named_words}
+use Rattle.request.specs.Request.{number_option, numbers_option, picker_option, request_in, request_of}
+use Rattle.request.specs.Request.{request_of_named, where_sound}
 use Rattle.request.specs.declared.request.Request.{Request}
 use Rattle.outcome_laws.proofs.TypeOf.{TypeOf}
 

@@ -16,7 +16,11 @@ names_of : (name : ℕ → ℕ) (upto : ℕ) (ranks : List ℕ)
 names_of name upto [] = refl
 names_of name upto (r ∷ ranks) =
     let later = names_of name upto ranks in
-    elim (cases_Bool (nat_le r upto)) [ inl passes ↦ rw passes (ap (λ (ks : List ℕ). name r ∷ ks) later) | inr fails ↦ rw fails later ]
+    elim (cases_Bool (nat_le r upto)) [
+      | inl passes ↦ rw passes (ap (λ (ks : List ℕ). name r ∷ ks) later)
+      | inr fails ↦
+          rw fails later
+    ]
 
 pub names_are : (s : State) (orders : List CallOrder) (bars : List ℕ) (h upto : ℕ)
     → map (λ (x : Demand). x.wish) (filter (λ (x : Demand). nat_le x.rank upto) (demands_of s orders bars h))

@@ -1,5 +1,6 @@
 -- A candidate's own open wishes.
-use Rattle.std.proofs.Common.{ℕ, ◌<◌, ◌≡◌, false, ◌&&◌, List, length, get_or, inl, inr, refl, sym, ◌∙◌, ap, arith, nat_eq, zero-add}
+use Rattle.std.proofs.Common.{ℕ, ◌<◌, ◌≡◌, false, ◌&&◌, List, length, get_or, inl, inr, refl, sym, ◌∙◌, ap, arith}
+use Rattle.std.proofs.Common.{nat_eq, zero-add}
 use Rattle.std.specs.Prelude.{◌==◌}
 use Rattle.std.specs.List.{list_any, range_with_len}
 use Rattle.std.proofs.lemmas.Bool.{cases_Bool, and_left, and_from, and_right, eqb-true, eq-eqb}
@@ -36,13 +37,16 @@ has_open_own s bars p c long =
     let opens = is_open_at s bars p in
     let test = λ (e : Wish × Mark). is_open_in s bars p c e.0 e.1 in
     any-filter opens is_own places
-    ∙ any_same (λ k. is_own k && opens k) (λ k. test (entry_in s k)) (λ k. rw (candidate_in d.wishes k) (in_turn s bars p c k)) places
+    ∙ any_same (λ k. is_own k && opens k) (λ k. test (entry_in s k))
+    (λ k. rw (candidate_in d.wishes k) (in_turn s bars p c k)) places
     ∙ sym (any-map test (entry_in s) places)
     ∙ rw (entries_by_place s long) refl
 
 -- where a candidate has no open wish in a programme, none of their places has one
-pub no_open : (s : State) (bars : List ℕ) (p c : ℕ) → length s.marks ≡ length s.dossier.wishes → has_open_wish s bars p c ≡ false
-    → (k : ℕ) → k < length s.dossier.wishes → (((wish_in s.dossier.wishes k).candidate == c) && is_open_at s bars p k) ≡ false
+pub no_open : (s : State) (bars : List ℕ) (p c : ℕ) → length s.marks ≡ length s.dossier.wishes
+    → has_open_wish s bars p c ≡ false
+    → (k : ℕ) → k < length s.dossier.wishes → (((wish_in s.dossier.wishes k).candidate == c) && is_open_at s bars p k)
+    ≡ false
 no_open s bars p c long none k lt =
     let places = range_with_len 0 (length s.dossier.wishes) in
     let test = λ (e : Wish × Mark). is_open_in s bars p c e.0 e.1 in
@@ -54,7 +58,8 @@ no_open s bars p c long none k lt =
     in_turn s bars p c k ∙ sym (ap (λ j. test (entry_in s j)) at) ∙ all k 0 within
 
 -- a place is among a candidate's own where its wish is theirs
-pub among_own : (d : DossierRows) (c k : ℕ) → k < length d.wishes → is_among k (own_places d c) ≡ ((wish_in d.wishes k).candidate == c)
+pub among_own : (d : DossierRows) (c k : ℕ) → k < length d.wishes
+    → is_among k (own_places d c) ≡ ((wish_in d.wishes k).candidate == c)
 among_own d c k lt =
     let places = range_with_len 0 (length d.wishes) in
     let is_own = λ (j : ℕ). candidate_of d j == c in

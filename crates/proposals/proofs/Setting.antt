@@ -1,5 +1,6 @@
 -- Flags that are set.
-use Rattle.std.proofs.Common.{ℕ, ◌<◌, ◌≡◌, Bool, true, false, ◌||◌, List, length, set, get_or, inl, inr, refl, ◌∙◌, ap, arith, nat_eq, length-set}
+use Rattle.std.proofs.Common.{ℕ, ◌<◌, ◌≡◌, Bool, true, false, ◌||◌, List, length, set, get_or, inl, inr, refl, ◌∙◌, ap}
+use Rattle.std.proofs.Common.{arith, nat_eq, length-set}
 use Rattle.std.proofs.lemmas.List.{get_or-set_same, get_or-set_other}
 use Rattle.std.proofs.lemmas.Bool.{cases_Bool, eqb-true, eqb-false}
 use Rattle.proposals.specs.Flags.{SetsAlso}
@@ -16,13 +17,15 @@ or_again : (a b c : Bool) → ((a || b) || c) ≡ (a || (b || c))
 or_again true b c = refl
 or_again false b c = refl
 
-pub sets_none : (test : ℕ → Bool) (flags : List Bool) → ((k : ℕ) → k < length flags → test k ≡ false) → SetsAlso test flags flags
+pub sets_none : (test : ℕ → Bool) (flags : List Bool) → ((k : ℕ) → k < length flags → test k ≡ false)
+    → SetsAlso test flags flags
 sets_none test flags none = record {
   as_long = refl;
   each = λ k lt. rw (none k lt) (or_false (get_or flags k false));
 }
 
-pub sets_same : (a b : ℕ → Bool) (old new : List Bool) → ((k : ℕ) → k < length old → a k ≡ b k) → SetsAlso a old new → SetsAlso b old new
+pub sets_same : (a b : ℕ → Bool) (old new : List Bool) → ((k : ℕ) → k < length old → a k ≡ b k) → SetsAlso a old new
+    → SetsAlso b old new
 sets_same a b old new same sets = record {
   as_long = sets.as_long;
   each = λ k lt. sets.each k lt ∙ ap (λ t. get_or old k false || t) (same k lt);
@@ -39,11 +42,14 @@ sets_then a b c old now new first second both = record {
       ∙ ap (λ t. get_or old k false || t) (both k lt);
 }
 
-pub sets_one : (flags : List Bool) (place : ℕ) → place < length flags → SetsAlso (λ k. nat_eq k place) flags (set flags place true)
+pub sets_one : (flags : List Bool) (place : ℕ) → place < length flags
+    → SetsAlso (λ k. nat_eq k place) flags (set flags place true)
 sets_one flags place within = record {
   as_long = length-set flags place true;
   each = λ k lt. elim (cases_Bool (nat_eq k place)) [
-    | inl here ↦ rw (here, eqb-true k place here) (get_or-set_same flags place true false within ∙ or_true (get_or flags place false))
-    | inr other ↦ rw other (get_or-set_other flags place k true false (eqb-false k place other) ∙ or_false (get_or flags k false))
+    | inl here ↦ rw (here, eqb-true k place here)
+        (get_or-set_same flags place true false within ∙ or_true (get_or flags place false))
+    | inr other ↦ rw other (get_or-set_other flags place k true false (eqb-false k place other)
+        ∙ or_false (get_or flags k false))
   ];
 }

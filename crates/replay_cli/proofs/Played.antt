@@ -1,5 +1,6 @@
 -- A job's days, and how the run ends after them.
-use Rattle.std.proofs.Common.{◌≡◌, ◌∙◌, ℕ, ◌+◌, List, [], ◌∷◌, Option, None, Some, Result, Ok, Err, IfOk, IfSome, IsSomeAnd, IsTrue, ap, inl, inr, option_map, refl, subst, sym}
+use Rattle.std.proofs.Common.{◌≡◌, ◌∙◌, ℕ, ◌+◌, List, [], ◌∷◌, Option, None, Some, Result, Ok, Err, IfOk, IfSome}
+use Rattle.std.proofs.Common.{IsSomeAnd, IsTrue, ap, inl, inr, option_map, refl, subst, sym}
 use Rattle.std.specs.Prelude.{is_some, not}
 use Rattle.std.proofs.lemmas.Bool.{cases_Bool, false≢true}
 use Rattle.admit_core.specs.CallOrder.{AreCallOrders}
@@ -23,7 +24,8 @@ use Rattle.modes.specs.Asking.{OthersUntold, IsLent, TellsAfter}
 use Rattle.modes.specs.Endings.{CanEnd, EndsAfter, EndsWith, IsEndOf, IsEnding}
 use Rattle.modes.proofs.CheckedExits.{IsAfterDays, check_done, check_exit, is_after}
 use Rattle.modes.specs.Checking.{CanBeDone, HandsInProof}
-use Rattle.modes.specs.Jobs.{AreDays, IsIdle, Seen, dated_of, days_of, deadlines_of, dossier, picker_after, seen_by, seen_of, terms_of}
+use Rattle.modes.specs.Jobs.{AreDays, IsIdle, Seen, dated_of, days_of, deadlines_of, dossier, picker_after, seen_by}
+use Rattle.modes.specs.Jobs.{seen_of, terms_of}
 use Rattle.modes.specs.declared.exit.Exit.{Exit}
 use Rattle.modes.specs.declared.exit.Exit.TheVariants as exits
 use Rattle.modes.specs.declared.reply.Reply.{Reply}

@@ -1,5 +1,6 @@
 -- What a run answers: after its days, or where it stops before them.
-use Rattle.std.proofs.Common.{◌≡◌, ◌≢◌, ◌∙◌, ℕ, ◌+◌, ◌≤◌, ◌⊎◌, List, [], Option, None, Some, Result, Ok, Err, IfErr, IfOk, IsErrAnd, IsNone, IsOkAnd, IsTrue, ap, arith, inl, inr, refl, subst, sym}
+use Rattle.std.proofs.Common.{◌≡◌, ◌≢◌, ◌∙◌, ℕ, ◌+◌, ◌≤◌, ◌⊎◌, List, [], Option, None, Some, Result, Ok, Err, IfErr}
+use Rattle.std.proofs.Common.{IfOk, IsErrAnd, IsNone, IsOkAnd, IsTrue, ap, arith, inl, inr, refl, subst, sym}
 use Rattle.std.specs.Prelude.{Contains}
 use Rattle.std.proofs.lemmas.Bool.{false≢true}
 use Rattle.admit_core.specs.declared.slot.Slot.{Slot}
@@ -34,16 +35,20 @@ no_none : (request : Request) → IsNone (Some request) → ⊥
 no_none request none = false≢true (sym none)
 
 -- where a job is accepted its ending is the outcome
-outcome_of : (words : List (List ℕ)) (slots : Slot → List ℕ) (job : Job) (before after : Lent) (exit : Exit) (text : List ℕ) → accepted words slots ≡ Ok job → IsEnding job before after exit text
+outcome_of : (words : List (List ℕ)) (slots : Slot → List ℕ) (job : Job) (before after : Lent) (exit : Exit)
+    (text : List ℕ) → accepted words slots ≡ Ok job → IsEnding job before after exit text
     → IsOutcome words slots before after exit text
 unfolding IsOutcome
-outcome_of words slots job before after exit text is ending = subst (λ (a : Result Job Stop). Ends a before after exit text) (sym is) ending
+outcome_of words slots job before after exit text is ending =
+    subst (λ (a : Result Job Stop). Ends a before after exit text) (sym is) ending
 
-stop_outcome : (words : List (List ℕ)) (slots : Slot → List ℕ) (stop : Stop) (before : Lent) (exit : Exit) (text : List ℕ) → accepted words slots ≡ Err stop → IsStoppedBy stop exit text
+stop_outcome : (words : List (List ℕ)) (slots : Slot → List ℕ) (stop : Stop) (before : Lent) (exit : Exit)
+    (text : List ℕ) → accepted words slots ≡ Err stop → IsStoppedBy stop exit text
     → IsOutcome words slots before before exit text
 unfolding IsOutcome
 stop_outcome words slots stop before exit text is by =
-    subst (λ (a : Result Job Stop). Ends a before before exit text) (sym is) (record { is_exit = by.is_exit; is_line = by.is_line; untold = λ name. refl })
+    subst (λ (a : Result Job Stop). Ends a before before exit text) (sym is)
+    (record { is_exit = by.is_exit; is_line = by.is_line; untold = λ name. refl })
 
 -- of an exit after the days
 answers_after : (exit : Exit) → IsAfterDays exit → IsTrue (is_answer exit)
@@ -71,9 +76,18 @@ words_after exit after bad = subst IsAfterDays bad after
 
 -- what becomes of the shelf
 module _ {A : Type 0} (before after : OnShelf) (r : Result A Stop) where
-  others_kept : (request : Option Request) → TakesAsked request before after r → KeepsOthers (slots_read request) before after
-  others_kept None takes = record { left = λ slot none. ap (λ (x : OnShelf). x.left slot) takes.1; taken = λ slot none. ap (λ (x : OnShelf). x.taken slot) takes.1; faults = λ slot none. ap (λ (x : OnShelf). x.faults slot) takes.1 }
-  others_kept (Some request) takes = record { left = takes.others; taken = takes.others_taken; faults = takes.others_faults }
+  others_kept : (request : Option Request) → TakesAsked request before after r
+      → KeepsOthers (slots_read request) before after
+  others_kept None takes = record {
+    left = λ slot none. ap (λ (x : OnShelf). x.left slot) takes.1;
+    taken = λ slot none. ap (λ (x : OnShelf). x.taken slot) takes.1;
+    faults = λ slot none. ap (λ (x : OnShelf). x.faults slot) takes.1;
+  }
+  others_kept (Some request) takes = record {
+    left = takes.others;
+    taken = takes.others_taken;
+    faults = takes.others_faults;
+  }
 
   none_fell : (request : Option Request) → TakesAsked request before after r → NoneFell before.faults after.faults
   none_fell None takes = λ slot. omega (arith, ap (λ (x : OnShelf). x.faults slot) takes.1)
@@ -84,12 +98,16 @@ module _ {A : Type 0} (before after : OnShelf) (r : Result A Stop) where
   untouched (Some request) takes none = absurd (no_none request none)
 
 -- the run came to its days
-module _ (words : List (List ℕ)) (shelf shelf' : OnShelf) (before after : Lent) (x : Request × Input) (takes : TakesAll words shelf shelf' (Ok x)) (back : AreBack before after)
+module _ (words : List (List ℕ)) (shelf shelf' : OnShelf) (before after : Lent) (x : Request × Input)
+    (takes : TakesAll words shelf shelf' (Ok x)) (back : AreBack before after)
     (idle : IsIdle x.0 → Untold before after) where
-  told_of_mode : (slots : Slot → List ℕ) → Tells (slots_read (request_of words)) shelf.left slots → Tells (slots_of x.0.mode) shelf.left slots
-  told_of_mode slots = let P : Option Request → Type 0 = λ q. Tells (slots_read q) shelf.left slots in subst P takes.asked
+  told_of_mode : (slots : Slot → List ℕ) → Tells (slots_read (request_of words)) shelf.left slots
+      → Tells (slots_of x.0.mode) shelf.left slots
+  told_of_mode slots = let P : Option Request → Type 0 = λ q. Tells (slots_read q) shelf.left slots in
+      subst P takes.asked
 
-  accepted_is : (slots : Slot → List ℕ) → Tells (slots_read (request_of words)) shelf.left slots → accepted words slots ≡ Ok takes.input.job
+  accepted_is : (slots : Slot → List ℕ) → Tells (slots_read (request_of words)) shelf.left slots
+      → accepted words slots ≡ Ok takes.input.job
   accepted_is slots tells =
       let P : Option Request → Type 0 = λ q. (asked q >>= (λ request. job_of request slots)) ≡ Ok takes.input.job in
       subst P (sym takes.asked) (takes.input.is_accepted slots (told_of_mode slots tells))
@@ -103,20 +121,26 @@ module _ (words : List (List ℕ)) (shelf shelf' : OnShelf) (before after : Lent
   asks_none : WantsNoPicker (request_of words) → Untold before after
   asks_none none = idle (subst WantsNoPicker takes.asked none)
 
-  all_read : (slots : Slot → List ℕ) → Tells (slots_read (request_of words)) shelf.left slots → (slot : Slot) → Contains (slots_read (request_of words)) slot → shelf'.left slot ≡ Some []
+  all_read : (slots : Slot → List ℕ) → Tells (slots_read (request_of words)) shelf.left slots → (slot : Slot)
+      → Contains (slots_read (request_of words)) slot → shelf'.left slot ≡ Some []
   all_read slots tells slot among =
-      let P : Option Request → Type 0 = λ q. Contains (slots_read q) slot in read.ends slots (told_of_mode slots tells) slot (subst P takes.asked among)
+      let P : Option Request → Type 0 = λ q. Contains (slots_read q) slot in
+      read.ends slots (told_of_mode slots tells) slot (subst P takes.asked among)
 
   read_all : SameFaults (slots_read (request_of words)) shelf shelf'
-  read_all slot among = let P : Option Request → Type 0 = λ q. Contains (slots_read q) slot in quiet_in (read.told slot (subst P takes.asked among))
+  read_all slot among = let P : Option Request → Type 0 = λ q. Contains (slots_read q) slot in
+      quiet_in (read.told slot (subst P takes.asked among))
 
   pub replies_played : {E : Type 0} (result : Result Reply E)
-      → ((job : Job) → IsJobOf x.0 job → IsInputOf job x.1 → IfOk result (λ reply. IsEnding job before after reply.exit reply.text.items)) → Replies words shelf shelf' before after result
+      → ((job : Job) → IsJobOf x.0 job → IsInputOf job x.1
+      → IfOk result (λ reply. IsEnding job before after reply.exit reply.text.items))
+      → Replies words shelf shelf' before after result
   replies_played (Ok reply) ends =
       let ending = ends takes.input.job takes.input.is_job takes.input.is_input in
       let exit = ending_exit takes.input.job before after reply.exit reply.text.items ending in
       record {
-        outcome = λ slots tells answers. outcome_of words slots takes.input.job before after reply.exit reply.text.items (accepted_is slots tells) ending;
+        outcome = λ slots tells answers. outcome_of words slots takes.input.job before after reply.exit reply.text.items
+            (accepted_is slots tells) ending;
         kinds = inl (answers_after reply.exit exit);
         same_faults = λ answers. read_all;
         untold = λ asks. absurd (asks_after reply.exit exit asks);
@@ -129,7 +153,8 @@ module _ (words : List (List ℕ)) (shelf shelf' : OnShelf) (before after : Lent
         back = back;
         idle = asks_none;
         complete = λ slots tells fits none.
-            ending_done takes.input.job before after reply.exit reply.text.items ending (subst (λ (a : Result Job Stop). IsOkAnd a CanBeDone) (accepted_is slots tells) fits);
+            ending_done takes.input.job before after reply.exit reply.text.items ending
+            (subst (λ (a : Result Job Stop). IsOkAnd a CanBeDone) (accepted_is slots tells) fits);
       }
   replies_played (Err e) ends = record {
     outcome = tt;
@@ -152,7 +177,8 @@ module _ (words : List (List ℕ)) (shelf shelf' : OnShelf) (before : Lent) wher
   abbrev Slots : Option Request → Stop → Type 0
   Slots request stop = TakesAsked {A = Request × Input} request shelf shelf' (Err stop)
 
-  stop_kind : (request : Option Request) (stop : Stop) (exit : Exit) (text : List ℕ) → Slots request stop → IsStoppedBy stop exit text
+  stop_kind : (request : Option Request) (stop : Stop) (exit : Exit) (text : List ℕ) → Slots request stop
+      → IsStoppedBy stop exit text
       → IsTrue (is_answer exit) ⊎ ((exit ≡ exits.ReadFault) × NamesFault request shelf shelf' text)
   stop_kind request stops.BadWords exit text takes by = inl (rw by.is_exit refl)
   stop_kind request (stops.Refused refusal) exit text takes by = inl (rw by.is_exit refl)
@@ -162,7 +188,8 @@ module _ (words : List (List ℕ)) (shelf shelf' : OnShelf) (before : Lent) wher
   stop_kind (Some request) (stops.ReadFault slot) exit text takes by =
       inr (by.is_exit, record { good_words = refl; slot = slot; fault = takes.cause; is_line = by.is_line })
 
-  stop_bad : (request : Option Request) (stop : Stop) (exit : Exit) (text : List ℕ) → Slots request stop → IsStoppedBy stop exit text → exit ≡ exits.BadWords → IsNone request
+  stop_bad : (request : Option Request) (stop : Stop) (exit : Exit) (text : List ℕ) → Slots request stop
+      → IsStoppedBy stop exit text → exit ≡ exits.BadWords → IsNone request
   stop_bad None stop exit text takes by bad = refl
   stop_bad (Some request) stops.BadWords exit text takes by bad = absurd takes.cause
   stop_bad (Some request) (stops.Refused refusal) exit text takes by bad = absurd (cc (by.is_exit, bad))
@@ -170,7 +197,8 @@ module _ (words : List (List ℕ)) (shelf shelf' : OnShelf) (before : Lent) wher
   stop_bad (Some request) (stops.ReadFault slot) exit text takes by bad = absurd (cc (by.is_exit, bad))
   stop_bad (Some request) stops.OutOfMemory exit text takes by bad = absurd (by.not_memory refl)
 
-  stop_only : (request : Option Request) (stop : Stop) (exit : Exit) (text : List ℕ) → Slots request stop → IsStoppedBy stop exit text → IsNone request → exit ≡ exits.BadWords
+  stop_only : (request : Option Request) (stop : Stop) (exit : Exit) (text : List ℕ) → Slots request stop
+      → IsStoppedBy stop exit text → IsNone request → exit ≡ exits.BadWords
   stop_only (Some request) stop exit text takes by none = absurd (no_none request none)
   stop_only None stops.BadWords exit text takes by none = by.is_exit
   stop_only None (stops.Refused refusal) exit text takes by none = absurd takes.0
@@ -178,21 +206,26 @@ module _ (words : List (List ℕ)) (shelf shelf' : OnShelf) (before : Lent) wher
   stop_only None (stops.ReadFault slot) exit text takes by none = absurd takes.0
   stop_only None stops.OutOfMemory exit text takes by none = absurd (by.not_memory refl)
 
-  not_fault : (stop : Stop) (slot : Slot) (exit : Exit) (text : List ℕ) → IsStoppedBy stop exit text → IsTrue (is_answer exit) → stop ≡ stops.ReadFault slot → ⊥
+  not_fault : (stop : Stop) (slot : Slot) (exit : Exit) (text : List ℕ) → IsStoppedBy stop exit text
+      → IsTrue (is_answer exit) → stop ≡ stops.ReadFault slot → ⊥
   not_fault stop slot exit text by answers is =
       let P : Stop → Type 0 = λ s. IsStoppedBy s exit text in
       let faulted : IsStoppedBy (stops.ReadFault slot) exit text = subst P is by in
       false≢true (rw faulted.is_exit at answers)
 
-  still_there : (stop : Stop) (slot : Slot) (exit : Exit) (text : List ℕ) → IsStoppedBy stop exit text → IsTrue (is_answer exit)
-      → (shelf'.faults slot ≡ shelf.faults slot) ⊎ (stop ≡ stops.ReadFault slot) → shelf'.faults slot ≡ shelf.faults slot
+  still_there : (stop : Stop) (slot : Slot) (exit : Exit) (text : List ℕ) → IsStoppedBy stop exit text
+      → IsTrue (is_answer exit)
+      → (shelf'.faults slot ≡ shelf.faults slot) ⊎ (stop ≡ stops.ReadFault slot)
+      → shelf'.faults slot ≡ shelf.faults slot
   still_there stop slot exit text by answers (inl same) = same
   still_there stop slot exit text by answers (inr fault) = absurd (not_fault stop slot exit text by answers fault)
 
-  stop_none : (request : Option Request) (stop : Stop) (exit : Exit) (text : List ℕ) → Slots request stop → IsStoppedBy stop exit text → IsTrue (is_answer exit)
+  stop_none : (request : Option Request) (stop : Stop) (exit : Exit) (text : List ℕ) → Slots request stop
+      → IsStoppedBy stop exit text → IsTrue (is_answer exit)
       → SameFaults (slots_read request) shelf shelf'
   stop_none None stop exit text takes by answers slot among = ap (λ (x : OnShelf). x.faults slot) takes.1
-  stop_none (Some request) stop exit text takes by answers slot among = still_there stop slot exit text by answers (takes.told slot among)
+  stop_none (Some request) stop exit text takes by answers slot among =
+      still_there stop slot exit text by answers (takes.told slot among)
 
   stop_done : (stop : Stop) (exit : Exit) (text : List ℕ) → IsStoppedBy stop exit text → exit ≡ exits.Done → ⊥
   stop_done stops.BadWords exit text by done = cc (by.is_exit, done)
@@ -201,31 +234,40 @@ module _ (words : List (List ℕ)) (shelf shelf' : OnShelf) (before : Lent) wher
   stop_done (stops.ReadFault slot) exit text by done = cc (by.is_exit, done)
   stop_done stops.OutOfMemory exit text by done = by.not_memory refl
 
-  stop_answers : (slots : Slot → List ℕ) (stop : Stop) (exit : Exit) (text : List ℕ) → Stopped stop (accepted words slots) → IsStoppedBy stop exit text → IsTrue (is_answer exit)
+  stop_answers : (slots : Slot → List ℕ) (stop : Stop) (exit : Exit) (text : List ℕ)
+      → Stopped stop (accepted words slots) → IsStoppedBy stop exit text → IsTrue (is_answer exit)
       → IsOutcome words slots before before exit text
-  stop_answers slots stops.BadWords exit text is by answers = stop_outcome words slots stops.BadWords before exit text is by
-  stop_answers slots (stops.Refused refusal) exit text is by answers = stop_outcome words slots (stops.Refused refusal) before exit text is by
-  stop_answers slots (stops.NoSuch name) exit text is by answers = stop_outcome words slots (stops.NoSuch name) before exit text is by
+  stop_answers slots stops.BadWords exit text is by answers =
+      stop_outcome words slots stops.BadWords before exit text is by
+  stop_answers slots (stops.Refused refusal) exit text is by answers =
+      stop_outcome words slots (stops.Refused refusal) before exit text is by
+  stop_answers slots (stops.NoSuch name) exit text is by answers =
+      stop_outcome words slots (stops.NoSuch name) before exit text is by
   stop_answers slots (stops.ReadFault slot) exit text is by answers = absurd (false≢true (rw by.is_exit at answers))
   stop_answers slots stops.OutOfMemory exit text is by answers = absurd (by.not_memory refl)
 
-  no_job : (slots : Slot → List ℕ) (stop : Stop) → accepted words slots ≡ Err stop → IsOkAnd (accepted words slots) CanBeDone → ⊥
+  no_job : (slots : Slot → List ℕ) (stop : Stop) → accepted words slots ≡ Err stop
+      → IsOkAnd (accepted words slots) CanBeDone → ⊥
   no_job slots stop is fits = subst (λ (a : Result Job Stop). IsOkAnd a CanBeDone) is fits
 
   -- a stop, though the job is accepted and no read failed
-  no_stop : (request : Option Request) (slots : Slot → List ℕ) (stop : Stop) (exit : Exit) (text : List ℕ) → Slots request stop → Stopped stop (accepted words slots) → IsStoppedBy stop exit text
+  no_stop : (request : Option Request) (slots : Slot → List ℕ) (stop : Stop) (exit : Exit) (text : List ℕ)
+      → Slots request stop → Stopped stop (accepted words slots) → IsStoppedBy stop exit text
       → IsOkAnd (accepted words slots) CanBeDone → ((slot : Slot) → ¬ Rose (shelf.faults slot) (shelf'.faults slot)) → ⊥
   no_stop request slots stops.BadWords exit text takes is by fits none = no_job slots stops.BadWords is fits
-  no_stop request slots (stops.Refused refusal) exit text takes is by fits none = no_job slots (stops.Refused refusal) is fits
+  no_stop request slots (stops.Refused refusal) exit text takes is by fits none =
+      no_job slots (stops.Refused refusal) is fits
   no_stop request slots (stops.NoSuch name) exit text takes is by fits none = no_job slots (stops.NoSuch name) is fits
   no_stop None slots (stops.ReadFault slot) exit text takes is by fits none = takes.0
   no_stop (Some request) slots (stops.ReadFault slot) exit text takes is by fits none = none slot takes.cause.rose
   no_stop request slots stops.OutOfMemory exit text takes is by fits none = by.not_memory refl
 
-  pub replies_stopped : {E : Type 0} (stop : Stop) (result : Result Reply E) → TakesAll words shelf shelf' (Err stop) → IfOk result (λ reply. IsStoppedBy stop reply.exit reply.text.items)
+  pub replies_stopped : {E : Type 0} (stop : Stop) (result : Result Reply E) → TakesAll words shelf shelf' (Err stop)
+      → IfOk result (λ reply. IsStoppedBy stop reply.exit reply.text.items)
       → Replies words shelf shelf' before before result
   replies_stopped stop (Ok reply) takes by = record {
-    outcome = λ slots tells answers. stop_answers slots stop reply.exit reply.text.items (takes.stop slots tells) by answers;
+    outcome = λ slots tells answers. stop_answers slots stop reply.exit reply.text.items
+        (takes.stop slots tells) by answers;
     kinds = stop_kind (request_of words) stop reply.exit reply.text.items takes.slots by;
     same_faults = stop_none (request_of words) stop reply.exit reply.text.items takes.slots by;
     untold = λ asks name. refl;
@@ -237,7 +279,8 @@ module _ (words : List (List ℕ)) (shelf shelf' : OnShelf) (before : Lent) wher
     counts = none_fell shelf shelf' _ (request_of words) takes.slots;
     back = back_untouched before;
     idle = λ none name. refl;
-    complete = λ slots tells fits none. absurd (no_stop (request_of words) slots stop reply.exit reply.text.items takes.slots (takes.stop slots tells) by fits none);
+    complete = λ slots tells fits none. absurd (no_stop (request_of words) slots stop reply.exit reply.text.items
+        takes.slots (takes.stop slots tells) by fits none);
   }
   replies_stopped stop (Err e) takes by = record {
     outcome = tt;

@@ -1,5 +1,6 @@
 -- What the words ask for, taken in.
-use Rattle.std.proofs.Common.{◌≡◌, ◌∙◌, ℕ, ◌≤◌, List, [], ◌∷◌, Option, None, Some, Result, Ok, Err, IsErrAnd, ap, arith, inl, map, refl, subst, sym}
+use Rattle.std.proofs.Common.{◌≡◌, ◌∙◌, ℕ, ◌≤◌, List, [], ◌∷◌, Option, None, Some, Result, Ok, Err, IsErrAnd, ap, arith}
+use Rattle.std.proofs.Common.{inl, map, refl, subst, sym}
 use Rattle.admit_core.specs.Relations.{school_ids}
 use Rattle.admit_core.specs.Standing.{dossier_of, school_of_row, wish_of_row}
 use Rattle.admit_core.specs.declared.dossier.School.{School}
@@ -25,7 +26,8 @@ use Rattle.replay_cli.specs.Answering.{IsOfWords, TakesAll, TakesAsked}
 use Rattle.replay_cli.specs.Outcome.{slots_read}
 
 -- memory runs out before anything is taken
-takes_nothing : (A : Type 0) (order : List Slot) (shelf : OnShelf) → TakesSlots {A = A} order shelf shelf (Err stops.OutOfMemory)
+takes_nothing : (A : Type 0) (order : List Slot) (shelf : OnShelf)
+    → TakesSlots {A = A} order shelf shelf (Err stops.OutOfMemory)
 takes_nothing A order shelf = record {
   ends = λ slots tells. tt;
   once = λ slot among. omega arith;
@@ -37,12 +39,14 @@ takes_nothing A order shelf = record {
   others_faults = λ slot none. refl;
 }
 
-nothing_asked : (request : Option Request) (shelf : OnShelf) → TakesAsked {A = Request × Input} request shelf shelf (Err stops.OutOfMemory)
+nothing_asked : (request : Option Request) (shelf : OnShelf)
+    → TakesAsked {A = Request × Input} request shelf shelf (Err stops.OutOfMemory)
 nothing_asked None shelf = (tt, refl)
 nothing_asked (Some request) shelf = takes_nothing (Request × Input) (slots_of request.mode) shelf
 
 -- the words are not read
-unread : (words : List (List ℕ)) (shelf : OnShelf) (refusal : WordsRefusal) → Reads (Err refusal) (request_of words) → TakesAll words shelf shelf (Err (words_stop refusal))
+unread : (words : List (List ℕ)) (shelf : OnShelf) (refusal : WordsRefusal) → Reads (Err refusal) (request_of words)
+    → TakesAll words shelf shelf (Err (words_stop refusal))
 unread words shelf refusals.Bad none = record {
   asked = tt;
   known = tt;
@@ -50,7 +54,8 @@ unread words shelf refusals.Bad none = record {
   stop = λ slots tells.
       let P : Option Request → Type 0 = λ q. (asked q >>= (λ request. job_of request slots)) ≡ Err stops.BadWords in
       subst P (sym none) refl;
-  slots = let P : Option Request → Type 0 = λ q. TakesAsked {A = Request × Input} q shelf shelf (Err stops.BadWords) in subst P (sym none) (tt, refl);
+  slots = let P : Option Request → Type 0 = λ q. TakesAsked {A = Request × Input} q shelf shelf (Err stops.BadWords) in
+      subst P (sym none) (tt, refl);
 }
 unread words shelf refusals.OutOfMemory none = record {
   asked = tt;
@@ -60,13 +65,18 @@ unread words shelf refusals.OutOfMemory none = record {
   slots = nothing_asked (request_of words) shelf;
 }
 
-pub takes_unread : (words : List (List ℕ)) (shelf : OnShelf) (refusal : WordsRefusal) (r : Result (Request × Input) Stop) → Reads (Err refusal) (request_of words) → IsErrAnd r (λ stop. stop ≡ words_stop refusal)
+pub takes_unread : (words : List (List ℕ)) (shelf : OnShelf) (refusal : WordsRefusal)
+    (r : Result (Request × Input) Stop) → Reads (Err refusal) (request_of words)
+    → IsErrAnd r (λ stop. stop ≡ words_stop refusal)
     → TakesAll words shelf shelf r
 takes_unread words shelf refusal (Ok x) reads from = absurd from
-takes_unread words shelf refusal (Err stop) reads from = subst (λ (s : Stop). TakesAll words shelf shelf (Err s)) (sym from) (unread words shelf refusal reads)
+takes_unread words shelf refusal (Err stop) reads from =
+    subst (λ (s : Stop). TakesAll words shelf shelf (Err s)) (sym from) (unread words shelf refusal reads)
 
-module _ (words : List (List ℕ)) (request : Request) (before after : OnShelf) (is : request_of words ≡ Some request) where
-  asked_slots : {r : Result (Request × Input) Stop} → TakesSlots (slots_of request.mode) before after r → TakesAsked (request_of words) before after r
+module _ (words : List (List ℕ)) (request : Request) (before after : OnShelf)
+    (is : request_of words ≡ Some request) where
+  asked_slots : {r : Result (Request × Input) Stop} → TakesSlots (slots_of request.mode) before after r
+      → TakesAsked (request_of words) before after r
   asked_slots {r} slots = let P : Option Request → Type 0 = λ q. TakesAsked q before after r in subst P (sym is) slots
 
   -- there is no input
@@ -91,11 +101,14 @@ module _ (words : List (List ℕ)) (request : Request) (before after : OnShelf) 
     });
   }
 
-  pub takes_stop : (stop : Stop) (r : Result (Request × Input) Stop) → TakesIn request before after (Err stop) → IsErrAnd r (λ s. s ≡ stop) → TakesAll words before after r
+  pub takes_stop : (stop : Stop) (r : Result (Request × Input) Stop) → TakesIn request before after (Err stop)
+      → IsErrAnd r (λ s. s ≡ stop) → TakesAll words before after r
   takes_stop stop (Ok x) takes from = absurd from
-  takes_stop stop (Err other) takes from = subst (λ (s : Stop). TakesAll words before after (Err s)) (sym from) (no_input stop takes)
+  takes_stop stop (Err other) takes from =
+      subst (λ (s : Stop). TakesAll words before after (Err s)) (sym from) (no_input stop takes)
 
-  pub takes_input : (input : Input) → IsRequest request → TakesIn request before after (Ok input) → TakesAll words before after (Ok (request, input))
+  pub takes_input : (input : Input) → IsRequest request → TakesIn request before after (Ok input)
+      → TakesAll words before after (Ok (request, input))
   takes_input input known takes = record {
     asked = is;
     known = known;
@@ -114,18 +127,24 @@ module _ (words : List (List ℕ)) (request : Request) (before after : OnShelf) 
   }
 
 -- what a mode names is in its input
-pub named_in : (request : Request) (before : OnShelf) (input : Input) → IsInputFor request before input → NamesIn request.mode input.index
+pub named_in : (request : Request) (before : OnShelf) (input : Input) → IsInputFor request before input
+    → NamesIn request.mode input.index
 named_in request before input is = subst (NamesIn request.mode) (sym is.is_input.index) is.is_job.named
 
 -- the ids of tables are those of their dossier
-ids_same : {X Y : Type 0} (id : X → ℕ) (own : Y → ℕ) (made : X → Y) (xs : List X) → ((x : X) → own (made x) ≡ id x) → map id xs ≡ map own (map made xs)
+ids_same : {X Y : Type 0} (id : X → ℕ) (own : Y → ℕ) (made : X → Y) (xs : List X) → ((x : X) → own (made x) ≡ id x)
+    → map id xs ≡ map own (map made xs)
 ids_same id own made [] same = refl
-ids_same id own made (x ∷ xs) same = ap (λ n. n ∷ map id xs) (sym (same x)) ∙ ap (λ (ns : List ℕ). own (made x) ∷ ns) (ids_same id own made xs same)
+ids_same id own made (x ∷ xs) same = ap (λ n. n ∷ map id xs) (sym (same x))
+    ∙ ap (λ (ns : List ℕ). own (made x) ∷ ns) (ids_same id own made xs same)
 
 ids_are : (t : Tables) → ids_of t ≡ ids_in (dossier_of t)
 ids_are t =
-    ap (λ (ws : List ℕ). record { wishes = ws; schools = school_ids t }) (ids_same (λ (w : WishRow). w.id) (λ (w : Wish). w.id) (wish_of_row t) t.wishes (λ w. refl))
-    ∙ ap (λ (hs : List ℕ). record { wishes = map (λ (w : Wish). w.id) (dossier_of t).wishes; schools = hs }) (ids_same (λ (h : SchoolRow). h.id) (λ (h : School). h.id) school_of_row t.schools (λ h. refl))
+    ap (λ (ws : List ℕ). record { wishes = ws; schools = school_ids t })
+    (ids_same (λ (w : WishRow). w.id) (λ (w : Wish). w.id) (wish_of_row t) t.wishes (λ w. refl))
+    ∙ ap (λ (hs : List ℕ). record { wishes = map (λ (w : Wish). w.id) (dossier_of t).wishes; schools = hs })
+    (ids_same (λ (h : SchoolRow). h.id) (λ (h : School). h.id) school_of_row t.schools (λ h. refl))
 
-pub indexed_in : (request : Request) (before : OnShelf) (input : Input) → IsInputFor request before input → input.index ≡ ids_in input.dossier
+pub indexed_in : (request : Request) (before : OnShelf) (input : Input) → IsInputFor request before input
+    → input.index ≡ ids_in input.dossier
 indexed_in request before input is = is.is_input.index ∙ ids_are is.job.tables ∙ ap ids_in (sym is.is_input.dossier)

@@ -1,5 +1,6 @@
 -- What a run writes of its reply.
-use Rattle.std.proofs.Common.{◌≡◌, ◌≢◌, ◌∙◌, false, ℕ, ◌≤◌, ◌⊎◌, List, [], Option, None, Some, Result, Ok, Err, IsTrue, inl, inr, refl, subst, sym}
+use Rattle.std.proofs.Common.{◌≡◌, ◌≢◌, ◌∙◌, false, ℕ, ◌≤◌, ◌⊎◌, List, [], Option, None, Some, Result, Ok, Err, IsTrue}
+use Rattle.std.proofs.Common.{inl, inr, refl, subst, sym}
 use Rattle.std.specs.Io.KnownBytes.{Appends}
 use Rattle.std.proofs.lemmas.Bool.{false≢true}
 use Rattle.std.proofs.lemmas.List.{append-nil}
@@ -24,16 +25,25 @@ appends_none None = tt
 appends_none (Some xs) = sym (append-nil xs)
 
 -- a reply is an answer, or the line of a read fault
-not_of_sink : (exit other : Exit) (Fault : Type 0) → is_answer other ≡ false → other ≢ exits.ReadFault → IsTrue (is_answer exit) ⊎ ((exit ≡ exits.ReadFault) × Fault) → exit ≡ other → ⊥
+not_of_sink : (exit other : Exit) (Fault : Type 0) → is_answer other ≡ false → other ≢ exits.ReadFault
+    → IsTrue (is_answer exit) ⊎ ((exit ≡ exits.ReadFault) × Fault) → exit ≡ other → ⊥
 not_of_sink exit other Fault none fault kind is =
     elim kind [ inl answers ↦ false≢true (sym none ∙ (rw is at answers)) | inr faulted ↦ fault (sym is ∙ faulted.0) ]
 
-fault_of : (exit : Exit) (Fault : Type 0) → IsTrue (is_answer exit) ⊎ ((exit ≡ exits.ReadFault) × Fault) → exit ≡ exits.ReadFault → Fault
-fault_of exit Fault kind is = elim kind [ inl answers ↦ absurd (false≢true (rw is at answers)) | inr faulted ↦ faulted.1 ]
+fault_of : (exit : Exit) (Fault : Type 0) → IsTrue (is_answer exit) ⊎ ((exit ≡ exits.ReadFault) × Fault)
+    → exit ≡ exits.ReadFault → Fault
+fault_of exit Fault kind is = elim kind [
+  | inl answers ↦ absurd (false≢true (rw is at answers))
+  | inr faulted ↦
+      faulted.1
+]
 
-module _ {E : Type 0} (words : List (List ℕ)) (before after : Around) (counts : before.sink.faults ≤ after.sink.faults) where
-  module _ (reply : Reply) (replies : Replies {E = E} words before.shelf after.shelf before.pickers after.pickers (Ok reply)) where
-    whole : (slots : Slot → List ℕ) → Tells (slots_read (request_of words)) before.shelf.left slots → IsWhole words slots before after reply.text.items
+module _ {E : Type 0} (words : List (List ℕ)) (before after : Around)
+    (counts : before.sink.faults ≤ after.sink.faults) where
+  module _ (reply : Reply) (replies : Replies {E = E} words before.shelf after.shelf before.pickers after.pickers
+      (Ok reply)) where
+    whole : (slots : Slot → List ℕ) → Tells (slots_read (request_of words)) before.shelf.left slots
+        → IsWhole words slots before after reply.text.items
     whole slots tells =
         elim replies.kinds [
           | inl answers ↦ inl (reply.exit, replies.outcome slots tells answers)
@@ -54,8 +64,14 @@ module _ {E : Type 0} (words : List (List ℕ)) (before after : Around) (counts 
           bad_words = replies.bad_words;
           same_faults = replies.same_faults;
           words_first = λ none. record { exits = inl (replies.only_bad none); shelf = replies.untouched none };
-          read_fault = λ is.
-              (reply.text.items, record { names = fault_of reply.exit _ replies.kinds is; untold = replies.untold (rw is refl) }, all);
+          read_fault = λ is. (
+            reply.text.items,
+            record {
+              names = fault_of reply.exit _ replies.kinds is;
+              untold = replies.untold (rw is refl);
+            },
+            all,
+          );
           write_fault = λ is. absurd (not_of_sink reply.exit exits.WriteFault _ refl (λ e. cc) replies.kinds is);
           counts = record { reads = replies.counts; writes = counts };
           back = replies.back;
@@ -63,7 +79,8 @@ module _ {E : Type 0} (words : List (List ℕ)) (before after : Around) (counts 
           idle = replies.idle;
         }
 
-    failed : AppendsPart before.sink.held after.sink.held reply.text.items → Rose before.sink.faults after.sink.faults → IsRun words before after exits.WriteFault
+    failed : AppendsPart before.sink.held after.sink.held reply.text.items → Rose before.sink.faults after.sink.faults
+        → IsRun words before after exits.WriteFault
     failed part rose = record {
       answers = λ slots tells. record {
         outcome = λ is. absurd (false≢true is);
@@ -106,13 +123,16 @@ module _ {E : Type 0} (words : List (List ℕ)) (before after : Around) (counts 
     }
 
   -- there was no memory for the reply
-  unanswered : (e : E) → after.sink ≡ before.sink → Replies {E = E} words before.shelf after.shelf before.pickers after.pickers (Err e) → IsRun words before after exits.NoMemory
+  unanswered : (e : E) → after.sink ≡ before.sink
+      → Replies {E = E} words before.shelf after.shelf before.pickers after.pickers (Err e)
+      → IsRun words before after exits.NoMemory
   unanswered e same replies = record {
     answers = λ slots tells. record {
       outcome = λ is. absurd (false≢true is);
       ends = λ is. absurd (cc);
       cut_off = λ is. absurd (cc);
-      no_memory = λ is. inl (subst (λ (sink : AtSink). Appends before.sink.held sink.held []) (sym same) (appends_none before.sink.held));
+      no_memory = λ is. inl (subst (λ (sink : AtSink). Appends before.sink.held sink.held []) (sym same)
+          (appends_none before.sink.held));
       complete = λ fits none. inr refl;
     };
     others = replies.others;
@@ -128,13 +148,18 @@ module _ {E : Type 0} (words : List (List ℕ)) (before after : Around) (counts 
   }
 
   -- a run whose reply was delivered
-  taken : (reply : Reply) → Replies {E = E} words before.shelf after.shelf before.pickers after.pickers (Ok reply) → (refusal : Option IoRefusal)
+  taken : (reply : Reply) → Replies {E = E} words before.shelf after.shelf before.pickers after.pickers (Ok reply)
+      → (refusal : Option IoRefusal)
       → Takes reply.text.items before.sink after.sink refusal → IsRun words before after (exit_after refusal reply.exit)
   taken reply replies None takes = written reply replies takes
   taken reply replies (Some refusals.Failed) takes = failed reply replies takes.0 takes.1
   taken reply replies (Some refusals.OutOfMemory) takes = cut reply replies takes
 
-  pub delivered : (result : Result Reply E) (exit : Exit) → Replies words before.shelf after.shelf before.pickers after.pickers result → Delivers result before.sink after.sink exit
+  pub delivered : (result : Result Reply E) (exit : Exit)
+      → Replies words before.shelf after.shelf before.pickers after.pickers result
+      → Delivers result before.sink after.sink exit
       → IsRun words before after exit
-  delivered (Ok reply) exit replies delivers = subst (IsRun words before after) (sym delivers.2) (taken reply replies delivers.0 delivers.1)
-  delivered (Err error) exit replies delivers = subst (IsRun words before after) (sym delivers.0) (unanswered error delivers.1 replies)
+  delivered (Ok reply) exit replies delivers =
+      subst (IsRun words before after) (sym delivers.2) (taken reply replies delivers.0 delivers.1)
+  delivered (Err error) exit replies delivers =
+      subst (IsRun words before after) (sym delivers.0) (unanswered error delivers.1 replies)

@@ -1,5 +1,6 @@
 -- What a run answers before anything is written.
-use Rattle.std.specs.Prelude.{◌≡◌, ◌⊎◌, ℕ, List, [], Contains, Option, None, Some, Result, Ok, Err, IfErr, IfOk, IsErrAnd, IsNone, IsOkAnd, IsTrue, ⊤}
+use Rattle.std.specs.Prelude.{◌≡◌, ◌⊎◌, ℕ, List, [], Contains, Option, None, Some, Result, Ok, Err, IfErr, IfOk}
+use Rattle.std.specs.Prelude.{IsErrAnd, IsNone, IsOkAnd, IsTrue, ⊤}
 use Rattle.admit_core.specs.declared.slot.Slot.{Slot}
 use Rattle.intake.specs.Input.{IsInputFor, Job, accepted}
 use Rattle.intake.specs.Shelves.{OnShelf, TakesSlots, Tells}

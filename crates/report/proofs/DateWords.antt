@@ -12,7 +12,8 @@ two_decimal n large small = rw (decimal_step n large (omega arith), decimal_digi
 padded : (n : ℕ) → n < 100 → styled_decimal (format_spec 32 0 4 2 (2 ^ 64 - 1)) n ≡ two_digits n
 unfolding padded_integral char_count
 padded n small = ⊎_elim
-    (λ one. let high : n / 10 ≡ 0 = omega arith in let low : n % 10 ≡ n = omega arith in rw (decimal_digit n one, high, low))
+    (λ one. let high : n / 10 ≡ 0 = omega arith in let low : n % 10 ≡ n = omega arith in
+    rw (decimal_digit n one, high, low))
     (λ two. rw (two_decimal n two small))
     (cases_lt n 10)
 
@@ -36,5 +37,7 @@ four_decimal n large small =
     refl
 
 pub written_date : (year month day : ℕ) → 1900 ≤ year → year ≤ 2310 → month < 100 → day < 100
-    → decimal year ++ 45 ∷ (styled_decimal (format_spec 32 0 4 2 (2 ^ 64 - 1)) month ++ 45 ∷ styled_decimal (format_spec 32 0 4 2 (2 ^ 64 - 1)) day) ≡ text_of (year, month, day)
-written_date year month day low high m d = rw (four_decimal year (omega arith) (omega arith), padded month m, padded day d) refl
+    → decimal year ++ 45 ∷ (styled_decimal (format_spec 32 0 4 2 (2 ^ 64 - 1)) month
+    ++ 45 ∷ styled_decimal (format_spec 32 0 4 2 (2 ^ 64 - 1)) day) ≡ text_of (year, month, day)
+written_date year month day low high m d =
+    rw (four_decimal year (omega arith) (omega arith), padded month m, padded day d) refl

@@ -2,7 +2,8 @@
 use Rattle.std.proofs.Common.{refl}
 use Rattle.std.specs.Fmt.{digits}
 use Rattle.calendar.specs.Dates.{date_of, days_of_months, last_started}
-use Rattle.report.specs.WorkedTexts.{AutomaticDays, CascadeDay, DatedFinals, EdgesOfBars, Explanations, LapsingDays, OrderTexts, RealisticDays, RealisticFinal, Refusals, Samples}
+use Rattle.report.specs.WorkedTexts.{AutomaticDays, CascadeDay, DatedFinals, EdgesOfBars, Explanations, LapsingDays}
+use Rattle.report.specs.WorkedTexts.{OrderTexts, RealisticDays, RealisticFinal, Refusals, Samples}
 
 pub order_texts : OrderTexts
 unfolding digits
@@ -34,7 +35,27 @@ explanation_texts = (refl, refl, refl, refl, refl, refl)
 
 pub refusal_lines : Refusals
 unfolding digits
-refusal_lines = (refl, refl, refl, refl, refl, refl, refl, refl, refl, refl, refl, refl, refl, refl, refl, refl, refl, refl, refl)
+refusal_lines = (
+  refl,
+  refl,
+  refl,
+  refl,
+  refl,
+  refl,
+  refl,
+  refl,
+  refl,
+  refl,
+  refl,
+  refl,
+  refl,
+  refl,
+  refl,
+  refl,
+  refl,
+  refl,
+  refl,
+)
 
 pub lapsing_days : LapsingDays
 unfolding digits date_of last_started days_of_months

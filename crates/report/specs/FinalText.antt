@@ -1,5 +1,6 @@
 -- The final state, which reads as a state slot after its first line.
-use Rattle.std.specs.Prelude.{◌≡◌, ℕ, ◌<◌, ℤ, pos, true, List, [], ◌∷◌, ◌++◌, codes, flat_map, length, slice_index_or, if◌then◌else◌}
+use Rattle.std.specs.Prelude.{◌≡◌, ℕ, ◌<◌, ℤ, pos, true, List, [], ◌∷◌, ◌++◌, codes, flat_map, length, slice_index_or}
+use Rattle.std.specs.Prelude.{if◌then◌else◌}
 use Rattle.std.specs.Fmt.{decimal}
 use Rattle.std.specs.List.{enumerate_from}
 use Rattle.admit_core.specs.Answers.{mark_at, status_at}

@@ -2,18 +2,26 @@
 use Rattle.std.specs.Prelude.{◌≡◌, ℕ, ℤ, pos, negsuc, List, [], ◌∷◌, ◌++◌, codes, flat_map}
 use Rattle.admit_core.specs.DossierRows.{DossierRows}
 use Rattle.admit_core.specs.State.{State}
-use Rattle.admit_core.specs.WorkedRows.{better_waits, boarder, cascade, last_marks, limit_state, marked, nothing_freed, old_offer, order, programme, realistic, realistic_days, rows, school, terms, two_offers, wish}
+use Rattle.admit_core.specs.WorkedRows.{better_waits, boarder, cascade, last_marks, limit_state, marked, nothing_freed}
+use Rattle.admit_core.specs.WorkedRows.{old_offer, order, programme, realistic, realistic_days, rows, school, terms}
+use Rattle.admit_core.specs.WorkedRows.{two_offers, wish}
 use Rattle.admit_core.specs.declared.explanation.BarCause.TheVariants.{Ceiling, Full}
 use Rattle.admit_core.specs.declared.explanation.Explanation.TheVariants.{Barred, Gone, Live, NoSeat}
 use Rattle.admit_core.specs.declared.ranking.Bound.TheVariants.{Alone, Both, Free, Resident, Scholar}
 use Rattle.admit_core.specs.declared.records.DayRecord.{DayRecord}
 use Rattle.admit_core.specs.declared.records.Fall.{Fall}
 use Rattle.admit_core.specs.declared.refusal.Reason.{Reason}
-use Rattle.admit_core.specs.declared.refusal.Reason.TheVariants.{DayFalls, FieldCount, Header, NoBoardingRank, NotDate, NotFlag, NotNumber, NotWord, OutOfRange, PreferenceMixed, PreferenceTaken, RankTaken, Repeat, TooLarge, TooManyRows, TwoAccepted, UnfitAnswer, Unknown, Unranked}
+use Rattle.admit_core.specs.declared.refusal.Reason.TheVariants.{DayFalls, FieldCount, Header, NoBoardingRank, NotDate}
+use Rattle.admit_core.specs.declared.refusal.Reason.TheVariants.{NotFlag, NotNumber, NotWord, OutOfRange}
+use Rattle.admit_core.specs.declared.refusal.Reason.TheVariants.{PreferenceMixed, PreferenceTaken, RankTaken, Repeat}
+use Rattle.admit_core.specs.declared.refusal.Reason.TheVariants.{TooLarge, TooManyRows, TwoAccepted, UnfitAnswer}
+use Rattle.admit_core.specs.declared.refusal.Reason.TheVariants.{Unknown, Unranked}
 use Rattle.admit_core.specs.declared.slot.Slot.{Slot}
-use Rattle.admit_core.specs.declared.slot.Slot.TheVariants.{Answers, Groups, Programmes, Rankings, State as StateSlot, Wishes}
+use Rattle.admit_core.specs.declared.slot.Slot.TheVariants.{Answers, Groups, Programmes, Rankings, State as StateSlot}
+use Rattle.admit_core.specs.declared.slot.Slot.TheVariants.{Wishes}
 use Rattle.admit_core.specs.declared.state.Stamp.{Stamp}
-use Rattle.admit_core.specs.declared.state.Status.TheVariants.{Accepted, AutoRefused, AutoWithdrawn, Lapsed, Offered, Refused, Waiting}
+use Rattle.admit_core.specs.declared.state.Status.TheVariants.{Accepted, AutoRefused, AutoWithdrawn, Lapsed, Offered}
+use Rattle.admit_core.specs.declared.state.Status.TheVariants.{Refused, Waiting}
 use Rattle.report.specs.DayText.{dated_day_text, day_text}
 use Rattle.report.specs.ExplainText.{explain_text}
 use Rattle.report.specs.FinalText.{final_dated_text, final_text}
@@ -25,8 +33,10 @@ use Rattle.report.specs.SampleText.{day_summary, sample_text, state_summary}
 abbrev pub OrderTexts : Type 0
 OrderTexts =
     (order_text 1 (order [] []) ≡ codes "order 1:\nrule 1:\n")
-    × (order_text 1 (order (15 ∷ 11 ∷ 12 ∷ []) (Scholar ∷ Free ∷ Free ∷ [])) ≡ codes "order 1: 15 11 12\nrule 1: s - -\n")
-    × (order_text 27 (order (4 ∷ 2 ∷ 3 ∷ 1 ∷ []) (Both ∷ Alone ∷ Resident ∷ Free ∷ [])) ≡ codes "order 27: 4 2 3 1\nrule 27: b x r -\n")
+    × (order_text 1 (order (15 ∷ 11 ∷ 12 ∷ []) (Scholar ∷ Free ∷ Free ∷ []))
+    ≡ codes "order 1: 15 11 12\nrule 1: s - -\n")
+    × (order_text 27 (order (4 ∷ 2 ∷ 3 ∷ 1 ∷ []) (Both ∷ Alone ∷ Resident ∷ Free ∷ []))
+    ≡ codes "order 27: 4 2 3 1\nrule 27: b x r -\n")
 
 -- two days: automatic answers, a second pass, a fall, and what is left
 abbrev pub RealisticDays : Type 0
@@ -47,7 +57,11 @@ abbrev pub one_pass : ℕ → List ℕ → List Fall → List ℕ → List ℕ �
 one_pass day bars falls offers left free =
     record {
       day = day;
-      passes = record { pass = record { bars = bars; falls = falls; offers = offers }; autos = []; freed = nothing_freed } ∷ [];
+      passes = record {
+        pass = record { bars = bars; falls = falls; offers = offers };
+        autos = [];
+        freed = nothing_freed;
+      } ∷ [];
       left = left;
       free = free;
       lapsed = [];
@@ -57,7 +71,9 @@ one_pass day bars falls offers left free =
 abbrev pub cascade_day : DayRecord
 cascade_day =
     one_pass 1 (1 ∷ 1 ∷ [])
-    (record { school = 0; from = 9; to = 2; wishes = 0 ∷ 1 ∷ [] } ∷ record { school = 1; from = 9; to = 1; wishes = 2 ∷ 3 ∷ [] } ∷ record { school = 0; from = 2; to = 1; wishes = 4 ∷ 0 ∷ [] } ∷ [])
+    (record { school = 0; from = 9; to = 2; wishes = 0 ∷ 1 ∷ [] }
+    ∷ record { school = 1; from = 9; to = 1; wishes = 2 ∷ 3 ∷ [] }
+    ∷ record { school = 0; from = 2; to = 1; wishes = 4 ∷ 0 ∷ [] } ∷ [])
     (2 ∷ 4 ∷ []) (1 ∷ 0 ∷ 0 ∷ []) (0 ∷ 0 ∷ [])
 
 abbrev pub CascadeDay : Type 0
@@ -68,11 +84,14 @@ CascadeDay =
 -- a school without beds, one whose ceiling is 0, and one with the greatest ceiling
 abbrev pub three_schools : DossierRows
 three_schools =
-    rows (programme 10 0 3 ∷ []) (school 5 0 4 ∷ school 6 3 0 ∷ school 7 3 2000000000 ∷ []) (wish 1 61 0 0 ∷ wish 2 62 0 0 ∷ wish 3 63 0 0 ∷ []) []
+    rows (programme 10 0 3 ∷ []) (school 5 0 4 ∷ school 6 3 0 ∷ school 7 3 2000000000 ∷ [])
+    (wish 1 61 0 0 ∷ wish 2 62 0 0 ∷ wish 3 63 0 0 ∷ []) []
 
 abbrev pub EdgesOfBars : Type 0
 EdgesOfBars =
-    day_text three_schools (one_pass 2 (1 ∷ 1 ∷ 2000000000 ∷ []) (record { school = 0; from = 4; to = 1; wishes = 0 ∷ [] } ∷ []) (1 ∷ []) (1 ∷ []) (0 ∷ 2 ∷ 2 ∷ []))
+    day_text three_schools
+    (one_pass 2 (1 ∷ 1 ∷ 2000000000 ∷ []) (record { school = 0; from = 4; to = 1; wishes = 0 ∷ [] } ∷ []) (1 ∷ [])
+    (1 ∷ []) (0 ∷ 2 ∷ 2 ∷ []))
     ≡ codes "day 2\npass 1\nfall 5 4 1 1\nbar 5 1\nbar 6 1\nbar 7 2000000000\noffer 2\nfreed 0 0\nleft 10 1\nfree 5 0\nfree 6 2\nfree 7 2\n"
 
 -- automatic answers that free a seat, and some that free nothing
@@ -162,7 +181,8 @@ abbrev pub march : ℤ
 march = pos 19783
 
 abbrev pub lapsing_day : ℕ → ℤ → DayRecord
-lapsing_day day offered = record (one_pass day [] [] (1 ∷ []) (0 ∷ []) []) { lapsed = record { wish = 0; offered = offered } ∷ [] }
+lapsing_day day offered = record (one_pass day [] [] (1 ∷ []) (0 ∷ []) [])
+    { lapsed = record { wish = 0; offered = offered } ∷ [] }
 
 -- offers end one day after they were made: one of day 1, and one of two days before
 abbrev pub LapsingDays : Type 0
@@ -175,26 +195,32 @@ LapsingDays =
 -- the date is that of the stamp's day, or of the day before day 1 that the offer came in with
 abbrev pub DatedFinals : Type 0
 DatedFinals =
-    (final_dated_text (record old_offer { marks = marked Lapsed 3 0 ∷ marked Offered 3 1 ∷ [] }) june (pos 0 ∷ pos 0 ∷ [])
+    (final_dated_text (record old_offer { marks = marked Lapsed 3 0 ∷ marked Offered 3 1 ∷ [] }) june
+    (pos 0 ∷ pos 0 ∷ [])
     ≡ codes "final\nwish,status,since\n1,lapsed,\n2,offered,2025-06-04\n")
-    × (final_dated_text old_offer march (terms 2).before ≡ codes "final\nwish,status,since\n1,offered,2024-02-28\n2,waiting,\n")
+    × (final_dated_text old_offer march (terms 2).before
+    ≡ codes "final\nwish,status,since\n1,offered,2024-02-28\n2,waiting,\n")
 
--- the sample of four candidates: one programme, for which two ask for boarding too; the last answers by their preferences
+-- the sample of four candidates: one programme, for which two ask for boarding too; the last answers by their
+-- preferences
 abbrev pub four_candidates : State
 four_candidates =
     record {
       dossier =
           rows (programme 1 0 200 ∷ []) (school 1 40 1073741824 ∷ [])
-          (wish 1 1 0 0 ∷ wish 7 2 0 0 ∷ boarder 8 2 0 0 4000007 0 ∷ wish 13 3 0 0 ∷ wish 19 4 0 2 ∷ boarder 20 4 0 0 8000013 1 ∷ []) [];
+          (wish 1 1 0 0 ∷ wish 7 2 0 0 ∷ boarder 8 2 0 0 4000007 0 ∷ wish 13 3 0 0 ∷ wish 19 4 0 2
+          ∷ boarder 20 4 0 0 8000013 1 ∷ []) [];
       marks =
-          marked Offered 1 1 ∷ marked Offered 1 1 ∷ marked Offered 1 1 ∷ marked Offered 1 1 ∷ marked AutoRefused 1 1 ∷ marked Accepted 1 1 ∷ [];
+          marked Offered 1 1 ∷ marked Offered 1 1 ∷ marked Offered 1 1 ∷ marked Offered 1 1 ∷ marked AutoRefused 1 1
+          ∷ marked Accepted 1 1 ∷ [];
     }
 
 -- the sample of four candidates; and, of days that are no sample's, sums over several passes, and
 -- wishes that wait or were refused
 abbrev pub Samples : Type 0
 Samples =
-    (sample_text 4 6 (one_pass 1 (1073741824 ∷ []) [] (0 ∷ 1 ∷ 2 ∷ 3 ∷ 4 ∷ 5 ∷ []) (196 ∷ []) (38 ∷ []) ∷ []) four_candidates
+    (sample_text 4 6 (one_pass 1 (1073741824 ∷ []) [] (0 ∷ 1 ∷ 2 ∷ 3 ∷ 4 ∷ 5 ∷ []) (196 ∷ []) (38 ∷ []) ∷ [])
+    four_candidates
     ≡ codes "sample 4 wishes 6\nday 1 passes 1 falls 0 offers 6\nlive 5 waiting 0 gone 1\n")
     × (flat_map day_summary realistic_days ++ state_summary realistic_evening
     ≡ codes "day 1 passes 2 falls 1 offers 5\nday 2 passes 1 falls 0 offers 1\nlive 3 waiting 2 gone 3\n")

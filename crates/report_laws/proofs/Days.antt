@@ -1,5 +1,6 @@
 -- The texts of passes and of days tell their records, whatever follows them.
-use Rattle.std.proofs.Common.{◌≡◌, ℕ, ℤ, ◌+◌, true, false, List, [], ◌∷◌, ◌++◌, All, flat_map, refl, sym, ap, ◌∙◌, append_assoc, rules}
+use Rattle.std.proofs.Common.{◌≡◌, ℕ, ℤ, ◌+◌, true, false, List, [], ◌∷◌, ◌++◌, All, flat_map, refl, sym, ap, ◌∙◌}
+use Rattle.std.proofs.Common.{append_assoc, rules}
 use Rattle.std.specs.Prelude.{codes}
 use Rattle.std.specs.Fmt.{decimal}
 use Rattle.std.specs.List.{enumerate_from}
@@ -11,11 +12,13 @@ use Rattle.admit_core.specs.declared.dossier.Programme.{Programme}
 use Rattle.admit_core.specs.declared.dossier.School.{School}
 use Rattle.admit_core.specs.declared.records.DayRecord.{DayRecord}
 use Rattle.admit_core.specs.declared.records.PassEnd.{PassEnd}
-use Rattle.report.specs.DayText.{IsLapseOf, auto_line, dated_day_text, day_line, day_text, fall_line, freed_line, lapse_line, offer_line, pass_text, passes_text}
+use Rattle.report.specs.DayText.{IsLapseOf, auto_line, dated_day_text, day_line, day_text, fall_line, freed_line}
+use Rattle.report.specs.DayText.{lapse_line, offer_line, pass_text, passes_text}
 use Rattle.report.specs.Ids.{numbers_text}
 use Rattle.report.specs.Words.{line}
 use Rattle.report_laws.specs.Days.{IsDated, IsUndated}
-use Rattle.report_laws.specs.Told.{HasNames, HasNumbers, IsSmall, IsToldAuto, IsToldDay, IsToldFall, IsToldPass, IsWishOf}
+use Rattle.report_laws.specs.Told.{HasNames, HasNumbers, IsSmall, IsToldAuto, IsToldDay, IsToldFall, IsToldPass}
+use Rattle.report_laws.specs.Told.{IsWishOf}
 use Rattle.report_laws.proofs.Lines.{auto_told, fall_told, freed_told, lapse_told, offer_told}
 use Rattle.report_laws.proofs.Runs.{Any, Tells, begins, behind_numbers, behind_run, numbers_text_told, run_told}
 use Rattle.report_laws.proofs.Words.{cons_told, line_told, longer, number_told, number_word}

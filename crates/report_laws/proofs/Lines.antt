@@ -11,7 +11,8 @@ use Rattle.report.specs.DayText.{IsLapseOf, auto_line, fall_line, freed_line, la
 use Rattle.report.specs.Ids.{school_id, wish_id}
 use Rattle.report_laws.specs.Told.{HasNames, IsToldAuto, IsToldFall, IsToldFreed, IsWishOf}
 use Rattle.report_laws.proofs.Dates.{date_told, date_word, deadline_is, offered_is}
-use Rattle.report_laws.proofs.Names.{school_told, school_word, status_is_word, status_told, wish_told, wish_word, wishes_told, wishes_words}
+use Rattle.report_laws.proofs.Names.{school_told, school_word, status_is_word, status_told, wish_told, wish_word}
+use Rattle.report_laws.proofs.Names.{wishes_told, wishes_words}
 use Rattle.report_laws.proofs.Runs.{Any, Tells}
 use Rattle.report_laws.proofs.Words.{AreTokens, cons_told, line_told, number_told, number_word}
 

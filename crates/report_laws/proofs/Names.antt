@@ -1,5 +1,6 @@
 -- Ids, status words, letters and dates tell what they stand for.
-use Rattle.std.proofs.Common.{◌≡◌, ℕ, ◌<◌, Bool, cond, List, [], ◌∷◌, get_or, length, map, All, refl, sym, ap, ◌∙◌, inl, inr, nat_eq, rules}
+use Rattle.std.proofs.Common.{◌≡◌, ℕ, ◌<◌, Bool, cond, List, [], ◌∷◌, get_or, length, map, All, refl, sym, ap, ◌∙◌, inl}
+use Rattle.std.proofs.Common.{inr, nat_eq, rules}
 use Rattle.std.specs.Prelude.{codes, slice_index}
 use Rattle.std.specs.Cmp.Lexicographic.{pointwise}
 use Rattle.std.specs.Fmt.{decimal}
@@ -15,7 +16,8 @@ use Rattle.admit_core.specs.declared.dossier.Wish.{Wish}
 use Rattle.admit_core.specs.declared.ranking.Bound.{Bound}
 use Rattle.admit_core.specs.declared.ranking.Bound.TheVariants as bound
 use Rattle.admit_core.specs.declared.state.Status.{Status}
-use Rattle.admit_core.specs.declared.state.Status.TheVariants.{Waiting, Offered, Accepted, Refused, Withdrawn, Quit, AutoRefused, AutoWithdrawn, Lapsed}
+use Rattle.admit_core.specs.declared.state.Status.TheVariants.{Waiting, Offered, Accepted, Refused, Withdrawn, Quit}
+use Rattle.admit_core.specs.declared.state.Status.TheVariants.{AutoRefused, AutoWithdrawn, Lapsed}
 use Rattle.report.specs.Ids.{school_id, wish_id}
 use Rattle.report_laws.specs.Told.{AreNames, HasNames, IsWishOf}
 use Rattle.report_laws.proofs.Words.{AreTokens, IsToken, cons_told, longer, number_told, number_word}

@@ -7,7 +7,8 @@ use Rattle.admit_core.specs.declared.dossier.School.{School}
 use Rattle.admit_core.specs.declared.dossier.Wish.{Wish}
 use Rattle.admit_core.specs.declared.ranking.RankGroup.{RankGroup}
 use Rattle.report_laws.specs.Days.{DatedDaysAreTold, DaysAreTold, PassesAreTold}
-use Rattle.report_laws.specs.Lines.{AutosAreTold, BarsAreTold, EveningsAreTold, FallsAreTold, FreedIsTold, LapsesAreTold, OffersAreTold}
+use Rattle.report_laws.specs.Lines.{AutosAreTold, BarsAreTold, EveningsAreTold, FallsAreTold, FreedIsTold}
+use Rattle.report_laws.specs.Lines.{LapsesAreTold, OffersAreTold}
 use Rattle.report_laws.specs.Told.{IsSmall, ValidDossiersHaveNames}
 use Rattle.report_laws.proofs.Days.{FollowsDay, dated_days_told, days_told, evening_told, free_of, left_of, pass_told}
 use Rattle.report_laws.proofs.Lines.{auto_told, fall_told, freed_told, lapse_told, offer_told}

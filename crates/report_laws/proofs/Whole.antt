@@ -1,5 +1,6 @@
 -- The text of a run tells its orders, its days and its final statuses.
-use Rattle.std.proofs.Common.{◌≡◌, ℕ, zero, suc, ◌+◌, ◌<◌, List, [], ◌∷◌, ◌++◌, All, ap, append_assoc, arith, flat_map, length, map, refl, rules, subst, sym, ◌∙◌}
+use Rattle.std.proofs.Common.{◌≡◌, ℕ, zero, suc, ◌+◌, ◌<◌, List, [], ◌∷◌, ◌++◌, All, ap, append_assoc, arith, flat_map}
+use Rattle.std.proofs.Common.{length, map, refl, rules, subst, sym, ◌∙◌}
 use Rattle.std.specs.Prelude.{codes}
 use Rattle.std.specs.Fmt.{decimal}
 use Rattle.std.specs.List.{enumerate_from}
@@ -20,7 +21,8 @@ use Rattle.report_laws.specs.Told.{HasNames, HaveSameStatuses, IsSmall}
 use Rattle.report_laws.specs.Whole.{OrdersAreTold, Run, RunsAreTold, orders_text}
 use Rattle.report_laws.proofs.Days.{FollowsDay, days_told}
 use Rattle.report_laws.proofs.Names.{bounds_told, bounds_words, status_is_word, status_told}
-use Rattle.report_laws.proofs.Words.{IsToken, cons_told, line_told, longer, number_word, numbers_told, numbers_words, parted_told}
+use Rattle.report_laws.proofs.Words.{IsToken, cons_told, line_told, longer, number_word, numbers_told, numbers_words}
+use Rattle.report_laws.proofs.Words.{parted_told}
 
 -- ---- call orders
 -- a word goes on with a colon

@@ -1,5 +1,6 @@
 -- The worked cases, by computation.
-use Rattle.std.proofs.Common.{◌≡◌, ℕ, ◌<◌, ◌≤◌, true, List, [], ◌∷◌, All, arith, ap, get_or, length, map, nat_eq, nat_le, nat_lt, negsuc, refl, rules, subst, sym}
+use Rattle.std.proofs.Common.{◌≡◌, ℕ, ◌<◌, ◌≤◌, true, List, [], ◌∷◌, All, arith, ap, get_or, length, map, nat_eq}
+use Rattle.std.proofs.Common.{nat_le, nat_lt, negsuc, refl, rules, subst, sym}
 use Rattle.std.specs.Prelude.{slice_index_or}
 use Rattle.std.specs.List.{IsDistinct, list_all}
 use Rattle.std.proofs.lemmas.Bool.{leb-true, ltb-true}
@@ -8,7 +9,9 @@ use Rattle.std.proofs.lemmas.List.Sums.{AllPass-from_list_all}
 use Rattle.jiff_core.proofs.SignedLemmas.{signed_arith}
 use Rattle.admit_core.proofs.SmallDossier.{small_dossier_holds}
 use Rattle.admit_core.specs.DossierRows.{DossierRows}
-use Rattle.admit_core.specs.WorkedRows.{cascade, first_pass, greatest_bar, greatest_bar_day, nothing_freed, old_offer, realistic, realistic_days, realistic_order, rows, school, small_dossier, terms, the_fall, two_offers}
+use Rattle.admit_core.specs.WorkedRows.{cascade, first_pass, greatest_bar, greatest_bar_day, nothing_freed, old_offer}
+use Rattle.admit_core.specs.WorkedRows.{realistic, realistic_days, realistic_order, rows, school, small_dossier, terms}
+use Rattle.admit_core.specs.WorkedRows.{the_fall, two_offers}
 use Rattle.admit_core.specs.declared.ranking.CallOrder.{CallOrder}
 use Rattle.admit_core.specs.declared.records.DayRecord.{DayRecord}
 use Rattle.admit_core.specs.declared.records.Fall.{Fall}
@@ -21,12 +24,20 @@ use Rattle.admit_core.specs.declared.state.Status.TheVariants.{Accepted}
 use Rattle.report.specs.DayText.{IsLapseOf}
 use Rattle.report.specs.WorkedTexts.{june, lapsing_day}
 use Rattle.report_laws.specs.Days.{IsDated, IsUndated}
-use Rattle.report_laws.specs.Told.{HasNames, HasNumbers, IsNumberEach, IsSmall, IsToldAuto, IsToldFall, IsToldFreed, IsToldPass, IsWishOf}
-use Rattle.report_laws.specs.Witnesses.{AutosAreToldWitness, BarsAreToldWitness, DatedDaysAreToldWitness, DatedRunsAreToldWitness, DaysAreToldWitness, EveningsAreToldWitness, FallsAreToldWitness, FreedIsToldWitness, LapsesAreToldWitness, OffersAreToldWitness, OrdersAreToldWitness, PassesAreToldWitness, RunsAreToldWitness, SharedIdsHideFalls, ValidDossiersHaveNamesWitness, lapsed_run, quiet_day, realistic_run, rules_day, unstamped_run, written_pass}
+use Rattle.report_laws.specs.Told.{HasNames, HasNumbers, IsNumberEach, IsSmall, IsToldAuto, IsToldFall, IsToldFreed}
+use Rattle.report_laws.specs.Told.{IsToldPass, IsWishOf}
+use Rattle.report_laws.specs.Witnesses.{AutosAreToldWitness, BarsAreToldWitness, DatedDaysAreToldWitness}
+use Rattle.report_laws.specs.Witnesses.{DatedRunsAreToldWitness, DaysAreToldWitness, EveningsAreToldWitness}
+use Rattle.report_laws.specs.Witnesses.{FallsAreToldWitness, FreedIsToldWitness, LapsesAreToldWitness}
+use Rattle.report_laws.specs.Witnesses.{OffersAreToldWitness, OrdersAreToldWitness, PassesAreToldWitness}
+use Rattle.report_laws.specs.Witnesses.{RunsAreToldWitness, SharedIdsHideFalls, ValidDossiersHaveNamesWitness}
+use Rattle.report_laws.specs.Witnesses.{lapsed_run, quiet_day, realistic_run, rules_day, unstamped_run, written_pass}
 use Rattle.report_laws.specs.Whole.{AreToldOrders, IsDatedRunOf, IsRunOf}
 use Rattle.report_laws.proofs.Whole.{orders_are_told, runs_are_told}
 use Rattle.report_laws.proofs.WholeDated.{dated_runs_are_told}
-use Rattle.report_laws.proofs.Telling.{autos_are_told, bars_are_told, dated_days_are_told, days_are_told, evenings_are_told, falls_are_told, freed_is_told, lapses_are_told, names_of, offers_are_told, passes_are_told}
+use Rattle.report_laws.proofs.Telling.{autos_are_told, bars_are_told, dated_days_are_told, days_are_told}
+use Rattle.report_laws.proofs.Telling.{evenings_are_told, falls_are_told, freed_is_told, lapses_are_told, names_of}
+use Rattle.report_laws.proofs.Telling.{offers_are_told, passes_are_told}
 
 -- ---- tests that compute
 small_by : (ns : List ℕ) → list_all (λ n. nat_le n 4294967295) ns ≡ true → All IsSmall ns

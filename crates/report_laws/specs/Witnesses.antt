@@ -1,7 +1,8 @@
 -- For each law a worked case that meets all its premises, with what it concludes there: the law's
 -- text, with a value for each variable and a product for each arrow. One of the records is what the
 -- rules compute, and the other is written out.
-use Rattle.std.specs.Prelude.{◌≡◌, ℕ, ℤ, pos, negsuc, List, [], ◌∷◌, All, codes, flat_map, map, slice_index, slice_index_or}
+use Rattle.std.specs.Prelude.{◌≡◌, ℕ, ℤ, pos, negsuc, List, [], ◌∷◌, All, codes, flat_map, map, slice_index}
+use Rattle.std.specs.Prelude.{slice_index_or}
 use Rattle.std.specs.List.{range_with_len}
 use Rattle.admit_core.specs.Boarding.{boarding}
 use Rattle.admit_core.specs.Days.{changes, closing, freed_after, offered}
@@ -11,7 +12,10 @@ use Rattle.admit_core.specs.Lapses.{lapses_of}
 use Rattle.admit_core.specs.Proposals.{proposed}
 use Rattle.admit_core.specs.State.{State, free_beds, seats_left}
 use Rattle.admit_core.specs.Validity.{IsValid}
-use Rattle.admit_core.specs.WorkedRows.{cascade, cascade_orders, first_pass, greatest_bar, greatest_bar_day, greatest_bar_evening, greatest_bar_orders, last_marks, marked, morning, nothing_freed, old_offer, order, realistic, realistic_days, realistic_order, rows, school, small_dossier, terms, the_fall, two_offers, two_orders}
+use Rattle.admit_core.specs.WorkedRows.{cascade, cascade_orders, first_pass, greatest_bar, greatest_bar_day}
+use Rattle.admit_core.specs.WorkedRows.{greatest_bar_evening, greatest_bar_orders, last_marks, marked, morning}
+use Rattle.admit_core.specs.WorkedRows.{nothing_freed, old_offer, order, realistic, realistic_days, realistic_order}
+use Rattle.admit_core.specs.WorkedRows.{rows, school, small_dossier, terms, the_fall, two_offers, two_orders}
 use Rattle.admit_core.specs.declared.ranking.Bound.TheVariants.{Both, Free, Resident}
 use Rattle.admit_core.specs.declared.ranking.CallOrder.{CallOrder}
 use Rattle.admit_core.specs.declared.records.DayRecord.{DayRecord}
@@ -22,11 +26,13 @@ use Rattle.admit_core.specs.declared.state.Change.{Change}
 use Rattle.admit_core.specs.declared.state.Freed.{Freed}
 use Rattle.admit_core.specs.declared.state.Stamp.{Stamp}
 use Rattle.admit_core.specs.declared.state.Status.TheVariants.{Accepted, Lapsed, Offered, Waiting}
-use Rattle.report.specs.DayText.{IsLapseOf, auto_line, dated_day_text, day_text, evening_text, fall_line, freed_line, lapse_line, offer_line, pass_text}
+use Rattle.report.specs.DayText.{IsLapseOf, auto_line, dated_day_text, day_text, evening_text, fall_line, freed_line}
+use Rattle.report.specs.DayText.{lapse_line, offer_line, pass_text}
 use Rattle.report.specs.Ids.{numbers_text}
 use Rattle.report.specs.WorkedTexts.{june, lapsing_day, realistic_evening}
 use Rattle.report_laws.specs.Days.{IsDated, IsUndated}
-use Rattle.report_laws.specs.Told.{HasNames, HasNumbers, HaveSameStatuses, IsNumberEach, IsSmall, IsToldAuto, IsToldFall, IsToldFreed, IsToldPass, IsWishOf}
+use Rattle.report_laws.specs.Told.{HasNames, HasNumbers, HaveSameStatuses, IsNumberEach, IsSmall, IsToldAuto}
+use Rattle.report_laws.specs.Told.{IsToldFall, IsToldFreed, IsToldPass, IsWishOf}
 use Rattle.report_laws.specs.Whole.{AreToldOrders, IsDatedRunOf, IsRunOf, Run, dated_run_text, orders_text, run_text}
 
 -- a dossier with a row of each kind

@@ -13,11 +13,14 @@ use Rattle.round.specs.Picks.{PicksFalls}
 -- what the engine says, by the system's name
 pub told_early : (sys now : FallingSystem) (choice : List ℕ → List ℕ → ℕ) (told told_after bars : List ℕ) → now ≡ sys
     → EndsEarly now choice told told_after bars → TellsOfFalls sys choice told told_after
-told_early sys now choice told told_after bars same ends = (bars, subst (λ (s : FallingSystem). EndsEarly s choice told told_after bars) same ends)
+told_early sys now choice told told_after bars same ends =
+    (bars, subst (λ (s : FallingSystem). EndsEarly s choice told told_after bars) same ends)
 
 -- of each fall, where all were made
-pub told_of_all : (sys now : FallingSystem) (choice : List ℕ → List ℕ → ℕ) (told told_after : List ℕ) (falls : List Fall) → now ≡ sys → IsRunOfFalls now falls
-    → AreChosen now choice told now.ceilings falls → told_after ≡ told ++ schools_of falls → TellsOfFalls sys choice told told_after
+pub told_of_all : (sys now : FallingSystem) (choice : List ℕ → List ℕ → ℕ) (told told_after : List ℕ)
+    (falls : List Fall) → now ≡ sys → IsRunOfFalls now falls
+    → AreChosen now choice told now.ceilings falls → told_after ≡ told ++ schools_of falls
+    → TellsOfFalls sys choice told told_after
 told_of_all sys now choice told told_after falls same is_run chosen told_of =
     told_early sys now choice told told_after (bars_after now.ceilings falls) same
     (record { falls = falls; are_falls = is_run.are_falls; chosen = chosen; bars_fell = refl; told_of = inl told_of })

@@ -6,7 +6,8 @@ use Rattle.std.proofs.lemmas.Map.Keys.{IsDistinct-cons}
 use Rattle.admit_core.proofs.Holders.{among_distinct}
 use Rattle.admit_core.specs.Lists.{is_among, distinct}
 
-pub among_filtered : (p : ℕ → Bool) (c : ℕ) (ns : List ℕ) → is_among c (filter p ns) ≡ true → (is_among c ns ≡ true) × (p c ≡ true)
+pub among_filtered : (p : ℕ → Bool) (c : ℕ) (ns : List ℕ) → is_among c (filter p ns) ≡ true
+    → (is_among c ns ≡ true) × (p c ≡ true)
 among_filtered p c [] among = (among, absurd (cc))
 among_filtered p c (n ∷ ns) among =
     elim (cases_Bool (p n)) [
@@ -14,13 +15,15 @@ among_filtered p c (n ∷ ns) among =
         | inl here ↦ (or_left (nat_eq c n) (is_among c ns) here, rw (eqb-true c n here) kept)
         | inr later ↦ let rest = among_filtered p c ns later in (or_right (nat_eq c n) (is_among c ns) rest.0, rest.1)
       ]
-      | inr dropped ↦ let rest = among_filtered p c ns (rw dropped at among) in (or_right (nat_eq c n) (is_among c ns) rest.0, rest.1)
+      | inr dropped ↦ let rest = among_filtered p c ns (rw dropped at among) in
+          (or_right (nat_eq c n) (is_among c ns) rest.0, rest.1)
     ]
 
 -- what is not among a list differs from each of it
 all_differ : (n : ℕ) (ns : List ℕ) → is_among n ns ≡ false → AllByRecursion (λ m. nat_eq n m ≡ false) ns
 all_differ n [] none = tt
-all_differ n (m ∷ ms) none = let parts = or_parts (nat_eq n m) (is_among n ms) none in (parts.0, all_differ n ms parts.1)
+all_differ n (m ∷ ms) none = let parts = or_parts (nat_eq n m) (is_among n ms) none in
+    (parts.0, all_differ n ms parts.1)
 
 pub none_twice : IsDistinct nat_eq []
 unfolding IsDistinct
@@ -32,5 +35,6 @@ distinct_once (n ∷ ns) =
     let rest = distinct_once ns in
     elim (cases_Bool (is_among n ns)) [
       | inl again ↦ rw again rest
-      | inr new ↦ rw new (IsDistinct-cons nat_eq n (distinct ns) (all_differ n (distinct ns) (among_distinct n ns ∙ new)) rest)
+      | inr new ↦ rw new (IsDistinct-cons nat_eq n (distinct ns)
+          (all_differ n (distinct ns) (among_distinct n ns ∙ new)) rest)
     ]

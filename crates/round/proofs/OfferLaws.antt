@@ -14,7 +14,8 @@ use Rattle.round.proofs.BedLaw.{length-new_bed_holders}
 use Rattle.admit_core.proofs.FullBeds.{full_below}
 
 -- the free beds of the system are those of the state
-free_at : (s : State) (ceilings : List ℕ) (h : ℕ) → h < length ceilings → slice_index (map (free_beds s) (range_with_len 0 (length ceilings))) h ≡ free_beds s h
+free_at : (s : State) (ceilings : List ℕ) (h : ℕ) → h < length ceilings
+    → slice_index (map (free_beds s) (range_with_len 0 (length ceilings))) h ≡ free_beds s h
 free_at s ceilings h lt = get_or-map-range_with_len (free_beds s) 0 (length ceilings) h h 0 lt (omega arith)
 
 pub offers_fit_seats : OffersFitSeats
@@ -23,7 +24,12 @@ offers_fit_seats s orders bars stamp valid are p = seats_suffice s orders bars s
 pub offers_fit_beds : OffersFitBeds
 offers_fit_beds s orders ceilings bars stamp valid long fits h lt =
     let in_ceilings : h < length ceilings = omega (arith, long) in
-    omega (arith, length-new_bed_holders s orders bars stamp valid h, fits.room h in_ceilings, free_at s ceilings h in_ceilings)
+    omega (
+      arith,
+      length-new_bed_holders s orders bars stamp valid h,
+      fits.room h in_ceilings,
+      free_at s ceilings h in_ceilings,
+    )
 
 pub lowered_for_beds : GreatestBarsAreLoweredForBeds
 lowered_for_beds s orders ceilings bars stamp valid greatest h lower =

@@ -1,5 +1,6 @@
 -- The offers of a pass, made one after another, are the offers of the rule.
-use Rattle.std.proofs.Common.{ℕ, ◌+◌, ◌<◌, ◌≡◌, Bool, true, false, cond, List, [], ◌∷◌, map, length, get_or, refl, sym, ◌∙◌, ap, arith, nat_eq, filter, zero, suc}
+use Rattle.std.proofs.Common.{ℕ, ◌+◌, ◌<◌, ◌≡◌, Bool, true, false, cond, List, [], ◌∷◌, map, length, get_or, refl, sym}
+use Rattle.std.proofs.Common.{◌∙◌, ap, arith, nat_eq, filter, zero, suc}
 use Rattle.std.specs.Prelude.{All, slice_index_or, if◌then◌else◌}
 use Rattle.std.specs.List.{enumerate_from}
 use Rattle.std.proofs.lemmas.Bool.{or_from, ne_eqb, eq-eqb}
@@ -19,7 +20,8 @@ use Rattle.admit_core.specs.Proposals.{is_proposed, proposed}
 use Rattle.admit_core.specs.Days.{offered}
 use Rattle.day_state.specs.Kept.{mark_in, wish_in}
 use Rattle.day_state.specs.Along.{change_along}
-use Rattle.day_state.proofs.Along.{Apart, along_at, along_dossier, along_long, same_state, same_marks, length-with_marks, mark_in-with_marks}
+use Rattle.day_state.proofs.Along.{Apart, along_at, along_dossier, along_long, same_state, same_marks}
+use Rattle.day_state.proofs.Along.{length-with_marks, mark_in-with_marks}
 
 -- the places, from a on, of the elements that pass
 abbrev pub places : {X : Type 0} → (X → Bool) → ℕ → List X → List ℕ
@@ -47,7 +49,8 @@ apart_places {X} p a (x ∷ xs) =
     ]
 
 -- a place is among them where its element passes
-pub among_places : {X : Type 0} (p : X → Bool) (a j : ℕ) (xs : List X) (d : X) → j < length xs → is_among (a + j) (places p a xs) ≡ p (get_or xs j d)
+pub among_places : {X : Type 0} (p : X → Bool) (a j : ℕ) (xs : List X) (d : X) → j < length xs
+    → is_among (a + j) (places p a xs) ≡ p (get_or xs j d)
 among_places p a j [] d lt = absurd (omega arith)
 among_places {X} p a zero (x ∷ xs) d lt =
     let same : a + 0 ≡ a = omega arith in
@@ -59,7 +62,8 @@ among_places {X} p a zero (x ∷ xs) d lt =
     ]
 among_places {X} p a (suc j) (x ∷ xs) d lt =
     let same : (a + 1) + j ≡ a + suc j = omega arith in
-    let rest : is_among (a + suc j) (places p (a + 1) xs) ≡ p (get_or xs j d) = rw same at (among_places p (a + 1) j xs d (omega arith)) in
+    let rest : is_among (a + suc j) (places p (a + 1) xs) ≡ p (get_or xs j d) =
+    rw same at (among_places p (a + 1) j xs d (omega arith)) in
     let first = λ (e : ℕ × X). e.0 in
     let others : List (ℕ × X) = filter (λ (e : ℕ × X). p e.1) (enumerate_from (a + 1) xs) in
     elim (p x) as (λ b. is_among (a + suc j) (map first (cond b ((a, x) ∷ others) others)) ≡ p (get_or xs j d)) [
@@ -71,19 +75,23 @@ pub within_places : {X : Type 0} (p : X → Bool) (xs : List X) → All (λ k. k
 within_places {X} p xs =
     let first = λ (e : ℕ × X). e.0 in
     let all : All (λ (e : ℕ × X). e.0 < length xs) (enumerate_from 0 xs) =
-    λ i d lt. let in_range : i < length xs = omega (arith, length-enumerate_from 0 xs) in rw (get_or-enumerate_from 0 xs i d in_range) (omega arith) in
-    All-map (λ k. k < length xs) first (filter (λ (e : ℕ × X). p e.1) (enumerate_from 0 xs)) (All-filter (λ (e : ℕ × X). p e.1) (λ (e : ℕ × X). e.0 < length xs) (enumerate_from 0 xs) all)
+    λ i d lt. let in_range : i < length xs = omega (arith, length-enumerate_from 0 xs) in
+    rw (get_or-enumerate_from 0 xs i d in_range) (omega arith) in
+    All-map (λ k. k < length xs) first (filter (λ (e : ℕ × X). p e.1) (enumerate_from 0 xs))
+    (All-filter (λ (e : ℕ × X). p e.1) (λ (e : ℕ × X). e.0 < length xs) (enumerate_from 0 xs) all)
 
 module _ (s : State) (orders : List CallOrder) (bars : List ℕ) where
   -- the proposed places are places of wishes, and of marks
   pub proposed_are_wishes : All (λ k. k < length s.dossier.wishes) (proposed s orders bars)
   proposed_are_wishes k d lt =
-      let within : slice_index_or (proposed s orders bars) k d < length (entries s) = within_places (λ (e : Wish × Mark). is_proposed s orders bars e.0 e.1) (entries s) k d lt in
+      let within : slice_index_or (proposed s orders bars) k d < length (entries s) =
+      within_places (λ (e : Wish × Mark). is_proposed s orders bars e.0 e.1) (entries s) k d lt in
       omega (arith, within, length-zip s.dossier.wishes s.marks)
 
   proposed_are_marks : All (λ k. k < length s.marks) (proposed s orders bars)
   proposed_are_marks k d lt =
-      let within : slice_index_or (proposed s orders bars) k d < length (entries s) = within_places (λ (e : Wish × Mark). is_proposed s orders bars e.0 e.1) (entries s) k d lt in
+      let within : slice_index_or (proposed s orders bars) k d < length (entries s) =
+      within_places (λ (e : Wish × Mark). is_proposed s orders bars e.0 e.1) (entries s) k d lt in
       omega (arith, within, length-zip s.dossier.wishes s.marks)
 
   among_proposed : (j : ℕ) → length s.marks ≡ length s.dossier.wishes → j < length s.marks
@@ -93,7 +101,8 @@ module _ (s : State) (orders : List CallOrder) (bars : List ℕ) where
       let ms = s.marks in
       let d : Wish × Mark = (wish_in [] 0, mark_in [] 0) in
       let p = λ (e : Wish × Mark). is_proposed s orders bars e.0 e.1 in
-      (let named : 0 + j ≡ j = omega arith in rw named at (among_places p 0 j (entries s) d (omega (arith, length-zip ws ms))))
+      (let named : 0 + j ≡ j = omega arith in rw named at (among_places p 0 j (entries s) d
+      (omega (arith, length-zip ws ms))))
       ∙ ap p (get_or-zip ws ms j d (omega (arith, long)) lt)
       ∙ rw (unwrap_or-slice_get ws j (wish_in [] 0), unwrap_or-slice_get ms j (mark_in [] 0)) refl
 
@@ -105,18 +114,24 @@ module _ (s : State) (orders : List CallOrder) (bars : List ℕ) where
       let g = λ (w : Wish) (m : Mark). if is_proposed s orders bars w m then changed_to Offered stamp m else m in
       let ks = proposed s orders bars in
       same_state (change_along f ks s) (offered s orders bars stamp) (along_dossier f ks s)
-      (same_marks (change_along f ks s).marks (offered s orders bars stamp).marks (along_long f ks s ∙ sym (length-with_marks g s long)) (λ j lt.
+      (same_marks (change_along f ks s).marks (offered s orders bars stamp).marks
+      (along_long f ks s ∙ sym (length-with_marks g s long)) (λ j lt.
       let j_in : j < length s.marks = omega (arith, along_long f ks s) in
-      along_at f ks s (apart_places (λ (e : Wish × Mark). is_proposed s orders bars e.0 e.1) 0 (entries s)) proposed_are_marks j
+      along_at f ks s (apart_places (λ (e : Wish × Mark). is_proposed s orders bars e.0 e.1) 0 (entries s))
+      proposed_are_marks j
       ∙ rw (among_proposed j long j_in) refl
       ∙ sym (mark_in-with_marks g s long j j_in)))
 
 -- the offers that were made, as they were recorded
 pub offers_recorded : (s new : State) (orders : List CallOrder) (bars offers : List ℕ) (stamp : Stamp)
-    → offers ≡ proposed s orders bars → new ≡ change_along (λ w m. changed_to Offered stamp m) offers s → length new.marks ≡ length new.dossier.wishes
+    → offers ≡ proposed s orders bars → new ≡ change_along (λ w m. changed_to Offered stamp m) offers s
+    → length new.marks ≡ length new.dossier.wishes
     → new ≡ offered s orders bars stamp
 offers_recorded s new orders bars offers stamp are made long =
     let f = λ (w : Wish) (m : Mark). changed_to Offered stamp m in
-    let marks : length s.marks ≡ length new.marks = sym (along_long f offers s) ∙ ap (λ (t : State). length t.marks) (sym made) in
-    let wishes : length new.dossier.wishes ≡ length s.dossier.wishes = ap (λ (t : State). length t.dossier.wishes) made ∙ ap (λ (d : DossierRows). length d.wishes) (along_dossier f offers s) in
+    let marks : length s.marks ≡ length new.marks =
+    sym (along_long f offers s) ∙ ap (λ (t : State). length t.marks) (sym made) in
+    let wishes : length new.dossier.wishes ≡ length s.dossier.wishes =
+    ap (λ (t : State). length t.dossier.wishes) made
+    ∙ ap (λ (d : DossierRows). length d.wishes) (along_dossier f offers s) in
     made ∙ ap (λ (ks : List ℕ). change_along f ks s) are ∙ offers_made s orders bars stamp (marks ∙ long ∙ wishes)

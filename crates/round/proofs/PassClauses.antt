@@ -11,8 +11,10 @@ use Rattle.round.specs.PassLaws.{KeepsPassLaws}
 use Rattle.round.proofs.OfferLaws.{offers_fit_seats, offers_fit_beds, lowered_for_beds}
 use Rattle.round.proofs.FewFalls.{falls_are_few}
 
-pub laws_kept : (s new : State) (orders : List CallOrder) (ceilings : List ℕ) (stamp : Stamp) (found : PassRecord) → IsPass s orders ceilings found
-    → new ≡ offered s orders found.bars stamp → IsValid s.dossier → AreCallOrders s.dossier.groups orders → length ceilings ≡ length s.dossier.schools
+pub laws_kept : (s new : State) (orders : List CallOrder) (ceilings : List ℕ) (stamp : Stamp) (found : PassRecord)
+    → IsPass s orders ceilings found
+    → new ≡ offered s orders found.bars stamp → IsValid s.dossier → AreCallOrders s.dossier.groups orders
+    → length ceilings ≡ length s.dossier.schools
     → KeepsPassLaws s new ceilings found
 laws_kept s new orders ceilings stamp found is_pass made valid called long =
     let P : State → Type 0 = λ t. KeepsPassLaws s t ceilings found in

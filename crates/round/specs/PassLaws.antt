@@ -8,7 +8,8 @@ use Rattle.admit_core.specs.declared.state.Stamp.{Stamp}
 use Rattle.admit_core.specs.CallOrder.{AreCallOrders}
 use Rattle.admit_core.specs.DossierRows.{limit_of}
 use Rattle.admit_core.specs.Validity.{IsValid}
-use Rattle.admit_core.specs.State.{State, entries, is_waiting, holds_seat, holds_bed, seat_holders, bed_holders, seats_left, free_beds}
+use Rattle.admit_core.specs.State.{State, entries, is_waiting, holds_seat, holds_bed, seat_holders, bed_holders}
+use Rattle.admit_core.specs.State.{seats_left, free_beds}
 use Rattle.admit_core.specs.Falls.{Fits, IsGreatest, AreFalls}
 use Rattle.admit_core.specs.Boarding.{boarding}
 use Rattle.admit_core.specs.Days.{offered}

@@ -1,5 +1,6 @@
 -- Rows that are written by their fields are read, under a header, as what each row's fields say.
-use Rattle.std.proofs.Common.{ℕ, ◌+◌, ◌≤◌, ◌≡◌, false, List, [], ◌∷◌, ◌++◌, length, map, nat_le, Ok, refl, ◌∙◌, ap, arith, eq-eqb}
+use Rattle.std.proofs.Common.{ℕ, ◌+◌, ◌≤◌, ◌≡◌, false, List, [], ◌∷◌, ◌++◌, length, map, nat_le, Ok, refl, ◌∙◌, ap}
+use Rattle.std.proofs.Common.{arith, eq-eqb}
 use Rattle.std.specs.Prelude.{◌==◌, flat_map, true}
 use Rattle.std.specs.List.{AllByRecursion}
 use Rattle.std.proofs.lemmas.Bool.Decides.{nat_tests}

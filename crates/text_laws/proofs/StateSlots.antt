@@ -1,5 +1,6 @@
 -- The final state's lines are read as its statuses and dates.
-use Rattle.std.proofs.Common.{ℕ, ◌+◌, ◌<◌, ◌≤◌, ◌≡◌, ◌^◌, Bool, true, false, ◌&&◌, List, [], ◌∷◌, ◌++◌, length, map, Option, Some, None, Ok, Err, refl, ◌∙◌, ap, arith, nat_le, nat_lt, codes, lt-ltb, le-leb}
+use Rattle.std.proofs.Common.{ℕ, ◌+◌, ◌<◌, ◌≤◌, ◌≡◌, ◌^◌, Bool, true, false, ◌&&◌, List, [], ◌∷◌, ◌++◌, length, map}
+use Rattle.std.proofs.Common.{Option, Some, None, Ok, Err, refl, ◌∙◌, ap, arith, nat_le, nat_lt, codes, lt-ltb, le-leb}
 use Rattle.std.specs.Prelude.{ℤ, ◌/◌, ◌%◌, if◌then◌else◌, flat_map, All}
 use Rattle.std.specs.Fmt.{decimal}
 use Rattle.std.specs.List.{AllByRecursion, enumerate_from, list_all}
@@ -167,7 +168,8 @@ final_text_reads_back s valid =
     let xs = enumerate_from 0 ws in
     let written = each_placed (λ x. status_row s x ≡ row_text default_writer (short_of s x))
     (IsValidWish s.dossier) 0 ws valid.wishes (λ k w lt is. short_written s (k, w) is.id) in
-    slot_read (short_of s) Rows.state short_header (short_made s) xs (row short_header ++ flat_map (status_row s) xs) refl
+    slot_read (short_of s) Rows.state short_header (short_made s) xs
+    (row short_header ++ flat_map (status_row s) xs) refl
     (short_text s xs written) refl (λ x. refl) refl
     (rows_read (short_of s) Rows.state 2 2 (short_made s) xs
     (omega (arith, length-enumerate_from 0 ws, valid.size.wishes))

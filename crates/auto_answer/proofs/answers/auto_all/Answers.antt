@@ -15,7 +15,8 @@ is_live_ranked-requires c =
     let count : c.len-count.result ≡ length d.wishes = c.len-count.ensures
     ∙ ap (λ (d : DossierRows). length d.wishes) (c.behind-state.view_is ∙ c.dossier.ensures) in
     let lt : c.loop-place.place < length d.wishes = rw count at c.loop-place-test.true in
-    rw (same_rows c.args.state.now c.loop-place.state c.args.stamp c.loop-place.place c.loop-place.all c.loop-place.invariant) lt
+    rw (same_rows c.args.state.now c.loop-place.state c.args.stamp c.loop-place.place c.loop-place.all
+    c.loop-place.invariant) lt
 
 pub answer_beside-own-requires : goal.answer_beside-own-requires
 answer_beside-own-requires c =
@@ -23,7 +24,8 @@ answer_beside-own-requires c =
     let count : c.len-count.result ≡ length d.wishes = c.len-count.ensures
     ∙ ap (λ (d : DossierRows). length d.wishes) (c.behind-state.view_is ∙ c.dossier.ensures) in
     let lt : c.loop-place.place < length d.wishes = rw count at c.loop-place-test.true in
-    rw (same_rows c.args.state.now c.loop-place.state c.args.stamp c.loop-place.place c.loop-place.all c.loop-place.invariant) lt
+    rw (same_rows c.args.state.now c.loop-place.state c.args.stamp c.loop-place.place c.loop-place.all
+    c.loop-place.invariant) lt
 
 pub freed_in_all-all-requires : goal.freed_in_all-all-requires
 freed_in_all-all-requires c =

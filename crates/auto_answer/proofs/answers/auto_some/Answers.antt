@@ -1,7 +1,8 @@
 use Rattle.std.proofs.Common.{◌∙◌, ap, sym, refl, length, arith, List, get_or}
 use Rattle.admit_core.specs.declared.state.Mark.{Mark}
 use Rattle.admit_core.specs.DossierRows.{DossierRows}
-use Rattle.auto_answer.proofs.NewOffers.{answered_nobody, dossier_stays, first_candidates, next_room, next_place, places_end}
+use Rattle.auto_answer.proofs.NewOffers.{answered_nobody, dossier_stays, first_candidates, next_room, next_place}
+use Rattle.auto_answer.proofs.NewOffers.{places_end}
 use Rattle.auto_answer.proofs.answers.auto_some.Goals as goal
 
 pub loop-place-init : goal.loop-place-init

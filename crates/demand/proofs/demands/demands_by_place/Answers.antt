@@ -20,5 +20,6 @@ loop-place-preserved c =
           ∙ ap (λ (d : Demand). so_far ++ d ∷ []) w.demand_at.ensures
           ∙ sym (picked needs (demand_in ws) places i (omega arith) (sym c.needs_bed.ensures ∙ w.if-needs_bed.true)))
       | else-needs_bed w ↦
-          rw w.demands-is (c.loop-place.invariant ∙ sym (passed_over needs (demand_in ws) places i (omega arith) (sym c.needs_bed.ensures ∙ w.if-needs_bed.false)))
+          rw w.demands-is (c.loop-place.invariant ∙ sym (passed_over needs (demand_in ws) places i (omega arith)
+          (sym c.needs_bed.ensures ∙ w.if-needs_bed.false)))
     ]

@@ -6,7 +6,8 @@ use Rattle.demand.proofs.walk.flag_proposed.Goals as goal
 use Rattle.demand.proofs.walk.flag_proposed.Goals.{then-visit, else-visit}
 
 pub loop-before-init : goal.loop-before-init
-loop-before-init c = walked_none c.args.state.now c.args.orders.now.orders c.args.bars.now c.args.programme c.order_of-order.result.now c.args.flags.now.items
+loop-before-init c = walked_none c.args.state.now c.args.orders.now.orders c.args.bars.now c.args.programme
+    c.order_of-order.result.now c.args.flags.now.items
 
 pub loop-before-preserved : goal.loop-before-preserved
 loop-before-preserved c =
@@ -19,10 +20,13 @@ loop-before-preserved c =
     let x = get_or order i 0 in
     let wants = wants_seat s bars p x in
     let next : c.if-visit.ahead ≡ ahead + cond wants 1 0 = elim c.if-visit.branch [
-      | then-visit w ↦ counted_one wants c.visit.result ahead c.if-visit.ahead c.visit.ensures.wants w.if-visit.true w.ahead-is
-      | else-visit w ↦ counted_none wants c.visit.result ahead c.if-visit.ahead c.visit.ensures.wants w.if-visit.false w.ahead-is
+      | then-visit w ↦ counted_one wants c.visit.result ahead c.if-visit.ahead c.visit.ensures.wants w.if-visit.true
+          w.ahead-is
+      | else-visit w ↦ counted_none wants c.visit.result ahead c.if-visit.ahead c.visit.ensures.wants w.if-visit.false
+          w.ahead-is
     ] in
-    walked_more s c.args.orders.now.orders bars p order c.order_of-order.ensures i c.loop-before-test.true x ahead c.if-visit.ahead c.is_called-is_called.result
+    walked_more s c.args.orders.now.orders bars p order c.order_of-order.ensures i c.loop-before-test.true x ahead
+    c.if-visit.ahead c.is_called-is_called.result
     c.args.flags.now.items c.loop-before.flags.items c.visit.new.flags.items refl c.loop-before.invariant
     (c.is_called-is_called.ensures
     ∙ ap (λ n. nat_lt i n || nat_lt ahead c.seats_left-left.result) c.limit_of-limit.ensures
@@ -31,5 +35,7 @@ loop-before-preserved c =
 
 pub returns : goal.returns
 returns c =
-    walked_all c.args.state.now c.args.orders.now.orders c.args.bars.now c.args.programme c.order_of-order.result.now c.loop-before.before c.loop-before.ahead
-    c.args.flags.now.items c.loop-before.flags.items c.order_of-order.ensures c.loop-before-test.false c.requires.flags c.requires.orders c.loop-before.invariant
+    walked_all c.args.state.now c.args.orders.now.orders c.args.bars.now c.args.programme c.order_of-order.result.now
+    c.loop-before.before c.loop-before.ahead
+    c.args.flags.now.items c.loop-before.flags.items c.order_of-order.ensures c.loop-before-test.false c.requires.flags
+    c.requires.orders c.loop-before.invariant

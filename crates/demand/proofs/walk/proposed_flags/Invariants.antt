@@ -6,4 +6,5 @@ use Rattle.demand.proofs.walk.proposed_flags.Given as goal
 
 abbrev pub invariant-loop-programme : goal.invariant-loop-programme
 invariant-loop-programme l =
-    SetsAlso (is_proposed_below l.state l.orders.orders l.bars l.programme) (replicate (length l.state.dossier.wishes) false) l.flags.items
+    SetsAlso (is_proposed_below l.state l.orders.orders l.bars l.programme)
+    (replicate (length l.state.dossier.wishes) false) l.flags.items

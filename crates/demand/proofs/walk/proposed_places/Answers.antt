@@ -7,5 +7,6 @@ pub returns : goal.returns
 returns c =
     let P : List ℕ → Type 0 = λ ks. IfOk c.flagged.result (λ places. places.items ≡ ks) in
     subst P
-    (flagged_proposed c.args.state.now c.args.orders.now.orders c.args.bars.now c.deref.result.now (c.deref.ensures.value ∙ c.in_ok-flags.ensures.flags))
+    (flagged_proposed c.args.state.now c.args.orders.now.orders c.args.bars.now c.deref.result.now
+    (c.deref.ensures.value ∙ c.in_ok-flags.ensures.flags))
     c.flagged.ensures

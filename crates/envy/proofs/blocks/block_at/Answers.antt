@@ -42,7 +42,8 @@ returns c =
     ∙ ap (λ (last : Option ℕ). envied_at (order_of d os w.programme) last (get_or c.args.places.now k 0)) last_is
     ∙ ap (envied_at (order_of d os w.programme) (number_in lasts w.programme))
     (place_at d os c.args.places.now k c.requires.places c.requires.wish)
-    ∙ envied_is s os lasts w (order_distinct d os valid c.requires.orders w.programme) c.call_everyone.ensures c.requires.lasts lt in
+    ∙ envied_is s os lasts w (order_distinct d os valid c.requires.orders w.programme) c.call_everyone.ensures
+    c.requires.lasts lt in
     same_block k c.seats_left.result (seats_left s w.programme) c.envied_at-envied.result
     (last_envied s os w) (c.seats_left.ensures ∙ ap (seats_left s) p_is) envied
 

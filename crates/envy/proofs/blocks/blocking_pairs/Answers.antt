@@ -25,7 +25,8 @@ returns-clause-within c =
     (λ blocks is. subst within (sym is) (blocks_within s os)) c.listed_blocks.ensures
 
 none_listed : (s : State) (os : List CallOrder) (listed : Result (Vec Block Global) OutOfMemory)
-    → IfOk listed (λ blocks. blocks.items ≡ blocks_of s os) → blocking s os ≡ [] → IfOk listed (λ blocks. blocks.items ≡ [])
+    → IfOk listed (λ blocks. blocks.items ≡ blocks_of s os) → blocking s os ≡ []
+    → IfOk listed (λ blocks. blocks.items ≡ [])
 none_listed s os listed are none =
     let P : List Block → Type 0 = λ bs. IfOk listed (λ blocks. blocks.items ≡ bs) in
     subst P (ap (map (block_at s os)) none) are
@@ -51,7 +52,8 @@ returns-clause-later_evening c = λ is.
 pub last_live-requires : goal.last_live-requires
 last_live-requires c =
     let d = c.args.state.now.dossier in
-    ap length (c.deref.ensures.value ∙ c.in_ok-places.ensures) ∙ length-map d.wishes (place_of d c.args.orders.now.orders)
+    ap length (c.deref.ensures.value ∙ c.in_ok-places.ensures)
+    ∙ length-map d.wishes (place_of d c.args.orders.now.orders)
 
 pub listed_blocks-requires-clause-places : goal.listed_blocks-requires-clause-places
 listed_blocks-requires-clause-places c = c.deref-2.ensures.value ∙ c.in_ok-places.ensures

@@ -21,11 +21,13 @@ loop-place-preserved c =
           c.loop-place.invariant told
           (sym tested ∙ w.if-is_block.true) w.in_ok-push.ensures.items)
       | else-is_block w ↦
-          rw w.blocks-is (listed_none s os k block c.loop-place.blocks.items c.loop-place.invariant told (sym tested ∙ w.if-is_block.false))
+          rw w.blocks-is (listed_none s os k block c.loop-place.blocks.items c.loop-place.invariant told
+          (sym tested ∙ w.if-is_block.false))
     ]
 
 pub returns : goal.returns
 returns c =
     listed_all c.args.state.now c.args.orders.now.orders c.loop-place.blocks.items
     c.loop-place.place (rw c.marks.ensures.marks at c.marks.ensures.one_each)
-    (omega (arith, c.loop-place-test.false, c.loop-place.auto.place-end, c.wish_count-place-end.ensures)) c.loop-place.invariant
+    (omega (arith, c.loop-place-test.false, c.loop-place.auto.place-end, c.wish_count-place-end.ensures))
+    c.loop-place.invariant

@@ -1,4 +1,5 @@
-use Rattle.std.proofs.Common.{◌≡◌, ◌≤◌, ◌++◌, ◌∷◌, [], ◌∙◌, ℕ, List, length, map, option_map, unwrap_or, take, sym, ap, arith, nat_eq, get_or}
+use Rattle.std.proofs.Common.{◌≡◌, ◌≤◌, ◌++◌, ◌∷◌, [], ◌∙◌, ℕ, List, length, map, option_map, unwrap_or, take, sym, ap}
+use Rattle.std.proofs.Common.{arith, nat_eq, get_or}
 use Rattle.std.specs.Prelude.{slice_get}
 use Rattle.std.specs.List.{position_or_len}
 use Rattle.std.proofs.lemmas.List.{map_more, take_all}
@@ -16,7 +17,8 @@ loop-wish-preserved c =
     let os = c.args.orders.now.orders in
     let f = place_of d os in
     let i = c.loop-wish.wish-index in
-    let wishes_are = c.as_slice-wish-items.ensures ∙ ap (λ (x : DossierRows). x.wishes) (c.dossier.view_is ∙ c.dossier-dossier.ensures) in
+    let wishes_are = c.as_slice-wish-items.ensures
+    ∙ ap (λ (x : DossierRows). x.wishes) (c.dossier.view_is ∙ c.dossier-dossier.ensures) in
     let none = wish_in [] 0 in
     let w = get_or c.as_slice-wish-items.result.now i none in
     let group = c.group_of-group in
@@ -32,7 +34,8 @@ loop-wish-preserved c =
     c.in_ok-push.ensures.items
     ∙ ap (λ (ns : List ℕ). ns ++ c.place_in.result ∷ []) c.loop-wish.invariant
     ∙ ap (λ n. map f (take i d.wishes) ++ n ∷ []) value
-    ∙ sym (map_more f d.wishes i none (omega (arith, c.loop-wish-test.true, ap (λ (ws : List Wish). length ws) wishes_are)))
+    ∙ sym (map_more f d.wishes i none
+    (omega (arith, c.loop-wish-test.true, ap (λ (ws : List Wish). length ws) wishes_are)))
 
 pub index-requires : goal.index-requires
 index-requires c =
@@ -47,7 +50,9 @@ index-requires c =
 pub returns : goal.returns
 returns c =
     let d = c.args.state.now.dossier in
-    let wishes_are = c.as_slice-wish-items.ensures ∙ ap (λ (x : DossierRows). x.wishes) (c.dossier.view_is ∙ c.dossier-dossier.ensures) in
+    let wishes_are = c.as_slice-wish-items.ensures
+    ∙ ap (λ (x : DossierRows). x.wishes) (c.dossier.view_is ∙ c.dossier-dossier.ensures) in
     let past : length d.wishes ≤ c.loop-wish.wish-index =
     omega (arith, c.loop-wish-test.false, ap (λ (ws : List Wish). length ws) wishes_are) in
-    c.loop-wish.invariant ∙ ap (map (place_of d c.args.orders.now.orders)) (take_all c.loop-wish.wish-index d.wishes past)
+    c.loop-wish.invariant ∙ ap (map (place_of d c.args.orders.now.orders))
+    (take_all c.loop-wish.wish-index d.wishes past)

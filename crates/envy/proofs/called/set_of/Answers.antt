@@ -10,4 +10,5 @@ loop-candidate-preserved c =
     c.requires c.loop-candidate-test.true c.loop-candidate.invariant
 
 pub returns : goal.returns
-returns c = c.loop-candidate.invariant ∙ take_all c.loop-candidate.candidate-index c.args.order.now c.loop-candidate-test.false
+returns c = c.loop-candidate.invariant ∙ take_all c.loop-candidate.candidate-index c.args.order.now
+    c.loop-candidate-test.false

@@ -13,5 +13,6 @@ loop-place-preserved c =
 
 pub returns : goal.returns
 returns c =
-    best_all c.args.state.now c.loop-place.place (get nat_eq c.loop-place.best) (rw c.marks.ensures.marks at c.marks.ensures.one_each)
+    best_all c.args.state.now c.loop-place.place (get nat_eq c.loop-place.best)
+    (rw c.marks.ensures.marks at c.marks.ensures.one_each)
     (omega (arith, c.loop-place-test.false, c.wish_count-place-end.ensures)) c.loop-place.invariant

@@ -32,5 +32,6 @@ loop-place-preserved c =
 pub returns : goal.returns
 returns c =
     λ orders are.
-    last_all c.args.state.now orders c.loop-place.place c.loop-place.lasts.items (rw c.marks.ensures.marks at c.marks.ensures.one_each)
+    last_all c.args.state.now orders c.loop-place.place c.loop-place.lasts.items
+    (rw c.marks.ensures.marks at c.marks.ensures.one_each)
     (omega (arith, c.loop-place-test.false, c.wish_count-place-end.ensures)) (c.loop-place.invariant.1 orders are)

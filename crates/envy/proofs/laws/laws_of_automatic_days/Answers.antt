@@ -1,4 +1,5 @@
-use Rattle.envy.proofs.AutomaticDays.{days_end_fair, first_evening_blocks_none, later_evening_blocks_none, passes_keep_fair, quiet_days_end_fair, waiting_is_fair}
+use Rattle.envy.proofs.AutomaticDays.{days_end_fair, first_evening_blocks_none, later_evening_blocks_none}
+use Rattle.envy.proofs.AutomaticDays.{passes_keep_fair, quiet_days_end_fair, waiting_is_fair}
 use Rattle.envy.proofs.laws.laws_of_automatic_days.Goals as goal
 
 pub returns : goal.returns

@@ -1,4 +1,5 @@
-use Rattle.std.proofs.Common.{◌+◌, ◌<◌, ◌≡◌, ◌++◌, ◌∷◌, [], ◌∙◌, List, ℕ, None, ap, flat_map, get_or, length, string_bytes, sym, take}
+use Rattle.std.proofs.Common.{◌+◌, ◌<◌, ◌≡◌, ◌++◌, ◌∷◌, [], ◌∙◌, List, ℕ, None, ap, flat_map, get_or, length}
+use Rattle.std.proofs.Common.{string_bytes, sym, take}
 use Rattle.std.proofs.lemmas.List.{append-nil, append_assoc, take_all, take_more}
 use Rattle.std.proofs.lemmas.Grind.{flat_map-append}
 use Rattle.envy.specs.declared.blocks.Block.{Block}
@@ -23,8 +24,10 @@ block_line-requires c = c.requires c.loop-block.block-index _ c.loop-block-test.
 pub loop-block-preserved : goal.loop-block-preserved
 loop-block-preserved c =
     let none : Block = record { wish = 0; left = 0; envied = None } in
-    lines_more (block_line c.args.dossier.now) c.args.blocks.now c.loop-block.block-index none (string_bytes c.args.text.now)
-    (string_bytes c.loop-block.text) (string_bytes c.in_ok-line.line) (string_bytes c.push_str.new.self) c.loop-block-test.true
+    lines_more (block_line c.args.dossier.now) c.args.blocks.now c.loop-block.block-index none
+    (string_bytes c.args.text.now)
+    (string_bytes c.loop-block.text) (string_bytes c.in_ok-line.line)
+    (string_bytes c.push_str.new.self) c.loop-block-test.true
     c.loop-block.invariant c.in_ok-line.ensures
     (c.in_ok-push_str.ensures.bytes ∙ ap (λ (bs : List ℕ). string_bytes c.loop-block.text ++ bs) c.deref.ensures)
 

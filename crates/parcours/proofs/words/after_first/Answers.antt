@@ -8,6 +8,7 @@ use Rattle.parcours.proofs.words.after_first.Goals as goal
 pub returns : goal.returns
 returns c =
     let rest : into_iter_items c.next.new.self ≡ drop 1 (into_iter_items c.args.args) =
-    without_first (into_iter_items c.args.args) (into_iter_items c.next.new.self) c.next.result (into_iter_len c.args.args) (into_iter_len c.next.new.self) c.args.args.rest.ok.0
+    without_first (into_iter_items c.args.args) (into_iter_items c.next.new.self) c.next.result
+    (into_iter_len c.args.args) (into_iter_len c.next.new.self) c.args.args.rest.ok.0
     c.next.new.self.rest.ok.0 c.next.ensures.cases in
     items_from_collect _ c.collect.ensures.ran (YieldsList-from_vec _ rest (c.next.new.self.rest.ok.0 ∙ ap length rest))

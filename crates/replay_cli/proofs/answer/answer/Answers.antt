@@ -10,7 +10,9 @@ play_out-requires-clause-indexed g c = indexed_in c.in-Ok.request _ c.in-Ok.inpu
 
 pub returns-in-Ok-clause-replies : goal.returns-in-Ok-clause-replies
 returns-in-Ok-clause-replies g c =
-    replies_played _ _ _ _ _ (c.in-Ok.request, c.in-Ok.input) c.in-Ok.ensures c.play_out.ensures.back c.play_out.ensures.idle c.play_out.result c.play_out.ensures.ends
+    replies_played _ _ _ _ _ (c.in-Ok.request, c.in-Ok.input) c.in-Ok.ensures c.play_out.ensures.back
+    c.play_out.ensures.idle c.play_out.result c.play_out.ensures.ends
 
 pub returns-in-Err-clause-replies : goal.returns-in-Err-clause-replies
-returns-in-Err-clause-replies g c = replies_stopped _ _ _ _ c.in-Err.stop c.stopped.result c.in-Err.ensures c.stopped.ensures
+returns-in-Err-clause-replies g c = replies_stopped _ _ _ _ c.in-Err.stop c.stopped.result c.in-Err.ensures
+    c.stopped.ensures

@@ -5,22 +5,27 @@ use Rattle.replay_cli.proofs.Played.{can_end, no_days, reply_ends, untold_idle}
 use Rattle.replay_cli.proofs.answer.play_out.Goals as goal
 
 pub returns-in_err-played-clause-idle : goal.returns-in_err-played-clause-idle
-returns-in_err-played-clause-idle g c = λ idle. c.in_err-played.ensures.idle (c.days_of-number.ensures ∙ no_days c.args.request.now idle.no_day)
+returns-in_err-played-clause-idle g c = λ idle. c.in_err-played.ensures.idle
+    (c.days_of-number.ensures ∙ no_days c.args.request.now idle.no_day)
 
 pub ending-requires-clause-can : goal.ending-requires-clause-can
 ending-requires-clause-can g c =
-    can_end c.args.request.now c.requires.request c.args.input.now _ _ _ _ _ _ _ c.as_ref-dated.ensures.value c.in_ok-dated.ensures.dates c.terms_in.ensures c.days_of-number.ensures
+    can_end c.args.request.now c.requires.request c.args.input.now _ _ _ _ _ _ _ c.as_ref-dated.ensures.value
+    c.in_ok-dated.ensures.dates c.terms_in.ensures c.days_of-number.ensures
     c.in_ok-played.ensures.played c.requires.named c.requires.indexed
 
 pub returns-clause-back : goal.returns-clause-back
 returns-clause-back g c = back_again _ _ _ c.in_ok-played.ensures.back c.ending.ensures.ends.lends.back
 
 pub returns-clause-idle : goal.returns-clause-idle
-returns-clause-idle g c = untold_idle _ _ _ _ (λ none. c.in_ok-played.ensures.idle (c.days_of-number.ensures ∙ none)) c.ending.ensures.ends.lends
+returns-clause-idle g c = untold_idle _ _ _ _ (λ none. c.in_ok-played.ensures.idle (c.days_of-number.ensures ∙ none))
+    c.ending.ensures.ends.lends
 
 pub returns-clause-ends : goal.returns-clause-ends
 returns-clause-ends g c =
     λ job is_job is_input.
-    reply_ends c.args.request.now c.requires.request c.args.input.now _ _ _ _ _ _ _ c.as_ref-dated.ensures.value c.in_ok-dated.ensures.dates c.terms_in.ensures c.days_of-number.ensures
+    reply_ends c.args.request.now c.requires.request c.args.input.now _ _ _ _ _ _ _ c.as_ref-dated.ensures.value
+    c.in_ok-dated.ensures.dates c.terms_in.ensures c.days_of-number.ensures
     c.in_ok-played.ensures.played _ c.ending.result job (c.in_ok-dated.ensures.value
-    ∙ ap (option_map (dated_from c.args.input.now.dossier c.args.input.now.dates)) c.deadlines_of.ensures) is_job is_input c.ending.ensures.ends
+    ∙ ap (option_map (dated_from c.args.input.now.dossier c.args.input.now.dates)) c.deadlines_of.ensures) is_job
+    is_input c.ending.ensures.ends

@@ -14,4 +14,5 @@ returns c =
     ∙ ap (λ (lapsed : List Lapse). string_bytes c.writeln.new.self ++ flat_map line_of lapsed) c.as_slice.ensures in
     let parts = after_two (string_bytes c.args.text.now) (day_line day) (flat_map line_of day.lapsed)
     (passes_text d day.passes) (evening_text d day) c.in_ok-writeln.ensures.bytes lapses in
-    subst (λ (bytes : List ℕ). OnOk c.push_rest.result (string_bytes c.push_rest.new.text ≡ bytes)) parts c.push_rest.ensures
+    subst (λ (bytes : List ℕ). OnOk c.push_rest.result (string_bytes c.push_rest.new.text ≡ bytes)) parts
+    c.push_rest.ensures

@@ -12,6 +12,7 @@ loop-place-preserved c =
     rw (
       c.in_ok-push_dated_row.ensures,
       c.loop-place.invariant,
-      lines_more (dated_row c.args.state.now c.args.start c.args.terms.now.before) 0 wishes k k none (omega arith) (omega arith),
+      lines_more (dated_row c.args.state.now c.args.start c.args.terms.now.before) 0 wishes k k none (omega arith)
+          (omega arith),
     )
     (simp append_assoc)

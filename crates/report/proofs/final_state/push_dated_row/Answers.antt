@@ -15,8 +15,10 @@ returns c =
     let comma : List ℕ = 44 ∷ [] in
     let since = since_word s c.args.start c.args.terms.now.before place in
     let word = c.word.ensures ∙ ap (λ (status : Status). status_word status) c.status.ensures in
-    let status = c.in_ok-push_str-2.ensures.bytes ∙ ap (λ (bytes : List ℕ). string_bytes c.push_str.new.self ++ bytes) word in
+    let status = c.in_ok-push_str-2.ensures.bytes
+    ∙ ap (λ (bytes : List ℕ). string_bytes c.push_str.new.self ++ bytes) word in
     let parts = after_parts (string_bytes c.args.text.now) (decimal c.args.wish.now.id) comma
     (status_word (status_at s place)) comma since (10 ∷ [])
     c.in_ok-push_number.ensures c.in_ok-push_str.ensures.bytes status c.in_ok-push_str-3.ensures.bytes in
-    subst (λ (bytes : List ℕ). OnOk c.push_since.result (string_bytes c.push_since.new.text ≡ bytes)) parts c.push_since.ensures
+    subst (λ (bytes : List ℕ). OnOk c.push_since.result (string_bytes c.push_since.new.text ≡ bytes)) parts
+    c.push_since.ensures

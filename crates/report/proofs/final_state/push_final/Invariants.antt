@@ -7,4 +7,5 @@ use Rattle.report.proofs.final_state.push_final.Given as goal
 abbrev pub invariant-loop-place : goal.invariant-loop-place
 invariant-loop-place l =
     string_bytes l.text
-    ≡ string_bytes l.fn.text ++ line (codes "final" ∷ []) ++ row (codes "wish" ∷ codes "status" ∷ []) ++ flat_map (status_row l.state) (enumerate_from 0 (take l.place l.wishes))
+    ≡ string_bytes l.fn.text ++ line (codes "final" ∷ []) ++ row (codes "wish" ∷ codes "status" ∷ [])
+    ++ flat_map (status_row l.state) (enumerate_from 0 (take l.place l.wishes))

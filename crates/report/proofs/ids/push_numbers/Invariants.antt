@@ -5,4 +5,5 @@ use Rattle.report.proofs.ids.push_numbers.Given as goal
 
 abbrev pub invariant-loop-item : goal.invariant-loop-item
 invariant-loop-item g l =
-    string_bytes l.text ≡ string_bytes l.fn.text ++ flat_map (λ x. line (l.word ∷ decimal (g.T.HasId.id_of x.0.now) ∷ decimal x.1.now ∷ [])) l.yielded
+    string_bytes l.text ≡ string_bytes l.fn.text
+    ++ flat_map (λ x. line (l.word ∷ decimal (g.T.HasId.id_of x.0.now) ∷ decimal x.1.now ∷ [])) l.yielded

@@ -8,5 +8,11 @@ pub returns : goal.returns
 returns c =
     let numbers = c.args.numbers.now in
     let k = c.loop-number.number-index in
-    rw (c.in_ok-push_str.ensures.bytes, c.loop-number.invariant, take_all k numbers (omega arith), further-map 32 decimal numbers)
+    rw (
+      c.in_ok-push_str.ensures.bytes,
+      c.loop-number.invariant,
+      take_all k numbers
+          (omega arith),
+      further-map 32 decimal numbers,
+    )
     (append_assoc (string_bytes c.args.text.now) (flat_map (λ x. 32 ∷ decimal x) numbers) (10 ∷ []))

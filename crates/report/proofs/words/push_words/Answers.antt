@@ -8,5 +8,11 @@ returns g c =
     λ word printed.
     let words = c.args.words.now in
     let k = c.loop-word.word-index in
-    rw (c.in_ok-push_str.ensures.bytes, c.loop-word.invariant word printed, take_all k words (omega arith), further-map 32 word words)
+    rw (
+      c.in_ok-push_str.ensures.bytes,
+      c.loop-word.invariant word printed,
+      take_all k words
+          (omega arith),
+      further-map 32 word words,
+    )
     (append_assoc (string_bytes c.args.text.now) (flat_map (λ x. 32 ∷ word x) words) (10 ∷ []))

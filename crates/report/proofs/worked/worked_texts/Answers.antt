@@ -1,4 +1,6 @@
-use Rattle.report.proofs.WorkedCases.{automatic_days, cascade_day_text, dated_finals, edges_of_bars, explanation_texts, lapsing_days, order_texts, realistic_days_text, realistic_final, refusal_lines, samples}
+use Rattle.report.proofs.WorkedCases.{automatic_days, cascade_day_text, dated_finals, edges_of_bars, explanation_texts}
+use Rattle.report.proofs.WorkedCases.{lapsing_days, order_texts, realistic_days_text, realistic_final, refusal_lines}
+use Rattle.report.proofs.WorkedCases.{samples}
 use Rattle.report.proofs.worked.worked_texts.Goals as goal
 
 pub returns : goal.returns

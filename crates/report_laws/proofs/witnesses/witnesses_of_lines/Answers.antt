@@ -1,4 +1,5 @@
-use Rattle.report_laws.proofs.Worked.{autos_witness, bars_witness, evenings_witness, falls_witness, freed_witness, lapses_witness, names_witness, offers_witness}
+use Rattle.report_laws.proofs.Worked.{autos_witness, bars_witness, evenings_witness, falls_witness, freed_witness}
+use Rattle.report_laws.proofs.Worked.{lapses_witness, names_witness, offers_witness}
 use Rattle.report_laws.proofs.witnesses.witnesses_of_lines.Goals as goal
 
 pub returns : goal.returns

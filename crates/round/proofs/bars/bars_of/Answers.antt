@@ -11,8 +11,10 @@ bar-requires g c = subst (λ n. c.loop-i.i < n) c.count-i-end.ensures c.loop-i-t
 
 pub loop-i-preserved : goal.loop-i-preserved
 loop-i-preserved g c =
-    bars_more (g.F.Falling.bars c.args.system.now) c.loop-i.bars.items c.push.new.self.items c.loop-i.i c.count-i-end.result c.bar.result
-    (c.count-i-end.ensures ∙ sym (g.met.F.Falling.one_bar_each c.args.system.now)) c.loop-i-test.true c.loop-i.invariant c.bar.ensures
+    bars_more (g.F.Falling.bars c.args.system.now) c.loop-i.bars.items c.push.new.self.items c.loop-i.i
+    c.count-i-end.result c.bar.result
+    (c.count-i-end.ensures ∙ sym (g.met.F.Falling.one_bar_each c.args.system.now)) c.loop-i-test.true c.loop-i.invariant
+    c.bar.ensures
     c.in_ok-push.ensures.items
 
 pub returns : goal.returns

@@ -13,13 +13,15 @@ returns-clause-pass g c =
       greatest = greatest_kept _ _ c.in_ok-round.ensures.system _ _ (c.from_vec.ensures ∙ c.in_ok-bars.ensures)
           c.in_ok-falls.ensures.greatest;
       falls = run_kept _ _ c.in_ok-round.ensures.system _ _ c.from_vec-2.ensures c.in_ok-falls.ensures.run;
-      bars = bars_kept _ _ c.in_ok-round.ensures.system _ _ c.from_vec-2.ensures _ _ (c.from_vec.ensures ∙ c.in_ok-bars.ensures)
+      bars = bars_kept _ _ c.in_ok-round.ensures.system _ _ c.from_vec-2.ensures _ _
+          (c.from_vec.ensures ∙ c.in_ok-bars.ensures)
           c.in_ok-falls.ensures.bars;
       offers =
           c.from_vec-3.ensures
           ∙ c.in_ok-offers.ensures.offers
           ∙ ap (proposed end.state end.orders) (sym (c.from_vec.ensures ∙ c.in_ok-bars.ensures))
-          ∙ ap (λ (offers : List ℕ → List ℕ). offers c.from_vec.result) (c.greatest.ensures.offers ∙ c.in_ok-round.ensures.offers);
+          ∙ ap (λ (offers : List ℕ → List ℕ). offers c.from_vec.result)
+          (c.greatest.ensures.offers ∙ c.in_ok-round.ensures.offers);
     }
 
 pub returns-clause-picks : goal.returns-clause-picks

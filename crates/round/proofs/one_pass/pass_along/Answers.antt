@@ -12,7 +12,8 @@ pub offer_all-requires : goal.offer_all-requires
 offer_all-requires g c =
     let s = c.args.state.now in
     let orders = c.args.roster.now.orders in
-    let offers : c.as_slice.result.now ≡ proposed s orders c.in_ok-found.found.bars = c.as_slice.ensures ∙ c.in_ok-found.ensures.pass.offers in
+    let offers : c.as_slice.result.now ≡ proposed s orders c.in_ok-found.found.bars =
+    c.as_slice.ensures ∙ c.in_ok-found.ensures.pass.offers in
     rw offers (proposed_are_wishes s orders c.in_ok-found.found.bars)
 
 pub returns : goal.returns
@@ -22,7 +23,8 @@ returns g c =
     let found = c.in_ok-found.found in
     let is_pass = c.in_ok-found.ensures.pass in
     let made : c.offer_all.new.self ≡ offered s orders found.bars c.args.stamp =
-    offers_recorded s c.offer_all.new.self orders found.bars c.as_slice.result.now c.args.stamp (c.as_slice.ensures ∙ is_pass.offers) c.offer_all.ensures.offered
+    offers_recorded s c.offer_all.new.self orders found.bars c.as_slice.result.now c.args.stamp
+    (c.as_slice.ensures ∙ is_pass.offers) c.offer_all.ensures.offered
     c.offer_all.ensures.marks in
     let valid : IsValid s.dossier = subst IsValid (c.dossier.view_is ∙ c.dossier-dossier.ensures) c.dossier.invariant in
     let called : AreCallOrders s.dossier.groups orders =
@@ -36,6 +38,7 @@ returns g c =
         early = tt;
         choice = c.find.ensures.picks.choice;
       };
-      laws = laws_kept s c.offer_all.new.self orders c.args.ceilings.now c.args.stamp found is_pass made valid called c.requires.ceilings;
+      laws = laws_kept s c.offer_all.new.self orders c.args.ceilings.now c.args.stamp found is_pass made valid called
+          c.requires.ceilings;
       refused = search rules;
     }

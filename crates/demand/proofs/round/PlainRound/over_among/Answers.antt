@@ -11,5 +11,6 @@ returns c =
     let bars = c.args.self.now.bars.items in
     let free = c.beds_left.result in
     c.rank_at.ensures
-    ∙ ap (λ (xs : List Demand). slice_get (map (λ (x : Demand). x.rank) xs) free) (c.deref.ensures.value ∙ c.in_ok-demands.ensures orders bars c.requires.places)
+    ∙ ap (λ (xs : List Demand). slice_get (map (λ (x : Demand). x.rank) xs) free)
+    (c.deref.ensures.value ∙ c.in_ok-demands.ensures orders bars c.requires.places)
     ∙ over_is s orders c.args.self.now.ceilings.items bars c.args.school free c.requires.school c.beds_left.ensures

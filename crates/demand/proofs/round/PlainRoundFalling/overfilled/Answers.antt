@@ -14,9 +14,12 @@ loop-school-preserved c =
     let lt : school < length sys.ceilings = omega (arith, c.loop-school-test.true, c.count-school-end.ensures) in
     elim c.if-is_some.branch [
       | then-is_some+in_ok-push w ↦
-          let some : is_some (rank_over sys bars school) ≡ true = ap is_some (sym c.in_ok-over_among.ensures) ∙ sym w.if-is_some.ensures in
-          rw w.schools-is (w.in_ok-push.ensures.items ∙ ap (λ (xs : List ℕ). xs ++ school ∷ []) c.loop-school.invariant ∙ sym (listed sys bars school lt some))
+          let some : is_some (rank_over sys bars school) ≡ true =
+          ap is_some (sym c.in_ok-over_among.ensures) ∙ sym w.if-is_some.ensures in
+          rw w.schools-is (w.in_ok-push.ensures.items ∙ ap (λ (xs : List ℕ). xs ++ school ∷ []) c.loop-school.invariant
+          ∙ sym (listed sys bars school lt some))
       | else-is_some w ↦
-          let none : is_some (rank_over sys bars school) ≡ false = ap is_some (sym c.in_ok-over_among.ensures) ∙ sym w.if-is_some.ensures in
+          let none : is_some (rank_over sys bars school) ≡ false =
+          ap is_some (sym c.in_ok-over_among.ensures) ∙ sym w.if-is_some.ensures in
           rw w.schools-is (c.loop-school.invariant ∙ sym (left_out sys bars school lt none))
     ]

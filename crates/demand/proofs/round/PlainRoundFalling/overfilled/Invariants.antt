@@ -7,4 +7,5 @@ use Rattle.demand.proofs.round.PlainRoundFalling.overfilled.Given as goal
 abbrev pub invariant-loop-school : goal.invariant-loop-school
 invariant-loop-school l =
     l.schools.items
-    ≡ filter (is_overfilled (boarding l.self.state.now l.self.orders.now.orders l.self.ceilings.items) l.self.bars.items) (range_with_len 0 l.school)
+    ≡ filter (is_overfilled (boarding l.self.state.now l.self.orders.now.orders l.self.ceilings.items)
+    l.self.bars.items) (range_with_len 0 l.school)
