@@ -1,8 +1,12 @@
 -- After automatic days every stable matching is no worse for any candidate.
-use Rattle.std.proofs.Common.{ℕ, ◌+◌, ◌<◌, ◌≤◌, ◌≡◌, ◌⊎◌, Bool, true, false, not, ◌&&◌, ◌||◌, filter, List, [], ◌∷◌, ◌++◌, length, map, get_or, Option, Some, None, inl, inr, refl, sym, ◌∙◌, ap, subst, arith, nat_eq, nat_lt, zip}
+use Rattle.std.proofs.Common.{ℕ, ◌+◌, ◌<◌, ◌≤◌, ◌≡◌, ◌⊎◌, Bool, true, false, not, ◌&&◌, ◌||◌, filter, List, [], ◌∷◌}
+use Rattle.std.proofs.Common.{◌++◌, length, map, get_or, Option, Some, None, inl, inr, refl, sym, ◌∙◌, ap, subst, arith}
+use Rattle.std.proofs.Common.{nat_eq, nat_lt, zip}
 use Rattle.std.specs.Prelude.{◌==◌, if◌then◌else◌, nat_le}
 use Rattle.std.specs.List.{AllByRecursion, before_first, list_any}
-use Rattle.std.proofs.lemmas.Bool.{and_from, and_parts, and_cases, both_ways, cases_Bool, cases_order, eq-eqb, eqb-true, false≢true, false_from_ne_true, leb-true, le-leb, lt-ltb, ltb-false, ltb-true, not_from_false, or_cases, or_left, or_right, or_parts}
+use Rattle.std.proofs.lemmas.Bool.{and_from, and_parts, and_cases, both_ways, cases_Bool, cases_order, eq-eqb, eqb-true}
+use Rattle.std.proofs.lemmas.Bool.{false≢true, false_from_ne_true, leb-true, le-leb, lt-ltb, ltb-false, ltb-true}
+use Rattle.std.proofs.lemmas.Bool.{not_from_false, or_cases, or_left, or_right, or_parts}
 use Rattle.std.proofs.lemmas.Cmp.{nat_eq_equiv}
 use Rattle.std.proofs.lemmas.List.{get_or_default, length-append, length-map}
 use Rattle.std.proofs.lemmas.List.Elements.{All-from_recursion, All-map, All-same, recursion_from_All}
@@ -21,13 +25,16 @@ use Rattle.admit_core.specs.declared.state.Stamp.{Stamp}
 use Rattle.admit_core.specs.declared.state.Status.{Status}
 use Rattle.admit_core.specs.declared.state.Status.TheVariants.{Offered}
 use Rattle.admit_core.specs.AutoAnswer.{auto_all, auto_mark, best_live}
-use Rattle.admit_core.specs.Blocking.{behind, envied, has_better, has_envy, is_blocking, is_missed, lacks_school, wants_more}
+use Rattle.admit_core.specs.Blocking.{behind, envied, has_better, has_envy, is_blocking, is_missed, lacks_school}
+use Rattle.admit_core.specs.Blocking.{wants_more}
 use Rattle.admit_core.specs.CallOrder.{AreCallOrders}
 use Rattle.admit_core.specs.Days.{Days, answers_of, first_evening, first_mark, offered}
 use Rattle.admit_core.specs.DossierRows.{DossierRows, candidates_of, group_of, limit_of, ranking_of, seats_of}
 use Rattle.admit_core.specs.Lists.{is_among}
-use Rattle.admit_core.specs.Proposals.{ahead, before, has_open_wish, is_behind_bar, is_open, is_open_in, is_proposed, needs_no_seat, order_of, position_of, wants_seat}
-use Rattle.admit_core.specs.State.{State, changed_to, entries, holds_seat, is_gone, is_live, is_waiting, is_waiting_status, seat_holders, seats_left}
+use Rattle.admit_core.specs.Proposals.{ahead, before, has_open_wish, is_behind_bar, is_open, is_open_in, is_proposed}
+use Rattle.admit_core.specs.Proposals.{needs_no_seat, order_of, position_of, wants_seat}
+use Rattle.admit_core.specs.State.{State, changed_to, entries, holds_seat, is_gone, is_live, is_waiting}
+use Rattle.admit_core.specs.State.{is_waiting_status, seat_holders, seats_left}
 use Rattle.admit_core.specs.Validity.{IsValid}
 use Rattle.admit_core.proofs.ClosedEvenings.{among_filter}
 use Rattle.admit_core.proofs.Counting.{distinct_kept}
@@ -39,13 +46,16 @@ use Rattle.admit_core.proofs.Statuses.{changed_status, status_of_auto}
 use Rattle.admit_core.proofs.Tests.{any_implied}
 use Rattle.day_state.proofs.Along.{length-with_marks}
 use Rattle.round.proofs.Members.{among_filtered, distinct_once}
-use Rattle.campaign_laws.specs.AutomaticDay.{IsAllAutomatic, IsStable, NotBothLive, StableMatchingsAreNoWorse, has_as_good}
+use Rattle.campaign_laws.specs.AutomaticDay.{IsAllAutomatic, IsStable, NotBothLive, StableMatchingsAreNoWorse}
+use Rattle.campaign_laws.specs.AutomaticDay.{has_as_good}
 use Rattle.campaign_laws.specs.Moments.{moments, openings}
 use Rattle.campaign_laws.proofs.GoneStays.{live_waits_not}
 use Rattle.campaign_laws.proofs.Kept.{least_within, ranked_live}
 use Rattle.campaign_laws.proofs.OneMark.{proposed_open, waiting_not_gone}
 use Rattle.campaign_laws.proofs.Walks.{Nothing, Steps, all_of, both, campaign_steps, throughout}
-use Rattle.campaign_laws.proofs.Matchings.{AllMatched, IsMatched, StandsAt, around, as_good_as, better_by, false_ne, gone_by_answer, gone_status, mark_of, no_limit, no_school, nobody_last, none_placed, one_wish, prefers, ranked_called, stands}
+use Rattle.campaign_laws.proofs.Matchings.{AllMatched, IsMatched, StandsAt, around, as_good_as, better_by, false_ne}
+use Rattle.campaign_laws.proofs.Matchings.{gone_by_answer, gone_status, mark_of, no_limit, no_school, nobody_last}
+use Rattle.campaign_laws.proofs.Matchings.{none_placed, one_wish, prefers, ranked_called, stands}
 
 module _ (orders : List CallOrder) (d : DossierRows) (m : State) (valid : IsValid d)
     (called : AreCallOrders d.groups orders) (auto : IsAllAutomatic d) (stable : IsStable orders d m) where
@@ -303,7 +313,8 @@ module _ (orders : List CallOrder) (d : DossierRows) (m : State) (valid : IsVali
                           let (j, e, j_lt, e_at, lives) = Any-from_list_any
                           (λ (e : Wish × Mark). is_live e.1 && nat_eq e.0.candidate c && nat_eq e.0.programme p)
                           (entries s) held in
-                          let outer = and_parts (is_live e.1 && nat_eq e.0.candidate c) (nat_eq e.0.programme p) lives in
+                          let outer = and_parts (is_live e.1 && nat_eq e.0.candidate c)
+                          (nat_eq e.0.programme p) lives in
                           let inner = and_parts (is_live e.1) (nat_eq e.0.candidate c) outer.0 in
                           let same = one_wish d valid auto j k e.0 w
                           (stands s d of j e j_lt e_at) at (eqb-true e.0.candidate c inner.1)
@@ -316,7 +327,12 @@ module _ (orders : List CallOrder) (d : DossierRows) (m : State) (valid : IsVali
                           let limit : limit_of s.dossier p ≡ 0 = ap (λ (y : DossierRows). limit_of y p) of
                           ∙ no_limit d.programmes p
                           (recursion_from_All (λ (q : Programme). q.limit ≡ 0) d.programmes auto.no_limits) in
-                          absurd (omega (arith, limit, leb-true (position_of s orders w) (limit_of s.dossier p) called_by))
+                          absurd (omega (
+                            arith,
+                            limit,
+                            leb-true (position_of s orders w)
+                                (limit_of s.dossier p) called_by,
+                          ))
                     ]
                 | inr early ↦
                     let seats : seats_of s.dossier p ≡ seats_of d p = ap (λ (y : DossierRows). seats_of y p) of in

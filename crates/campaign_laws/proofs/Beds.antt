@@ -1,8 +1,10 @@
 -- No bed goes past a barred wish, and offers go by the two lists.
-use Rattle.std.proofs.Common.{ℕ, ◌<◌, ◌≤◌, ◌≡◌, Bool, true, false, not, ◌&&◌, List, [], ◌∷◌, length, Option, Some, None, inl, inr, refl, sym, ◌∙◌, ap, arith, nat_eq, nat_lt, zip}
+use Rattle.std.proofs.Common.{ℕ, ◌<◌, ◌≤◌, ◌≡◌, Bool, true, false, not, ◌&&◌, List, [], ◌∷◌, length, Option, Some, None}
+use Rattle.std.proofs.Common.{inl, inr, refl, sym, ◌∙◌, ap, arith, nat_eq, nat_lt, zip}
 use Rattle.std.specs.Prelude.{if◌then◌else◌, slice_get, slice_index}
 use Rattle.std.specs.List.{list_any}
-use Rattle.std.proofs.lemmas.Bool.{and_cases, and_from, and_parts, both_ways, cases_Bool, eq-eqb, eqb-true, false≢true, lt-ltb, ltb-false, ltb-true, or_left, or_right, or_cases, not-false}
+use Rattle.std.proofs.lemmas.Bool.{and_cases, and_from, and_parts, both_ways, cases_Bool, eq-eqb, eqb-true, false≢true}
+use Rattle.std.proofs.lemmas.Bool.{lt-ltb, ltb-false, ltb-true, or_left, or_right, or_cases, not-false}
 use Rattle.std.proofs.lemmas.List.Elements.{All-from_recursion, recursion_from_All}
 use Rattle.admit_core.specs.declared.dossier.Wish.{Wish}
 use Rattle.admit_core.specs.declared.ranking.CallOrder.{CallOrder}
@@ -25,14 +27,17 @@ use Rattle.admit_core.proofs.Holders.{holds_after, lives_with, marked_by}
 use Rattle.admit_core.proofs.Plain.{waits_open}
 use Rattle.fairness.proofs.PassedOver.{nobody_is_passed_over}
 use Rattle.linked_demand.proofs.Closing.{any_at}
-use Rattle.campaign_laws.specs.Beds.{CameByBetterRank, GoesByTheTwoLists, IsBarredIn, NoBedGoesPastBarredWishes, OffersGoByTheTwoLists, has_bed, ranks_better}
+use Rattle.campaign_laws.specs.Beds.{CameByBetterRank, GoesByTheTwoLists, IsBarredIn, NoBedGoesPastBarredWishes}
+use Rattle.campaign_laws.specs.Beds.{OffersGoByTheTwoLists, has_bed, ranks_better}
 use Rattle.campaign_laws.specs.Moments.{Opening, moments, openings}
 use Rattle.campaign_laws.specs.PassedOver.{WaitsAt}
 use Rattle.campaign_laws.proofs.GoneStays.{IsLaterOf, later_of_steps, terms_long}
 use Rattle.campaign_laws.proofs.Holding.{held_already, held_or_offered, offers_to}
-use Rattle.campaign_laws.proofs.OneMark.{KeptOrLapsed, KeptOrTouched, Marks, TouchedOf, a_lapse, an_answer, automatic_answers, lapsed_touched, marks_imply, of_kind, touched_any}
+use Rattle.campaign_laws.proofs.OneMark.{KeptOrLapsed, KeptOrTouched, Marks, TouchedOf, a_lapse, an_answer}
+use Rattle.campaign_laws.proofs.OneMark.{automatic_answers, lapsed_touched, marks_imply, of_kind, touched_any}
 use Rattle.campaign_laws.proofs.PassedOver.{is_new_holder, waited_at, was_not_proposed}
-use Rattle.campaign_laws.proofs.Walks.{Around, Nothing, SameDossier, Steps, all_along, all_both, all_imply, around_openings, plain_steps, steps_by_openings, throughout}
+use Rattle.campaign_laws.proofs.Walks.{Around, Nothing, SameDossier, Steps, all_along, all_both, all_imply}
+use Rattle.campaign_laws.proofs.Walks.{around_openings, plain_steps, steps_by_openings, throughout}
 
 -- an entry's wish is one of the dossier's
 entry_any : (test : Wish → Bool) (ws : List Wish) (ms : List Mark) (q : Wish × Mark → Bool)

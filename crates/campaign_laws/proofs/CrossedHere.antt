@@ -1,5 +1,6 @@
 -- The two crossed candidates meet all that the law of automatic days asks.
-use Rattle.std.proofs.Common.{ℕ, zero, suc, ◌<◌, ◌≤◌, ◌≡◌, true, false, List, [], ◌∷◌, None, length, lit≤, lit<, arith, nat_eq, refl}
+use Rattle.std.proofs.Common.{ℕ, zero, suc, ◌<◌, ◌≤◌, ◌≡◌, true, false, List, [], ◌∷◌, None, length, lit≤, lit<, arith}
+use Rattle.std.proofs.Common.{nat_eq, refl}
 use Rattle.std.specs.Prelude.{AllPairs, ◌||◌}
 use Rattle.std.specs.List.{AllByRecursion}
 use Rattle.std.proofs.lemmas.Bool.{both_ways, eq-eqb}
@@ -14,7 +15,8 @@ use Rattle.admit_core.specs.CallOrder.{AreCallOrders}
 use Rattle.admit_core.specs.Days.{Days, first_evening}
 use Rattle.admit_core.specs.DossierRows.{seats_of}
 use Rattle.admit_core.specs.Faults.{first_after}
-use Rattle.admit_core.specs.Ranges.{AreTables, IsAnswerRow, IsBoardRow, IsCeilingRow, IsGroupRow, IsNumber, IsProgrammeRow, IsRankRow, IsSchoolRow, IsStateRow, IsWishRow}
+use Rattle.admit_core.specs.Ranges.{AreTables, IsAnswerRow, IsBoardRow, IsCeilingRow, IsGroupRow, IsNumber}
+use Rattle.admit_core.specs.Ranges.{IsProgrammeRow, IsRankRow, IsSchoolRow, IsStateRow, IsWishRow}
 use Rattle.admit_core.specs.Relations.{first_fault}
 use Rattle.admit_core.specs.State.{entries, is_live, is_waiting_status, seat_holders}
 use Rattle.admit_core.specs.WorkedFaults.{wish}
@@ -22,8 +24,10 @@ use Rattle.admit_core.specs.Validity.{IsValid}
 use Rattle.admit_core.proofs.ByPlaces.{by_places}
 use Rattle.dossier_check.proofs.Valid.{is_valid}
 use Rattle.campaign_laws.specs.AutomaticDay.{IsAllAutomatic, IsStable, NotBothLive}
-use Rattle.campaign_laws.specs.Crossed.{both_first, crossed, crossed_days, crossed_evening, crossed_orders, crossed_rows}
-use Rattle.campaign_laws.specs.Witnesses.{AutomaticEveningsAreStableWitness, IsMatchingRoomWitness, NotBothLiveWitness, StableMatchingsAreNoWorseWitness}
+use Rattle.campaign_laws.specs.Crossed.{both_first, crossed, crossed_days, crossed_evening, crossed_orders}
+use Rattle.campaign_laws.specs.Crossed.{crossed_rows}
+use Rattle.campaign_laws.specs.Witnesses.{AutomaticEveningsAreStableWitness, IsMatchingRoomWitness, NotBothLiveWitness}
+use Rattle.campaign_laws.specs.Witnesses.{StableMatchingsAreNoWorseWitness}
 use Rattle.campaign_laws.proofs.AutomaticDay.{stable_matchings_are_no_worse}
 use Rattle.campaign_laws.proofs.StableEvening.{automatic_evenings_are_stable}
 use Rattle.campaign_laws.proofs.WorkedCampaign.{end_by}

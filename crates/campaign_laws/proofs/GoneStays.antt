@@ -1,5 +1,6 @@
 -- What is gone stays gone, and what is live never waits again.
-use Rattle.std.proofs.Common.{ℕ, ◌≡◌, Bool, true, false, List, [], ◌∷◌, length, Option, Some, inl, inr, refl, sym, ◌∙◌, ap, subst}
+use Rattle.std.proofs.Common.{ℕ, ◌≡◌, Bool, true, false, List, [], ◌∷◌, length, Option, Some, inl, inr, refl, sym, ◌∙◌}
+use Rattle.std.proofs.Common.{ap, subst}
 use Rattle.std.specs.Prelude.{AllPairs}
 use Rattle.std.specs.List.{AllZip}
 use Rattle.std.proofs.lemmas.Bool.{cases_Bool, false≢true}
@@ -11,7 +12,8 @@ use Rattle.admit_core.specs.declared.records.Terms.{Terms}
 use Rattle.admit_core.specs.declared.state.Mark.{Mark}
 use Rattle.admit_core.specs.declared.state.Stamp.{Stamp}
 use Rattle.admit_core.specs.declared.state.Status.{Status}
-use Rattle.admit_core.specs.declared.state.Status.TheVariants.{Waiting, Offered, Accepted, Refused, Withdrawn, Quit, AutoRefused, AutoWithdrawn, Lapsed}
+use Rattle.admit_core.specs.declared.state.Status.TheVariants.{Waiting, Offered, Accepted, Refused, Withdrawn, Quit}
+use Rattle.admit_core.specs.declared.state.Status.TheVariants.{AutoRefused, AutoWithdrawn, Lapsed}
 use Rattle.admit_core.specs.Answers.{after}
 use Rattle.admit_core.specs.AutoAnswer.{auto_all}
 use Rattle.admit_core.specs.Days.{Days, offered}
@@ -21,7 +23,9 @@ use Rattle.admit_core.specs.State.{State, entries, is_gone, is_live, is_live_sta
 use Rattle.admit_core.proofs.Statuses.{changed_status}
 use Rattle.campaign_laws.specs.Moments.{Opening, moments}
 use Rattle.campaign_laws.specs.OneMark.{GoneStaysGone, HasLaterMark, IsLater, IsLaterMark}
-use Rattle.campaign_laws.proofs.OneMark.{IsTouched, KeptOrLapsed, KeptOrOffered, KeptOrTouched, Marks, OfOneWish, TouchedOf, a_lapse, an_answer, automatic_answers, lapsed_touched, marks_imply, of_kind, offers_of_a_pass, proposed_open, waiting_not_gone}
+use Rattle.campaign_laws.proofs.OneMark.{IsTouched, KeptOrLapsed, KeptOrOffered, KeptOrTouched, Marks, OfOneWish}
+use Rattle.campaign_laws.proofs.OneMark.{TouchedOf, a_lapse, an_answer, automatic_answers, lapsed_touched, marks_imply}
+use Rattle.campaign_laws.proofs.OneMark.{of_kind, offers_of_a_pass, proposed_open, waiting_not_gone}
 use Rattle.campaign_laws.proofs.Walks.{Nothing, SameDossier, Steps, any_two, both, plain_steps, same_dossier}
 
 differs : {P : Type 0} (b : Bool) → b ≡ false → b ≡ true → P

@@ -1,8 +1,10 @@
 -- What is yours stays, and automatic answers climb.
-use Rattle.std.proofs.Common.{ℕ, ◌≤◌, ◌≡◌, ◌⊎◌, Bool, true, false, ◌&&◌, filter, List, [], ◌∷◌, length, Option, Some, None, inl, inr, refl, sym, ◌∙◌, ap, subst, arith, nat_eq, nat_lt, get_or, zip}
+use Rattle.std.proofs.Common.{ℕ, ◌≤◌, ◌≡◌, ◌⊎◌, Bool, true, false, ◌&&◌, filter, List, [], ◌∷◌, length, Option, Some}
+use Rattle.std.proofs.Common.{None, inl, inr, refl, sym, ◌∙◌, ap, subst, arith, nat_eq, nat_lt, get_or, zip}
 use Rattle.std.specs.Prelude.{IsSome, ◌==◌, nat_le, unwrap_or}
 use Rattle.std.specs.List.{AllByRecursion, AllZip, list_any}
-use Rattle.std.proofs.lemmas.Bool.{and_from, and_parts, both_ways, cases_Bool, eq-eqb, eqb-true, false≢true, leb-false, leb-true, le-leb, ltb-true, or_cases, or_left, or_right}
+use Rattle.std.proofs.lemmas.Bool.{and_from, and_parts, both_ways, cases_Bool, eq-eqb, eqb-true, false≢true, leb-false}
+use Rattle.std.proofs.lemmas.Bool.{leb-true, le-leb, ltb-true, or_cases, or_left, or_right}
 use Rattle.std.proofs.lemmas.List.Elements.{recursion_from_All}
 use Rattle.admit_core.specs.declared.dossier.Answer.{Answer}
 use Rattle.admit_core.specs.declared.dossier.AnswerKind.{AnswerKind}
@@ -14,7 +16,8 @@ use Rattle.admit_core.specs.declared.records.Terms.{Terms}
 use Rattle.admit_core.specs.declared.state.Mark.{Mark}
 use Rattle.admit_core.specs.declared.state.Stamp.{Stamp}
 use Rattle.admit_core.specs.declared.state.Status.{Status}
-use Rattle.admit_core.specs.declared.state.Status.TheVariants.{Waiting, Offered, Accepted, Refused, Withdrawn, Quit as HasQuit, AutoRefused, AutoWithdrawn, Lapsed}
+use Rattle.admit_core.specs.declared.state.Status.TheVariants.{Waiting, Offered, Accepted, Refused, Withdrawn}
+use Rattle.admit_core.specs.declared.state.Status.TheVariants.{Quit as HasQuit, AutoRefused, AutoWithdrawn, Lapsed}
 use Rattle.admit_core.specs.Answers.{after, is_own_kind, own}
 use Rattle.admit_core.specs.AutoAnswer.{auto_all, auto_mark, auto_status, best_live}
 use Rattle.admit_core.specs.Days.{answers_of, offered}
@@ -32,7 +35,8 @@ use Rattle.cut_laws.proofs.Accepted.{accepted_is}
 use Rattle.campaign_laws.specs.Kept.{AnswersThemself, AutomaticAnswersClimb, IsKept, NeverDescends, WhatIsYoursStays}
 use Rattle.campaign_laws.specs.Moments.{moments, openings}
 use Rattle.campaign_laws.proofs.GoneStays.{terms_long}
-use Rattle.campaign_laws.proofs.OneMark.{KeptOrLapsed, KeptOrOffered, Marks, OfOneWish, TouchedOf, a_lapse, an_answer, marked, marks_imply, of_kind, offers_of_a_pass, proposed_open}
+use Rattle.campaign_laws.proofs.OneMark.{KeptOrLapsed, KeptOrOffered, Marks, OfOneWish, TouchedOf, a_lapse, an_answer}
+use Rattle.campaign_laws.proofs.OneMark.{marked, marks_imply, of_kind, offers_of_a_pass, proposed_open}
 use Rattle.campaign_laws.proofs.Walks.{Nothing, Steps, all_of, any_two, campaign_steps}
 
 -- what is kept from step to step

@@ -1,7 +1,10 @@
 -- Never more are live in a programme than it has seats and its limit calls, or were live at first.
-use Rattle.std.proofs.Common.{ℕ, zero, suc, ◌+◌, ◌≤◌, ◌<◌, ◌≡◌, Bool, true, false, not, ◌&&◌, ◌||◌, List, [], length, map, max, min, take, Option, inl, inr, refl, sym, ◌∙◌, ap, subst, arith, add-one, count_by, filter, get_or, nat_eq}
+use Rattle.std.proofs.Common.{ℕ, zero, suc, ◌+◌, ◌≤◌, ◌<◌, ◌≡◌, Bool, true, false, not, ◌&&◌, ◌||◌, List, [], length}
+use Rattle.std.proofs.Common.{map, max, min, take, Option, inl, inr, refl, sym, ◌∙◌, ap, subst, arith, add-one}
+use Rattle.std.proofs.Common.{count_by, filter, get_or, nat_eq}
 use Rattle.std.specs.List.{IsDistinct, before_first, position_or_len}
-use Rattle.std.proofs.lemmas.Bool.{and_cases, and_from, and_parts, both_ways, cases_Bool, cases_lt, eqb-true, leb-true, ltb-true, not-false, not-true, not_from_false, or_cases}
+use Rattle.std.proofs.lemmas.Bool.{and_cases, and_from, and_parts, both_ways, cases_Bool, cases_lt, eqb-true, leb-true}
+use Rattle.std.proofs.lemmas.Bool.{ltb-true, not-false, not-true, not_from_false, or_cases}
 use Rattle.std.proofs.lemmas.Cmp.{nat_eq_equiv}
 use Rattle.std.proofs.lemmas.List.{get_or_default, length-take-le, take_all}
 use Rattle.std.proofs.lemmas.List.Elements.{All-from_recursion}
@@ -41,9 +44,11 @@ use Rattle.campaign_laws.specs.Moments.{moments}
 use Rattle.campaign_laws.specs.Room.{FitsSeatsAndLimitOf, NeverMoreThanSeatsAndLimit, beyond_limit, is_called_by_limit}
 use Rattle.campaign_laws.proofs.GoneStays.{terms_long}
 use Rattle.campaign_laws.proofs.Holding.{held_already}
-use Rattle.campaign_laws.proofs.OneMark.{KeptOrLapsed, KeptOrTouched, Marks, TouchedOf, a_lapse, an_answer, automatic_answers, lapsed_touched, marks_imply, of_kind, touched_any}
+use Rattle.campaign_laws.proofs.OneMark.{KeptOrLapsed, KeptOrTouched, Marks, TouchedOf, a_lapse, an_answer}
+use Rattle.campaign_laws.proofs.OneMark.{automatic_answers, lapsed_touched, marks_imply, of_kind, touched_any}
 use Rattle.campaign_laws.proofs.Room.{parted}
-use Rattle.campaign_laws.proofs.Walks.{Nothing, SameDossier, Steps, all_imply, both, plain_steps, same_dossier, throughout}
+use Rattle.campaign_laws.proofs.Walks.{Nothing, SameDossier, Steps, all_imply, both, plain_steps, same_dossier}
+use Rattle.campaign_laws.proofs.Walks.{throughout}
 
 -- each place of a list without repeats is that of its first
 first_place : (xs : List ℕ) (n : ℕ) → IsDistinct nat_eq xs → n < length xs

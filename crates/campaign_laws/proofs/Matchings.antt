@@ -1,8 +1,11 @@
 -- What the law of automatic days rests on: places of wishes, and what is as good for a candidate.
-use Rattle.std.proofs.Common.{ℕ, zero, suc, ◌+◌, ◌<◌, ◌≤◌, ◌≡◌, ◌≢◌, ◌⊎◌, Bool, true, false, not, ◌&&◌, ◌||◌, filter, List, [], ◌∷◌, length, map, take, drop, get_or, None, inl, inr, refl, sym, ◌∙◌, ap, subst, arith, nat_eq, nat_lt}
+use Rattle.std.proofs.Common.{ℕ, zero, suc, ◌+◌, ◌<◌, ◌≤◌, ◌≡◌, ◌≢◌, ◌⊎◌, Bool, true, false, not, ◌&&◌, ◌||◌, filter}
+use Rattle.std.proofs.Common.{List, [], ◌∷◌, length, map, take, drop, get_or, None, inl, inr, refl, sym, ◌∙◌, ap, subst}
+use Rattle.std.proofs.Common.{arith, nat_eq, nat_lt}
 use Rattle.std.specs.Prelude.{All, is_some, nat_le, option_map, slice_get, slice_index, unwrap_or}
 use Rattle.std.specs.List.{AllByRecursion, AllZip, before_first, enumerate_from, list_any, position_or_len}
-use Rattle.std.proofs.lemmas.Bool.{and_from, and_parts, cases_Bool, cases_lt, cases_order, eq-eqb, eqb-true, false≢true, false_from_ne_true, leb-true, le-leb, lt-ltb, or_cases}
+use Rattle.std.proofs.lemmas.Bool.{and_from, and_parts, cases_Bool, cases_lt, cases_order, eq-eqb, eqb-true, false≢true}
+use Rattle.std.proofs.lemmas.Bool.{false_from_ne_true, leb-true, le-leb, lt-ltb, or_cases}
 use Rattle.std.proofs.lemmas.List.{drop_all, drop_more, get_or_default, length-take-le, take-append-drop}
 use Rattle.std.proofs.lemmas.List.Elements.{All-head, All-tail}
 use Rattle.std.proofs.lemmas.List.Folds.{list_any-append}
@@ -15,7 +18,8 @@ use Rattle.admit_core.specs.declared.ranking.RankGroup.{RankGroup}
 use Rattle.admit_core.specs.declared.ranking.Ranked.{Ranked}
 use Rattle.admit_core.specs.declared.state.Mark.{Mark}
 use Rattle.admit_core.specs.declared.state.Status.{Status}
-use Rattle.admit_core.specs.declared.state.Status.TheVariants.{Waiting, Offered, Accepted, Refused, Withdrawn, Quit, AutoRefused, AutoWithdrawn, Lapsed}
+use Rattle.admit_core.specs.declared.state.Status.TheVariants.{Waiting, Offered, Accepted, Refused, Withdrawn, Quit}
+use Rattle.admit_core.specs.declared.state.Status.TheVariants.{AutoRefused, AutoWithdrawn, Lapsed}
 use Rattle.admit_core.specs.AutoAnswer.{auto_status}
 use Rattle.admit_core.specs.Blocking.{last_of}
 use Rattle.admit_core.specs.CallOrder.{IsCallOrder}
@@ -89,7 +93,8 @@ around c x xs among =
     ]
 
 -- ---- the call order of a programme has everyone who is ranked for it
-pub ranked_called : (gs : List RankGroup) (os : List CallOrder) → All IsValidGroup gs → AllZip IsCallOrder gs os → (g c : ℕ)
+pub ranked_called : (gs : List RankGroup) (os : List CallOrder) → All IsValidGroup gs → AllZip IsCallOrder gs os
+    → (g c : ℕ)
     → is_among c (map (λ (r : Ranked). r.candidate)
     (unwrap_or (option_map (λ (x : RankGroup). x.list) (slice_get gs g)) [])) ≡ true
     → is_among c (unwrap_or (option_map (λ (o : CallOrder). o.list) (slice_get os g)) []) ≡ true

@@ -14,12 +14,23 @@ use Rattle.campaign_laws.specs.Beds.{IsBarredIn, IsSameWishOffered}
 use Rattle.campaign_laws.specs.Kept.{AnswersThemself, GivesNoAnswer}
 use Rattle.campaign_laws.specs.Moments.{openings}
 use Rattle.campaign_laws.specs.PassedOver.{IsUnbarred, WaitsAt}
-use Rattle.campaign_laws.specs.Witnesses.{AutomaticAnswersClimbWitness, CameByBetterRankWitness, CameFromBeforeWitness, GoesByTheTwoListsWitness, GoneStaysGoneWitness, IsKeptAcceptedWitness, IsKeptOfferedWitness, IsLaterMarkGoneStaysWitness, IsLaterMarkNeverAgainWitness, IsLaterMarkWaitedWitness, NeverDescendsWitness, NeverMoreThanBedsWitness, NeverMoreThanSeatsWitness, NoBedGoesPastBarredWishesWitness, NobodyIsEverPassedOverWitness, NobodyIsPassedOverWithoutBoardingWitness, OffersGoByTheTwoListsWitness, PlacesOfThirteen, QuietDaysChangeNothingWitness, WaitingPlaceNeverWorsensWitness, WhatIsYoursStaysWitness}
-use Rattle.campaign_laws.specs.WorkedCampaign.{barred_first, before_summer, first_day, first_night, next_day, small_day, small_days, small_next, small_night, small_orders, summer, summer_days, summer_orders, third_night, thirteenth}
+use Rattle.campaign_laws.specs.Witnesses.{AutomaticAnswersClimbWitness, CameByBetterRankWitness, CameFromBeforeWitness}
+use Rattle.campaign_laws.specs.Witnesses.{GoesByTheTwoListsWitness, GoneStaysGoneWitness, IsKeptAcceptedWitness}
+use Rattle.campaign_laws.specs.Witnesses.{IsKeptOfferedWitness, IsLaterMarkGoneStaysWitness}
+use Rattle.campaign_laws.specs.Witnesses.{IsLaterMarkNeverAgainWitness, IsLaterMarkWaitedWitness, NeverDescendsWitness}
+use Rattle.campaign_laws.specs.Witnesses.{NeverMoreThanBedsWitness, NeverMoreThanSeatsWitness}
+use Rattle.campaign_laws.specs.Witnesses.{NoBedGoesPastBarredWishesWitness, NobodyIsEverPassedOverWitness}
+use Rattle.campaign_laws.specs.Witnesses.{NobodyIsPassedOverWithoutBoardingWitness, OffersGoByTheTwoListsWitness}
+use Rattle.campaign_laws.specs.Witnesses.{PlacesOfThirteen, QuietDaysChangeNothingWitness}
+use Rattle.campaign_laws.specs.Witnesses.{WaitingPlaceNeverWorsensWitness, WhatIsYoursStaysWitness}
+use Rattle.campaign_laws.specs.WorkedCampaign.{barred_first, before_summer, first_day, first_night, next_day, small_day}
+use Rattle.campaign_laws.specs.WorkedCampaign.{small_days, small_next, small_night, small_orders, summer, summer_days}
+use Rattle.campaign_laws.specs.WorkedCampaign.{summer_orders, third_night, thirteenth}
 use Rattle.campaign_laws.proofs.Beds.{no_bed_goes_past, offers_go_by_the_two_lists}
 use Rattle.campaign_laws.proofs.GoneStays.{gone_stays_gone}
 use Rattle.campaign_laws.proofs.Kept.{automatic_answers_climb, what_is_yours_stays}
-use Rattle.campaign_laws.proofs.PassedOver.{nobody_is_ever_passed_over, nobody_is_passed_over_without_boarding, without_school}
+use Rattle.campaign_laws.proofs.PassedOver.{nobody_is_ever_passed_over, nobody_is_passed_over_without_boarding}
+use Rattle.campaign_laws.proofs.PassedOver.{without_school}
 use Rattle.campaign_laws.proofs.QuietDays.{quiet_days_change_nothing}
 use Rattle.campaign_laws.proofs.Room.{never_more_than_beds, never_more_than_seats}
 use Rattle.campaign_laws.proofs.WaitingPlace.{waiting_place_never_worsens}

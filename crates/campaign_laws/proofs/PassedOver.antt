@@ -1,5 +1,6 @@
 -- Nobody is passed over by whom a wish waits that no bar ever stopped.
-use Rattle.std.proofs.Common.{ℕ, ◌≡◌, true, false, not, List, length, Option, None, inl, inr, refl, sym, ◌∙◌, ap, nat_eq}
+use Rattle.std.proofs.Common.{ℕ, ◌≡◌, true, false, not, List, length, Option, None, inl, inr, refl, sym, ◌∙◌, ap}
+use Rattle.std.proofs.Common.{nat_eq}
 use Rattle.std.proofs.lemmas.Bool.{cases_Bool, false≢true, not_from_false}
 use Rattle.std.proofs.lemmas.List.Elements.{All-from_recursion, recursion_from_All}
 use Rattle.admit_core.specs.declared.dossier.Wish.{Wish}
@@ -24,12 +25,16 @@ use Rattle.round.specs.PassLaws.{new_seat_holders}
 use Rattle.fairness.proofs.PassedOver.{nobody_is_passed_over}
 use Rattle.campaign_laws.specs.Moments.{Opening, moments, openings}
 use Rattle.campaign_laws.specs.OneMark.{IsLater, IsLaterMark}
-use Rattle.campaign_laws.specs.PassedOver.{CameFromBefore, IsUnbarred, NobodyIsEverPassedOver, NobodyIsPassedOverWithoutBoarding, WaitsAt}
+use Rattle.campaign_laws.specs.PassedOver.{CameFromBefore, IsUnbarred, NobodyIsEverPassedOver}
+use Rattle.campaign_laws.specs.PassedOver.{NobodyIsPassedOverWithoutBoarding, WaitsAt}
 use Rattle.campaign_laws.proofs.GoneStays.{later_steps, terms_long}
 use Rattle.campaign_laws.proofs.Holding.{entry_before, held_already}
-use Rattle.campaign_laws.proofs.OneMark.{KeptOrOffered, KeptOrTouched, Marks, TouchedOf, a_lapse, an_answer, automatic_answers, lapsed_touched, marks_imply, of_kind, offers_of_a_pass, KeptOrLapsed, touched_any}
+use Rattle.campaign_laws.proofs.OneMark.{KeptOrOffered, KeptOrTouched, Marks, TouchedOf, a_lapse, an_answer}
+use Rattle.campaign_laws.proofs.OneMark.{automatic_answers, lapsed_touched, marks_imply, of_kind, offers_of_a_pass}
+use Rattle.campaign_laws.proofs.OneMark.{KeptOrLapsed, touched_any}
 use Rattle.campaign_laws.proofs.WaitingPlace.{as_marks}
-use Rattle.campaign_laws.proofs.Walks.{Nothing, Steps, all_along, all_of, both, steps_by_openings, throughout, with_fact}
+use Rattle.campaign_laws.proofs.Walks.{Nothing, Steps, all_along, all_of, both, steps_by_openings, throughout}
+use Rattle.campaign_laws.proofs.Walks.{with_fact}
 
 -- a wish that waits has waited
 pub waited_at : (s t : State) (place : ℕ) (w : Wish) → IsLater s t → WaitsAt t place w → WaitsAt s place w

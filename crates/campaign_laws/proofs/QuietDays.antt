@@ -1,5 +1,6 @@
 -- A quiet day changes nothing.
-use Rattle.std.proofs.Common.{ℕ, ◌+◌, ◌≡◌, Bool, true, not, ◌&&◌, ◌||◌, filter, List, [], ◌∷◌, length, map, Option, Some, None, inl, inr, refl, sym, ◌∙◌, ap, subst, arith, nat_eq, zip}
+use Rattle.std.proofs.Common.{ℕ, ◌+◌, ◌≡◌, Bool, true, not, ◌&&◌, ◌||◌, filter, List, [], ◌∷◌, length, map, Option}
+use Rattle.std.proofs.Common.{Some, None, inl, inr, refl, sym, ◌∙◌, ap, subst, arith, nat_eq, zip}
 use Rattle.std.specs.Prelude.{ℤ, All, ◌==◌, if◌then◌else◌, sum}
 use Rattle.std.specs.List.{AllByRecursion, enumerate_from, range_with_len}
 use Rattle.std.proofs.lemmas.Bool.{and_from, both_ways, cases_Bool, eq-eqb, not-true}
@@ -17,12 +18,14 @@ use Rattle.admit_core.specs.declared.records.PassEnd.{PassEnd}
 use Rattle.admit_core.specs.declared.records.Terms.{Terms}
 use Rattle.admit_core.specs.declared.state.Mark.{Mark}
 use Rattle.admit_core.specs.declared.state.Stamp.{Stamp}
-use Rattle.admit_core.specs.declared.state.Status.TheVariants.{Accepted, Lapsed, Offered, Quit as HasQuit, Refused, Withdrawn}
+use Rattle.admit_core.specs.declared.state.Status.TheVariants.{Accepted, Lapsed, Offered, Quit as HasQuit, Refused}
+use Rattle.admit_core.specs.declared.state.Status.TheVariants.{Withdrawn}
 use Rattle.admit_core.specs.Answers.{after, after_all, after_kind, candidate_at, mark_at, refuse_live}
 use Rattle.admit_core.specs.AutoAnswer.{auto_all, auto_mark, beds_freed, best_live, freed, seats_freed}
 use Rattle.admit_core.specs.Boarding.{boarding}
 use Rattle.admit_core.specs.CallOrder.{AreCallOrders}
-use Rattle.admit_core.specs.Days.{IsDay, Passes, after_lapse, answers_of, ceilings_of, closing, frees_nothing, freed_after, lapsed_on, morning, offered}
+use Rattle.admit_core.specs.Days.{IsDay, Passes, after_lapse, answers_of, ceilings_of, closing, frees_nothing}
+use Rattle.admit_core.specs.Days.{freed_after, lapsed_on, morning, offered}
 use Rattle.admit_core.specs.DossierRows.{DossierRows, candidates_of}
 use Rattle.admit_core.specs.Falls.{IsGreatest}
 use Rattle.admit_core.specs.Lapses.{AreTermsFor, lapses, offer_day}

@@ -1,5 +1,6 @@
 -- Never more are live than there is room, or were live at first.
-use Rattle.std.proofs.Common.{ℕ, ◌+◌, ◌≤◌, ◌≡◌, Bool, not, filter, List, [], ◌∷◌, length, max, Option, inl, inr, refl, sym, ◌∙◌, ap, subst, arith, nat_eq}
+use Rattle.std.proofs.Common.{ℕ, ◌+◌, ◌≤◌, ◌≡◌, Bool, not, filter, List, [], ◌∷◌, length, max, Option, inl, inr, refl}
+use Rattle.std.proofs.Common.{sym, ◌∙◌, ap, subst, arith, nat_eq}
 use Rattle.std.specs.List.{enumerate_from}
 use Rattle.std.proofs.lemmas.Bool.{cases_Bool}
 use Rattle.std.proofs.lemmas.List.{length-map}
@@ -29,8 +30,10 @@ use Rattle.campaign_laws.specs.Moments.{moments}
 use Rattle.campaign_laws.specs.Room.{FitsBedsOf, FitsSeatsOf, NeverMoreThanBeds, NeverMoreThanSeats}
 use Rattle.campaign_laws.proofs.GoneStays.{terms_long}
 use Rattle.campaign_laws.proofs.Holding.{held_already}
-use Rattle.campaign_laws.proofs.OneMark.{KeptOrLapsed, KeptOrTouched, Marks, TouchedOf, a_lapse, an_answer, automatic_answers, lapsed_touched, marks_imply, of_kind, touched_any}
-use Rattle.campaign_laws.proofs.Walks.{HoldsThroughout, Nothing, SameDossier, Steps, plain_steps, same_dossier, throughout}
+use Rattle.campaign_laws.proofs.OneMark.{KeptOrLapsed, KeptOrTouched, Marks, TouchedOf, a_lapse, an_answer}
+use Rattle.campaign_laws.proofs.OneMark.{automatic_answers, lapsed_touched, marks_imply, of_kind, touched_any}
+use Rattle.campaign_laws.proofs.Walks.{HoldsThroughout, Nothing, SameDossier, Steps, plain_steps, same_dossier}
+use Rattle.campaign_laws.proofs.Walks.{throughout}
 
 -- those who pass a test are at most those who pass another, and those who pass the first alone
 pub parted : (a b : ℕ → Bool) (xs : List ℕ) → length (filter b xs) ≤ length (filter a xs) + length

@@ -2,7 +2,8 @@
 use Rattle.std.proofs.Common.{refl}
 use Rattle.admit_core.specs.Faults.{first_after}
 use Rattle.admit_core.proofs.ByPlaces.{by_places}
-use Rattle.campaign_laws.specs.NotPromised.{BedMoreCanPlaceFewer, SeatMoreCanPlaceFewer, BedMoreCanLowerBar, BetterRankCanHarm, LeavingOutCanPay, SeatMoreCanEmpty}
+use Rattle.campaign_laws.specs.NotPromised.{BedMoreCanPlaceFewer, SeatMoreCanPlaceFewer, BedMoreCanLowerBar}
+use Rattle.campaign_laws.specs.NotPromised.{BetterRankCanHarm, LeavingOutCanPay, SeatMoreCanEmpty}
 use Rattle.campaign_laws.proofs.WorkedCampaign.{end_by}
 
 pub seat_more_can_empty : SeatMoreCanEmpty
@@ -38,7 +39,8 @@ seat_more_can_empty = (
         lapsed = refl;
         fits = refl;
         passes = (
-          end_by _ _ _ _ _ _ (record { are_falls = (refl, refl, (refl, refl, tt)); settled = refl }) refl refl refl refl,
+          end_by _ _ _ _ _ _ (record { are_falls = (refl, refl, (refl, refl, tt)); settled = refl }) refl refl refl
+              refl,
           refl,
           refl,
         );
@@ -163,8 +165,11 @@ bed_more_can_lower_bar = (
       record {
         lapsed = refl;
         fits = refl;
-        passes =
-            (end_by _ _ _ _ _ _ (record { are_falls = (refl, refl, tt); settled = refl }) refl refl refl refl, refl, refl);
+        passes = (
+          end_by _ _ _ _ _ _ (record { are_falls = (refl, refl, tt); settled = refl }) refl refl refl refl,
+          refl,
+          refl,
+        );
         left = refl;
         free = refl;
       },
@@ -184,7 +189,11 @@ bed_more_can_lower_bar = (
         passes = (
           end_by _ _ _ _ _ _ (record { are_falls = tt; settled = refl }) refl refl refl refl,
           refl,
-          (end_by _ _ _ _ _ _ (record { are_falls = (refl, refl, tt); settled = refl }) refl refl refl refl, refl, refl),
+          (
+            end_by _ _ _ _ _ _ (record { are_falls = (refl, refl, tt); settled = refl }) refl refl refl refl,
+            refl,
+            refl,
+          ),
         );
         left = refl;
         free = refl;
@@ -226,8 +235,11 @@ seat_more_can_place_fewer = (
       record {
         lapsed = refl;
         fits = refl;
-        passes =
-            (end_by _ _ _ _ _ _ (record { are_falls = (refl, refl, tt); settled = refl }) refl refl refl refl, refl, refl);
+        passes = (
+          end_by _ _ _ _ _ _ (record { are_falls = (refl, refl, tt); settled = refl }) refl refl refl refl,
+          refl,
+          refl,
+        );
         left = refl;
         free = refl;
       },
@@ -249,8 +261,11 @@ bed_more_can_place_fewer = (
       record {
         lapsed = refl;
         fits = refl;
-        passes =
-            (end_by _ _ _ _ _ _ (record { are_falls = (refl, refl, tt); settled = refl }) refl refl refl refl, refl, refl);
+        passes = (
+          end_by _ _ _ _ _ _ (record { are_falls = (refl, refl, tt); settled = refl }) refl refl refl refl,
+          refl,
+          refl,
+        );
         left = refl;
         free = refl;
       },

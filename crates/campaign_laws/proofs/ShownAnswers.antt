@@ -6,7 +6,8 @@ use Rattle.admit_core.specs.Faults.{first_after}
 use Rattle.admit_core.specs.Standing.{dossier_of}
 use Rattle.admit_core.specs.WorkedRows.{marked}
 use Rattle.admit_core.proofs.ByPlaces.{by_places}
-use Rattle.campaign_laws.specs.NotPromised.{AcceptingCanCost, AcceptingEarlierCanCost, AnswersCannotBeSplit, QuittingCanCost, WithdrawingCanCost, if_accepted_on, if_split}
+use Rattle.campaign_laws.specs.NotPromised.{AcceptingCanCost, AcceptingEarlierCanCost, AnswersCannotBeSplit}
+use Rattle.campaign_laws.specs.NotPromised.{QuittingCanCost, WithdrawingCanCost, if_accepted_on, if_split}
 use Rattle.campaign_laws.proofs.WorkedCampaign.{end_by}
 
 pub quitting_can_cost : QuittingCanCost
@@ -41,8 +42,11 @@ quitting_can_cost = (
       record {
         lapsed = refl;
         fits = refl;
-        passes =
-            (end_by _ _ _ _ _ _ (record { are_falls = (refl, refl, tt); settled = refl }) refl refl refl refl, refl, refl);
+        passes = (
+          end_by _ _ _ _ _ _ (record { are_falls = (refl, refl, tt); settled = refl }) refl refl refl refl,
+          refl,
+          refl,
+        );
         left = refl;
         free = refl;
       },
@@ -107,8 +111,11 @@ withdrawing_can_cost = (
       record {
         lapsed = refl;
         fits = refl;
-        passes =
-            (end_by _ _ _ _ _ _ (record { are_falls = (refl, refl, tt); settled = refl }) refl refl refl refl, refl, refl);
+        passes = (
+          end_by _ _ _ _ _ _ (record { are_falls = (refl, refl, tt); settled = refl }) refl refl refl refl,
+          refl,
+          refl,
+        );
         left = refl;
         free = refl;
       },

@@ -1,8 +1,11 @@
 -- The evening of automatic days is a stable matching.
-use Rattle.std.proofs.Common.{ℕ, ◌+◌, ◌<◌, ◌≤◌, ◌≡◌, Bool, true, false, ◌&&◌, ◌||◌, filter, List, [], ◌∷◌, length, map, get_or, Option, Some, None, inl, inr, refl, sym, ◌∙◌, ap, subst, arith, nat_eq, nat_lt, zip}
+use Rattle.std.proofs.Common.{ℕ, ◌+◌, ◌<◌, ◌≤◌, ◌≡◌, Bool, true, false, ◌&&◌, ◌||◌, filter, List, [], ◌∷◌, length, map}
+use Rattle.std.proofs.Common.{get_or, Option, Some, None, inl, inr, refl, sym, ◌∙◌, ap, subst, arith, nat_eq, nat_lt}
+use Rattle.std.proofs.Common.{zip}
 use Rattle.std.specs.Prelude.{AllPairs, ◌==◌, if◌then◌else◌, unwrap_or}
 use Rattle.std.specs.List.{AllByRecursion, list_any}
-use Rattle.std.proofs.lemmas.Bool.{and_from, and_parts, both_ways, cases_Bool, eq-eqb, eqb-true, false_from_ne_true, lt-ltb}
+use Rattle.std.proofs.lemmas.Bool.{and_from, and_parts, both_ways, cases_Bool, eq-eqb, eqb-true, false_from_ne_true}
+use Rattle.std.proofs.lemmas.Bool.{lt-ltb}
 use Rattle.std.proofs.lemmas.List.{get_or-map, get_or_default, length-map}
 use Rattle.std.proofs.lemmas.List.Elements.{All-from_recursion, recursion_from_All}
 use Rattle.std.proofs.lemmas.List.Folds.{Any-from_list_any, list_any_at}
@@ -15,14 +18,17 @@ use Rattle.admit_core.specs.declared.records.PassEnd.{PassEnd}
 use Rattle.admit_core.specs.declared.state.Mark.{Mark}
 use Rattle.admit_core.specs.declared.state.Stamp.{Stamp}
 use Rattle.admit_core.specs.declared.state.Status.{Status}
-use Rattle.admit_core.specs.declared.state.Status.TheVariants.{Waiting, Offered, Accepted, Refused, Withdrawn, Quit, AutoRefused, AutoWithdrawn, Lapsed}
+use Rattle.admit_core.specs.declared.state.Status.TheVariants.{Waiting, Offered, Accepted, Refused, Withdrawn, Quit}
+use Rattle.admit_core.specs.declared.state.Status.TheVariants.{AutoRefused, AutoWithdrawn, Lapsed}
 use Rattle.admit_core.specs.AutoAnswer.{auto_all, auto_mark, auto_status, best_live}
 use Rattle.admit_core.specs.Blocking.{blocking, is_missed}
 use Rattle.admit_core.specs.CallOrder.{AreCallOrders}
-use Rattle.admit_core.specs.Days.{Days, Passes, answers_of, ceilings_of, closing, first_evening, first_mark, morning, offered}
+use Rattle.admit_core.specs.Days.{Days, Passes, answers_of, ceilings_of, closing, first_evening, first_mark, morning}
+use Rattle.admit_core.specs.Days.{offered}
 use Rattle.admit_core.specs.DossierRows.{DossierRows, candidates_of, seats_of}
 use Rattle.admit_core.specs.Proposals.{is_proposed}
-use Rattle.admit_core.specs.State.{State, changed_to, entries, holds_seat, is_live, is_live_status, is_waiting, is_waiting_status, seat_holders, with_marks}
+use Rattle.admit_core.specs.State.{State, changed_to, entries, holds_seat, is_live, is_live_status, is_waiting}
+use Rattle.admit_core.specs.State.{is_waiting_status, seat_holders, with_marks}
 use Rattle.admit_core.specs.Validity.{IsApart, IsValid}
 use Rattle.admit_core.proofs.Holders.{entries_marked, marked_by}
 use Rattle.admit_core.proofs.Plain.{filter_none}

@@ -1,5 +1,6 @@
 -- A campaign as a walk from moment to moment, each step a lapse, an answer, the offers of a pass or automatic answers.
-use Rattle.std.proofs.Common.{ℕ, ◌+◌, ◌<◌, ◌≡◌, true, zero, suc, List, [], ◌∷◌, ◌++◌, Option, Some, None, inl, inr, refl, sym, ◌∙◌, ap, subst, arith, get_or, length}
+use Rattle.std.proofs.Common.{ℕ, ◌+◌, ◌<◌, ◌≡◌, true, zero, suc, List, [], ◌∷◌, ◌++◌, Option, Some, None, inl, inr}
+use Rattle.std.proofs.Common.{refl, sym, ◌∙◌, ap, subst, arith, get_or, length}
 use Rattle.std.specs.Prelude.{AllPairs}
 use Rattle.std.specs.List.{AllByRecursion}
 use Rattle.std.proofs.lemmas.Bool.{cases_Bool}
@@ -14,13 +15,15 @@ use Rattle.admit_core.specs.declared.state.Stamp.{Stamp}
 use Rattle.admit_core.specs.Answers.{after, after_all, after_kind, first_unfit, fits}
 use Rattle.admit_core.specs.AutoAnswer.{auto_all}
 use Rattle.admit_core.specs.Boarding.{boarding}
-use Rattle.admit_core.specs.Days.{Days, IsDay, Passes, after_lapse, answers_of, ceilings_of, closing, morning, offered, unfit_on}
+use Rattle.admit_core.specs.Days.{Days, IsDay, Passes, after_lapse, answers_of, ceilings_of, closing, morning, offered}
+use Rattle.admit_core.specs.Days.{unfit_on}
 use Rattle.admit_core.specs.DossierRows.{DossierRows}
 use Rattle.admit_core.specs.Falls.{IsGreatest}
 use Rattle.admit_core.specs.Lapses.{lapse}
 use Rattle.admit_core.specs.State.{State}
 use Rattle.day_state.proofs.Independence.{dossier_after_all}
-use Rattle.campaign_laws.specs.Moments.{Opening, after_each, after_passes, day_moments, day_openings, evening_after, evening_of, moments, openings, pass_openings}
+use Rattle.campaign_laws.specs.Moments.{Opening, after_each, after_passes, day_moments, day_openings, evening_after}
+use Rattle.campaign_laws.specs.Moments.{evening_of, moments, openings, pass_openings}
 
 -- from one state to another through these moments
 abbrev pub Walk : (State → State → Type 0) → State → List State → State → Type 0

@@ -12,7 +12,9 @@ use Rattle.admit_core.specs.State.{State}
 use Rattle.admit_core.specs.WorkedRows.{small_dossier}
 use Rattle.admit_core.proofs.ByPlaces.{by_places}
 use Rattle.admit_core.proofs.Rows.{passes_with}
-use Rattle.campaign_laws.specs.WorkedCampaign.{before_summer, first_day, first_night, next_day, second_day, second_night, small_days, small_next, small_night, small_orders, summer, summer_days, summer_orders, third_day, third_night}
+use Rattle.campaign_laws.specs.WorkedCampaign.{before_summer, first_day, first_night, next_day, second_day}
+use Rattle.campaign_laws.specs.WorkedCampaign.{second_night, small_days, small_next, small_night, small_orders, summer}
+use Rattle.campaign_laws.specs.WorkedCampaign.{summer_days, summer_orders, third_day, third_night}
 
 -- a pass with its automatic answers, by its run of falls
 pub end_by : (s : State) (orders : List CallOrder) (ceilings : List ℕ) (day k : ℕ) (end : PassEnd)

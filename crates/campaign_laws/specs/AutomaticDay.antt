@@ -1,5 +1,6 @@
 -- What an automatic day is: its evening is the worst stable matching for every candidate.
-use Rattle.std.specs.Prelude.{◌≡◌, ◌≤◌, ◌<◌, ◌&&◌, ◌||◌, ◌==◌, ℕ, All, AllPairs, Bool, IsTrue, List, None, [], false, length, nat_le}
+use Rattle.std.specs.Prelude.{◌≡◌, ◌≤◌, ◌<◌, ◌&&◌, ◌||◌, ◌==◌, ℕ, All, AllPairs, Bool, IsTrue, List, None, [], false}
+use Rattle.std.specs.Prelude.{length, nat_le}
 use Rattle.std.specs.List.{list_any}
 use Rattle.admit_core.specs.declared.dossier.Wish.{Wish}
 use Rattle.admit_core.specs.declared.ranking.CallOrder.{CallOrder}

@@ -1,5 +1,6 @@
 -- What a candidate keeps who gives no answer.
-use Rattle.std.specs.Prelude.{◌≡◌, ◌∷◌, ◌&&◌, ◌⊎◌, ◌==◌, ℕ, All, AllPairs, Bool, IsSome, IsTrue, List, Option, [], nat_le, nat_lt}
+use Rattle.std.specs.Prelude.{◌≡◌, ◌∷◌, ◌&&◌, ◌⊎◌, ◌==◌, ℕ, All, AllPairs, Bool, IsSome, IsTrue, List, Option, []}
+use Rattle.std.specs.Prelude.{nat_le, nat_lt}
 use Rattle.std.specs.List.{AllZip, list_any}
 use Rattle.admit_core.specs.declared.ranking.CallOrder.{CallOrder}
 use Rattle.admit_core.specs.declared.records.DayRecord.{DayRecord}

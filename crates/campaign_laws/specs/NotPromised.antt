@@ -5,7 +5,8 @@ use Rattle.admit_core.specs.declared.dossier.AnswerKind.TheVariants.{Accept, Qui
 use Rattle.admit_core.specs.declared.ranking.CallOrder.{CallOrder}
 use Rattle.admit_core.specs.declared.records.DayRecord.{DayRecord}
 use Rattle.admit_core.specs.declared.state.Mark.{Mark}
-use Rattle.admit_core.specs.declared.state.Status.TheVariants.{Accepted, AutoRefused, AutoWithdrawn, Offered, Quit as HasQuit, Refused, Waiting, Withdrawn}
+use Rattle.admit_core.specs.declared.state.Status.TheVariants.{Accepted, AutoRefused, AutoWithdrawn, Offered}
+use Rattle.admit_core.specs.declared.state.Status.TheVariants.{Quit as HasQuit, Refused, Waiting, Withdrawn}
 use Rattle.admit_core.specs.declared.tables.AnswerRow.{AnswerRow}
 use Rattle.admit_core.specs.declared.tables.Tables.{Tables}
 use Rattle.admit_core.specs.declared.tables.WishRow.{WishRow}

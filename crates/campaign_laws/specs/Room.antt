@@ -1,5 +1,6 @@
 -- Never more than there is: how many are live in a school or a programme.
-use Rattle.std.specs.Prelude.{◌≡◌, ◌&&◌, ◌+◌, ◌≤◌, ◌<◌, ℕ, All, Bool, List, Option, filter, length, max, nat_eq, nat_le, not}
+use Rattle.std.specs.Prelude.{◌≡◌, ◌&&◌, ◌+◌, ◌≤◌, ◌<◌, ℕ, All, Bool, List, Option, filter, length, max, nat_eq, nat_le}
+use Rattle.std.specs.Prelude.{not}
 use Rattle.std.specs.List.{before_first}
 use Rattle.admit_core.specs.declared.ranking.CallOrder.{CallOrder}
 use Rattle.admit_core.specs.declared.records.DayRecord.{DayRecord}

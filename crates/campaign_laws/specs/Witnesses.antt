@@ -1,6 +1,7 @@
 -- For each law a worked case that meets all its premises, with what it concludes there: the law's
 -- text, with a value for each variable and a product for each arrow.
-use Rattle.std.specs.Prelude.{◌≡◌, ◌∷◌, ◌<◌, ◌≤◌, ◌⊎◌, ◌+◌, ℕ, All, AllPairs, IsSome, IsTrue, List, None, Option, Some, [], false, length}
+use Rattle.std.specs.Prelude.{◌≡◌, ◌∷◌, ◌<◌, ◌≤◌, ◌⊎◌, ◌+◌, ℕ, All, AllPairs, IsSome, IsTrue, List, None, Option, Some}
+use Rattle.std.specs.Prelude.{[], false, length}
 use Rattle.admit_core.specs.declared.dossier.Wish.{Wish}
 use Rattle.admit_core.specs.declared.ranking.CallOrder.{CallOrder}
 use Rattle.admit_core.specs.declared.records.DayRecord.{DayRecord}
@@ -26,7 +27,9 @@ use Rattle.campaign_laws.specs.PassedOver.{CameFromBefore, IsUnbarred, WaitsAt}
 use Rattle.campaign_laws.specs.QuietDays.{ChangesNothing}
 use Rattle.campaign_laws.specs.Room.{FitsBedsOf, FitsSeatsOf}
 use Rattle.campaign_laws.specs.WaitingPlace.{NoMoreWaitBefore, waiting_before}
-use Rattle.campaign_laws.specs.WorkedCampaign.{barred_first, before_summer, first_day, first_night, next_day, second_night, small_day, small_days, small_next, small_night, small_orders, summer_days, summer_orders, third_night, thirteenth}
+use Rattle.campaign_laws.specs.WorkedCampaign.{barred_first, before_summer, first_day, first_night, next_day}
+use Rattle.campaign_laws.specs.WorkedCampaign.{second_night, small_day, small_days, small_next, small_night}
+use Rattle.campaign_laws.specs.WorkedCampaign.{small_orders, summer_days, summer_orders, third_night, thirteenth}
 
 -- ---- one mark: the refused wish, the one that 12 is offered, and that of 13
 abbrev pub GoneStaysGoneWitness : Type 0

@@ -1,5 +1,6 @@
 -- Where a wish is barred below the ceiling, the free beds of its school go to better ranks.
-use Rattle.std.proofs.Common.{ℕ, ◌<◌, ◌≡◌, true, not, List, inl, inr, sym, ◌∙◌, ap, arith, nat_lt, get_or, Option, Some, None}
+use Rattle.std.proofs.Common.{ℕ, ◌<◌, ◌≡◌, true, not, List, inl, inr, sym, ◌∙◌, ap, arith, nat_lt, get_or, Option, Some}
+use Rattle.std.proofs.Common.{None}
 use Rattle.std.specs.Prelude.{◌↔◌, Contains, slice_index}
 use Rattle.std.proofs.lemmas.Bool.{and_parts, cases_order, eqb-true, false≢true, ltb-true, not-true}
 use Rattle.std.proofs.lemmas.List.{get_or_default}
@@ -17,7 +18,8 @@ use Rattle.round.proofs.BedLaw.{one_school}
 use Rattle.fairness.specs.PassPromises.{NoBedGoesToWorseRank}
 
 -- in a school a rank tells its candidate, and a candidate their rank
-pub ranks_tell : (d : DossierRows) (h : ℕ) (v w : Wish) → IsValid d → Contains d.wishes v → Contains d.wishes w → is_school v.school h ≡ true → is_school w.school h ≡ true
+pub ranks_tell : (d : DossierRows) (h : ℕ) (v w : Wish) → IsValid d → Contains d.wishes v → Contains d.wishes w
+    → is_school v.school h ≡ true → is_school w.school h ≡ true
     → (v.board_rank ≡ w.board_rank) ↔ (v.candidate ≡ w.candidate)
 ranks_tell d h v w valid has also v_has w_has =
     let ws = d.wishes in
@@ -43,7 +45,8 @@ ranks_tell d h v w valid has also v_has w_has =
     ]
 
 -- who is barred from a school ranks behind its bar
-behind : (s : State) (bars : List ℕ) (w : Wish) (school : Option ℕ) (h : ℕ) → is_school school h ≡ true → is_behind_bar s bars w school ≡ true → slice_index bars h < w.board_rank
+behind : (s : State) (bars : List ℕ) (w : Wish) (school : Option ℕ) (h : ℕ) → is_school school h ≡ true
+    → is_behind_bar s bars w school ≡ true → slice_index bars h < w.board_rank
 behind s bars w None h has t = absurd (false≢true has)
 behind s bars w (Some g) h has t =
     let parts = and_parts (not (holds_bed s w.candidate g)) (nat_lt (slice_index bars g) w.board_rank) t in
@@ -58,13 +61,16 @@ no_bed_goes_to_worse_rank s orders ceilings bars stamp w m h valid greatest has 
       better = λ c v new listed own boards.
           let outer = among_filtered (λ x. not (holds_bed s x h)) c (bed_holders after h) new in
           let inner = among_filtered (λ x. holds_bed after x h) c (candidates_of s.dossier) outer.0 in
-          let makes = becomes_live s orders bars stamp (λ (x : Wish). has_school x h) c inner.1 (not-true (holds_bed s c h) outer.1) in
+          let makes = becomes_live s orders bars stamp (λ (x : Wish). has_school x h) c inner.1
+          (not-true (holds_bed s c h) outer.1) in
           let x = makes.entry.0 in
           let same_c : x.candidate ≡ c = eqb-true x.candidate c makes.own in
           let opens = (and_parts (is_open s bars x makes.entry.1) _ makes.offers).0 in
           let no_bed : not (holds_bed s x.candidate h) ≡ true = rw same_c outer.1 in
-          let at_most = not_over s bars x x.school h makes.passes no_bed (not_barred_step (is_waiting makes.entry.1) (is_behind_bar s bars x x.school) opens) in
+          let at_most = not_over s bars x x.school h makes.passes no_bed
+          (not_barred_step (is_waiting makes.entry.1) (is_behind_bar s bars x x.school) opens) in
           let place = entry_wish s makes.place makes.entry makes.within makes.here in
-          let rank = (ranks_tell s.dossier h v x valid listed (makes.place, place.0, place.1) boards makes.passes).1 (own ∙ sym same_c) in
+          let rank = (ranks_tell s.dossier h v x valid listed (makes.place, place.0, place.1) boards makes.passes).1
+          (own ∙ sym same_c) in
           omega (arith, at_most, over, rank);
     }

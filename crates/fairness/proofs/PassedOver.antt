@@ -1,8 +1,10 @@
 -- Where an open wish is not proposed, whoever becomes live in its programme comes before its candidate.
-use Rattle.std.proofs.Common.{ℕ, ◌+◌, ◌≤◌, ◌<◌, ◌≡◌, Bool, true, false, not, ◌||◌, List, length, take, inl, inr, sym, ◌∙◌, subst, arith, nat_eq, nat_lt, count_by}
+use Rattle.std.proofs.Common.{ℕ, ◌+◌, ◌≤◌, ◌<◌, ◌≡◌, Bool, true, false, not, ◌||◌, List, length, take, inl, inr, sym}
+use Rattle.std.proofs.Common.{◌∙◌, subst, arith, nat_eq, nat_lt, count_by}
 use Rattle.std.specs.Prelude.{nat_le}
 use Rattle.std.specs.List.{before_first}
-use Rattle.std.proofs.lemmas.Bool.{and_cases, and_parts, both_ways, cases_lt, eqb-true, false≢true, leb-false, leb-true, ltb-false, ltb-true, not-true, or_cases, or_parts}
+use Rattle.std.proofs.lemmas.Bool.{and_cases, and_parts, both_ways, cases_lt, eqb-true, false≢true, leb-false, leb-true}
+use Rattle.std.proofs.lemmas.Bool.{ltb-false, ltb-true, not-true, or_cases, or_parts}
 use Rattle.std.proofs.lemmas.List.{get_or-take, length-take-le}
 use Rattle.std.proofs.lemmas.List.Folds.{list_any_at}
 use Rattle.std.proofs.lemmas.List.Sums.{passes_at_first, prefix_len-le-length}
@@ -31,13 +33,15 @@ among_taken xs c n earlier le =
     let within : k < length (take n xs) = omega (arith, earlier, length-take-le n xs le) in
     list_any_at (nat_eq c) (take n xs) k 0 within (rw (get_or-take n xs k 0 earlier) there)
 
--- why an open wish is not proposed: its candidate is not live in the programme, nor within the call limit, and no seat is left
+-- why an open wish is not proposed: its candidate is not live in the programme, nor within the call limit, and no seat
+-- is left
 pub record IsRefused (s : State) (orders : List CallOrder) (bars : List ℕ) (w : Wish) : Type 0 where
   pub not_live : holds_seat s w.candidate w.programme ≡ false
   pub beyond : limit_of s.dossier w.programme < position_of s orders w
   pub no_seat : seats_left s w.programme ≤ ahead s orders bars w
 
-pub refused_by : (s : State) (orders : List CallOrder) (bars : List ℕ) (w : Wish) (m : Mark) → is_open s bars w m ≡ true → is_proposed s orders bars w m ≡ false → IsRefused s orders bars w
+pub refused_by : (s : State) (orders : List CallOrder) (bars : List ℕ) (w : Wish) (m : Mark) → is_open s bars w m ≡ true
+    → is_proposed s orders bars w m ≡ false → IsRefused s orders bars w
 refused_by s orders bars w m opens not_proposed =
     let left = seats_left s w.programme in
     let live = holds_seat s w.candidate w.programme in
@@ -56,13 +60,15 @@ refused_by s orders bars w m opens not_proposed =
       no_seat = ltb-false (ahead s orders bars w) left parts.1;
     }
 
--- a candidate's part of what it takes to be proposed: they are live in the programme, or within its call limit, or a seat is left
+-- a candidate's part of what it takes to be proposed: they are live in the programme, or within its call limit, or a
+-- seat is left
 abbrev pub early_in : List CallOrder → State → List ℕ → ℕ → ℕ → Bool
 early_in orders s bars p c =
     nat_lt (count_by (wants_seat s bars p) (before_first (nat_eq c) (order_of s.dossier orders p))) (seats_left s p)
 
 abbrev pub called_in : List CallOrder → State → ℕ → ℕ → Bool
-called_in orders s p c = nat_le (length (before_first (nat_eq c) (order_of s.dossier orders p)) + 1) (limit_of s.dossier p)
+called_in orders s p c = nat_le (length (before_first (nat_eq c) (order_of s.dossier orders p)) + 1)
+    (limit_of s.dossier p)
 
 abbrev pub seat_for : List CallOrder → State → List ℕ → ℕ → ℕ → Bool
 seat_for orders s bars p c = (holds_seat s c p || called_in orders s p c) || early_in orders s bars p c
@@ -83,9 +89,11 @@ refused_later s orders bars w c why later not_live seat =
       | inl whatever ↦
           elim (or_cases (holds_seat s c p) (called_in orders s p c) whatever) [
             | inl live ↦ false≢true (sym not_live ∙ live)
-            | inr called ↦ let within = leb-true (length (take k xs) + 1) (limit_of s.dossier p) called in omega (arith, within, why.beyond, longs, longer, later)
+            | inr called ↦ let within = leb-true (length (take k xs) + 1) (limit_of s.dossier p) called in
+                omega (arith, within, why.beyond, longs, longer, later)
           ]
-      | inr early ↦ let few = ltb-true (count_by (wants_seat s bars p) (take k xs)) (seats_left s p) early in omega (arith, few, more, why.no_seat)
+      | inr early ↦ let few = ltb-true (count_by (wants_seat s bars p) (take k xs)) (seats_left s p) early in
+          omega (arith, few, more, why.no_seat)
     ]
 
 pub nobody_is_passed_over : NobodyIsPassedOver
@@ -102,8 +110,11 @@ nobody_is_passed_over s orders bars stamp w m c opens not_proposed new =
     (and_parts (is_open s bars x makes.entry.1) (seat_for orders s bars x.programme x.candidate) makes.offers).1 in
     let same_p : x.programme ≡ p = eqb-true x.programme p makes.passes in
     let same_c : x.candidate ≡ c = eqb-true x.candidate c makes.own in
-    let seat_of_c : seat_for orders s bars p c ≡ true = subst (λ (q : ℕ). seat_for orders s bars q c ≡ true) same_p (subst (λ (d : ℕ). seat_for orders s bars x.programme d ≡ true) same_c seat) in
+    let seat_of_c : seat_for orders s bars p c ≡ true =
+    subst (λ (q : ℕ). seat_for orders s bars q c ≡ true) same_p
+    (subst (λ (d : ℕ). seat_for orders s bars x.programme d ≡ true) same_c seat) in
     elim (cases_lt (place_in xs c) (place_in xs w.candidate)) [
       | inl earlier ↦ among_taken xs c (place_in xs w.candidate) earlier (place_at_most xs w.candidate)
-      | inr later ↦ absurd (refused_later s orders bars w c (refused_by s orders bars w m opens not_proposed) later not_live seat_of_c)
+      | inr later ↦ absurd (refused_later s orders bars w c (refused_by s orders bars w m opens not_proposed) later
+          not_live seat_of_c)
     ]

@@ -14,7 +14,8 @@ use Rattle.admit_core.specs.Standing.{dossier_of}
 use Rattle.admit_core.proofs.ByPlaces.{EachBelow, after, by_places}
 use Rattle.admit_core.proofs.DemandLaws.{boarding_is_lawful}
 use Rattle.admit_core.proofs.FallsLaw.{run_is_greatest}
-use Rattle.fairness.specs.NotPromised.{Gives, offers_of, BetterBoardingRank, BetterRank, OneBedMore, OneSeatMore, SharedGroup, ToBeAScholar}
+use Rattle.fairness.specs.NotPromised.{Gives, offers_of, BetterBoardingRank, BetterRank, OneBedMore, OneSeatMore}
+use Rattle.fairness.specs.NotPromised.{SharedGroup, ToBeAScholar}
 
 -- a call order by its first calls, one after another
 pub called : (n : ℕ) (g : RankGroup) (o : CallOrder) → length o.trace ≡ length o.list
@@ -24,9 +25,12 @@ pub called : (n : ℕ) (g : RankGroup) (o : CallOrder) → length o.trace ≡ le
 called n g o long first later = record { as_long = long; each_next = by_places n _ first later }
 
 -- by the schools that fall, in their order
-gives_by : (t : Tables) (orders : List CallOrder) (picks bars offers : List ℕ) → first_fault t ≡ None → AreCallOrders (dossier_of t).groups orders
+gives_by : (t : Tables) (orders : List CallOrder) (picks bars offers : List ℕ) → first_fault t ≡ None
+    → AreCallOrders (dossier_of t).groups orders
     → Leads (boarding (first_evening (dossier_of t)) orders (ceilings_of (dossier_of t) 1)) picks
-    → bars_after (ceilings_of (dossier_of t) 1) (falls_by (boarding (first_evening (dossier_of t)) orders (ceilings_of (dossier_of t) 1)) (ceilings_of (dossier_of t) 1) picks) ≡ bars
+    → bars_after (ceilings_of (dossier_of t) 1)
+    (falls_by (boarding (first_evening (dossier_of t)) orders (ceilings_of (dossier_of t) 1))
+    (ceilings_of (dossier_of t) 1) picks) ≡ bars
     → offers_of (dossier_of t) orders bars ≡ offers → Gives t orders bars offers
 gives_by t orders picks bars offers faultless called leads ends offered =
     let ceilings = ceilings_of (dossier_of t) 1 in
@@ -35,7 +39,8 @@ gives_by t orders picks bars offers faultless called leads ends offered =
     record {
       faultless = faultless;
       called = called;
-      greatest = subst (IsGreatest sys) ends (run_is_greatest sys (boarding_is_lawful s orders ceilings) (falls_by sys ceilings picks) leads);
+      greatest = subst (IsGreatest sys) ends (run_is_greatest sys (boarding_is_lawful s orders ceilings)
+          (falls_by sys ceilings picks) leads);
       offered = offered;
     }
 
@@ -60,18 +65,34 @@ one_bed_more = (
 pub better_rank : BetterRank
 unfolding first_after
 better_rank = (
-  gives_by _ _ (0 ∷ []) _ _ refl (called 3 _ _ refl (refl, (refl, (refl, tt))) (λ k. refl), (called 3 _ _ refl (refl, (refl, (refl, tt))) (λ k. refl), tt))
+  gives_by _ _ (0 ∷ []) _ _ refl (
+    called 3 _ _ refl (refl, (refl, (refl, tt)))
+        (λ k. refl),
+    (called 3 _ _ refl (refl, (refl, (refl, tt))) (λ k. refl), tt),
+  )
       (record { are_falls = (refl, refl, tt); settled = refl }) refl refl,
-  gives_by _ _ [] _ _ refl (called 3 _ _ refl (refl, (refl, (refl, tt))) (λ k. refl), (called 3 _ _ refl (refl, (refl, (refl, tt))) (λ k. refl), tt))
+  gives_by _ _ [] _ _ refl (
+    called 3 _ _ refl (refl, (refl, (refl, tt)))
+        (λ k. refl),
+    (called 3 _ _ refl (refl, (refl, (refl, tt))) (λ k. refl), tt),
+  )
       (record { are_falls = tt; settled = refl }) refl refl,
 )
 
 pub better_boarding_rank : BetterBoardingRank
 unfolding first_after
 better_boarding_rank = (
-  gives_by _ _ (0 ∷ []) _ _ refl (called 3 _ _ refl (refl, (refl, (refl, tt))) (λ k. refl), (called 3 _ _ refl (refl, (refl, (refl, tt))) (λ k. refl), tt))
+  gives_by _ _ (0 ∷ []) _ _ refl (
+    called 3 _ _ refl (refl, (refl, (refl, tt)))
+        (λ k. refl),
+    (called 3 _ _ refl (refl, (refl, (refl, tt))) (λ k. refl), tt),
+  )
       (record { are_falls = (refl, refl, tt); settled = refl }) refl refl,
-  gives_by _ _ (0 ∷ 1 ∷ []) _ _ refl (called 3 _ _ refl (refl, (refl, (refl, tt))) (λ k. refl), (called 3 _ _ refl (refl, (refl, (refl, tt))) (λ k. refl), tt))
+  gives_by _ _ (0 ∷ 1 ∷ []) _ _ refl (
+    called 3 _ _ refl (refl, (refl, (refl, tt)))
+        (λ k. refl),
+    (called 3 _ _ refl (refl, (refl, (refl, tt))) (λ k. refl), tt),
+  )
       (record { are_falls = (refl, refl, (refl, refl, tt)); settled = refl }) refl refl,
 )
 

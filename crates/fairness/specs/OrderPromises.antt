@@ -1,5 +1,6 @@
 -- What a call order promises to a candidate.
-use Rattle.std.specs.Prelude.{◌≡◌, ℕ, ◌≤◌, ◌<◌, true, not, ◌&&◌, List, map, take, filter, nat_eq, slice_get, Some, Contains, IsTrue}
+use Rattle.std.specs.Prelude.{◌≡◌, ℕ, ◌≤◌, ◌<◌, true, not, ◌&&◌, List, map, take, filter, nat_eq, slice_get, Some}
+use Rattle.std.specs.Prelude.{Contains, IsTrue}
 use Rattle.std.specs.List.{position_or_len}
 use Rattle.admit_core.specs.declared.ranking.CallOrder.{CallOrder}
 use Rattle.admit_core.specs.declared.ranking.RankGroup.{RankGroup}

@@ -1,4 +1,5 @@
-use Rattle.fairness.proofs.Shown.{better_boarding_rank, better_rank, one_bed_more, one_seat_more, shared_group, to_be_a_scholar}
+use Rattle.fairness.proofs.Shown.{better_boarding_rank, better_rank, one_bed_more, one_seat_more, shared_group}
+use Rattle.fairness.proofs.Shown.{to_be_a_scholar}
 use Rattle.fairness.proofs.cases.not_promised.Goals as goal
 
 pub returns : goal.returns
