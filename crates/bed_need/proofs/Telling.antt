@@ -1,5 +1,5 @@
 -- What a picker told.
-use Rattle.std.proofs.Common.{◌≡◌, ℕ, List, ◌++◌, Result, Ok, IfOk, subst, sym}
+use Rattle.std.proofs.Common.{◌≡◌, ℕ, List, Result, Ok, IfOk, subst, sym}
 use Rattle.std.specs.Result.{IsErrAnd}
 use Rattle.std.proofs.lemmas.Result.{err_from_is_err_and}
 use Rattle.admit_core.specs.Falls.{FallingSystem}
@@ -21,6 +21,20 @@ pub asked_named : {T E : Type 0} (one other : FallingSystem) (result : Result T 
     → IsAsked other result chooses chooses_now before now
 asked_named one other result chooses chooses_now before now same is =
     subst (λ (sys : FallingSystem). IsAsked sys result chooses chooses_now before now) same is
+
+-- of runs that were told, of systems that have other names
+module _ {T E : Type 0} (result : Result T E) (choice : List ℕ → List ℕ → ℕ) (told after : List ℕ) where
+  pub told_named : (one other : FallingSystem) → one ≡ other
+      → IfOk result (λ _. TellsOfRun one choice told after) → IfOk result (λ _. TellsOfRun other choice told after)
+  told_named one other same =
+      subst (λ (sys : FallingSystem). IfOk result (λ _. TellsOfRun sys choice told after)) same
+
+  pub both_named : (one other then next : FallingSystem) → one ≡ then → other ≡ next
+      → IfOk result (λ _. TellsOfBoth one other choice told after)
+      → IfOk result (λ _. TellsOfBoth then next choice told after)
+  both_named one other then next first second is =
+      subst (λ (sys : FallingSystem). IfOk result (λ _. TellsOfBoth sys next choice told after)) first
+      (subst (λ (sys : FallingSystem). IfOk result (λ _. TellsOfBoth one sys choice told after)) second is)
 
 -- of a run by which something else is answered
 module _ {T E U F : Type 0} {sys : FallingSystem} {chooses chooses_now : List ℕ → List ℕ → ℕ}

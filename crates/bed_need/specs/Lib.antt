@@ -2,6 +2,7 @@ pub mod BedLaws
 pub mod Figures
 pub mod Growing
 pub mod Needing
+pub mod Questions
 pub mod Refitted
 pub mod Telling
 pub mod Text

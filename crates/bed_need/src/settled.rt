@@ -1,7 +1,6 @@
 //! The greatest bars of a state, of which nobody asks by which falls they were found.
 ghost use Rattle.std.specs.Prelude.{◌≡◌, ◌<◌, length, IfOk};
 ghost use Rattle.admit_core.specs.Boarding.{boarding};
-ghost use Rattle.admit_core.specs.CallOrder.{AreCallOrders};
 ghost use Rattle.admit_core.specs.Falls.{IsGreatest};
 ghost use Rattle.admit_core.specs.Proposals.{proposed};
 ghost use Rattle.linked_demand.specs.Lineups.{IsLineupOf};
@@ -23,15 +22,16 @@ pub(crate) struct Settled {
     pub(crate) offers: Vec<u32>,
 }
 
-/// The greatest bars of a state. No fall that leads to them is kept.
+/// The greatest bars of a state, along a lineup of its dossier. No fall that leads to them is kept.
 pub(crate) fn settled_in(
     alloc: Global,
     state: &DayState<'_>,
     orders: &CallOrders,
+    lineup: &Lineup,
     ceilings: &[u32],
     picker: &mut dyn Picker,
 ) -> Result<Settled, OutOfMemory>
-    requires orders { AreCallOrders state.now.dossier.groups orders.now.orders }
+    requires lineup { IsLineupOf state.now.dossier orders.now.orders lineup.now }
     requires ceilings { length ceilings.now ≡ length state.now.dossier.schools }
 
     ensures bars { IfOk result (λ found.
@@ -42,20 +42,19 @@ pub(crate) fn settled_in(
         (boarding state.now orders.now.orders ceilings.now) result
         (choice picker.old) (choice picker.new) (told picker.old) (told picker.new) }
 {
-    let lineup = Lineup::build(alloc, state, orders)?;
-    settled_along::<Brand>(
+    counted_in::<Brand>(
         alloc,
         Blank::new(1),
         state,
         orders,
-        &lineup,
+        lineup,
         ceilings,
         picker,
     )
 }
 
-/// The same along a lineup, with a counter of steps that nobody reads.
-fn settled_along<L: Ledger>(
+/// The same with a counter of steps that nobody reads.
+fn counted_in<L: Ledger>(
     alloc: Global,
     blank: Blank,
     state: &DayState<'_>,
@@ -67,7 +66,6 @@ fn settled_along<L: Ledger>(
     requires name { blank.name ≡ L.name }
     requires parts { blank.parts ≡ L.parts }
     requires shared { 0 < L.parts }
-    requires orders { AreCallOrders state.now.dossier.groups orders.now.orders }
     requires lineup { IsLineupOf state.now.dossier orders.now.orders lineup.now }
     requires ceilings { length ceilings.now ≡ length state.now.dossier.schools }
 

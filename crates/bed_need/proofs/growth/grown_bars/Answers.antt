@@ -1,63 +1,38 @@
-use Rattle.std.proofs.Common.{◌≡◌, ◌∙◌, ℕ, ◌+◌, ap, arith, subst}
-use Rattle.admit_core.specs.DossierRows.{DossierRows, beds_of}
-use Rattle.admit_core.specs.Falls.{IsGreatest}
-use Rattle.desk_day.proofs.PassesSoFar.{tells_on}
-use Rattle.bed_need.specs.Growing.{with_more_beds, with_n_beds}
-use Rattle.bed_need.proofs.Growing.{bars_do_not_fall}
-use Rattle.bed_need.proofs.Telling.{run_again}
+use Rattle.std.proofs.Common.{◌∙◌, ◌+◌, ◌<◌, ◌≤◌, IfOk, ap, length, refl, subst, sym}
+use Rattle.admit_core.specs.Boarding.{boarding}
+use Rattle.admit_core.specs.DossierRows.{beds_of}
+use Rattle.desk_day.proofs.PassesSoFar.{tells_still}
+use Rattle.bed_need.specs.Growing.{IsGrowth, with_more_beds}
+use Rattle.bed_need.specs.Questions.{Questions}
+use Rattle.bed_need.proofs.Telling.{both_named}
 use Rattle.bed_need.proofs.growth.grown_bars.Goals as goal
+
+pub grown_bars-requires-clause-ceilings : goal.grown_bars-requires-clause-ceilings
+grown_bars-requires-clause-ceilings g c =
+    c.requires.ceilings ∙ ap (λ (q : Questions). length q.state.dossier.schools) (sym c.in_ok-questions.ensures)
+
+pub grown_bars-requires-clause-school : goal.grown_bars-requires-clause-school
+grown_bars-requires-clause-school g c =
+    subst (λ (q : Questions). c.args.school < length q.state.dossier.schools) (sym c.in_ok-questions.ensures)
+    c.requires.school
+
+pub grown_bars-requires-clause-beds : goal.grown_bars-requires-clause-beds
+grown_bars-requires-clause-beds g c =
+    subst (λ (q : Questions). beds_of q.state.dossier c.args.school + c.args.more ≤ 2000000000)
+    (sym c.in_ok-questions.ensures) c.requires.beds
 
 pub returns-clause-growth : goal.returns-clause-growth
 returns-clause-growth g c =
-    let s = c.args.state.now in
-    let orders = c.args.orders.now.orders in
-    let high = c.args.high.now in
-    let h = c.args.school in
-    let more = c.args.more in
-    let one = c.in_ok-before in
-    let two = c.in_ok-after in
-    let beds : c.beds_of.result ≡ beds_of s.dossier h =
-    c.beds_of.ensures ∙ ap (λ (d : DossierRows). beds_of d h) c.dossier.ensures in
-    let after : IsGreatest (with_more_beds s orders high h more) two.after.items =
-    subst (λ (n : ℕ). IsGreatest (with_n_beds s orders high h (n + more)) two.after.items) beds
-    two.ensures.bars in
-    record {
-      before = one.ensures.bars;
-      after = after;
-      rises =
-          bars_do_not_fall s orders c.args.low.now high one.before.items two.after.items h
-          (beds_of s.dossier h + more) c.requires.ceilings c.requires.rise (omega arith)
-          one.ensures.bars after;
-    }
+    subst (λ (q : Questions). IfOk c.grown_bars.result (λ growth. IsGrowth q.state q.orders c.args.low.now
+    c.args.high.now c.args.school c.args.more growth.before.items growth.after.items))
+    c.in_ok-questions.ensures c.grown_bars.ensures.growth
 
 pub returns-clause-told : goal.returns-clause-told
 returns-clause-told g c =
-    let s = c.args.state.now in
-    let orders = c.args.orders.now.orders in
-    let h = c.args.school in
-    let one = c.in_ok-before.ensures.asked in
-    let two = c.in_ok-after.ensures.asked in
-    let beds : c.beds_of.result ≡ beds_of s.dossier h =
-    c.beds_of.ensures ∙ ap (λ (d : DossierRows). beds_of d h) c.dossier.ensures in
-    let same = ap (λ (n : ℕ). with_n_beds s orders c.args.high.now h (n + c.args.more)) beds in
-    run_again _ _ _ _ _ _ _ _ one.told same one.choice two.told
+    both_named c.grown_bars.result _ _ _ _ _ _ _
+    (ap (λ (q : Questions). boarding q.state q.orders c.args.low.now) c.in_ok-questions.ensures)
+    (ap (λ (q : Questions). with_more_beds q.state q.orders c.args.high.now c.args.school c.args.more)
+    c.in_ok-questions.ensures) c.grown_bars.ensures.told
 
-pub returns-clause-early : goal.returns-clause-early
-returns-clause-early g c =
-    tells_on _ _ _ c.in_ok-before.ensures.asked.early c.in_ok-after.ensures.asked.early
-
-pub returns-clause-choice : goal.returns-clause-choice
-returns-clause-choice g c = c.in_ok-after.ensures.asked.choice ∙ c.in_ok-before.ensures.asked.choice
-
-pub returns-in_err-after-clause-early : goal.returns-in_err-after-clause-early
-returns-in_err-after-clause-early g c =
-    tells_on _ _ _ c.in_ok-before.ensures.asked.early c.in_err-after.ensures.asked.early
-
-pub returns-in_err-after-clause-choice : goal.returns-in_err-after-clause-choice
-returns-in_err-after-clause-choice g c = c.in_err-after.ensures.asked.choice ∙ c.in_ok-before.ensures.asked.choice
-
-pub bars_with-requires-clause-beds : goal.bars_with-requires-clause-beds
-bars_with-requires-clause-beds g c =
-    let beds : c.beds_of.result ≡ beds_of c.args.state.now.dossier c.args.school =
-    c.beds_of.ensures ∙ ap (λ (d : DossierRows). beds_of d c.args.school) c.dossier.ensures in
-    omega (arith, beds, c.requires.beds)
+pub returns-in_err-questions-clause-early : goal.returns-in_err-questions-clause-early
+returns-in_err-questions-clause-early g c = tells_still _ _ refl

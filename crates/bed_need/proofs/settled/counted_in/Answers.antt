@@ -4,7 +4,7 @@ use Rattle.bar_fixpoint.specs.Runs.{schools_of}
 use Rattle.desk_day.proofs.PassesSoFar.{tells_of_falls, tells_still}
 use Rattle.round.proofs.Found.{greatest_kept}
 use Rattle.bed_need.proofs.Telling.{run_of_settled}
-use Rattle.bed_need.proofs.settled.settled_along.Goals as goal
+use Rattle.bed_need.proofs.settled.counted_in.Goals as goal
 
 pub returns-clause-bars : goal.returns-clause-bars
 returns-clause-bars g c =
