@@ -10,6 +10,7 @@ use Rattle.admit_core.specs.declared.ranking.CallOrder.{CallOrder}
 use Rattle.admit_core.specs.declared.records.DayRecord.{DayRecord}
 use Rattle.bed_need.specs.Figures.{AreFigures, Figures, TellsOfFigures, lacks}
 use Rattle.bed_need.specs.Growing.{IsGrowth, with_more_beds, with_n_beds}
+use Rattle.bed_need.specs.Questions.{Questions}
 use Rattle.bed_need.specs.Telling.{TellsOfBoth, TellsOfRun}
 use Rattle.bed_need.specs.Text.{beds_text}
 use Rattle.bed_need.proofs.Growing.{figures_are_fixed}
@@ -52,6 +53,18 @@ module _ (s : State) (d : DossierRows) (orders : List CallOrder) (ceilings : Lis
       → IfOk r (λ text. (figures : Figures) × IsTextOf d s orders ceilings place figures (bytes text) × TellsOfFigures s orders ceilings place figures.need choice told told')
   all_figured bytes (Ok text) is = figured (bytes text) is
   all_figured bytes (Err e) is = tt
+
+-- what was figured of questions holds of what they are of
+pub figured_there : {T E : Type 0} (d : DossierRows) (ceilings : List ℕ) (place : ℕ) (choice : List ℕ → List ℕ → ℕ)
+    (told after : List ℕ) (bytes : T → List ℕ) (r : Result T E) (one other : Questions) → one ≡ other
+    → IfOk r (λ text. (figures : Figures) × IsTextOf d one.state one.orders ceilings place figures (bytes text)
+    × TellsOfFigures one.state one.orders ceilings place figures.need choice told after)
+    → IfOk r (λ text. (figures : Figures) × IsTextOf d other.state other.orders ceilings place figures (bytes text)
+    × TellsOfFigures other.state other.orders ceilings place figures.need choice told after)
+figured_there d ceilings place choice told after bytes r one other same =
+    subst (λ (q : Questions). IfOk r (λ text. (figures : Figures)
+    × IsTextOf d q.state q.orders ceilings place figures (bytes text)
+    × TellsOfFigures q.state q.orders ceilings place figures.need choice told after)) same
 
 -- one place has an id, and one day is the last
 one_place : (found one other : ℕ) (p : Option ℕ) → p ≡ Some one → p ≡ Some other → one ≡ other

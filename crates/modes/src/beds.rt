@@ -11,7 +11,7 @@ ghost use Rattle.played.specs.LastDays.{IsDeskAfter};
 
 use admit_core::{CallOrders, DayRecord, Dossier, OutOfMemory};
 use bar_fixpoint::Picker;
-use bed_need::{beds_text, grown_bars, least_beds};
+use bed_need::{BedQuestions, beds_text};
 use day_state::DayState;
 use desk_day::{Desk, ceilings_on};
 use dossier_check::school_place;
@@ -29,6 +29,33 @@ fn lacking(dossier: &Dossier, place: u32, need: u32) -> u32
 }
 
 /// The figures of the school at a place: the beds that it needs, and the bars before and after.
+fn figures_of(
+    alloc: Global,
+    dossier: &Dossier,
+    questions: &BedQuestions<'_, '_>,
+    ceilings: &[u32],
+    place: u32,
+    picker: &mut dyn Picker,
+) -> Result<Vec<u8>, OutOfMemory>
+    requires dossier { questions.now.state.dossier ≡ dossier.now }
+    requires ceilings { length ceilings.now ≡ length questions.now.state.dossier.schools }
+    requires place { place < length questions.now.state.dossier.schools }
+
+    ensures text { IfOk result (λ text. (figures : Figures)
+        × IsTextOf dossier.now questions.now.state questions.now.orders ceilings.now place figures
+        text.items
+        × TellsOfFigures questions.now.state questions.now.orders ceilings.now place figures.need
+        (choice picker.old) (told picker.old) (told picker.new)) }
+    ensures early { TellsMore (told picker.old) (told picker.new) }
+    ensures choice { choice picker.new ≡ choice picker.old }
+{
+    let need = questions.least_beds(alloc, ceilings, place, picker)?;
+    let more = lacking(dossier, place, need);
+    let growth = questions.grown_bars(alloc, ceilings, ceilings, place, more, picker)?;
+    beds_text(alloc, dossier, place, need, &growth)
+}
+
+/// The same of a state and its call orders, whose lineup is made once.
 fn figures_text(
     alloc: Global,
     dossier: &Dossier,
@@ -50,12 +77,8 @@ fn figures_text(
     ensures early { TellsMore (told picker.old) (told picker.new) }
     ensures choice { choice picker.new ≡ choice picker.old }
 {
-    let need = least_beds(alloc, opening, orders, ceilings, place, picker)?;
-    let more = lacking(dossier, place, need);
-    let growth = grown_bars(
-        alloc, opening, orders, ceilings, ceilings, place, more, picker,
-    )?;
-    beds_text(alloc, dossier, place, need, &growth)
+    let questions = BedQuestions::build(alloc, opening, orders)?;
+    figures_of(alloc, dossier, &questions, ceilings, place, picker)
 }
 
 /// The figures of the school of this id in the last pass. The picker chooses nothing of them.

@@ -1,55 +1,26 @@
-use Rattle.std.proofs.Common.{◌∙◌, ◌+◌, ◌<◌, ◌≤◌, ap, arith, length, subst, sym}
-use Rattle.admit_core.specs.DossierRows.{DossierRows, beds_of}
-use Rattle.bar_fixpoint.proofs.SoFar.{IsAtMost-refl}
-use Rattle.desk_day.proofs.PassesSoFar.{tells_from}
-use Rattle.modes.proofs.Figuring.{all_figured}
+use Rattle.std.proofs.Common.{◌∙◌, ◌<◌, ap, length, refl, subst, sym}
+use Rattle.bed_need.specs.Questions.{Questions}
+use Rattle.desk_day.proofs.PassesSoFar.{tells_still}
+use Rattle.modes.proofs.Figuring.{figured_there}
 use Rattle.modes.proofs.beds.figures_text.Goals as goal
+
+pub figures_of-requires-clause-dossier : goal.figures_of-requires-clause-dossier
+figures_of-requires-clause-dossier g c =
+    ap (λ (q : Questions). q.state.dossier) c.in_ok-questions.ensures ∙ c.requires.dossier
+
+pub figures_of-requires-clause-ceilings : goal.figures_of-requires-clause-ceilings
+figures_of-requires-clause-ceilings g c =
+    c.requires.ceilings ∙ ap (λ (q : Questions). length q.state.dossier.schools) (sym c.in_ok-questions.ensures)
+
+pub figures_of-requires-clause-place : goal.figures_of-requires-clause-place
+figures_of-requires-clause-place g c =
+    subst (λ (q : Questions). c.args.place < length q.state.dossier.schools) (sym c.in_ok-questions.ensures)
+    c.requires.place
 
 pub returns-clause-text : goal.returns-clause-text
 returns-clause-text g c =
-    all_figured c.args.opening.now c.args.dossier.now c.args.orders.now.orders c.args.ceilings.now c.args.place c.in_ok-need.need c.lacking-more.result c.in_ok-growth.growth.before.items
-    c.in_ok-growth.growth.after.items _ _ _ _ _ c.requires.dossier c.lacking-more.ensures.value c.in_ok-need.ensures.need c.in_ok-growth.ensures.growth c.in_ok-need.ensures.told c.least_beds.ensures.choice
-    c.in_ok-growth.ensures.told (λ text. text.items) c.beds_text.result c.beds_text.ensures
+    figured_there c.args.dossier.now c.args.ceilings.now c.args.place _ _ _ (λ text. text.items) c.figures_of.result _ _
+    c.in_ok-questions.ensures c.figures_of.ensures.text
 
-pub lacking-more-requires-clause-place : goal.lacking-more-requires-clause-place
-lacking-more-requires-clause-place g c =
-    subst (λ (d : DossierRows). c.args.place < length d.schools) c.requires.dossier c.requires.place
-
-pub lacking-more-requires-clause-need : goal.lacking-more-requires-clause-need
-lacking-more-requires-clause-need g c = omega (arith, c.in_ok-need.ensures.few)
-
-pub grown_bars-requires-clause-rise : goal.grown_bars-requires-clause-rise
-grown_bars-requires-clause-rise g c = IsAtMost-refl c.args.ceilings.now
-
-pub grown_bars-requires-clause-beds : goal.grown_bars-requires-clause-beds
-grown_bars-requires-clause-beds g c =
-    subst (λ (d : DossierRows). beds_of d c.args.place + c.lacking-more.result ≤ 2000000000)
-    (sym c.requires.dossier) c.lacking-more.ensures.fits
-
-pub beds_text-requires-clause-school : goal.beds_text-requires-clause-school
-beds_text-requires-clause-school g c =
-    subst (λ (d : DossierRows). c.args.place < length d.schools) c.requires.dossier c.requires.place
-
-pub beds_text-requires-clause-before : goal.beds_text-requires-clause-before
-beds_text-requires-clause-before g c =
-    c.in_ok-growth.ensures.growth.before.fits.under_ceilings.as_many ∙ c.requires.ceilings
-    ∙ ap (λ (d : DossierRows). length d.schools) c.requires.dossier
-
-pub beds_text-requires-clause-after : goal.beds_text-requires-clause-after
-beds_text-requires-clause-after g c =
-    c.in_ok-growth.ensures.growth.after.fits.under_ceilings.as_many ∙ c.requires.ceilings
-    ∙ ap (λ (d : DossierRows). length d.schools) c.requires.dossier
-
-pub returns-clause-early : goal.returns-clause-early
-returns-clause-early g c =
-    tells_from _ _ _ c.least_beds.ensures.early.0 c.least_beds.ensures.early.1 c.grown_bars.ensures.early
-
-pub returns-clause-choice : goal.returns-clause-choice
-returns-clause-choice g c = c.grown_bars.ensures.choice ∙ c.least_beds.ensures.choice
-
-pub returns-in_err-growth-clause-early : goal.returns-in_err-growth-clause-early
-returns-in_err-growth-clause-early g c =
-    tells_from _ _ _ c.least_beds.ensures.early.0 c.least_beds.ensures.early.1 c.grown_bars.ensures.early
-
-pub returns-in_err-growth-clause-choice : goal.returns-in_err-growth-clause-choice
-returns-in_err-growth-clause-choice g c = c.grown_bars.ensures.choice ∙ c.least_beds.ensures.choice
+pub returns-in_err-questions-clause-early : goal.returns-in_err-questions-clause-early
+returns-in_err-questions-clause-early g c = tells_still _ _ refl
